@@ -1,0 +1,11 @@
+//! Plays a schedule text, read from standard input, and writes what its events print.
+#![tactic(auto)]
+
+pub mod fault;
+mod lines;
+mod numbers;
+mod opening;
+mod orders;
+mod words;
+
+fn main(_rt: HostRuntime) {}
