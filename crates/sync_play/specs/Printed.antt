@@ -51,7 +51,10 @@ event_lines e = act_line e.party e.act ++ then_line e.party e.then
 abbrev pub printed : List (Event ℕ) → List ℕ
 printed events = flat_map event_lines events
 
--- what the run has left: the word, and how many exchanges failed
+-- a word, and how many exchanges failed
+abbrev pub counts_line : ℕ → ℕ → List ℕ
+counts_line word failed = codes "word " ++ (decimal word ++ (codes " failed " ++ (decimal failed ++ codes "\n")))
+
+-- what the run has left
 unfoldable pub last_line : Object ℕ → List (Event ℕ) → List ℕ
-last_line o past =
-    codes "word " ++ (decimal (word_in u64_arithmetic o past words.State) ++ (codes " failed " ++ (decimal (min (failed_in past) (2 ^ 64 - 1)) ++ codes "\n")))
+last_line o past = counts_line (word_in u64_arithmetic o past words.State) (min (failed_in past) (2 ^ 64 - 1))

@@ -6,6 +6,7 @@ mod lines;
 mod numbers;
 mod opening;
 mod orders;
+mod printed;
 mod words;
 
 fn main(_rt: HostRuntime) {}
