@@ -1,2 +1,4 @@
 pub mod Cutting
 pub mod Digits
+pub mod Runs
+pub mod TaskLaws

@@ -6,3 +6,6 @@ pub mod Numbers
 pub mod Orders
 pub mod Opening
 pub mod Printed
+pub mod Events
+pub mod Pieces
+pub mod Output

@@ -1,5 +1,6 @@
 ghost use Rattle.std.specs.Prelude.{◌≡◌, Some};
 
+use std::alloc::AllocError;
 use std::fmt;
 use sync_steps::steps::StepFault;
 
@@ -68,5 +69,34 @@ impl From<StepFault> for LineFault {
             StepFault::WaitingForAnswer => LineFault::Waiting,
             StepFault::NotWaiting => LineFault::NotWaiting,
         }
+    }
+}
+
+/// Why a line was not played.
+#[derive(Clone, Copy, Debug, PartialEq, Eq)]
+pub enum Refusal {
+    /// The line has a fault.
+    Fault(LineFault),
+    /// Memory ran out.
+    Memory,
+}
+
+impl From<LineFault> for Refusal {
+    ghost use Rattle.sync_play.specs.declared.fault.Refusal.TheVariants as refusals;
+
+    ghost from_gives = { λ fault e. e ≡ refusals.Fault fault };
+
+    fn from(fault: LineFault) -> Refusal {
+        Refusal::Fault(fault)
+    }
+}
+
+impl From<AllocError> for Refusal {
+    ghost use Rattle.sync_play.specs.declared.fault.Refusal.TheVariants as refusals;
+
+    ghost from_gives = { λ _ e. e ≡ refusals.Memory };
+
+    fn from(_error: AllocError) -> Refusal {
+        Refusal::Memory
     }
 }

@@ -6,7 +6,9 @@ mod lines;
 mod numbers;
 mod opening;
 mod orders;
+mod pieces;
 mod printed;
+mod stub;
 mod words;
 
 fn main(_rt: HostRuntime) {}
