@@ -269,3 +269,7 @@ ran_refused o parties past party (suc fuel) fault h e = rw (event_refused o part
 pub ran_none : (o : Object ℕ) (parties : ℕ) (past : List Ev) (party : ℕ) → run_of o parties 0 past party ≡ Err faults.StepLimit
 unfolding run_of
 ran_none o parties past party = refl
+
+pub no_steps : (o : Object ℕ) (parties : ℕ) (past : List Ev) (party : ℕ) → events_of o parties past (steps_of 0 party) ≡ Ok []
+unfolding events_of steps_of
+no_steps o parties past party = refl

@@ -17,12 +17,14 @@ use Rattle.sync_steps.specs.Run.{IsRun, after}
 use Rattle.sync_steps.specs.Standing.{Standing, StandsAt}
 use Rattle.sync_play.specs.declared.fault.LineFault.{LineFault}
 use Rattle.sync_play.specs.declared.fault.LineFault.TheVariants as faults
+use Rattle.sync_play.specs.declared.fault.Refusal.{Refusal}
+use Rattle.sync_play.specs.declared.fault.Refusal.TheVariants as refusals
 use Rattle.sync_play.specs.declared.pieces.Piece.{Piece}
 use Rattle.sync_play.specs.Faults.{◌>>=◌, line_fault_of}
 use Rattle.sync_play.specs.Events.{events_of, run_of, steps_of}
-use Rattle.sync_play.specs.Pieces.{has_ended, StopsAfter, IsPiece, Advances}
+use Rattle.sync_play.specs.Pieces.{has_ended, StopsAfter, IsPiece, Advances, Does, IsOutcome}
 use Rattle.sync_play.specs.Printed.{printed, event_lines}
-use Rattle.sync_play.proofs.Runs.{with_front, with_none, with_fronts, run_is, run_length, run_refused, events_then, fault_stays, steps_length, steps_take, steps_more, steps_get, ran_on, ran_out, ran_refused}
+use Rattle.sync_play.proofs.Runs.{with_front, with_none, with_fronts, run_is, run_length, run_refused as run_refused_at, events_then, fault_stays, steps_length, steps_take, steps_more, steps_get, ran_on, ran_out, ran_refused, ran_none, no_steps}
 
 abbrev Ev : Type 0
 Ev = Event ℕ
@@ -96,7 +98,7 @@ pub piece_refused : (o : Object ℕ) (parties : ℕ) (past : List Ev) (schedule 
 piece_refused o parties past schedule old new machine piece fault p some =
     let stops = subst (λ (r : Option StepFault). StopsAfter o parties (after p.events past) schedule (length p.events) r) some p.stops in
     ap (events_of o parties past) (get_split schedule (length p.events) stops.0 stops.1)
-    ∙ run_refused o parties past (take (length p.events) schedule) (drop (suc (length p.events)) schedule) stops.0 p.events fault p.run stops.2
+    ∙ run_refused_at o parties past (take (length p.events) schedule) (drop (suc (length p.events)) schedule) stops.0 p.events fault p.run stops.2
 
 last_ended : (front : List Ev) (e : Ev) → has_ended (front ++ (e ∷ [])) ≡ not (goes_on e.then)
 last_ended [] e = refl
@@ -183,3 +185,81 @@ run_fails o parties past party n fuel mid new machine piece fault h p going some
     let refused : fault_of o parties (after p.events past) party inputs.Go ≡ Some fault = subst (λ (t : ℕ × Input ℕ). fault_of o parties (after p.events past) t.0 t.1 ≡ Some fault) got.1 stops.2 in
     ap (λ (k : ℕ). run_of o parties k past party) all ∙ ran_on o parties past party (length p.events) (fuel - length p.events) p.events s.run (sym p.ended ∙ going)
     ∙ ap (with_front p.events) (ran_refused o parties (after p.events past) party (fuel - length p.events) fault left refused)
+
+-- The loops of the program.
+
+abbrev Steps : List (ℕ × Input ℕ) → Object ℕ → ℕ → List Ev → Result (List Ev) LineFault
+Steps schedule o parties past = events_of o parties past schedule
+
+pub go_further : (o : Object ℕ) (parties : ℕ) (past : List Ev) (party count left piece : ℕ) (schedule : List (ℕ × Input ℕ)) (old mid new : List ℕ) (machine machine' : Standing ℕ) → piece ≤ left → schedule ≡ steps_of piece party
+    → Halfway o parties past (events_of o parties past (steps_of count party)) (λ there. events_of o parties there (steps_of left party)) old mid machine
+    → Does (Steps schedule) mid new machine machine' (Ok tt)
+    → Halfway o parties past (events_of o parties past (steps_of count party)) (λ there. events_of o parties there (steps_of (left - piece) party)) old new machine'
+go_further o parties past party count left piece schedule old mid new machine machine' within same h d =
+    let there = after h.events past in
+    let a = subst (λ (l : List (ℕ × Input ℕ)). Advances o parties there (events_of o parties there l) mid new machine') same (d o parties there h.stands) in
+    goes_further o parties past (events_of o parties past (steps_of count party)) (λ at. events_of o parties at (steps_of left party)) (λ at. events_of o parties at (steps_of (left - piece) party)) old mid new machine machine' h
+      (steps_further o parties there party left piece mid new machine' within a)
+
+pub go_fails : (e : Refusal) (o : Object ℕ) (parties : ℕ) (past : List Ev) (party count left piece : ℕ) (schedule : List (ℕ × Input ℕ)) (old mid new : List ℕ) (machine machine' : Standing ℕ) → piece ≤ left → schedule ≡ steps_of piece party
+    → Halfway o parties past (events_of o parties past (steps_of count party)) (λ there. events_of o parties there (steps_of left party)) old mid machine
+    → Does (Steps schedule) mid new machine machine' (Err e)
+    → IsOutcome o parties past (events_of o parties past (steps_of count party)) old new machine' (Err e)
+go_fails refusals.Memory o parties past party count left piece schedule old mid new machine machine' within same h d = tt
+go_fails (refusals.Fault fault) o parties past party count left piece schedule old mid new machine machine' within same h d =
+    let there = after h.events past in
+    let f = subst (λ (l : List (ℕ × Input ℕ)). events_of o parties there l ≡ Err fault) same (d o parties there h.stands) in
+    fails_there o parties past (events_of o parties past (steps_of count party)) (λ at. events_of o parties at (steps_of left party)) old mid machine fault h
+      (steps_fail o parties there party left piece fault within f)
+
+pub go_done : (o : Object ℕ) (parties : ℕ) (past : List Ev) (party count left : ℕ) (old new : List ℕ) (machine : Standing ℕ) → left ≡ 0
+    → Halfway o parties past (events_of o parties past (steps_of count party)) (λ there. events_of o parties there (steps_of left party)) old new machine
+    → Advances o parties past (events_of o parties past (steps_of count party)) old new machine
+go_done o parties past party count left old new machine none h =
+    ends_here o parties past (events_of o parties past (steps_of count party)) (λ there. events_of o parties there (steps_of left party)) old new machine h
+      (rw none (no_steps o parties (after h.events past) party))
+
+-- playing a piece, whatever run stands at the machine
+abbrev PlaysPiece : List (ℕ × Input ℕ) → List ℕ → List ℕ → Standing ℕ → Standing ℕ → Piece → Type 0
+PlaysPiece schedule old new machine machine' piece =
+    (o : Object ℕ) (parties : ℕ) (past : List Ev) → StandsAt u64_arithmetic o parties past machine → IsPiece o parties past schedule old new machine' piece
+
+pub run_on : (o : Object ℕ) (parties : ℕ) (past : List Ev) (party limit n fuel left : ℕ) (schedule : List (ℕ × Input ℕ)) (old mid new : List ℕ) (machine machine' : Standing ℕ) (piece : Piece) → n ≤ fuel → left ≡ fuel - n → schedule ≡ steps_of n party
+    → Halfway o parties past (run_of o parties limit past party) (λ there. run_of o parties fuel there party) old mid machine
+    → PlaysPiece schedule mid new machine machine' piece → piece.ended ≡ false → piece.refused ≡ None
+    → Halfway o parties past (run_of o parties limit past party) (λ there. run_of o parties left there party) old new machine'
+run_on o parties past party limit n fuel left schedule old mid new machine machine' piece within less same h d going none =
+    let there = after h.events past in
+    let p = subst (λ (l : List (ℕ × Input ℕ)). IsPiece o parties there l mid new machine' piece) same (d o parties there h.stands) in
+    rw less (goes_further o parties past (run_of o parties limit past party) (λ at. run_of o parties fuel at party) (λ at. run_of o parties (fuel - n) at party) old mid new machine machine' h
+      (run_further o parties there party n fuel mid new machine' piece within p going none))
+
+pub run_out : (o : Object ℕ) (parties : ℕ) (past : List Ev) (party limit n fuel : ℕ) (schedule : List (ℕ × Input ℕ)) (old mid new : List ℕ) (machine machine' : Standing ℕ) (piece : Piece) → n ≤ fuel → schedule ≡ steps_of n party
+    → Halfway o parties past (run_of o parties limit past party) (λ there. run_of o parties fuel there party) old mid machine
+    → PlaysPiece schedule mid new machine machine' piece → piece.ended ≡ true
+    → Advances o parties past (run_of o parties limit past party) old new machine'
+run_out o parties past party limit n fuel schedule old mid new machine machine' piece within same h d ended =
+    let there = after h.events past in
+    let p = subst (λ (l : List (ℕ × Input ℕ)). IsPiece o parties there l mid new machine' piece) same (d o parties there h.stands) in
+    comes_to_end o parties past (run_of o parties limit past party) (λ at. run_of o parties fuel at party) old mid new machine machine' h
+      (run_ends o parties there party n fuel mid new machine' piece within p ended)
+
+pub run_refused : (o : Object ℕ) (parties : ℕ) (past : List Ev) (party limit n fuel : ℕ) (schedule : List (ℕ × Input ℕ)) (old mid new : List ℕ) (machine machine' : Standing ℕ) (piece : Piece) (fault : StepFault) → n ≤ fuel → schedule ≡ steps_of n party
+    → Halfway o parties past (run_of o parties limit past party) (λ there. run_of o parties fuel there party) old mid machine
+    → PlaysPiece schedule mid new machine machine' piece → piece.ended ≡ false → piece.refused ≡ Some fault
+    → run_of o parties limit past party ≡ Err (line_fault_of fault)
+run_refused o parties past party limit n fuel schedule old mid new machine machine' piece fault within same h d going some =
+    let there = after h.events past in
+    let p = subst (λ (l : List (ℕ × Input ℕ)). IsPiece o parties there l mid new machine' piece) same (d o parties there h.stands) in
+    fails_there o parties past (run_of o parties limit past party) (λ at. run_of o parties fuel at party) old mid machine (line_fault_of fault) h
+      (run_fails o parties there party n fuel mid new machine' piece fault within p going some)
+
+pub run_limited : (o : Object ℕ) (parties : ℕ) (past : List Ev) (party limit fuel : ℕ) (old new : List ℕ) (machine : Standing ℕ) → fuel ≡ 0
+    → Halfway o parties past (run_of o parties limit past party) (λ there. run_of o parties fuel there party) old new machine
+    → run_of o parties limit past party ≡ Err faults.StepLimit
+run_limited o parties past party limit fuel old new machine none h =
+    fails_there o parties past (run_of o parties limit past party) (λ at. run_of o parties fuel at party) old new machine faults.StepLimit h
+      (rw none (ran_none o parties (after h.events past) party))
+
+pub front_of_steps : (schedule items : List (ℕ × Input ℕ)) (n count party : ℕ) → schedule ≡ items → items ≡ steps_of count party → n ≤ count → take n schedule ≡ steps_of n party
+front_of_steps schedule items n count party e h within = rw (e, h) (steps_take n count party within)

@@ -54,8 +54,9 @@ fn run(alloc: Global, machine: &mut Machine<u64>, party: usize, out: &mut String
         if piece.ended {
             return Ok(());
         }
-        if let Some(fault) = piece.refused {
-            return Err(Refusal::Fault(fault.into()));
+        match piece.refused {
+            None => {}
+            Some(fault) => return Err(Refusal::Fault(fault.into())),
         }
     }
     Err(Refusal::Fault(LineFault::StepLimit))
