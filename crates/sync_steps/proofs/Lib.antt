@@ -1,0 +1,6 @@
+pub mod Dispatch
+pub mod Holds
+pub mod Stands
+pub mod MutexLaws
+pub mod Headlines
+pub mod Plays

@@ -34,8 +34,8 @@ abbrev pub HasCause : {T : Type 0} → Object T → List (Event T) → Type 0
 HasCause o [] = Unit {0}
 HasCause o (e ∷ past) =
     MatchBool (is_refusal e.then)
-      (MatchOption (call_of e.party past) ⊥ (λ c. CauseOf o c.call e.party (e ∷ past)))
-      (Unit {0})
+    (MatchOption (call_of e.party past) ⊥ (λ c. CauseOf o c.call e.party (e ∷ past)))
+    (Unit {0})
 
 pub record Headline {T : Type 0} (z : Arithmetic T) (o : Object T) (past : List (Event T)) : Type 0 where
   -- each lock has one writer or only readers

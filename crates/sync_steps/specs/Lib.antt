@@ -16,3 +16,4 @@ pub mod Sights
 pub mod MutexLaw
 pub mod Headline
 pub mod Played
+pub mod Applies

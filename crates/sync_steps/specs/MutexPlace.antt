@@ -1,5 +1,5 @@
 -- Where the code's places of a mutex stand: in which call, and after which of its own events.
-use Rattle.std.specs.Prelude.{◌≡◌, ℕ, Bool, true, false, List, [], ◌∷◌}
+use Rattle.std.specs.Prelude.{◌≡◌, ◌≤◌, ℕ, Bool, true, false, List, [], ◌∷◌}
 use Rattle.sync_steps.specs.declared.TheConstants.{SPIN_REPETITIONS}
 use Rattle.sync_steps.specs.declared.steps.event.Call.TheVariants as calls
 use Rattle.sync_steps.specs.declared.steps.event.Then.TheVariants as thens
@@ -16,7 +16,7 @@ pub record HasSpun {T : Type 0} (own : List (Event T)) (spins : ℕ) (keep : Boo
 
 abbrev pub AtMutex : {T : Type 0} → MutexPlace → Calling T → Type 0
 AtMutex places.TryLock c = (c.call ≡ calls.TryLock) × (c.own ≡ [])
-AtMutex (places.Lock spins keep) c = (c.call ≡ calls.Lock) × HasSpun c.own spins keep × (stand_of c.own ≡ thens.GoesOn)
+AtMutex (places.Lock spins keep) c = (c.call ≡ calls.Lock) × HasSpun c.own spins keep × (spins ≤ SPIN_REPETITIONS) × (stand_of c.own ≡ thens.GoesOn)
 AtMutex places.Standing c = (c.call ≡ calls.Lock) × HasSpun c.own SPIN_REPETITIONS true × (stand_of c.own ≡ thens.Waits 1)
 AtMutex places.Release c = (c.call ≡ calls.Unlock) × (c.own ≡ [])
 AtMutex {T} places.Wake c = (c.call ≡ calls.Unlock) × ((e : Event T) × (c.own ≡ e ∷ []) × (e.then ≡ thens.GoesOn))

@@ -30,8 +30,8 @@ lock_then own word =
     if word == 0
     then thens.Answers answers.Success
     else (if keeps own
-          then (if nat_lt (lock_spins own) SPIN_REPETITIONS then thens.GoesOn else thens.Waits 1)
-          else thens.Answers answers.Interrupted)
+    then (if nat_lt (lock_spins own) SPIN_REPETITIONS then thens.GoesOn else thens.Waits 1)
+    else thens.Answers answers.Interrupted)
 
 abbrev pub mutex_next : {T : Type 0} → Call T → List (Event T) → ℕ → Option (Move T)
 mutex_next calls.TryLock own word = Some (record { act = exchange words.State 0 1 word; stand = try_lock_then word })

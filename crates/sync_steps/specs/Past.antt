@@ -121,3 +121,11 @@ failed_by act = 0
 abbrev pub failed_in : {T : Type 0} → List (Event T) → ℕ
 failed_in [] = 0
 failed_in (e ∷ past) = failed_by e.act + failed_in past
+
+-- the hold of a party after an act of its call
+abbrev pub hold_or : Option HoldKind → Option HoldKind → Option HoldKind
+hold_or None hold = hold
+hold_or (Some kind) hold = Some kind
+
+abbrev pub hold_after : {T : Type 0} → Object T → Act T → Option (Calling T) → Option HoldKind → Option HoldKind
+hold_after o act calling hold = if frees act then None else hold_or (taken_by o act calling) hold

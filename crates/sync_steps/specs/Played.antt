@@ -4,8 +4,8 @@ use Rattle.sync_steps.specs.declared.steps.event.Event.{Event}
 use Rattle.sync_steps.specs.declared.steps.event.Input.{Input}
 use Rattle.sync_steps.specs.declared.steps.event.Object.{Object}
 use Rattle.sync_steps.specs.declared.steps.event.StepFault.{StepFault}
-use Rattle.sync_steps.specs.declared.steps.playing.PlayFault.{PlayFault}
-use Rattle.sync_steps.specs.declared.steps.playing.PlayFault.TheVariants as faults
+use Rattle.sync_steps.specs.declared.steps.fault.PlayFault.{PlayFault}
+use Rattle.sync_steps.specs.declared.steps.fault.PlayFault.TheVariants as faults
 use Rattle.sync_steps.specs.Arithmetic.{Arithmetic}
 use Rattle.sync_steps.specs.Next.{fault_of}
 use Rattle.sync_steps.specs.Run.{IsRun, after, AtEveryFront}

@@ -24,8 +24,8 @@ abbrev pub AtLastSight : {T : Type 0} → Word → (List (Event T) → Type 0) �
 AtLastSight word P party [] = ⊥
 AtLastSight word P party (e ∷ past) =
     MatchBool (e.party == party)
-      (MatchBool (tells word e.act) (P past) (MatchBool (begins e.act) ⊥ (AtLastSight word P party past)))
-      (AtLastSight word P party past)
+    (MatchBool (tells word e.act) (P past) (MatchBool (begins e.act) ⊥ (AtLastSight word P party past)))
+    (AtLastSight word P party past)
 
 -- the wait closure of the party's call under way has answered Abort
 abbrev pub HasAborted : {T : Type 0} → ℕ → List (Event T) → Type 0

@@ -10,16 +10,14 @@ use std::ops::{BitAnd, BitOr, BitXor, Not};
 ///
 /// A value goes into two 64-bit words: its two's complement bits, the low word first. A type of 64 bits has 0 as its
 /// high word. All operators may be used on all values; the laws below say what they give.
-pub trait AtomicInteger:
-    Copy
+pub trait AtomicInteger: Copy
     + Send
     + Ord
     + Debug
     + BitAnd<Output = Self>
     + BitOr<Output = Self>
     + BitXor<Output = Self>
-    + Not<Output = Self>
-{
+    + Not<Output = Self> {
     /// The type's name, as `u64`.
     const NAME: &'static str;
 
@@ -49,29 +47,44 @@ pub trait AtomicInteger:
 
     /// The operators on bits may be used on all values.
     ghost can_and: { (x y : Self) → Self.can_bitand x y };
+
     ghost can_or: { (x y : Self) → Self.can_bitor x y };
+
     ghost can_xor: { (x y : Self) → Self.can_bitxor x y };
+
     ghost can_invert: { (x : Self) → Self.can_not x };
 
     /// They give what `arithmetic` says.
     ghost and_gives: { (x y r : Self) → Self.bitand_gives x y r → r ≡ arithmetic.and x y };
+
     ghost or_gives: { (x y r : Self) → Self.bitor_gives x y r → r ≡ arithmetic.or x y };
+
     ghost xor_gives: { (x y r : Self) → Self.bitxor_gives x y r → r ≡ arithmetic.xor x y };
+
     ghost inverse_gives: { (x r : Self) → Self.not_gives x r → r ≡ arithmetic.inverse x };
 
     /// So do the comparisons.
     ghost greater_gives: { (x y : Self) → ord_max Self.cmp x y ≡ arithmetic.greater x y };
+
     ghost lesser_gives: { (x y : Self) → ord_min Self.cmp x y ≡ arithmetic.lesser x y };
+
     ghost same_gives: { (x y : Self) → Self.eq x y ≡ arithmetic.same x y };
 
     /// They lead from values of the type to values of the type.
     ghost add_keeps: { KeepsValues arithmetic arithmetic.add };
+
     ghost subtract_keeps: { KeepsValues arithmetic arithmetic.subtract };
+
     ghost and_keeps: { KeepsValues arithmetic arithmetic.and };
+
     ghost or_keeps: { KeepsValues arithmetic arithmetic.or };
+
     ghost xor_keeps: { KeepsValues arithmetic arithmetic.xor };
+
     ghost inverse_keeps: { (x : Self) → IsValue arithmetic x → IsValue arithmetic (arithmetic.inverse x) };
+
     ghost greater_keeps: { KeepsValues arithmetic arithmetic.greater };
+
     ghost lesser_keeps: { KeepsValues arithmetic arithmetic.lesser };
 }
 
@@ -85,23 +98,41 @@ impl AtomicInteger for u64 {
     ghost arithmetic = { u64_arithmetic };
 
     ghost can_and = { Prim.search rules };
+
     ghost can_or = { Prim.search rules };
+
     ghost can_xor = { Prim.search rules };
+
     ghost can_invert = { Prim.search rules };
+
     ghost and_gives = { Prim.search rules };
+
     ghost or_gives = { Prim.search rules };
+
     ghost xor_gives = { Prim.search rules };
+
     ghost inverse_gives = { Prim.search rules };
+
     ghost greater_gives = { Prim.search rules };
+
     ghost lesser_gives = { Prim.search rules };
+
     ghost same_gives = { Prim.search rules };
+
     ghost add_keeps = { Prim.search rules };
+
     ghost subtract_keeps = { Prim.search rules };
+
     ghost and_keeps = { laws.and_keeps };
+
     ghost or_keeps = { laws.or_keeps };
+
     ghost xor_keeps = { laws.xor_keeps };
+
     ghost inverse_keeps = { laws.inverse_keeps };
+
     ghost greater_keeps = { Prim.search rules };
+
     ghost lesser_keeps = { Prim.search rules };
 
     fn to_words(self) -> (u64, u64) {

@@ -68,15 +68,35 @@ pub enum Act<T> {
     /// A call began.
     Begun(Call<T>),
     /// A load told `seen`.
-    Load { word: Word, seen: u64 },
+    Load {
+        word: Word,
+        seen: u64,
+    },
     /// A store put `put`.
-    Store { word: Word, put: u64 },
+    Store {
+        word: Word,
+        put: u64,
+    },
     /// A swap told `old` and put `put`.
-    Swap { word: Word, old: u64, put: u64 },
+    Swap {
+        word: Word,
+        old: u64,
+        put: u64,
+    },
     /// An add or a subtraction told `old` and put `put`.
-    Add { word: Word, old: u64, put: u64 },
+    Add {
+        word: Word,
+        old: u64,
+        put: u64,
+    },
     /// A compare-exchange found `found`; it is done where that is `from`, and then put `to`, else it put nothing.
-    Exchange { word: Word, from: u64, to: u64, found: u64, done: bool },
+    Exchange {
+        word: Word,
+        from: u64,
+        to: u64,
+        found: u64,
+        done: bool,
+    },
     /// A wake closure was called.
     Woke(Wake),
     /// The wait closure answered.

@@ -1,0 +1,73 @@
+-- Playing one more input.
+use Rattle.std.proofs.Common.{◌≡◌, ℕ, zero, suc, ◌+◌, ◌<◌, refl, sym, ◌∙◌, ap, subst, List, [], ◌∷◌, ◌++◌, length, take, get_or, Option, Some, None, slice_get, arith}
+use Rattle.std.proofs.lemmas.Option.{slice_get-get_or}
+use Rattle.std.proofs.lemmas.List.{take_more}
+use Rattle.sync_steps.specs.declared.steps.event.Event.{Event}
+use Rattle.sync_steps.specs.declared.steps.event.Input.{Input}
+use Rattle.sync_steps.specs.declared.steps.event.Object.{Object}
+use Rattle.sync_steps.specs.declared.steps.event.StepFault.{StepFault}
+use Rattle.sync_steps.specs.Arithmetic.{Arithmetic}
+use Rattle.sync_steps.specs.Next.{IsNext, fault_of}
+use Rattle.sync_steps.specs.Run.{IsPast, IsRun, after}
+use Rattle.sync_steps.specs.Standing.{Standing, StandsAt}
+use Rattle.sync_steps.specs.Played.{Continues, Plays, PlaysUpTo}
+use Rattle.sync_steps.proofs.Headlines.{headline, fronts}
+
+run_more :
+    {T : Type 0} (z : Arithmetic T) (o : Object T) (parties : ℕ) (past : List (Event T)) (schedule : List (ℕ × Input T)) (events : List (Event T)) (turn : ℕ × Input T) (e : Event T) →
+    IsRun z o parties past schedule events → IsNext z o parties (after events past) turn.0 turn.1 e → IsRun z o parties past (schedule ++ turn ∷ []) (events ++ e ∷ [])
+run_more z o parties past [] [] turn e run next = (next, tt)
+run_more z o parties past (t ∷ schedule) (d ∷ events) turn e run next = (run.0, run_more z o parties (d ∷ past) schedule events turn e run.1 next)
+run_more z o parties past [] (d ∷ events) turn e run next = absurd run
+run_more z o parties past (t ∷ schedule) [] turn e run next = absurd run
+
+after_more : {T : Type 0} (events : List (Event T)) (e : Event T) (past : List (Event T)) → after (events ++ e ∷ []) past ≡ e ∷ after events past
+after_more [] e past = refl
+after_more (d ∷ events) e past = after_more events e (d ∷ past)
+
+-- nothing is played yet
+pub plays_none : {T : Type 0} (z : Arithmetic T) (m : Standing T) → Plays z [] m [] m
+plays_none z m o parties past at = record { run = tt; stands = at; fronts = headline z o parties past at.run }
+
+-- what a step promises of its event, for every run that stands before it
+abbrev pub Steps : {T : Type 0} → Arithmetic T → Standing T → ℕ → Input T → Event T → Standing T → Type 0
+Steps {T} z old party input e new =
+    (o : Object T) (parties : ℕ) (past : List (Event T)) → StandsAt z o parties past old → IsNext z o parties past party input e × StandsAt z o parties (e ∷ past) new
+
+plays_more :
+    {T : Type 0} (z : Arithmetic T) (schedule : List (ℕ × Input T)) (old mid new : Standing T) (events : List (Event T)) (turn : ℕ × Input T) (e : Event T) →
+    Plays z schedule old events mid → Steps z mid turn.0 turn.1 e new → Plays z (schedule ++ turn ∷ []) old (events ++ e ∷ []) new
+plays_more {T} z schedule old mid new events turn e plays steps o parties past at =
+    let before = plays o parties past at in
+    let one = steps o parties (after events past) before.stands in
+    let run = run_more z o parties past schedule events turn e before.run one.0 in
+    record {
+      run = run;
+      stands = subst (λ (p : List (Event T)). StandsAt z o parties p new) (sym (after_more events e past)) one.1;
+      fronts = fronts z o parties past (schedule ++ turn ∷ []) (events ++ e ∷ []) at.run run;
+    }
+
+-- one more input of the schedule is played
+pub plays_next :
+    {T : Type 0} (z : Arithmetic T) (schedule : List (ℕ × Input T)) (i : ℕ) (old mid new : Standing T) (events : List (Event T)) (turn : ℕ × Input T) (e : Event T) →
+    i < length schedule → turn ≡ get_or schedule i turn → Plays z (take i schedule) old events mid → Steps z mid turn.0 turn.1 e new →
+    Plays z (take (i + 1) schedule) old (events ++ e ∷ []) new
+plays_next {T} z schedule i old mid new events turn e below is plays steps =
+    let taken : take (i + 1) schedule ≡ take i schedule ++ turn ∷ [] = take_more schedule i turn below ∙ ap (λ (t : ℕ × Input T). take i schedule ++ t ∷ []) (sym is) in
+    subst (λ (s : List (ℕ × Input T)). Plays z s old (events ++ e ∷ []) new) (sym taken) (plays_more z (take i schedule) old mid new events turn e plays steps)
+
+-- the next input of the schedule is refused
+pub refuses_next :
+    {T : Type 0} (z : Arithmetic T) (schedule : List (ℕ × Input T)) (i : ℕ) (old mid new : Standing T) (events : List (Event T)) (turn : ℕ × Input T) (fault : StepFault) →
+    i < length schedule → turn ≡ get_or schedule i turn → length events ≡ i → Plays z (take i schedule) old events mid → new ≡ mid →
+    ((o : Object T) (parties : ℕ) (past : List (Event T)) → StandsAt z o parties past mid → fault_of o parties past turn.0 turn.1 ≡ Some fault) →
+    (o : Object T) (parties : ℕ) (past : List (Event T)) → StandsAt z o parties past old → PlaysUpTo z o parties past schedule events fault new
+refuses_next {T} z schedule i old mid new events turn fault below is count plays same refuses o parties past at =
+    let before = plays o parties past at in
+    let here : Continues z o parties past (take i schedule) events new = subst (λ (m : Standing T). Continues z o parties past (take i schedule) events m) (sym same) before in
+    record {
+      before = subst (λ k. Continues z o parties past (take k schedule) events new) (sym count) here;
+      turn = turn;
+      refused = ap (slice_get schedule) count ∙ slice_get-get_or schedule i turn below ∙ ap Some (sym is);
+      fault_is = refuses o parties (after events past) before.stands;
+    }
