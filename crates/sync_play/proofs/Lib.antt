@@ -2,3 +2,5 @@ pub mod Cutting
 pub mod Digits
 pub mod Runs
 pub mod TaskLaws
+pub mod TextLaws
+pub mod Bytes

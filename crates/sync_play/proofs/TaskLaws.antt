@@ -39,11 +39,11 @@ pub record Halfway (o : Object ℕ) (parties : ℕ) (past : List Ev) (meant : Re
 pub begins_so : (o : Object ℕ) (parties : ℕ) (past : List Ev) (rest : List Ev → Result (List Ev) LineFault) (old : List ℕ) (machine : Standing ℕ) → StandsAt u64_arithmetic o parties past machine → Halfway o parties past (rest past) rest old old machine
 begins_so o parties past rest old machine stands = record { events = []; so_far = sym (with_none (rest past)); output = sym (append-nil old); stands = stands }
 
-after_both : (events more past : List Ev) → after (events ++ more) past ≡ after more (after events past)
+pub after_both : (events more past : List Ev) → after (events ++ more) past ≡ after more (after events past)
 after_both [] more past = refl
 after_both (e ∷ events) more past = after_both events more (e ∷ past)
 
-printed_both : (events more : List Ev) (old mid new : List ℕ) → mid ≡ old ++ printed events → new ≡ mid ++ printed more → new ≡ old ++ printed (events ++ more)
+pub printed_both : (events more : List Ev) (old mid new : List ℕ) → mid ≡ old ++ printed events → new ≡ mid ++ printed more → new ≡ old ++ printed (events ++ more)
 printed_both events more old mid new e f =
     f ∙ ap (λ (l : List ℕ). l ++ printed more) e ∙ append_assoc old (printed events) (printed more) ∙ ap (λ (l : List ℕ). old ++ l) (sym (flat_map-append event_lines events more))
 

@@ -9,3 +9,5 @@ pub mod Printed
 pub mod Events
 pub mod Pieces
 pub mod Output
+pub mod Text
+pub mod RunFaults

@@ -1,4 +1,7 @@
-//! Plays a schedule text, read from standard input, and writes what its events print.
+//! Plays a schedule text, read from standard input, and writes what its events print to standard output.
+//!
+//! A fault is told on standard error in one line. The exit status is 0 where the text was played, 2 for a fault of the text,
+//! and 1 where reading, writing or memory failed.
 #![tactic(auto)]
 
 pub mod fault;
@@ -8,7 +11,18 @@ mod opening;
 mod orders;
 mod pieces;
 mod printed;
-mod stub;
+pub mod run;
+pub mod text;
 mod words;
 
-fn main(_rt: HostRuntime) {}
+use std::process::ExitCode;
+
+fn main(rt: HostRuntime) -> ExitCode {
+    match run::run(rt.alloc(), &mut rt.stdin(), &mut rt.stdout()) {
+        Ok(()) => ExitCode::SUCCESS,
+        Err(fault) => {
+            let _ = eprintln!(rt; "{fault}");
+            ExitCode::from(fault.status())
+        }
+    }
+}

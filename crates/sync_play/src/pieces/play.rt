@@ -10,9 +10,9 @@ ghost use Rattle.sync_play.specs.Pieces.{has_ended, IsPiece, Does};
 use super::Piece;
 use crate::fault::Refusal;
 use crate::printed::print_events;
-use crate::stub::play;
+
 use std::alloc::{AllocError, Global};
-use sync_steps::steps::{Event, Input, Machine, PlayFault, Then};
+use sync_steps::steps::{Event, Input, Machine, PlayFault, Then, play};
 
 /// Whether a call goes on by itself.
 fn goes_on(then: &Then<u64>) -> bool
