@@ -53,7 +53,7 @@ writing_goes_on a b c bytes rest rest' n h k e =
       count = h.count + n;
       rest_is = e ∙ ap (drop n) h.rest_is ∙ drop_both h.count n bytes;
       wrote = subst (λ (l : List ℕ). Appends a c l) (take_both h.count n bytes)
-        (writes_both a b c (take h.count bytes) (take n (drop h.count bytes)) h.wrote (subst (λ (l : List ℕ). Appends b c (take n l)) h.rest_is k));
+          (writes_both a b c (take h.count bytes) (take n (drop h.count bytes)) h.wrote (subst (λ (l : List ℕ). Appends b c (take n l)) h.rest_is k));
     }
 
 pub writing_ends : (a b : Option (List ℕ)) (bytes rest : List ℕ) → HasWritten a b bytes rest → rest ≡ [] → Appends a b bytes

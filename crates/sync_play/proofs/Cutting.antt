@@ -127,7 +127,7 @@ first_line (byte ∷ []) f rest e =
     feed_step (eqb byte 10) byte f [] rest [] [] (cond (eqb byte 13 && false) [] ((byte ∷ []) ∷ [])) e (λ k. absurd cc)
 first_line (byte ∷ next ∷ more) f rest e =
     feed_step (eqb byte 10) byte f (next ∷ more) rest (from is_feed (next ∷ more)) (before is_feed (next ∷ more)) (cond (eqb byte 13 && eqb next 10) (lines_of (next ∷ more)) (onto_line byte (lines_of (next ∷ more)))) e
-      (λ k. ret_step (eqb byte 13) (eqb next 10) byte next (before is_feed more) (lines_of (next ∷ more)) (lines_of rest) refl (first_line (next ∷ more) f rest k))
+    (λ k. ret_step (eqb byte 13) (eqb next 10) byte next (before is_feed more) (lines_of (next ∷ more)) (lines_of rest) refl (first_line (next ∷ more) f rest k))
 
 pub next_from : (xs : List ℕ) (i : ℕ) → i < length xs → drop i xs ≡ get_or xs i 0 ∷ drop (i + 1) xs
 next_from xs i h = rw (add-one, drop-cons xs i 0) refl

@@ -4,3 +4,4 @@ pub mod Runs
 pub mod TaskLaws
 pub mod TextLaws
 pub mod Bytes
+pub mod RunLaw

@@ -103,9 +103,9 @@ events_then o parties past (turn ∷ schedule) more events h =
     let b = bind_ok (events_of o parties (a.0 ∷ past) schedule) (λ es. Ok (a.0 ∷ es)) events a.2 in
     let all : a.0 ∷ b.0 ≡ events = ok_is (a.0 ∷ b.0) events b.2 in
     subst (λ (es : List Ev). events_of o parties past (turn ∷ (schedule ++ more)) ≡ with_front es (events_of o parties (after es past) more)) all
-      (bind_to (event_of o parties past turn.0 turn.1) (λ e. events_of o parties (e ∷ past) (schedule ++ more) >>= λ es. Ok (e ∷ es)) a.0 (with_front (a.0 ∷ b.0) (events_of o parties (after b.0 (a.0 ∷ past)) more)) a.1
-        (ap (λ (r : Result (List Ev) LineFault). r >>= λ es. Ok (a.0 ∷ es)) (events_then o parties (a.0 ∷ past) schedule more b.0 b.1)
-         ∙ with_first a.0 b.0 (events_of o parties (after b.0 (a.0 ∷ past)) more)))
+    (bind_to (event_of o parties past turn.0 turn.1) (λ e. events_of o parties (e ∷ past) (schedule ++ more) >>= λ es. Ok (e ∷ es)) a.0 (with_front (a.0 ∷ b.0) (events_of o parties (after b.0 (a.0 ∷ past)) more)) a.1
+    (ap (λ (r : Result (List Ev) LineFault). r >>= λ es. Ok (a.0 ∷ es)) (events_then o parties (a.0 ∷ past) schedule more b.0 b.1)
+    ∙ with_first a.0 b.0 (events_of o parties (after b.0 (a.0 ∷ past)) more)))
 
 fault_then : {A B : Type 0} (r q : Result A LineFault) (f : A → Result B LineFault) (g : A → Result B LineFault) (fault : LineFault) → ((x : A) → r ≡ Ok x → f x ≡ Err fault → g x ≡ Err fault) → (r >>= f) ≡ Err fault → (r >>= g) ≡ Err fault
 fault_then (Ok x) q f g fault k e = k x refl e
@@ -121,9 +121,9 @@ unfolding events_of
 fault_stays o parties past [] more fault h = absurd cc
 fault_stays o parties past (turn ∷ schedule) more fault h =
     fault_then (event_of o parties past turn.0 turn.1) (event_of o parties past turn.0 turn.1)
-      (λ e. events_of o parties (e ∷ past) schedule >>= λ es. Ok (e ∷ es))
-      (λ e. events_of o parties (e ∷ past) (schedule ++ more) >>= λ es. Ok (e ∷ es)) fault
-      (λ e same k. rw (fault_stays o parties (e ∷ past) schedule more fault (inner_fault e (events_of o parties (e ∷ past) schedule) fault k)) refl) h
+    (λ e. events_of o parties (e ∷ past) schedule >>= λ es. Ok (e ∷ es))
+    (λ e. events_of o parties (e ∷ past) (schedule ++ more) >>= λ es. Ok (e ∷ es)) fault
+    (λ e same k. rw (fault_stays o parties (e ∷ past) schedule more fault (inner_fault e (events_of o parties (e ∷ past) schedule) fault k)) refl) h
 
 -- The first refused input is the fault.
 pub run_refused : (o : Object ℕ) (parties : ℕ) (past : List Ev) (schedule more : List (ℕ × Input ℕ)) (turn : ℕ × Input ℕ) (events : List Ev) (fault : StepFault) → IsRun u64_arithmetic o parties past schedule events

@@ -135,7 +135,7 @@ steps_further o parties past party left piece mid new machine h a =
     record {
       events = a.events;
       so_far = ap (λ (n : ℕ). events_of o parties past (steps_of n party)) (left_again left piece h) ∙ ap (events_of o parties past) (steps_more piece (left - piece) party)
-        ∙ events_then o parties past (steps_of piece party) (steps_of (left - piece) party) a.events a.are_meant;
+          ∙ events_then o parties past (steps_of piece party) (steps_of (left - piece) party) a.events a.are_meant;
       output = a.output;
       stands = a.stands;
     }
@@ -199,7 +199,7 @@ go_further o parties past party count left piece schedule old mid new machine ma
     let there = after h.events past in
     let a = subst (λ (l : List (ℕ × Input ℕ)). Advances o parties there (events_of o parties there l) mid new machine') same (d o parties there h.stands) in
     goes_further o parties past (events_of o parties past (steps_of count party)) (λ at. events_of o parties at (steps_of left party)) (λ at. events_of o parties at (steps_of (left - piece) party)) old mid new machine machine' h
-      (steps_further o parties there party left piece mid new machine' within a)
+    (steps_further o parties there party left piece mid new machine' within a)
 
 pub go_fails : (e : Refusal) (o : Object ℕ) (parties : ℕ) (past : List Ev) (party count left piece : ℕ) (schedule : List (ℕ × Input ℕ)) (old mid new : List ℕ) (machine machine' : Standing ℕ) → piece ≤ left → schedule ≡ steps_of piece party
     → Halfway o parties past (events_of o parties past (steps_of count party)) (λ there. events_of o parties there (steps_of left party)) old mid machine
@@ -210,14 +210,14 @@ go_fails (refusals.Fault fault) o parties past party count left piece schedule o
     let there = after h.events past in
     let f = subst (λ (l : List (ℕ × Input ℕ)). events_of o parties there l ≡ Err fault) same (d o parties there h.stands) in
     fails_there o parties past (events_of o parties past (steps_of count party)) (λ at. events_of o parties at (steps_of left party)) old mid machine fault h
-      (steps_fail o parties there party left piece fault within f)
+    (steps_fail o parties there party left piece fault within f)
 
 pub go_done : (o : Object ℕ) (parties : ℕ) (past : List Ev) (party count left : ℕ) (old new : List ℕ) (machine : Standing ℕ) → left ≡ 0
     → Halfway o parties past (events_of o parties past (steps_of count party)) (λ there. events_of o parties there (steps_of left party)) old new machine
     → Advances o parties past (events_of o parties past (steps_of count party)) old new machine
 go_done o parties past party count left old new machine none h =
     ends_here o parties past (events_of o parties past (steps_of count party)) (λ there. events_of o parties there (steps_of left party)) old new machine h
-      (rw none (no_steps o parties (after h.events past) party))
+    (rw none (no_steps o parties (after h.events past) party))
 
 -- playing a piece, whatever run stands at the machine
 abbrev PlaysPiece : List (ℕ × Input ℕ) → List ℕ → List ℕ → Standing ℕ → Standing ℕ → Piece → Type 0
@@ -232,7 +232,7 @@ run_on o parties past party limit n fuel left schedule old mid new machine machi
     let there = after h.events past in
     let p = subst (λ (l : List (ℕ × Input ℕ)). IsPiece o parties there l mid new machine' piece) same (d o parties there h.stands) in
     rw less (goes_further o parties past (run_of o parties limit past party) (λ at. run_of o parties fuel at party) (λ at. run_of o parties (fuel - n) at party) old mid new machine machine' h
-      (run_further o parties there party n fuel mid new machine' piece within p going none))
+    (run_further o parties there party n fuel mid new machine' piece within p going none))
 
 pub run_out : (o : Object ℕ) (parties : ℕ) (past : List Ev) (party limit n fuel : ℕ) (schedule : List (ℕ × Input ℕ)) (old mid new : List ℕ) (machine machine' : Standing ℕ) (piece : Piece) → n ≤ fuel → schedule ≡ steps_of n party
     → Halfway o parties past (run_of o parties limit past party) (λ there. run_of o parties fuel there party) old mid machine
@@ -242,7 +242,7 @@ run_out o parties past party limit n fuel schedule old mid new machine machine' 
     let there = after h.events past in
     let p = subst (λ (l : List (ℕ × Input ℕ)). IsPiece o parties there l mid new machine' piece) same (d o parties there h.stands) in
     comes_to_end o parties past (run_of o parties limit past party) (λ at. run_of o parties fuel at party) old mid new machine machine' h
-      (run_ends o parties there party n fuel mid new machine' piece within p ended)
+    (run_ends o parties there party n fuel mid new machine' piece within p ended)
 
 pub run_refused : (o : Object ℕ) (parties : ℕ) (past : List Ev) (party limit n fuel : ℕ) (schedule : List (ℕ × Input ℕ)) (old mid new : List ℕ) (machine machine' : Standing ℕ) (piece : Piece) (fault : StepFault) → n ≤ fuel → schedule ≡ steps_of n party
     → Halfway o parties past (run_of o parties limit past party) (λ there. run_of o parties fuel there party) old mid machine
@@ -252,14 +252,14 @@ run_refused o parties past party limit n fuel schedule old mid new machine machi
     let there = after h.events past in
     let p = subst (λ (l : List (ℕ × Input ℕ)). IsPiece o parties there l mid new machine' piece) same (d o parties there h.stands) in
     fails_there o parties past (run_of o parties limit past party) (λ at. run_of o parties fuel at party) old mid machine (line_fault_of fault) h
-      (run_fails o parties there party n fuel mid new machine' piece fault within p going some)
+    (run_fails o parties there party n fuel mid new machine' piece fault within p going some)
 
 pub run_limited : (o : Object ℕ) (parties : ℕ) (past : List Ev) (party limit fuel : ℕ) (old new : List ℕ) (machine : Standing ℕ) → fuel ≡ 0
     → Halfway o parties past (run_of o parties limit past party) (λ there. run_of o parties fuel there party) old new machine
     → run_of o parties limit past party ≡ Err faults.StepLimit
 run_limited o parties past party limit fuel old new machine none h =
     fails_there o parties past (run_of o parties limit past party) (λ at. run_of o parties fuel at party) old new machine faults.StepLimit h
-      (rw none (ran_none o parties (after h.events past) party))
+    (rw none (ran_none o parties (after h.events past) party))
 
 pub front_of_steps : (schedule items : List (ℕ × Input ℕ)) (n count party : ℕ) → schedule ≡ items → items ≡ steps_of count party → n ≤ count → take n schedule ≡ steps_of n party
 front_of_steps schedule items n count party e h within = rw (e, h) (steps_take n count party within)

@@ -95,8 +95,8 @@ text_goes_on o parties first lines past number rest line rest' old mid new machi
     record {
       events = h.events ++ a.events;
       so_far = h.so_far ∙ ap (with_text (printed h.events)) (ap (λ (l : List (List ℕ)). output_after o parties number l (after h.events past)) same ∙ line_then o parties number line rest' (after h.events past) a.events a.are_meant)
-        ∙ printed_text h.events a.events (output_after o parties (number + 1) rest' (after a.events (after h.events past)))
-        ∙ ap (λ (p : List Ev). with_text (printed (h.events ++ a.events)) (output_after o parties (number + 1) rest' p)) (sym there);
+          ∙ printed_text h.events a.events (output_after o parties (number + 1) rest' (after a.events (after h.events past)))
+          ∙ ap (λ (p : List Ev). with_text (printed (h.events ++ a.events)) (output_after o parties (number + 1) rest' p)) (sym there);
       output = printed_both h.events a.events old mid new h.output a.output;
       stands = rw there a.stands;
     }

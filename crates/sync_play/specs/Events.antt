@@ -30,7 +30,7 @@ unless_refused (Some fault) event = Err (line_fault_of fault)
 unfoldable pub event_of : Object ℕ → ℕ → List (Event ℕ) → ℕ → Input ℕ → Result (Event ℕ) LineFault
 event_of o parties past party input =
     unless_refused (fault_of o parties past party input)
-      (event_by party (moved_of u64_arithmetic o (call_of party past) (hold_among party (holds_of o past)) (word_in u64_arithmetic o past) input))
+    (event_by party (moved_of u64_arithmetic o (call_of party past) (hold_among party (holds_of o past)) (word_in u64_arithmetic o past) input))
 
 -- the events of a schedule
 unfoldable pub events_of : Object ℕ → ℕ → List (Event ℕ) → List (ℕ × Input ℕ) → Result (List (Event ℕ)) LineFault
@@ -46,8 +46,8 @@ run_of o parties zero past party = Err faults.StepLimit
 run_of o parties (suc steps) past party = do
   event ← event_of o parties past party inputs.Go
   if goes_on event.then
-    then (run_of o parties steps (event ∷ past) party >>= λ events. Ok (event ∷ events))
-    else Ok (event ∷ [])
+      then (run_of o parties steps (event ∷ past) party >>= λ events. Ok (event ∷ events))
+      else Ok (event ∷ [])
 
 -- so many steps of a party
 unfoldable pub steps_of : ℕ → ℕ → List (ℕ × Input ℕ)

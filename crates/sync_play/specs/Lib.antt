@@ -11,3 +11,4 @@ pub mod Pieces
 pub mod Output
 pub mod Text
 pub mod RunFaults
+pub mod TextRuns

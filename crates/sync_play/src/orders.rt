@@ -2,9 +2,8 @@
 
 mod tasks;
 
-pub use tasks::order;
-
 use sync_steps::steps::Input;
+pub use tasks::order;
 
 /// How many steps a line makes at most.
 pub const STEP_LIMIT: u64 = 100000;

@@ -4,10 +4,9 @@ ghost use Rattle.sync_play.specs.declared.run.RunFault.TheVariants as runs;
 
 mod play;
 
-pub use play::run;
-
 use crate::fault::LineFault;
 use crate::text::TextFault;
+pub use play::run;
 use std::alloc::AllocError;
 use std::fmt;
 

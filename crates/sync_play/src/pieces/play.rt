@@ -10,7 +10,6 @@ ghost use Rattle.sync_play.specs.Pieces.{has_ended, IsPiece, Does};
 use super::Piece;
 use crate::fault::Refusal;
 use crate::printed::print_events;
-
 use std::alloc::{AllocError, Global};
 use sync_steps::steps::{Event, Input, Machine, PlayFault, Then, play};
 

@@ -44,7 +44,12 @@ fn go(
 }
 
 /// Makes steps until the call has answered or stands at a closure.
-fn run(alloc: Global, machine: &mut Machine<u64>, party: usize, out: &mut String) -> Result<(), Refusal>
+fn run(
+    alloc: Global,
+    machine: &mut Machine<u64>,
+    party: usize,
+    out: &mut String,
+) -> Result<(), Refusal>
     ensures { Does (λ o parties past. run_of o parties STEP_LIMIT past party)
         (string_bytes out.old) (string_bytes out.new) machine.old machine.new result }
 {

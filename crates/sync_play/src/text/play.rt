@@ -30,7 +30,7 @@ fn play_line(
 ) -> Result<(), Refusal>
     ensures { (parties : ℕ) (past : List (AnEvent ℕ)) → StandsAt u64_arithmetic object parties past machine.old →
         IsOutcome object parties past (line_events object parties past (words_of line.now))
-            (string_bytes out.old) (string_bytes out.new) machine.new result }
+        (string_bytes out.old) (string_bytes out.new) machine.new result }
 {
     let Some((party, rest)) = next_word(line) else {
         return Ok(());

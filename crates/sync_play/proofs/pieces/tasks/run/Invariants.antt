@@ -13,4 +13,4 @@ use Rattle.sync_play.proofs.pieces.tasks.run.Given as goal
 abbrev pub invariant-loop : goal.invariant-loop
 invariant-loop l =
     (o : Object ℕ) (parties : ℕ) (past : List (Event ℕ)) → StandsAt u64_arithmetic o parties past l.initial.machine →
-      Halfway o parties past (run_of o parties STEP_LIMIT past l.party) (λ there. run_of o parties (STEP_LIMIT - PIECE * l.counter) there l.party) (string_bytes l.initial.out) (string_bytes l.out) l.machine
+    Halfway o parties past (run_of o parties STEP_LIMIT past l.party) (λ there. run_of o parties (STEP_LIMIT - PIECE * l.counter) there l.party) (string_bytes l.initial.out) (string_bytes l.out) l.machine

@@ -17,11 +17,11 @@ returns-in_err-order c =
 pub returns-then-order-eq0 : goal.returns-then-order-eq0
 returns-then-order-eq0 c =
     λ parties past stands. order_is c.args.object parties past _ c.in-Some.party.now (words_of c.in-Some.rest.now) c.in_ok-order.order c.in-Some.ensures c.in_ok-order.ensures
-      ∙ no_party c.args.object parties past c.in_ok-order.order.party c.in_ok-order.order.task c.if-order-eq0.true
+    ∙ no_party c.args.object parties past c.in_ok-order.order.party c.in_ok-order.order.task c.if-order-eq0.true
 
 pub returns : goal.returns
 returns c =
     λ parties past stands. same_outcome c.args.object parties past _ _ _ _ _ _
-      (order_is c.args.object parties past _ c.in-Some.party.now (words_of c.in-Some.rest.now) c.in_ok-order.order c.in-Some.ensures c.in_ok-order.ensures
-       ∙ party_from_one c.args.object parties past c.in_ok-order.order.party c.in_ok-order.order.task c.if-order-eq0.false)
-      (c.play_task.ensures c.args.object parties past stands)
+    (order_is c.args.object parties past _ c.in-Some.party.now (words_of c.in-Some.rest.now) c.in_ok-order.order c.in-Some.ensures c.in_ok-order.ensures
+    ∙ party_from_one c.args.object parties past c.in_ok-order.order.party c.in_ok-order.order.task c.if-order-eq0.false)
+    (c.play_task.ensures c.args.object parties past stands)
