@@ -30,7 +30,7 @@ use Rattle.sync_play.specs.Faults.{◌>>=◌, FaultAt, at_line}
 use Rattle.sync_play.specs.Lines.{lines_of}
 use Rattle.sync_play.specs.Words.{words_of}
 use Rattle.sync_play.specs.Numbers.{in_range, number_of, number_within}
-use Rattle.sync_play.specs.Orders.{alone, go_task, some_task, call_alone, mutex_task, call_task, task_of, order_of}
+use Rattle.sync_play.specs.Orders.{alone, go_task, some_task, post_task, call_alone, mutex_task, call_task, task_of, order_of}
 use Rattle.sync_play.specs.Opening.{opening_of}
 use Rattle.sync_play.specs.Events.{event_by, unless_refused, event_of, events_of, run_of, steps_of, task_events, party_events, line_events}
 use Rattle.sync_play.specs.Output.{output_after, output_of_lines, output_of}
@@ -125,6 +125,13 @@ some_makes (word ∷ []) t e =
     subst HasValues (ok_is (tasks.Give (inputs.Choose (Some b.0))) t b.2) value
 some_makes (word ∷ other ∷ words) t e = absurd cc
 
+post_makes : (words : List (List ℕ)) → MakesValues (post_task words)
+post_makes [] t e = absurd cc
+post_makes (word ∷ []) t e =
+    let b = bind_ok (number_within 0 (2 ^ 64 - 1) word) (λ n. Ok (tasks.Give (inputs.Begin (calls.Post n)))) t e in
+    subst HasValues (ok_is (tasks.Give (inputs.Begin (calls.Post b.0))) t b.2) tt
+post_makes (word ∷ other ∷ words) t e = absurd cc
+
 fault_makes : (fault : LineFault) → MakesValues (Err fault)
 fault_makes fault t e = absurd cc
 
@@ -133,6 +140,11 @@ call_makes objects.Mutex verb words =
     either_makes _ _ _ (alone_makes (tasks.Give (inputs.Begin calls.Lock)) words tt)
     (either_makes _ _ _ (alone_makes (tasks.Give (inputs.Begin calls.TryLock)) words tt)
     (either_makes _ _ _ (alone_makes (tasks.Give (inputs.Begin calls.Unlock)) words tt) (fault_makes _)))
+call_makes (objects.Semaphore initial) verb words =
+    either_makes _ _ _ (alone_makes (tasks.Give (inputs.Begin calls.Value)) words tt)
+    (either_makes _ _ _ (post_makes words)
+    (either_makes _ _ _ (alone_makes (tasks.Give (inputs.Begin calls.Wait)) words tt)
+    (either_makes _ _ _ (alone_makes (tasks.Give (inputs.Begin calls.TryWait)) words tt) (fault_makes _))))
 call_makes other verb words = fault_makes _
 
 task_makes : (o : Object ℕ) (verb : List ℕ) (words : List (List ℕ)) → MakesValues (task_of o verb words)

@@ -19,6 +19,7 @@ use Rattle.sync_steps.specs.declared.steps.event.StepFault.TheVariants as steps
 use Rattle.sync_steps.specs.declared.steps.place.HoldKind.{HoldKind}
 use Rattle.sync_steps.specs.Integers.{u64_arithmetic}
 use Rattle.sync_steps.specs.Moves.{Move, goes_on}
+use Rattle.sync_steps.specs.SemaphoreTable.{semaphore_next, take_next, open_look, try_wait_then, wait_then}
 use Rattle.sync_steps.specs.MutexTable.{mutex_next}
 use Rattle.sync_steps.specs.Sights.{begins}
 use Rattle.sync_steps.specs.Next.{fault_of, fault_at, moved_of, next_of, IsNext}
@@ -164,9 +165,23 @@ mutex_begins_none calls.Unlock [] word m e = ap (λ (n : Move ℕ). begins n.act
 mutex_begins_none calls.Unlock (own ∷ events) word m e = ap (λ (n : Move ℕ). begins n.act) (sym (move_is _ m e))
 mutex_begins_none other own word m e = absurd cc
 
+-- of a semaphore
+take_begins_none : (look : Option ℕ) (word : ℕ) (stand : Then ℕ) → begins (take_next look word stand).act ≡ false
+take_begins_none None word stand = refl
+take_begins_none (Some v) word stand = refl
+
+semaphore_begins_none : (call : Call ℕ) (own : List Ev) (word : ℕ) (m : Move ℕ) → semaphore_next call own word ≡ Some m → begins m.act ≡ false
+semaphore_begins_none calls.Value own word m e = ap (λ (n : Move ℕ). begins n.act) (sym (move_is _ m e))
+semaphore_begins_none (calls.Post n) [] word m e = ap (λ (n : Move ℕ). begins n.act) (sym (move_is _ m e))
+semaphore_begins_none (calls.Post n) (own ∷ events) word m e = ap (λ (n : Move ℕ). begins n.act) (sym (move_is _ m e))
+semaphore_begins_none calls.TryWait own word m e = ap (λ (n : Move ℕ). begins n.act) (sym (move_is _ m e)) ∙ take_begins_none (open_look own) word (try_wait_then word)
+semaphore_begins_none calls.Wait own word m e = ap (λ (n : Move ℕ). begins n.act) (sym (move_is _ m e)) ∙ take_begins_none (open_look own) word (wait_then own word)
+semaphore_begins_none other own word m e = absurd cc
+
 -- of any object
 next_begins_none : (o : Object ℕ) (c : Calling ℕ) (hold : Option HoldKind) (memory : Word → ℕ) (m : Move ℕ) → next_of u64_arithmetic o c hold memory ≡ Some m → begins m.act ≡ false
 next_begins_none objects.Mutex c hold memory m e = mutex_begins_none c.call c.own _ m e
+next_begins_none (objects.Semaphore initial) c hold memory m e = semaphore_begins_none c.call c.own _ m e
 next_begins_none other c hold memory m e = absurd cc
 
 go_begins_none : (o : Object ℕ) (calling : Option (Calling ℕ)) (hold : Option HoldKind) (memory : Word → ℕ) (m : Move ℕ) → moved_of u64_arithmetic o calling hold memory inputs.Go ≡ Some m → begins m.act ≡ false

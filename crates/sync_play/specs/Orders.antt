@@ -45,9 +45,25 @@ mutex_task verb words =
     else (if bytes_eq verb (codes "unlock") then call_alone calls.Unlock words
     else Err faults.BadLine))
 
+-- `post` gives so many permits
+abbrev pub post_task : List (List ℕ) → Result Task LineFault
+post_task [] = Err faults.BadLine
+post_task (word ∷ []) = number_within 0 (2 ^ 64 - 1) word >>= λ n. Ok (tasks.Give (inputs.Begin (calls.Post n)))
+post_task (word ∷ other ∷ words) = Err faults.BadLine
+
+-- The calls of a semaphore. A call that is named `wait` is written `start_wait`, since `wait` is the closure's answer.
+abbrev pub semaphore_task : List ℕ → List (List ℕ) → Result Task LineFault
+semaphore_task verb words =
+    if bytes_eq verb (codes "value") then call_alone calls.Value words
+    else (if bytes_eq verb (codes "post") then post_task words
+    else (if bytes_eq verb (codes "start_wait") then call_alone calls.Wait words
+    else (if bytes_eq verb (codes "try_wait") then call_alone calls.TryWait words
+    else Err faults.BadLine)))
+
 -- the calls of an object
 abbrev pub call_task : Object ℕ → List ℕ → List (List ℕ) → Result Task LineFault
 call_task objects.Mutex verb words = mutex_task verb words
+call_task (objects.Semaphore initial) verb words = semaphore_task verb words
 call_task o verb words = Err faults.BadLine
 
 -- the verbs that every object knows, and its calls

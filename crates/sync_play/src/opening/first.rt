@@ -1,4 +1,5 @@
-ghost use Rattle.std.specs.Prelude.{◌≡◌, List, IfOk};
+ghost use Rattle.std.specs.Prelude.{◌≡◌, true, List, IfOk};
+ghost use Rattle.sync_steps.specs.Run.{is_served};
 ghost use Rattle.sync_play.specs.Words.{words_of};
 ghost use Rattle.sync_play.specs.Opening as meaning;
 
@@ -24,17 +25,43 @@ fn plain(object: Object<u64>, rest: &[u8]) -> Result<Opening, LineFault>
     }
 }
 
+/// A semaphore, which is opened with its value.
+fn semaphore(rest: &[u8]) -> Result<Opening, LineFault>
+    ensures value { result ≡ meaning.opened_semaphore (words_of rest.now) }
+    ensures served { IfOk result (λ opened. is_served opened.object ≡ true) }
+{
+    let Some((parties, rest)) = next_word(rest) else {
+        return Err(LineFault::BadLine);
+    };
+    let Some((value, rest)) = next_word(rest) else {
+        return Err(LineFault::BadLine);
+    };
+    match next_word(rest) {
+        None => {
+            let parties = number_within(1, MOST_PARTIES, parties)?;
+            let initial = number_within(0, u64::MAX, value)?;
+            Ok(Opening {
+                object: Object::Semaphore(initial),
+                parties,
+            })
+        }
+        Some(_) => Err(LineFault::BadLine),
+    }
+}
+
 /// What the first line names.
 #[tactic(auto, unfolding(crate::specs::Opening::opening_of))]
 pub fn opening(line: &[u8]) -> Result<Opening, LineFault>
     ensures value { result ≡ meaning.opening_of (words_of line.now) }
-    ensures served { IfOk result (λ opened. opened.object ≡ Object.Mutex) }
+    ensures served { IfOk result (λ opened. is_served opened.object ≡ true) }
 {
     let Some((name, rest)) = next_word(line) else {
         return Err(LineFault::NoObject);
     };
     if is(name, b"mutex") {
         plain(Object::Mutex, rest)
+    } else if is(name, b"semaphore") {
+        semaphore(rest)
     } else {
         Err(LineFault::NoObject)
     }

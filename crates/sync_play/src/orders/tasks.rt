@@ -67,12 +67,45 @@ fn mutex_task(verb: &[u8], rest: &[u8]) -> Result<Task, LineFault>
     }
 }
 
+fn post_task(rest: &[u8]) -> Result<Task, LineFault>
+    ensures { result ≡ meaning.post_task (words_of rest.now) }
+{
+    let Some((word, rest)) = next_word(rest) else {
+        return Err(LineFault::BadLine);
+    };
+    match next_word(rest) {
+        None => {
+            let permits = number_within(0, u64::MAX, word)?;
+            Ok(Task::Give(Input::Begin(Call::Post(permits))))
+        }
+        Some(_) => Err(LineFault::BadLine),
+    }
+}
+
+/// A call that is named `wait` is written `start_wait`, since `wait` is the closure's answer.
+fn semaphore_task(verb: &[u8], rest: &[u8]) -> Result<Task, LineFault>
+    ensures { result ≡ meaning.semaphore_task verb.now (words_of rest.now) }
+{
+    if is(verb, b"value") {
+        call_alone(Call::Value, rest)
+    } else if is(verb, b"post") {
+        post_task(rest)
+    } else if is(verb, b"start_wait") {
+        call_alone(Call::Wait, rest)
+    } else if is(verb, b"try_wait") {
+        call_alone(Call::TryWait, rest)
+    } else {
+        Err(LineFault::BadLine)
+    }
+}
+
 /// The calls of an object.
 fn call_task(object: Object<u64>, verb: &[u8], rest: &[u8]) -> Result<Task, LineFault>
     ensures { result ≡ meaning.call_task object verb.now (words_of rest.now) }
 {
     match object {
         Object::Mutex => mutex_task(verb, rest),
+        Object::Semaphore(_) => semaphore_task(verb, rest),
         _ => Err(LineFault::BadLine),
     }
 }

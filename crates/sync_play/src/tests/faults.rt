@@ -2,7 +2,7 @@ use super::{played, text};
 use std::test::Fail;
 
 /// Texts, their lines parted by ` / `, with the fault of each.
-const FAULTS: [(&str, &str); 27] = [
+const FAULTS: [(&str, &str); 38] = [
     ("mutex 1 / 1 go", "line 2: idle"),
     ("mutex 1 / 1 run", "line 2: idle"),
     ("mutex 1 / 1 lock / 1 lock", "line 3: busy"),
@@ -41,7 +41,21 @@ const FAULTS: [(&str, &str); 27] = [
     ("mutex 1 / 1 go 0", "line 2: bad number"),
     ("mutex 1 / 1 go 100001", "line 2: bad number"),
     ("mutex 1 / +1 lock", "line 2: bad number"),
-    ("semaphore 1 2", "line 1: no object"),
+    ("semaphore 1", "line 1: bad line"),
+    ("semaphore 1 2 3", "line 1: bad line"),
+    ("semaphore 1 x", "line 1: bad number"),
+    ("semaphore 65 0", "line 1: bad number"),
+    ("semaphore 1 18446744073709551616", "line 1: bad number"),
+    ("semaphore 1 0 / 1 post", "line 2: bad line"),
+    ("semaphore 1 0 / 1 post 1 2", "line 2: bad line"),
+    ("semaphore 1 0 / 1 post -1", "line 2: bad number"),
+    ("semaphore 1 0 / 1 lock", "line 2: bad line"),
+    ("semaphore 1 0 / 1 value / 1 value", "line 3: busy"),
+    (
+        "semaphore 1 0 / 1 start_wait / 1 run / 1 go",
+        "line 4: waiting",
+    ),
+    ("barrier 1 2", "line 1: no object"),
 ];
 
 #[test]
