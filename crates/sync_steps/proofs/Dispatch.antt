@@ -1,5 +1,5 @@
 -- A turn at a primitive is a turn of the machine.
-use Rattle.std.proofs.Common.{◌≡◌, refl, sym, subst, ◌∙◌, ap, ℕ, Option, Some, None, Result, Ok, Err, IfOk, IfErr}
+use Rattle.std.proofs.Common.{◌≡◌, refl, sym, subst, ℕ, Option, Some, None, Result, Ok, Err, IfOk, IfErr}
 use Rattle.sync_steps.specs.declared.steps.event.Word.{Word}
 use Rattle.sync_steps.specs.declared.steps.event.Word.TheVariants as names
 use Rattle.sync_steps.specs.declared.steps.event.Input.{Input}
@@ -18,8 +18,11 @@ use Rattle.sync_steps.specs.Arithmetic.{Arithmetic}
 use Rattle.sync_steps.specs.Past.{Calling}
 use Rattle.sync_steps.specs.MutexTable.{mutex_next}
 use Rattle.sync_steps.specs.MutexPlace.{AtMutex}
+use Rattle.sync_steps.specs.declared.steps.semaphore.SemaphorePlace.{SemaphorePlace}
+use Rattle.sync_steps.specs.SemaphoreTable.{semaphore_next}
+use Rattle.sync_steps.specs.SemaphoreLooks.{SemaphoreSteps}
 use Rattle.sync_steps.specs.Next.{next_of}
-use Rattle.sync_steps.specs.Places.{AtPlace, AtCall, AtParty, word_at}
+use Rattle.sync_steps.specs.Places.{AtPlace, AtCall}
 use Rattle.sync_steps.specs.Turns.{Goes, Turns, StepsTo, TakesTurn, RefusesTurn}
 
 -- a party at a place has a call under way, which is at that place
@@ -60,6 +63,21 @@ mutex_goes {T} place hold words turn goes z o c memory at agrees =
     let P : Object T → Type 0 = λ object. Goes object c hold (next_of z object c hold memory) turn in
     let Q : ℕ → Type 0 = λ word. Goes objects.Mutex c hold (mutex_next c.call c.own word) turn in
     subst P (sym at.0) (subst Q (agrees names.State) (goes c at.1))
+
+-- the step of a semaphore
+pub semaphore_goes :
+    {T : Type 0} (place : SemaphorePlace) (hold : Option HoldKind) (words : Words) (turn : Turn T) →
+    SemaphoreSteps place hold words.state turn → StepsTo (places.Semaphore place) hold words turn
+semaphore_goes {T} place hold words turn steps z o c memory at agrees =
+    let P : Object T → Type 0 = λ object. Goes object c hold (next_of z object c hold memory) turn in
+    let Q : ℕ → Type 0 = λ word. Goes (objects.Semaphore at.0.0) c hold (semaphore_next c.call c.own word) turn in
+    subst P (sym at.0.1) (subst Q (agrees names.State) (steps at.0.0 c at.1))
+
+pub semaphore_turns :
+    {T : Type 0} (at : Place) (place : SemaphorePlace) (hold : Option HoldKind) (words : Words) (r : Result (Turn T) StepFault) →
+    at ≡ places.Semaphore place → IfOk r (SemaphoreSteps place hold words.state) → IfOk r (StepsTo at hold words)
+semaphore_turns at place hold words (Ok turn) is steps = let P : Place → Type 0 = λ p. StepsTo p hold words turn in subst P (sym is) (semaphore_goes place hold words turn steps)
+semaphore_turns at place hold words (Err fault) is steps = tt
 
 -- What a turn's function promises for every object or for all words holds for the machine's own.
 

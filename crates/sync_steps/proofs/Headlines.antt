@@ -1,19 +1,18 @@
 -- The headline holds at every front of every run.
-use Rattle.std.proofs.Common.{◌≡◌, ℕ, ◌<◌, Bool, true, false, cond, refl, sym, subst, List, [], ◌∷◌, length, Option, Some, None, get_or, arith}
-use Rattle.std.specs.Prelude.{Contains, nat_lt}
+use Rattle.std.proofs.Common.{◌≡◌, ℕ, Bool, true, false, cond, refl, sym, subst, List, [], ◌∷◌, Some, None, arith}
 use Rattle.sync_steps.specs.declared.steps.event.Call.{Call}
+use Rattle.sync_steps.specs.declared.steps.event.Call.TheVariants as calls
 use Rattle.sync_steps.specs.declared.steps.event.Event.{Event}
 use Rattle.sync_steps.specs.declared.steps.event.Input.{Input}
 use Rattle.sync_steps.specs.declared.steps.event.Input.TheVariants as inputs
 use Rattle.sync_steps.specs.declared.steps.event.Object.{Object}
 use Rattle.sync_steps.specs.declared.steps.event.Object.TheVariants as objects
-use Rattle.sync_steps.specs.declared.steps.place.HoldKind.TheVariants as kinds
 use Rattle.sync_steps.specs.Arithmetic.{Arithmetic}
-use Rattle.sync_steps.specs.Past.{Hold, call_of, holds_of, hold_among}
-use Rattle.sync_steps.specs.Next.{has_call, hold_fault, fault_at, fault_of, IsNext}
+use Rattle.sync_steps.specs.Next.{has_call, hold_fault, fault_at, IsNext}
 use Rattle.sync_steps.specs.declared.steps.event.StepFault.TheVariants as faults
 use Rattle.sync_steps.specs.Run.{IsPast, IsRun, AtEveryFront}
-use Rattle.sync_steps.specs.Headline.{IsExclusive, Headline}
+use Rattle.sync_steps.specs.Headline.{IsExclusive, Permits, Headline}
+use Rattle.sync_steps.proofs.SemaphoreLaws.{semaphore_headline}
 use Rattle.sync_steps.proofs.MutexLaws.{mutex_law, mutex_exclusive, mutex_cause, fault_at_none}
 
 -- before the first event
@@ -37,14 +36,20 @@ nothing_happens : {T : Type 0} (z : Arithmetic T) (o : Object T) (parties : ℕ)
 nothing_happens z o parties [] e lacks run = idle_refused o run.0.0 lacks (fault_at_none o parties [] e.party run.0.0 run.0.1.allowed)
 nothing_happens z o parties (d ∷ past) e lacks run = nothing_happens z o parties past d lacks run.1
 
+-- an object that lacks the calls of a semaphore is none
+no_permits : {T : Type 0} (o : Object T) → ((call : Call T) → has_call o call ≡ false) → Permits o []
+no_permits objects.Mutex lacks = tt
+no_permits (objects.Semaphore n) lacks = let h : true ≡ false = lacks calls.Wait in absurd cc
+no_permits o lacks = tt
+
 unserved : {T : Type 0} (z : Arithmetic T) (o : Object T) (parties : ℕ) (past : List (Event T)) → ((call : Call T) → has_call o call ≡ false) → IsPast z o parties past → Headline z o past
-unserved z o parties [] lacks run = record { exclusive = none_held; cause = tt }
+unserved z o parties [] lacks run = record { exclusive = none_held; permits = no_permits o lacks; cause = tt }
 unserved z o parties (e ∷ past) lacks run = absurd (nothing_happens z o parties past e lacks run)
 
 pub headline : {T : Type 0} (z : Arithmetic T) (o : Object T) (parties : ℕ) (past : List (Event T)) → IsPast z o parties past → Headline z o past
-headline z objects.Mutex parties past run = record { exclusive = mutex_exclusive z past (mutex_law z parties past run); cause = mutex_cause z parties past run }
+headline z objects.Mutex parties past run = record { exclusive = mutex_exclusive z past (mutex_law z parties past run); permits = tt; cause = mutex_cause z parties past run }
 headline z objects.Spin parties past run = unserved z objects.Spin parties past (λ call. refl) run
-headline z (objects.Semaphore n) parties past run = unserved z (objects.Semaphore n) parties past (λ call. refl) run
+headline z (objects.Semaphore n) parties past run = semaphore_headline z n parties past run
 headline z (objects.Barrier n) parties past run = unserved z (objects.Barrier n) parties past (λ call. refl) run
 headline z objects.ReaderLock parties past run = unserved z objects.ReaderLock parties past (λ call. refl) run
 headline z objects.WriterLock parties past run = unserved z objects.WriterLock parties past (λ call. refl) run

@@ -1,5 +1,5 @@
 -- What one more event changes in the calls and the holds of each party.
-use Rattle.std.proofs.Common.{◌≡◌, ◌≢◌, ℕ, zero, suc, ◌<◌, ◌==◌, eqb, refl, sym, ◌∙◌, ap, subst, Bool, true, false, cond, List, [], ◌∷◌, length, Option, Some, None, arith, rules}
+use Rattle.std.proofs.Common.{◌≡◌, ◌≢◌, ℕ, ◌==◌, refl, sym, ◌∙◌, Bool, true, false, cond, List, [], ◌∷◌, Option, Some, None, arith}
 use Rattle.std.proofs.lemmas.Bool.{eq-eqb, eqb-true}
 use Rattle.std.proofs.lemmas.Bool.Decides.{nat_tests}
 use Rattle.sync_steps.specs.declared.steps.event.Act.{Act}
@@ -7,7 +7,7 @@ use Rattle.sync_steps.specs.declared.steps.event.Then.{Then}
 use Rattle.sync_steps.specs.declared.steps.event.Event.{Event}
 use Rattle.sync_steps.specs.declared.steps.event.Object.{Object}
 use Rattle.sync_steps.specs.declared.steps.place.HoldKind.{HoldKind}
-use Rattle.sync_steps.specs.Past.{Hold, Calling, call_of, call_after, holds_of, hold_among, hold_or, hold_after, without, with_hold, frees, taken_by}
+use Rattle.sync_steps.specs.Past.{Hold, call_of, call_after, holds_of, hold_among, hold_or, hold_after, without, with_hold, frees, taken_by}
 use Rattle.sync_steps.specs.Turns.{event}
 
 pub eqb_same : (p : ℕ) → (p == p) ≡ true

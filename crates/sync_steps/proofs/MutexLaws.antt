@@ -1,8 +1,8 @@
 -- The laws of the mutex: its word counts its holds, of which there is one at most, and each refusal has its cause.
-use Rattle.std.proofs.Common.{◌≡◌, ◌≢◌, ℕ, zero, suc, ◌<◌, ◌==◌, refl, sym, ◌∙◌, ap, subst, Bool, true, false, cond, List, [], ◌∷◌, length, Option, Some, None, ◌⊎◌, inl, inr, is_some, get_or, ◌↔◌, arith, rules}
+use Rattle.std.proofs.Common.{◌≡◌, ◌≢◌, ℕ, zero, suc, ◌<◌, ◌==◌, refl, sym, ◌∙◌, ap, subst, Bool, true, false, cond, List, [], ◌∷◌, Option, Some, None, ◌⊎◌, inl, inr, is_some, get_or, ◌↔◌, arith}
 use Rattle.std.specs.Prelude.{Contains, MatchBool, MatchOption, nat_lt}
-use Rattle.std.proofs.lemmas.Bool.{eqb-true, eqb-false, ltb-true}
-use Rattle.std.proofs.lemmas.Bool.Decides.{nat_tests, eqb_tells}
+use Rattle.std.proofs.lemmas.Bool.{eqb-true, eqb-false}
+use Rattle.std.proofs.lemmas.Bool.Decides.{eqb_tells}
 use Rattle.sync_steps.specs.declared.TheConstants.{SPIN_REPETITIONS}
 use Rattle.sync_steps.specs.declared.steps.event.Word.{Word}
 use Rattle.sync_steps.specs.declared.steps.event.Word.TheVariants as words
@@ -30,7 +30,7 @@ use Rattle.sync_steps.specs.declared.steps.event.StepFault.TheVariants as faults
 use Rattle.sync_steps.specs.Turns.{event}
 use Rattle.sync_steps.specs.Next.{begin_fault, moved_of, fault_at, fault_of, IsNext}
 use Rattle.sync_steps.specs.Run.{IsPast}
-use Rattle.sync_steps.specs.Sights.{tells, begins, AtLastSight, HasAborted}
+use Rattle.sync_steps.specs.Sights.{tells, begins}
 use Rattle.sync_steps.specs.MutexLaw.{MutexCause, IsLocked, IsExactGrant}
 use Rattle.sync_steps.specs.Headline.{IsExclusive, HasCause, is_refusal}
 use Rattle.sync_steps.proofs.Holds.{eqb_same, call_of_same, call_of_other, hold_of_same, hold_of_other}

@@ -1,5 +1,5 @@
 -- Playing one more input.
-use Rattle.std.proofs.Common.{◌≡◌, ℕ, zero, suc, ◌+◌, ◌<◌, refl, sym, ◌∙◌, ap, subst, List, [], ◌∷◌, ◌++◌, length, take, get_or, Option, Some, None, slice_get, arith}
+use Rattle.std.proofs.Common.{◌≡◌, ℕ, ◌+◌, ◌<◌, refl, sym, ◌∙◌, ap, subst, List, [], ◌∷◌, ◌++◌, length, take, get_or, Some, slice_get}
 use Rattle.std.proofs.lemmas.Option.{slice_get-get_or}
 use Rattle.std.proofs.lemmas.List.{take_more}
 use Rattle.sync_steps.specs.declared.steps.event.Event.{Event}
@@ -8,7 +8,7 @@ use Rattle.sync_steps.specs.declared.steps.event.Object.{Object}
 use Rattle.sync_steps.specs.declared.steps.event.StepFault.{StepFault}
 use Rattle.sync_steps.specs.Arithmetic.{Arithmetic}
 use Rattle.sync_steps.specs.Next.{IsNext, fault_of}
-use Rattle.sync_steps.specs.Run.{IsPast, IsRun, after}
+use Rattle.sync_steps.specs.Run.{IsRun, after}
 use Rattle.sync_steps.specs.Standing.{Standing, StandsAt}
 use Rattle.sync_steps.specs.Played.{Continues, Plays, PlaysUpTo}
 use Rattle.sync_steps.proofs.Headlines.{headline, fronts}

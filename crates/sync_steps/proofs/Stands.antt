@@ -1,12 +1,9 @@
 -- A turn that the definitions give leads from where a run stands to where it stands with one more event.
-use Rattle.std.proofs.Common.{◌≡◌, ◌≢◌, ℕ, zero, suc, ◌+◌, ◌-◌, ◌^◌, ◌<◌, ◌==◌, nat_lt, refl, sym, ◌∙◌, ap, subst, Bool, true, false, cond, List, [], ◌∷◌, length, Option, Some, None, ◌⊎◌, inl, inr, min, slice_get, slice_set, arith, rules}
+use Rattle.std.proofs.Common.{◌≡◌, ◌≢◌, ℕ, zero, suc, ◌<◌, refl, sym, ◌∙◌, ap, subst, List, [], ◌∷◌, length, Option, Some, ◌⊎◌, inl, inr, slice_get, slice_set, arith}
 use Rattle.std.specs.Option.{ForSome}
 use Rattle.std.proofs.lemmas.Bool.{lt-ltb}
 use Rattle.std.proofs.lemmas.Bool.Decides.{eqb_tells}
 use Rattle.std.proofs.Math.ListN.{length-set}
-use Rattle.sync_steps.specs.declared.steps.event.Word.{Word}
-use Rattle.sync_steps.specs.declared.steps.event.Act.{Act}
-use Rattle.sync_steps.specs.declared.steps.event.Then.{Then}
 use Rattle.sync_steps.specs.declared.steps.event.Event.{Event}
 use Rattle.sync_steps.specs.declared.steps.event.Input.{Input}
 use Rattle.sync_steps.specs.declared.steps.event.Object.{Object}
@@ -15,9 +12,9 @@ use Rattle.sync_steps.specs.declared.steps.place.HoldKind.{HoldKind}
 use Rattle.sync_steps.specs.declared.steps.place.Party.{Party}
 use Rattle.sync_steps.specs.declared.steps.place.Turn.{Turn}
 use Rattle.sync_steps.specs.Arithmetic.{Arithmetic}
-use Rattle.sync_steps.specs.Past.{Calling, call_of, call_after, holds_of, hold_among, hold_after, word_in, word_after, failed_in, failed_by}
-use Rattle.sync_steps.specs.Next.{fault_of, fault_at, IsNext}
-use Rattle.sync_steps.specs.Places.{AtParty, word_at}
+use Rattle.sync_steps.specs.Past.{Calling, call_of, call_after, holds_of, hold_among, hold_after, word_in, word_after, failed_in}
+use Rattle.sync_steps.specs.Next.{fault_of, IsNext}
+use Rattle.sync_steps.specs.Places.{AtParty}
 use Rattle.sync_steps.specs.Standing.{Standing, StandsAt}
 use Rattle.sync_steps.specs.Turns.{event, Turns, TakesTurn, RefusesTurn}
 use Rattle.sync_steps.specs.Applies.{Applies}

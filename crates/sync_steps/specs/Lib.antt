@@ -8,12 +8,15 @@ pub mod MutexTable
 pub mod Next
 pub mod Run
 pub mod MutexPlace
+pub mod SemaphoreTable
 pub mod SemaphorePlace
 pub mod Places
 pub mod Turns
 pub mod Standing
 pub mod Sights
 pub mod MutexLaw
+pub mod SemaphoreLaw
 pub mod Headline
 pub mod Played
 pub mod Applies
+pub mod SemaphoreLooks

@@ -1,6 +1,5 @@
 -- What the tables of the primitives have in common.
 use Rattle.std.specs.Prelude.{ℕ, ◌+◌, Bool, true, false, ◌&&◌, ◌==◌, if◌then◌else◌, List, [], ◌∷◌}
-use Rattle.sync_steps.specs.declared.WaitAction.{WaitAction}
 use Rattle.sync_steps.specs.declared.WaitAction.TheVariants as actions
 use Rattle.sync_steps.specs.declared.steps.event.Word.{Word}
 use Rattle.sync_steps.specs.declared.steps.event.Act.{Act}

@@ -6,7 +6,6 @@ use Rattle.sync_steps.specs.declared.steps.event.Call.TheVariants as calls
 use Rattle.sync_steps.specs.declared.steps.event.Answer.TheVariants as answers
 use Rattle.sync_steps.specs.declared.steps.event.Then.TheVariants as thens
 use Rattle.sync_steps.specs.declared.steps.event.Event.{Event}
-use Rattle.sync_steps.specs.declared.steps.event.Object.{Object}
 use Rattle.sync_steps.specs.declared.steps.event.Object.TheVariants as objects
 use Rattle.sync_steps.specs.Past.{call_of, holds_of}
 use Rattle.sync_steps.specs.Sights.{tells, AtLastSight, HasAborted}

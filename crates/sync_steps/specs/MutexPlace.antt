@@ -1,5 +1,5 @@
 -- Where the code's places of a mutex stand: in which call, and after which of its own events.
-use Rattle.std.specs.Prelude.{◌≡◌, ◌≤◌, ℕ, Bool, true, false, List, [], ◌∷◌}
+use Rattle.std.specs.Prelude.{◌≡◌, ◌≤◌, ℕ, Bool, true, List, [], ◌∷◌}
 use Rattle.sync_steps.specs.declared.TheConstants.{SPIN_REPETITIONS}
 use Rattle.sync_steps.specs.declared.steps.event.Call.TheVariants as calls
 use Rattle.sync_steps.specs.declared.steps.event.Then.TheVariants as thens

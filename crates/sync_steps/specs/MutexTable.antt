@@ -1,11 +1,10 @@
 -- What a call at a mutex does next, by its own events and the word.
-use Rattle.std.specs.Prelude.{ℕ, ◌+◌, Bool, true, false, ◌&&◌, ◌==◌, nat_lt, if◌then◌else◌, List, [], ◌∷◌, Option, Some, None}
+use Rattle.std.specs.Prelude.{ℕ, Bool, true, false, ◌==◌, nat_lt, if◌then◌else◌, List, [], ◌∷◌, Option, Some, None}
 use Rattle.sync_steps.specs.declared.TheConstants.{SPIN_REPETITIONS}
 use Rattle.sync_steps.specs.declared.steps.event.Word.TheVariants as words
 use Rattle.sync_steps.specs.declared.steps.event.Wake.TheVariants as wakes
 use Rattle.sync_steps.specs.declared.steps.event.Call.{Call}
 use Rattle.sync_steps.specs.declared.steps.event.Call.TheVariants as calls
-use Rattle.sync_steps.specs.declared.steps.event.Act.{Act}
 use Rattle.sync_steps.specs.declared.steps.event.Act.TheVariants as acts
 use Rattle.sync_steps.specs.declared.steps.event.Answer.TheVariants as answers
 use Rattle.sync_steps.specs.declared.steps.event.Then.{Then}

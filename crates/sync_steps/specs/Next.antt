@@ -1,5 +1,5 @@
 -- What may come next: which inputs are refused, and which event any other input gives.
-use Rattle.std.specs.Prelude.{◌≡◌, ℕ, ◌==◌, nat_lt, Bool, true, false, ◌&&◌, is_some, is_none, if◌then◌else◌, List, [], ◌∷◌, Option, Some, None, option_and_then}
+use Rattle.std.specs.Prelude.{◌≡◌, ℕ, nat_lt, Bool, true, false, ◌&&◌, is_some, is_none, if◌then◌else◌, List, Option, Some, None}
 use Rattle.sync_steps.specs.declared.steps.event.Word.{Word}
 use Rattle.sync_steps.specs.declared.steps.event.Word.TheVariants as words
 use Rattle.sync_steps.specs.declared.steps.event.Call.{Call}
@@ -19,11 +19,13 @@ use Rattle.sync_steps.specs.Arithmetic.{Arithmetic, IsValue}
 use Rattle.sync_steps.specs.Past.{Calling, call_of, holds_of, hold_among, word_in}
 use Rattle.sync_steps.specs.Moves.{Move, stand_of}
 use Rattle.sync_steps.specs.MutexTable.{mutex_has, mutex_next}
+use Rattle.sync_steps.specs.SemaphoreTable.{semaphore_has, semaphore_next}
 
 -- Which calls an object has, and who may begin them.
 
 abbrev pub has_call : {T : Type 0} → Object T → Call T → Bool
 has_call objects.Mutex call = mutex_has call
+has_call (objects.Semaphore initial) call = semaphore_has call
 has_call o call = false
 
 -- a party with a hold may begin no locking call
@@ -91,6 +93,7 @@ fault_of o parties past party input =
 -- what a call does next, by its own events, its party's hold and the memory
 abbrev pub next_of : {T : Type 0} → Arithmetic T → Object T → Calling T → Option HoldKind → (Word → ℕ) → Option (Move T)
 next_of z objects.Mutex c hold memory = mutex_next c.call c.own (memory words.State)
+next_of z (objects.Semaphore initial) c hold memory = semaphore_next c.call c.own (memory words.State)
 next_of z o c hold memory = None
 
 abbrev pub moved_of : {T : Type 0} → Arithmetic T → Object T → Option (Calling T) → Option HoldKind → (Word → ℕ) → Input T → Option (Move T)

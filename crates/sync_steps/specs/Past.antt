@@ -1,5 +1,5 @@
 -- What the events so far tell, newest first: the words, the call under way of each party, the holds, and the exchanges that failed.
-use Rattle.std.specs.Prelude.{ℕ, zero, suc, ◌+◌, Bool, true, false, ◌&&◌, ◌==◌, if◌then◌else◌, List, [], ◌∷◌, Option, Some, None, unwrap_or, option_map}
+use Rattle.std.specs.Prelude.{ℕ, zero, ◌+◌, Bool, true, false, ◌&&◌, ◌==◌, if◌then◌else◌, List, [], ◌∷◌, Option, Some, None}
 use Rattle.sync_steps.specs.Arithmetic.{Arithmetic}
 use Rattle.sync_steps.specs.declared.steps.event.Word.{Word}
 use Rattle.sync_steps.specs.declared.steps.event.Word.TheVariants as words

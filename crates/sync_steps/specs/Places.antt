@@ -1,5 +1,5 @@
 -- Where a machine's parties stand among the events so far.
-use Rattle.std.specs.Prelude.{◌≡◌, ℕ, List, Option, Some, None}
+use Rattle.std.specs.Prelude.{◌≡◌, ℕ, Option, Some, None}
 use Rattle.sync_steps.specs.declared.steps.event.Word.{Word}
 use Rattle.sync_steps.specs.declared.steps.event.Word.TheVariants as names
 use Rattle.sync_steps.specs.declared.steps.event.Object.{Object}

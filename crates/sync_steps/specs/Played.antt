@@ -1,5 +1,5 @@
 -- What playing a schedule promises.
-use Rattle.std.specs.Prelude.{◌≡◌, ℕ, List, length, take, Option, Some, slice_get}
+use Rattle.std.specs.Prelude.{◌≡◌, ℕ, List, length, take, Some, slice_get}
 use Rattle.sync_steps.specs.declared.steps.event.Event.{Event}
 use Rattle.sync_steps.specs.declared.steps.event.Input.{Input}
 use Rattle.sync_steps.specs.declared.steps.event.Object.{Object}

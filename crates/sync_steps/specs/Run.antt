@@ -1,5 +1,5 @@
 -- Runs: the events of a schedule, one for each input, in order.
-use Rattle.std.specs.Prelude.{◌≡◌, ℕ, ◌<◌, ◌^◌, List, [], ◌∷◌}
+use Rattle.std.specs.Prelude.{ℕ, ◌<◌, ◌^◌, Bool, true, false, List, [], ◌∷◌}
 use Rattle.sync_steps.specs.declared.steps.event.Event.{Event}
 use Rattle.sync_steps.specs.declared.steps.event.Input.{Input}
 use Rattle.sync_steps.specs.declared.steps.event.Object.{Object}
@@ -14,6 +14,12 @@ IsObject z (objects.Barrier n) = n < 2 ^ 32
 IsObject z (objects.Lazy v) = IsValue z v
 IsObject z (objects.Atomic v) = IsValue z v
 IsObject z o = Unit {0}
+
+-- the objects that a machine serves
+abbrev pub is_served : {T : Type 0} → Object T → Bool
+is_served objects.Mutex = true
+is_served (objects.Semaphore initial) = true
+is_served o = false
 
 -- the events are those of some schedule, newest first
 abbrev pub IsPast : {T : Type 0} → Arithmetic T → Object T → ℕ → List (Event T) → Type 0

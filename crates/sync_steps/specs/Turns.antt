@@ -1,5 +1,5 @@
 -- What one turn of a party does, apart from whose turn it is.
-use Rattle.std.specs.Prelude.{◌≡◌, ℕ, Bool, true, List, [], ◌∷◌, Option, Some, None}
+use Rattle.std.specs.Prelude.{◌≡◌, ℕ, true, [], ◌∷◌, Option, Some, None}
 use Rattle.sync_steps.specs.declared.steps.event.Word.{Word}
 use Rattle.sync_steps.specs.declared.steps.event.Call.{Call}
 use Rattle.sync_steps.specs.declared.steps.event.Act.{Act}

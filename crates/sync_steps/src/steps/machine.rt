@@ -1,10 +1,11 @@
-ghost use Rattle.std.specs.Prelude.{◌≡◌, ◌<◌, ◌∷◌, ◌-◌, ◌^◌, ℕ, List, [], length, min, IfOk, IfErr, OnErr};
+ghost use Rattle.std.specs.Prelude.{◌≡◌, true, ◌<◌, ◌∷◌, ◌-◌, ◌^◌, ℕ, List, [], length, min, IfOk, IfErr, OnErr};
 ghost use Rattle.sync_steps.specs.declared.steps.event.Object.{Object as AnyObject};
 ghost use Rattle.sync_steps.specs.declared.steps.event.Event.{Event as AnyEvent};
 ghost use Rattle.sync_steps.specs.declared.steps.event.Word.TheVariants as words;
-ghost use Rattle.sync_steps.specs.Past.{holds_of, word_in, failed_in};
+ghost use Rattle.sync_steps.specs.Past.{word_in, failed_in};
 ghost use Rattle.sync_steps.specs.Next.{IsNext, fault_of};
-ghost use Rattle.sync_steps.specs.Headline.{IsExclusive};
+ghost use Rattle.sync_steps.specs.Run.{is_served};
+ghost use Rattle.sync_steps.specs.Headline.{Headline};
 ghost use Rattle.sync_steps.specs.MutexLaw.{IsExactGrant};
 ghost use Rattle.sync_steps.specs.Standing.{StandsAt};
 ghost use Rattle.sync_steps.specs.Turns.{event};
@@ -36,26 +37,20 @@ impl<T> Model for Machine<T> {
 }
 
 impl<T: AtomicInteger> Machine<T> {
-    /// A machine of the object, where no party has begun a call yet.
+    /// A machine of the object, where no party has begun a call yet. So far it serves mutexes and semaphores.
     pub fn new(alloc: Global, object: Object<T>, parties: usize) -> Result<Machine<T>, AllocError>
-        requires { object ≡ Object.Mutex }
+        requires { is_served object ≡ true }
         ensures { IfOk result (StandsAt T.arithmetic object parties []) }
     {
         let party = Party {
             place: None,
             hold: None,
         };
+        let words = Words::opened(&object);
         Ok(Machine {
             object,
             parties: vec![in alloc; party; parties]?,
-            words: Words {
-                state: 0,
-                counter: 0,
-                waiters: 0,
-                value: 0,
-                low: 0,
-                high: 0,
-            },
+            words,
             failed: 0,
         })
     }
@@ -119,9 +114,12 @@ impl<T: AtomicInteger> Machine<T> {
             StandsAt T.arithmetic object parties past self.old → fault_of object parties past party input ≡ Some fault) }
         ensures err { OnErr result (self.new ≡ self.old) }
 
-        // A write hold is the only hold, and a `TryLock` of a mutex is granted exactly where no hold stands.
-        ensures exclusive { IfOk result (λ event. (object : AnyObject T) (parties : ℕ) (past : List (AnyEvent T)) →
-            StandsAt T.arithmetic object parties past self.old → IsExclusive (holds_of object (event ∷ past))) }
+        // What holds at every front of every run holds after the event: a write hold is the only hold, no more permits are
+        // taken than given, and a refusal has its cause.
+        ensures headline { IfOk result (λ event. (object : AnyObject T) (parties : ℕ) (past : List (AnyEvent T)) →
+            StandsAt T.arithmetic object parties past self.old → Headline T.arithmetic object (event ∷ past)) }
+
+        // A `TryLock` of a mutex is granted exactly where no hold stands.
         ensures granted { IfOk result (λ event. (parties : ℕ) (past : List (AnyEvent T)) →
             StandsAt T.arithmetic Object.Mutex parties past self.old → IsExactGrant past event) }
     {

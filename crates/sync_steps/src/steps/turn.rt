@@ -23,6 +23,7 @@ fn place_of<T: Copy>(object: &Object<T>, call: Call<T>) -> Option<Place>
 {
     match object {
         Object::Mutex => Some(Place::Mutex(mutex::place_of(call)?)),
+        Object::Semaphore(_) => Some(Place::Semaphore(semaphore::place_of(call)?)),
         _ => None,
     }
 }
@@ -93,7 +94,7 @@ fn step_at<T>(place: Place, hold: Option<HoldKind>, words: &Words) -> Result<Tur
 {
     match place {
         Place::Mutex(place) => mutex::go(place, hold, words.state),
-        Place::Semaphore(_) => Err(StepFault::Idle),
+        Place::Semaphore(place) => semaphore::go(place, hold, words.state),
     }
 }
 
@@ -115,7 +116,9 @@ fn answered<T>(place: Place, action: WaitAction) -> Option<Place>
 {
     match place {
         Place::Mutex(place) => Some(Place::Mutex(mutex::answer::<T>(place, action)?)),
-        Place::Semaphore(_) => None,
+        Place::Semaphore(place) => {
+            Some(Place::Semaphore(semaphore::answer::<T>(place, action)?))
+        }
     }
 }
 

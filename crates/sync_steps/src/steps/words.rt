@@ -1,8 +1,10 @@
-ghost use Rattle.std.specs.Prelude.{◌≡◌, ℕ, ◌+◌, ◌-◌, ◌^◌, min, if◌then◌else◌};
+ghost use Rattle.std.specs.Prelude.{◌≡◌, true, ℕ, ◌+◌, ◌-◌, ◌^◌, min, if◌then◌else◌};
 ghost use Rattle.sync_steps.specs.declared.steps.event.Word.{Word as AnyWord};
-ghost use Rattle.sync_steps.specs.Past.{is_word, word_after, failed_by};
+ghost use Rattle.sync_steps.specs.Arithmetic.{Arithmetic};
+ghost use Rattle.sync_steps.specs.Past.{is_word, word_after, failed_by, opening};
+ghost use Rattle.sync_steps.specs.Run.{IsObject, is_served};
 
-use super::event::{Act, Word};
+use super::event::{Act, Object, Word};
 
 /// The words of an object; those that it does not have stay 0.
 #[derive(Clone, Copy, Debug, PartialEq, Eq)]
@@ -17,6 +19,26 @@ pub struct Words {
 
 impl Words {
     ghost use Rattle.sync_steps.specs.Places.{word_at};
+
+    /// The words before the first event.
+    pub(crate) fn opened<T>(object: &Object<T>) -> Words
+        requires { is_served object.now ≡ true }
+        ensures words { (z : Arithmetic T) (word : AnyWord) → word_at result word ≡ opening z object.now word }
+        ensures fits { (z : Arithmetic T) → IsObject z object.now }
+    {
+        let state = match object {
+            Object::Semaphore(initial) => *initial,
+            _ => 0,
+        };
+        Words {
+            state,
+            counter: 0,
+            waiters: 0,
+            value: 0,
+            low: 0,
+            high: 0,
+        }
+    }
 
     /// Writes what the act puts.
     pub(crate) fn apply<T>(&mut self, act: &Act<T>)

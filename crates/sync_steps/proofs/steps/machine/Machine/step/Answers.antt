@@ -1,4 +1,4 @@
-use Rattle.std.proofs.Common.{◌<◌, ◌∷◌, length, slice_get, Some, subst, sym, ◌∙◌, ap, arith, get_or, ◌≡◌, ℕ, List}
+use Rattle.std.proofs.Common.{◌<◌, ◌∷◌, length, slice_get, Some, subst, sym, ◌∙◌, ap, arith, get_or, ◌≡◌}
 use Rattle.std.proofs.lemmas.Option.{slice_get-get_or}
 use Rattle.sync_steps.specs.Applies.{Applies}
 use Rattle.sync_steps.specs.Next.{IsNext}
@@ -27,9 +27,9 @@ returns-clause-next g c object parties past at =
     at c.apply.ensures.applied in
     rw c.apply.ensures.event both
 
-pub returns-clause-exclusive : goal.returns-clause-exclusive
-returns-clause-exclusive g c object parties past at =
-    (headline g.T.AtomicInteger.arithmetic object parties (c.apply.result ∷ past) (returns-clause-next g c object parties past at).1.run).exclusive
+pub returns-clause-headline : goal.returns-clause-headline
+returns-clause-headline g c object parties past at =
+    headline g.T.AtomicInteger.arithmetic object parties (c.apply.result ∷ past) (returns-clause-next g c object parties past at).1.run
 
 pub returns-clause-granted : goal.returns-clause-granted
 returns-clause-granted g c parties past at =
