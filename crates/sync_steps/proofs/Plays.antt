@@ -11,6 +11,7 @@ use Rattle.sync_steps.specs.Next.{IsNext, fault_of}
 use Rattle.sync_steps.specs.Run.{IsRun, after}
 use Rattle.sync_steps.specs.Standing.{Standing, StandsAt}
 use Rattle.sync_steps.specs.Played.{Continues, Plays, PlaysUpTo}
+use Rattle.sync_steps.specs.Stepped.{Steps}
 use Rattle.sync_steps.proofs.Headlines.{headline, fronts}
 
 run_more :
@@ -28,11 +29,6 @@ after_more (d ∷ events) e past = after_more events e (d ∷ past)
 -- nothing is played yet
 pub plays_none : {T : Type 0} (z : Arithmetic T) (m : Standing T) → Plays z [] m [] m
 plays_none z m o parties past at = record { run = tt; stands = at; fronts = headline z o parties past at.run }
-
--- what a step promises of its event, for every run that stands before it
-abbrev pub Steps : {T : Type 0} → Arithmetic T → Standing T → ℕ → Input T → Event T → Standing T → Type 0
-Steps {T} z old party input e new =
-    (o : Object T) (parties : ℕ) (past : List (Event T)) → StandsAt z o parties past old → IsNext z o parties past party input e × StandsAt z o parties (e ∷ past) new
 
 plays_more :
     {T : Type 0} (z : Arithmetic T) (schedule : List (ℕ × Input T)) (old mid new : Standing T) (events : List (Event T)) (turn : ℕ × Input T) (e : Event T) →

@@ -17,6 +17,7 @@ pub mod Sights
 pub mod MutexLaw
 pub mod SemaphoreLaw
 pub mod Headline
+pub mod Stepped
 pub mod Played
 pub mod Applies
 pub mod SemaphoreLooks

@@ -3,6 +3,8 @@
 
 pub mod atomic;
 pub mod steps;
+#[cfg(test)]
+mod tests;
 
 /// What a wait closure answers: whether the call goes on or may give up.
 #[derive(Clone, Copy, Debug, PartialEq, Eq)]

@@ -1,13 +1,8 @@
-ghost use Rattle.std.specs.Prelude.{◌≡◌, true, ◌<◌, ◌∷◌, ◌-◌, ◌^◌, ℕ, List, [], length, min, IfOk, IfErr, OnErr};
-ghost use Rattle.sync_steps.specs.declared.steps.event.Object.{Object as AnyObject};
-ghost use Rattle.sync_steps.specs.declared.steps.event.Event.{Event as AnyEvent};
+ghost use Rattle.std.specs.Prelude.{◌≡◌, ◌<◌, true, [], length, IfOk, IfErr, OnErr};
 ghost use Rattle.sync_steps.specs.declared.steps.event.Word.TheVariants as words;
-ghost use Rattle.sync_steps.specs.Past.{word_in, failed_in};
-ghost use Rattle.sync_steps.specs.Next.{IsNext, fault_of};
 ghost use Rattle.sync_steps.specs.Run.{is_served};
-ghost use Rattle.sync_steps.specs.Headline.{Headline};
-ghost use Rattle.sync_steps.specs.MutexLaw.{IsExactGrant};
 ghost use Rattle.sync_steps.specs.Standing.{StandsAt};
+ghost use Rattle.sync_steps.specs.Stepped.{Tells, TellsFailed, Steps, RefusesStep, KeepsHeadline, GrantsExactly};
 ghost use Rattle.sync_steps.specs.Turns.{event};
 ghost use Rattle.sync_steps.specs.Applies.{Applies};
 
@@ -57,71 +52,57 @@ impl<T: AtomicInteger> Machine<T> {
 
     /// The word: of a lock, a semaphore, a barrier or a once; of a `Condvar` its mutex's, of an `Atomic` its lock's.
     pub fn word(&self) -> u64
-        ensures { (object : AnyObject T) (parties : ℕ) (past : List (AnyEvent T)) →
-            StandsAt T.arithmetic object parties past self.now → result ≡ word_in T.arithmetic object past words.State }
+        ensures { Tells T.arithmetic self.now words.State result }
     {
         self.words.state
     }
 
     /// The wake counter of a `WriterLock`, else 0.
     pub fn counter(&self) -> u64
-        ensures { (object : AnyObject T) (parties : ℕ) (past : List (AnyEvent T)) →
-            StandsAt T.arithmetic object parties past self.now → result ≡ word_in T.arithmetic object past words.Counter }
+        ensures { Tells T.arithmetic self.now words.Counter result }
     {
         self.words.counter
     }
 
     /// How many wait at a `Condvar`, else 0.
     pub fn waiters(&self) -> u64
-        ensures { (object : AnyObject T) (parties : ℕ) (past : List (AnyEvent T)) →
-            StandsAt T.arithmetic object parties past self.now → result ≡ word_in T.arithmetic object past words.Waiters }
+        ensures { Tells T.arithmetic self.now words.Waiters result }
     {
         self.words.waiters
     }
 
     /// The permits of a `Condvar`, else 0.
     pub fn value(&self) -> u64
-        ensures { (object : AnyObject T) (parties : ℕ) (past : List (AnyEvent T)) →
-            StandsAt T.arithmetic object parties past self.now → result ≡ word_in T.arithmetic object past words.Value }
+        ensures { Tells T.arithmetic self.now words.Value result }
     {
         self.words.value
     }
 
     /// The low and the high word of an `Atomic`'s value, else 0 and 0.
     pub fn low_high(&self) -> (u64, u64)
-        ensures low { (object : AnyObject T) (parties : ℕ) (past : List (AnyEvent T)) →
-            StandsAt T.arithmetic object parties past self.now → result.0 ≡ word_in T.arithmetic object past words.Low }
-        ensures high { (object : AnyObject T) (parties : ℕ) (past : List (AnyEvent T)) →
-            StandsAt T.arithmetic object parties past self.now → result.1 ≡ word_in T.arithmetic object past words.High }
+        ensures low { Tells T.arithmetic self.now words.Low result.0 }
+        ensures high { Tells T.arithmetic self.now words.High result.1 }
     {
         (self.words.low, self.words.high)
     }
 
     /// How many exchanges failed; it stops at 2^64 - 1.
     pub fn failed(&self) -> u64
-        ensures { (object : AnyObject T) (parties : ℕ) (past : List (AnyEvent T)) →
-            StandsAt T.arithmetic object parties past self.now → result ≡ min (failed_in past) (2 ^ 64 - 1) }
+        ensures { TellsFailed T.arithmetic self.now result }
     {
         self.failed
     }
 
     /// Plays one input: the event that it gives, or why it is refused; the machine is then unchanged. It takes no memory.
     pub fn step(&mut self, party: usize, input: Input<T>) -> Result<Event<T>, StepFault>
-        ensures next { IfOk result (λ event. (object : AnyObject T) (parties : ℕ) (past : List (AnyEvent T)) →
-            StandsAt T.arithmetic object parties past self.old →
-            IsNext T.arithmetic object parties past party input event × StandsAt T.arithmetic object parties (event ∷ past) self.new) }
-        ensures fault { IfErr result (λ fault. (object : AnyObject T) (parties : ℕ) (past : List (AnyEvent T)) →
-            StandsAt T.arithmetic object parties past self.old → fault_of object parties past party input ≡ Some fault) }
+        // The event is the one that the input gives, or the fault is the first that applies.
+        ensures next { IfOk result (λ event. Steps T.arithmetic self.old party input event self.new) }
+        ensures fault { IfErr result (RefusesStep T.arithmetic self.old party input) }
         ensures err { OnErr result (self.new ≡ self.old) }
 
-        // What holds at every front of every run holds after the event: a write hold is the only hold, no more permits are
-        // taken than given, and a refusal has its cause.
-        ensures headline { IfOk result (λ event. (object : AnyObject T) (parties : ℕ) (past : List (AnyEvent T)) →
-            StandsAt T.arithmetic object parties past self.old → Headline T.arithmetic object (event ∷ past)) }
-
-        // A `TryLock` of a mutex is granted exactly where no hold stands.
-        ensures granted { IfOk result (λ event. (parties : ℕ) (past : List (AnyEvent T)) →
-            StandsAt T.arithmetic Object.Mutex parties past self.old → IsExactGrant past event) }
+        // What holds at every front of every run holds after the event.
+        ensures headline { IfOk result (KeepsHeadline T.arithmetic self.old) }
+        ensures granted { IfOk result (GrantsExactly T.arithmetic self.old) }
     {
         if party >= self.parties.len() {
             return Err(StepFault::NoParty);
