@@ -1,0 +1,14 @@
+pub mod Faults
+pub mod Lines
+pub mod Words
+pub mod Cuts
+pub mod Numbers
+pub mod Orders
+pub mod Opening
+pub mod Printed
+pub mod Events
+pub mod Pieces
+pub mod Output
+pub mod Text
+pub mod RunFaults
+pub mod TextRuns

@@ -1,0 +1,60 @@
+-- What an event prints, and the last line.
+use Rattle.std.specs.Prelude.{ℕ, ◌+◌, ◌-◌, ◌^◌, min, true, false, List, [], ◌++◌, codes}
+use Rattle.std.specs.Fmt.{decimal}
+use Rattle.std.specs.List.{flat_map}
+use Rattle.sync_steps.specs.declared.steps.event.Word.TheVariants as words
+use Rattle.sync_steps.specs.declared.steps.event.Wake.TheVariants as wakes
+use Rattle.sync_steps.specs.declared.steps.event.Act.{Act}
+use Rattle.sync_steps.specs.declared.steps.event.Act.TheVariants as acts
+use Rattle.sync_steps.specs.declared.steps.event.Answer.{Answer}
+use Rattle.sync_steps.specs.declared.steps.event.Answer.TheVariants as answers
+use Rattle.sync_steps.specs.declared.steps.event.Then.{Then}
+use Rattle.sync_steps.specs.declared.steps.event.Then.TheVariants as thens
+use Rattle.sync_steps.specs.declared.steps.event.Event.{Event}
+use Rattle.sync_steps.specs.declared.steps.event.Object.{Object}
+use Rattle.sync_steps.specs.Integers.{u64_arithmetic}
+use Rattle.sync_steps.specs.Past.{word_in, failed_in}
+
+-- a line of a party, whose number is counted from 1
+abbrev pub party_line : ℕ → List ℕ → List ℕ
+party_line party words = decimal (party + 1) ++ (codes " " ++ (words ++ codes "\n"))
+
+abbrev pub answer_words : Answer ℕ → List ℕ
+answer_words answers.Success = codes "success"
+answer_words answers.Interrupted = codes "interrupted"
+answer_words answers.Done = codes "done"
+answer_words answers.Ok = codes "ok"
+answer_words answers.Full = codes "full"
+answer_words (answers.Number n) = decimal n
+answer_words (answers.Flag true) = codes "true"
+answer_words (answers.Flag false) = codes "false"
+answer_words (answers.Value n) = decimal n
+answer_words (answers.OkOld n) = codes "ok " ++ decimal n
+answer_words (answers.ErrOld n) = codes "err " ++ decimal n
+
+-- a call of a wake closure
+abbrev pub act_line : ℕ → Act ℕ → List ℕ
+act_line party (acts.Woke wakes.One) = party_line party (codes "wakes one")
+act_line party (acts.Woke wakes.All) = party_line party (codes "wakes all")
+act_line party act = []
+
+-- how the call stands then
+abbrev pub then_line : ℕ → Then ℕ → List ℕ
+then_line party thens.GoesOn = []
+then_line party (thens.Waits seen) = party_line party (codes "waits " ++ decimal seen)
+then_line party (thens.Chooses old) = party_line party (codes "chooses " ++ decimal old)
+then_line party (thens.Answers answer) = party_line party (answer_words answer)
+
+abbrev pub event_lines : Event ℕ → List ℕ
+event_lines e = act_line e.party e.act ++ then_line e.party e.then
+
+abbrev pub printed : List (Event ℕ) → List ℕ
+printed events = flat_map event_lines events
+
+-- a word, and how many exchanges failed
+abbrev pub counts_line : ℕ → ℕ → List ℕ
+counts_line word failed = codes "word " ++ (decimal word ++ (codes " failed " ++ (decimal failed ++ codes "\n")))
+
+-- what the run has left
+unfoldable pub last_line : Object ℕ → List (Event ℕ) → List ℕ
+last_line o past = counts_line (word_in u64_arithmetic o past words.State) (min (failed_in past) (2 ^ 64 - 1))

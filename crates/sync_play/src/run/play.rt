@@ -1,0 +1,59 @@
+ghost use Rattle.std.specs.Prelude.{◌≡◌, ◌≢◌, OnOk, IfOk, IfErr};
+ghost use Rattle.std.specs.Io.KnownBytes.{Appends};
+ghost use Rattle.sync_play.specs.RunFaults.{HasRead, HasPlayed, HasBegun, TellsFault, EndsReading, Begins};
+
+use super::RunFault;
+use crate::text::play_text;
+use std::alloc::Global;
+use std::io::{Read, Write};
+
+/// How many bytes are read at once.
+const CHUNK: usize = 4096;
+
+/// Reads to the end. An error of any kind ends it, also an interruption.
+fn read_all<R: Read>(alloc: Global, reader: &mut R) -> Result<Vec<u8>, RunFault>
+    ensures ok { IfOk result (λ text. HasRead (R.remaining reader.old) (R.remaining reader.new) text.items) }
+    ensures err { IfErr result EndsReading }
+{
+    let mut text = Vec::new(alloc);
+    let mut buffer = [0u8; CHUNK];
+    loop {
+        match reader.read(&mut buffer) {
+            Ok(0) => return Ok(text),
+            Ok(count) => text.extend_from_slice(&buffer[..count])?,
+            Err(_) => return Err(RunFault::Read),
+        }
+    }
+}
+
+/// Writes all the bytes. An error of any kind ends it, and so does a write that takes none.
+fn write_all<W: Write>(writer: &mut W, bytes: &[u8]) -> Result<(), RunFault>
+    ensures ok { OnOk result (Appends (W.contents writer.old) (W.contents writer.new) bytes.now) }
+    ensures write { IfErr result (λ e. e ≡ RunFault.Write) }
+    ensures begun { Begins (W.contents writer.old) (W.contents writer.new) bytes.now }
+{
+    let mut rest = bytes;
+    while !rest.is_empty() {
+        match writer.write(rest) {
+            Ok(0) | Err(_) => return Err(RunFault::Write),
+            Ok(count) => rest = &rest[count..],
+        }
+    }
+    Ok(())
+}
+
+/// Reads a schedule text to its end, plays it, and writes what it prints, and nothing else.
+pub fn run<R: Read, W: Write>(alloc: Global, reader: &mut R, writer: &mut W) -> Result<(), RunFault>
+    ensures ok { OnOk result (HasPlayed (R.remaining reader.old) (R.remaining reader.new)
+        (W.contents writer.old) (W.contents writer.new)) }
+    ensures text { IfErr result (λ e. TellsFault e (R.remaining reader.old) (R.remaining reader.new)) }
+
+    // After a text's fault, a failed read and want of memory the writer is as it was.
+    ensures unwritten { IfErr result (λ e. e ≢ RunFault.Write → writer.new ≡ writer.old) }
+    ensures begun { IfErr result (λ e. e ≡ RunFault.Write → HasBegun (R.remaining reader.old) (R.remaining reader.new)
+        (W.contents writer.old) (W.contents writer.new)) }
+{
+    let text = read_all(alloc, reader)?;
+    let output = play_text(alloc, &text)?;
+    write_all(writer, &output)
+}

@@ -1,0 +1,82 @@
+use super::{played, text};
+use std::test::Fail;
+
+/// Texts, their lines parted by ` / `, with the fault of each.
+const FAULTS: [(&str, &str); 27] = [
+    ("mutex 1 / 1 go", "line 2: idle"),
+    ("mutex 1 / 1 run", "line 2: idle"),
+    ("mutex 1 / 1 lock / 1 lock", "line 3: busy"),
+    ("mutex 1 / 1 abort", "line 2: not waiting"),
+    ("mutex 1 / 1 wait", "line 2: not waiting"),
+    ("mutex 1 / 1 none", "line 2: not waiting"),
+    (
+        "mutex 1 / 1 some 18446744073709551615",
+        "line 2: not waiting",
+    ),
+    (
+        "mutex 1 / 1 some 18446744073709551616",
+        "line 2: bad number",
+    ),
+    ("mutex 1 / 1 some", "line 2: bad line"),
+    ("mutex 2 / 3 lock", "line 2: no party"),
+    ("mutex 2 / 0 lock", "line 2: no party"),
+    ("mutex 2 / 3 go 5", "line 2: no party"),
+    ("mutex 2 / 18446744073709551615 run", "line 2: no party"),
+    ("mutex 2 / 18446744073709551616 run", "line 2: bad number"),
+    ("mutex 1 / 1 unlock", "line 2: no hold"),
+    ("mutex 1 / 1 lock / 1 run / 1 lock", "line 4: holding"),
+    (
+        "mutex 2 / 1 lock / 1 run / 2 lock / 2 run / 2 go",
+        "line 6: waiting",
+    ),
+    (
+        "mutex 2 / 1 lock / 1 run / 2 lock / 2 go 10002",
+        "line 5: waiting",
+    ),
+    ("mutex 1 / 1 try_lock / 1 go 2", "line 3: idle"),
+    ("mutex", "line 1: bad line"),
+    ("mutex 1 1", "line 1: bad line"),
+    ("mutex 65", "line 1: bad number"),
+    ("mutex 0", "line 1: bad number"),
+    ("mutex 1 / 1 go 0", "line 2: bad number"),
+    ("mutex 1 / 1 go 100001", "line 2: bad number"),
+    ("mutex 1 / +1 lock", "line 2: bad number"),
+    ("semaphore 1 2", "line 1: no object"),
+];
+
+#[test]
+fn faults_of_a_line(rt: HostRuntime) -> Result<(), Fail> {
+    for (lines, fault) in &FAULTS {
+        let text = text(rt.alloc(), lines, "\n")?;
+        let output = played(rt.alloc(), text.as_bytes())?;
+        let want = format!(in rt.alloc(); "{fault}, status 2, 0 written")?;
+        assert_eq!(rt; output.as_str(), want.as_str(), "of {lines}");
+    }
+    Ok(())
+}
+
+/// Texts in bytes, with the fault of each.
+const BYTES: [(&[u8], &str); 9] = [
+    (b"", "line 1: no object"),
+    (b"\n", "line 1: no object"),
+    (b"\nmutex 1\n", "line 1: no object"),
+    // Bytes that are no UTF-8, as the first word and in a later one.
+    (b"\xff\xfe 1\n", "line 1: no object"),
+    (b"mutex 1\n1 l\xc3ck\n", "line 2: bad line"),
+    (b"mutex 1\n\xb9 lock\n", "line 2: bad number"),
+    // A carriage return that ends no line is a byte like others.
+    (b"mutex 1\r\r\n", "line 1: bad number"),
+    (b"mutex 1\r\n1 lock\r", "line 2: bad line"),
+    // Blank lines count, and an unknown verb comes before a bad number.
+    (b"mutex 1\n\n \n+1 start_wait 7\n", "line 4: bad line"),
+];
+
+#[test]
+fn faults_of_bytes(rt: HostRuntime) -> Result<(), Fail> {
+    for (text, fault) in &BYTES {
+        let output = played(rt.alloc(), text)?;
+        let want = format!(in rt.alloc(); "{fault}, status 2, 0 written")?;
+        assert_eq!(rt; output.as_str(), want.as_str());
+    }
+    Ok(())
+}
