@@ -1,8 +1,8 @@
 -- Lines and words cut from the front are those of the definitions.
-use Rattle.std.proofs.Common.{◌≡◌, ◌≢◌, ℕ, suc, ◌+◌, ◌-◌, ◌<◌, ◌≤◌, Bool, true, false, ◌&&◌, ◌==◌, eqb, ltb, cond, not, List, [], ◌∷◌, ◌++◌, length, get_or, take, drop, Option, Some, None, refl, sym, ap, subst, ◌∙◌, arith, add-one, drop-cons}
+use Rattle.std.proofs.Common.{◌≡◌, ◌≢◌, ℕ, suc, ◌+◌, ◌-◌, ◌<◌, ◌≤◌, Bool, true, false, ◌&&◌, ◌==◌, eqb, ltb, cond, not, List, [], ◌∷◌, ◌++◌, length, get_or, take, drop, Some, None, refl, sym, ap, subst, ◌∙◌, arith, add-one, drop-cons}
 use Rattle.std.proofs.lemmas.List.{take_all, length-drop}
 use Rattle.std.specs.List.{position, position_or_len}
-use Rattle.sync_play.specs.Lines.{lines_of, onto_line, starts_with_feed}
+use Rattle.sync_play.specs.Lines.{lines_of, onto_line}
 use Rattle.sync_play.specs.Words.{words_of, is_blank, onto_word, before_bytes}
 use Rattle.sync_play.specs.Cuts.{cut_line}
 

@@ -1,12 +1,7 @@
 -- Where a text has an output, it is what a run of the text's inputs prints.
-use Rattle.std.proofs.Common.{◌≡◌, ℕ, zero, suc, ◌+◌, ◌-◌, ◌%◌, ◌^◌, ◌≤◌, ◌<◌, Bool, true, false, ◌&&◌, cond, leb, List, [], ◌∷◌, ◌++◌, Option, Some, None, Result, Ok, Err, refl, sym, ap, subst, ◌∙◌, append_assoc, arith}
+use Rattle.std.proofs.Common.{◌≡◌, ℕ, zero, suc, ◌+◌, ◌-◌, ◌%◌, ◌^◌, ◌≤◌, Bool, true, false, ◌&&◌, cond, leb, List, [], ◌∷◌, ◌++◌, Option, Some, None, Result, Ok, Err, refl, sym, ap, subst, ◌∙◌, append_assoc, arith}
 use Rattle.std.proofs.lemmas.Bool.{leb-true}
-use Rattle.std.specs.Str.{bytes_eq}
-use Rattle.std.specs.Prelude.{codes}
-use Rattle.std.specs.List.{flat_map}
-use Rattle.std.proofs.lemmas.List.{append-nil}
 use Rattle.std.proofs.lemmas.List.Concat.{flat_map-append}
-use Rattle.sync_steps.specs.declared.steps.event.Call.{Call}
 use Rattle.sync_steps.specs.declared.steps.event.Call.TheVariants as calls
 use Rattle.sync_steps.specs.declared.steps.event.Event.{Event}
 use Rattle.sync_steps.specs.declared.steps.event.Input.{Input}
@@ -21,7 +16,6 @@ use Rattle.sync_steps.specs.Next.{fault_of, moved_of, IsNext, InputValues}
 use Rattle.sync_steps.specs.Past.{call_of, holds_of, hold_among, word_in}
 use Rattle.sync_steps.specs.Run.{IsRun, after}
 use Rattle.sync_play.specs.declared.fault.LineFault.{LineFault}
-use Rattle.sync_play.specs.declared.opening.Opening.{Opening}
 use Rattle.sync_play.specs.declared.orders.Task.{Task}
 use Rattle.sync_play.specs.declared.orders.Task.TheVariants as tasks
 use Rattle.sync_play.specs.declared.orders.Order.{Order}
@@ -30,10 +24,10 @@ use Rattle.sync_play.specs.Faults.{◌>>=◌, FaultAt, at_line}
 use Rattle.sync_play.specs.Lines.{lines_of}
 use Rattle.sync_play.specs.Words.{words_of}
 use Rattle.sync_play.specs.Numbers.{in_range, number_of, number_within}
-use Rattle.sync_play.specs.Orders.{alone, go_task, some_task, call_alone, mutex_task, call_task, task_of, order_of}
+use Rattle.sync_play.specs.Orders.{alone, go_task, some_task, call_task, task_of, order_of}
 use Rattle.sync_play.specs.Opening.{opening_of}
 use Rattle.sync_play.specs.Events.{event_by, unless_refused, event_of, events_of, run_of, steps_of, task_events, party_events, line_events}
-use Rattle.sync_play.specs.Output.{output_after, output_of_lines, output_of}
+use Rattle.sync_play.specs.Output.{output_after, output_of_lines}
 use Rattle.sync_play.specs.Printed.{printed, event_lines, last_line}
 use Rattle.sync_play.specs.TextRuns.{EndsFirstAtLast, AreInputsOf, LineAsks, LinesAsk, IsRunOfText, OutputsAreRuns}
 use Rattle.sync_play.proofs.Runs.{bind_ok, ok_is}

@@ -1,7 +1,6 @@
 -- The events of a run are those that the definitions of a text name.
-use Rattle.std.proofs.Common.{◌≡◌, ℕ, zero, suc, ◌+◌, ◌-◌, ◌≤◌, ◌<◌, Bool, true, false, cond, not, nat_eq, nat_lt, eqb, eq-eqb, List, [], ◌∷◌, ◌++◌, length, take, drop, Option, Some, None, Result, Ok, Err, refl, sym, ap, subst, ◌∙◌, append_assoc, arith}
+use Rattle.std.proofs.Common.{◌≡◌, ℕ, zero, suc, ◌+◌, ◌≤◌, ◌<◌, Bool, true, false, cond, not, nat_lt, eqb, eq-eqb, List, [], ◌∷◌, ◌++◌, length, take, Option, Some, None, Result, Ok, Err, refl, sym, ap, subst, ◌∙◌, append_assoc, arith}
 use Rattle.std.specs.Prelude.{slice_get}
-use Rattle.std.proofs.lemmas.List.{append-nil}
 use Rattle.sync_steps.specs.declared.steps.event.Word.{Word}
 use Rattle.sync_steps.specs.declared.steps.event.Call.{Call}
 use Rattle.sync_steps.specs.declared.steps.event.Call.TheVariants as calls
@@ -27,7 +26,7 @@ use Rattle.sync_steps.specs.Run.{IsRun, after}
 use Rattle.sync_play.specs.declared.fault.LineFault.{LineFault}
 use Rattle.sync_play.specs.declared.fault.LineFault.TheVariants as faults
 use Rattle.sync_play.specs.Faults.{◌>>=◌, line_fault_of}
-use Rattle.sync_play.specs.Events.{event_by, unless_refused, event_of, events_of, run_of, steps_of}
+use Rattle.sync_play.specs.Events.{event_of, events_of, run_of, steps_of}
 use Rattle.sync_play.specs.Pieces.{has_ended}
 
 abbrev Ev : Type 0

@@ -1,8 +1,7 @@
 -- Pieces of a schedule make up a task.
-use Rattle.std.proofs.Common.{◌≡◌, ℕ, zero, suc, ◌+◌, ◌-◌, ◌*◌, ◌≤◌, ◌<◌, min, Bool, true, false, not, List, [], ◌∷◌, ◌++◌, length, take, drop, Option, Some, None, Result, Ok, Err, refl, sym, ap, subst, ◌∙◌, append_assoc, arith}
+use Rattle.std.proofs.Common.{◌≡◌, ℕ, zero, suc, ◌+◌, ◌-◌, ◌≤◌, ◌<◌, Bool, true, false, not, List, [], ◌∷◌, ◌++◌, length, take, drop, Option, Some, None, Result, Ok, Err, refl, sym, ap, subst, ◌∙◌, append_assoc, arith}
 use Rattle.std.specs.Prelude.{slice_get}
-use Rattle.std.specs.List.{flat_map}
-use Rattle.std.proofs.lemmas.List.{append-nil, take_all, take-append-drop, length-take}
+use Rattle.std.proofs.lemmas.List.{append-nil, take_all, length-take}
 use Rattle.std.proofs.lemmas.List.Concat.{flat_map-append}
 use Rattle.sync_steps.specs.declared.steps.event.Event.{Event}
 use Rattle.sync_steps.specs.declared.steps.event.Input.{Input}
@@ -20,7 +19,7 @@ use Rattle.sync_play.specs.declared.fault.LineFault.TheVariants as faults
 use Rattle.sync_play.specs.declared.fault.Refusal.{Refusal}
 use Rattle.sync_play.specs.declared.fault.Refusal.TheVariants as refusals
 use Rattle.sync_play.specs.declared.pieces.Piece.{Piece}
-use Rattle.sync_play.specs.Faults.{◌>>=◌, line_fault_of}
+use Rattle.sync_play.specs.Faults.{line_fault_of}
 use Rattle.sync_play.specs.Events.{events_of, run_of, steps_of}
 use Rattle.sync_play.specs.Pieces.{has_ended, StopsAfter, IsPiece, Advances, Does, IsOutcome}
 use Rattle.sync_play.specs.Printed.{printed, event_lines}

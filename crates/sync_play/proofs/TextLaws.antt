@@ -1,6 +1,5 @@
 -- Lines make up a text.
-use Rattle.std.proofs.Common.{◌≡◌, ◌≢◌, ℕ, zero, suc, ◌+◌, ◌-◌, ◌^◌, ◌≤◌, ◌<◌, min, List, [], ◌∷◌, ◌++◌, Option, Some, None, Result, Ok, Err, refl, sym, ap, subst, ◌∙◌, append_assoc, arith}
-use Rattle.std.specs.List.{flat_map}
+use Rattle.std.proofs.Common.{◌≡◌, ◌≢◌, ℕ, zero, suc, ◌+◌, ◌-◌, ◌^◌, min, List, [], ◌∷◌, ◌++◌, Result, Ok, Err, refl, sym, ap, ◌∙◌, append_assoc, arith}
 use Rattle.std.proofs.lemmas.List.{append-nil}
 use Rattle.sync_steps.specs.declared.steps.event.Event.{Event}
 use Rattle.sync_steps.specs.declared.steps.event.Object.{Object}
@@ -16,16 +15,16 @@ use Rattle.sync_play.specs.declared.opening.Opening.{Opening}
 use Rattle.sync_play.specs.declared.orders.Order.{Order}
 use Rattle.sync_play.specs.declared.orders.Task.{Task}
 use Rattle.sync_play.specs.declared.text.TextFault.{TextFault}
-use Rattle.sync_play.specs.Faults.{◌>>=◌, FaultAt, at_line}
+use Rattle.sync_play.specs.Faults.{◌>>=◌, FaultAt}
 use Rattle.sync_play.specs.Lines.{lines_of}
 use Rattle.sync_play.specs.Words.{words_of}
 use Rattle.sync_play.specs.Orders.{order_of}
 use Rattle.sync_play.specs.Opening.{opening_of}
 use Rattle.sync_play.specs.Events.{line_events, party_events, task_events}
 use Rattle.sync_play.specs.Output.{output_after, output_of_lines, output_of}
-use Rattle.sync_play.specs.Pieces.{Advances, IsOutcome, Does}
+use Rattle.sync_play.specs.Pieces.{Advances, IsOutcome}
 use Rattle.sync_play.specs.Printed.{printed, counts_line, last_line}
-use Rattle.sync_play.specs.Text.{PlaysLines, IsFaultOf, LinesOutcome}
+use Rattle.sync_play.specs.Text.{PlaysLines, IsFaultOf}
 use Rattle.sync_play.proofs.TaskLaws.{after_both, printed_both}
 
 abbrev Ev : Type 0

@@ -13,7 +13,6 @@ use Rattle.sync_play.specs.declared.fault.LineFault.{LineFault}
 use Rattle.sync_play.specs.declared.fault.LineFault.TheVariants as faults
 use Rattle.sync_play.specs.declared.orders.Task.{Task}
 use Rattle.sync_play.specs.declared.orders.Task.TheVariants as tasks
-use Rattle.sync_play.specs.declared.orders.Order.{Order}
 use Rattle.sync_play.specs.declared.orders.TheConstants.{STEP_LIMIT}
 use Rattle.sync_play.specs.Faults.{◌>>=◌, line_fault_of}
 use Rattle.sync_play.specs.Orders.{order_of}

@@ -1,5 +1,5 @@
 -- What playing a piece of a schedule does, and what doing a task does.
-use Rattle.std.specs.Prelude.{◌≡◌, ℕ, Bool, true, false, not, List, [], ◌∷◌, ◌++◌, length, take, Option, Some, None, Result, Ok, Err, slice_get}
+use Rattle.std.specs.Prelude.{◌≡◌, ℕ, Bool, false, not, List, [], ◌∷◌, ◌++◌, length, take, Option, Some, None, Result, Ok, Err, slice_get}
 use Rattle.sync_steps.specs.declared.steps.event.Event.{Event}
 use Rattle.sync_steps.specs.declared.steps.event.Input.{Input}
 use Rattle.sync_steps.specs.declared.steps.event.Object.{Object}

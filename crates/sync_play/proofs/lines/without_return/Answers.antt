@@ -1,5 +1,4 @@
-use Rattle.std.proofs.Common.{rules, arith, tests}
-use Rattle.std.proofs.lemmas.Bool.Decides.{nat_tests}
+use Rattle.std.proofs.Common.{rules, tests}
 use Rattle.sync_play.proofs.Cutting.{return_cut, return_kept}
 use Rattle.sync_play.proofs.lines.without_return.Goals as goal
 

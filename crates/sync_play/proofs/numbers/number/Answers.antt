@@ -1,4 +1,4 @@
-use Rattle.std.proofs.Common.{sym, ◌∙◌, arith, rules, get_or}
+use Rattle.std.proofs.Common.{sym, ◌∙◌, arith}
 use Rattle.sync_play.proofs.Digits.{digit_too_large, digits_end}
 use Rattle.sync_play.proofs.numbers.number.Goals as goal
 

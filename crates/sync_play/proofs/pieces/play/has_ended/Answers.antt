@@ -1,4 +1,4 @@
-use Rattle.std.proofs.Common.{rules, ap, ◌∙◌}
+use Rattle.std.proofs.Common.{rules}
 use Rattle.sync_play.proofs.TaskLaws.{ended_is}
 use Rattle.sync_play.proofs.pieces.play.has_ended.Goals as goal
 

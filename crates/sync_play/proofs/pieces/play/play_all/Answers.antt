@@ -1,4 +1,3 @@
-use Rattle.std.proofs.Common.{◌≡◌, Err, ap, ◌∙◌, sym, rules}
 use Rattle.sync_play.proofs.TaskLaws.{piece_all, piece_refused}
 use Rattle.sync_play.proofs.pieces.play.play_all.Goals as goal
 

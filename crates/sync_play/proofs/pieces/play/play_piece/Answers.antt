@@ -1,4 +1,4 @@
-use Rattle.std.proofs.Common.{rules, ap, ◌∙◌}
+use Rattle.std.proofs.Common.{rules}
 use Rattle.sync_play.proofs.TaskLaws.{piece_played}
 use Rattle.sync_play.proofs.pieces.play.play_piece.Goals as goal
 

@@ -1,8 +1,7 @@
-use Rattle.std.proofs.Common.{◌≡◌, ◌≤◌, length, take, arith}
+use Rattle.std.proofs.Common.{◌≡◌, length, arith}
 use Rattle.std.specs.Prelude.{string_bytes}
 use Rattle.std.proofs.lemmas.List.{length-take}
 use Rattle.std.proofs.lemmas.Result.{err_from_is_err_and}
-use Rattle.sync_play.specs.Events.{steps_of}
 use Rattle.sync_play.proofs.Runs.{steps_length}
 use Rattle.sync_play.proofs.TaskLaws.{go_further, go_fails, go_done, front_of_steps}
 use Rattle.sync_play.proofs.pieces.tasks.go.Goals as goal

@@ -1,6 +1,5 @@
-use Rattle.std.proofs.Common.{◌≡◌, ◌≤◌, ◌-◌, ◌*◌, ◌+◌, ◌∙◌, sym, subst, ℕ, List, arith}
-use Rattle.sync_play.specs.Events.{steps_of, run_of}
-use Rattle.sync_play.proofs.TaskLaws.{Halfway, run_on, run_out, run_refused, run_limited}
+use Rattle.std.proofs.Common.{◌-◌, ◌*◌, ◌∙◌, arith}
+use Rattle.sync_play.proofs.TaskLaws.{run_on, run_out, run_refused, run_limited}
 use Rattle.sync_play.proofs.pieces.tasks.run.Goals as goal
 
 pub returns-then-piece : goal.returns-then-piece

@@ -1,4 +1,3 @@
-use Rattle.std.proofs.Common.{length, drop}
 use Rattle.std.proofs.lemmas.List.{take_rest}
 use Rattle.sync_play.proofs.Bytes.{writing_goes_on}
 use Rattle.sync_play.proofs.run.play.write_all.Goals as goal

@@ -1,5 +1,4 @@
-use Rattle.std.proofs.Common.{◌≡◌, ◌-◌, ◌≤◌, ℕ, length, take, drop}
-use Rattle.std.specs.Io.KnownBytes.{Appends}
+use Rattle.std.proofs.Common.{length}
 use Rattle.sync_play.proofs.Bytes.{HasWritten}
 use Rattle.sync_play.proofs.run.play.write_all.Given as goal
 

@@ -1,8 +1,6 @@
-use Rattle.std.proofs.Common.{◌≡◌, ◌-◌, ℕ, List, Result, sym, subst, ◌∙◌, rules}
-use Rattle.std.specs.Prelude.{string_bytes}
+use Rattle.std.proofs.Common.{◌∙◌, rules}
 use Rattle.std.proofs.lemmas.Result.{err_from_is_err_and}
 use Rattle.sync_play.specs.Words.{words_of}
-use Rattle.sync_play.specs.Pieces.{IsOutcome}
 use Rattle.sync_play.proofs.TextLaws.{line_is_empty, order_fails, order_is, no_party, party_from_one, same_outcome}
 use Rattle.sync_play.proofs.text.play.play_line.Goals as goal
 

@@ -1,4 +1,4 @@
-use Rattle.std.proofs.Common.{◌≡◌, ◌+◌, rules, arith}
+use Rattle.std.proofs.Common.{◌+◌, rules, arith}
 use Rattle.sync_play.specs.Lines.{lines_of}
 use Rattle.sync_play.proofs.TextLaws.{text_fails, text_goes_on, text_ends}
 use Rattle.sync_play.proofs.text.play.play_lines.Goals as goal

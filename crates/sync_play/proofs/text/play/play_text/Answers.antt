@@ -1,5 +1,4 @@
-use Rattle.std.proofs.Common.{◌≡◌, ◌∙◌, ap, ℕ, Vec, Global, [], rules}
-use Rattle.std.specs.Prelude.{IfErr, string_bytes}
+use Rattle.std.proofs.Common.{◌∙◌, ap, ℕ, Vec, Global, [], rules}
 use Rattle.std.proofs.lemmas.Result.{err_from_is_err_and}
 use Rattle.sync_play.specs.Lines.{lines_of}
 use Rattle.sync_play.proofs.TextLaws.{text_is_empty, opening_fails, opening_is, faults_so, text_done}
