@@ -47,7 +47,7 @@ const FORMS: [(&str, &str); 8] = [
         "mutex 1\n1 try_lock\n1 go\n",
         "1 success / word 1 failed 0 / ",
     ),
-    // No line is left out before the last line end is missing.
+    // The last line end may be missing.
     (
         "mutex 1\n1 try_lock\n1 run",
         "1 success / word 1 failed 0 / ",
