@@ -17,7 +17,7 @@ use Rattle.sync_steps.specs.declared.steps.words.Words.{Words}
 use Rattle.sync_steps.specs.Arithmetic.{Arithmetic}
 use Rattle.sync_steps.specs.Past.{Calling}
 use Rattle.sync_steps.specs.MutexTable.{mutex_next}
-use Rattle.sync_steps.specs.MutexPlace.{AtMutex}
+use Rattle.sync_steps.specs.MutexSteps.{MutexSteps}
 use Rattle.sync_steps.specs.declared.steps.semaphore.SemaphorePlace.{SemaphorePlace}
 use Rattle.sync_steps.specs.SemaphoreTable.{semaphore_next}
 use Rattle.sync_steps.specs.SemaphoreLooks.{SemaphoreSteps}
@@ -57,8 +57,7 @@ takes_turns party place words (Err fault) is steps = tt
 -- the step of a mutex
 pub mutex_goes :
     {T : Type 0} (place : MutexPlace) (hold : Option HoldKind) (words : Words) (turn : Turn T) →
-    ((c : Calling T) → AtMutex place c → Goes objects.Mutex c hold (mutex_next c.call c.own words.state) turn) →
-    StepsTo (places.Mutex place) hold words turn
+    MutexSteps place hold words.state turn → StepsTo (places.Mutex place) hold words turn
 mutex_goes {T} place hold words turn goes z o c memory at agrees =
     let P : Object T → Type 0 = λ object. Goes object c hold (next_of z object c hold memory) turn in
     let Q : ℕ → Type 0 = λ word. Goes objects.Mutex c hold (mutex_next c.call c.own word) turn in

@@ -20,4 +20,5 @@ pub mod Headline
 pub mod Stepped
 pub mod Played
 pub mod Applies
+pub mod MutexSteps
 pub mod SemaphoreLooks

@@ -10,6 +10,7 @@ use Rattle.sync_steps.specs.declared.steps.event.Event.{Event}
 use Rattle.sync_steps.specs.declared.steps.event.Input.{Input}
 use Rattle.sync_steps.specs.declared.steps.event.Object.{Object}
 use Rattle.sync_steps.specs.declared.steps.event.StepFault.{StepFault}
+use Rattle.sync_steps.specs.declared.steps.event.StepFault.TheVariants as faults
 use Rattle.sync_steps.specs.declared.steps.place.HoldKind.{HoldKind}
 use Rattle.sync_steps.specs.declared.steps.place.Party.{Party}
 use Rattle.sync_steps.specs.declared.steps.place.Place.{Place}
@@ -42,6 +43,20 @@ pub record Goes {T : Type 0} (o : Object T) (c : Calling T) (hold : Option HoldK
 pub record GoesOnFrom {T : Type 0} (c : Calling T) (action : WaitAction) (At : Calling T → Type 0) : Type 0 where
   pub waits : answer_fault (stand_of c.own) ≡ None
   pub stands : (number : ℕ) → At (record { call = c.call; own = event number (acts.Answered action) thens.GoesOn ∷ c.own })
+
+-- What is promised of every call that stands at some place.
+
+-- it makes no step, with this fault
+abbrev pub RefusesGo : {T : Type 0} → (Calling T → Type 0) → StepFault → Type 0
+RefusesGo {T} At fault = (c : Calling T) → At c → go_fault (stand_of c.own) ≡ Some fault
+
+-- its wait closure answers, and it goes on from another place
+abbrev pub AnswersFrom : {T : Type 0} → (Calling T → Type 0) → WaitAction → (Calling T → Type 0) → Type 0
+AnswersFrom {T} At action After = (c : Calling T) → At c → GoesOnFrom c action After
+
+-- it does not stand at its wait closure
+abbrev pub WaitsNot : {T : Type 0} → (Calling T → Type 0) → Type 0
+WaitsNot {T} At = (c : Calling T) → At c → answer_fault (stand_of c.own) ≡ Some faults.NotWaiting
 
 -- wherever a call stands at this place, the turn is its next step
 abbrev pub StepsTo : {T : Type 0} → Place → Option HoldKind → Words → Turn T → Type 0

@@ -12,5 +12,6 @@ use crate::atomic::internal::AtomicInteger;
 /// alone, and does nothing.
 #[tactic(auto, using(crate::proofs::Headlines::headline))]
 pub fn at_every_front<T: AtomicInteger>()
-    ensures { (object : AnObject T) (parties : ℕ) (past : List (AnEvent T)) → IsPast T.arithmetic object parties past → Headline T.arithmetic object past }
+    ensures { (object : AnObject T) (parties : ℕ) (past : List (AnEvent T)) →
+        IsPast T.arithmetic object parties past → Headline T.arithmetic object past }
 {}

@@ -1,15 +1,11 @@
 //! The mutex: its word is 0 where it is free and 1 where it is locked.
-ghost use Rattle.std.specs.Prelude.{◌≡◌, ◌≢◌, ℕ, true, false, [], IfSome, IfNone, IfOk, IfErr};
+ghost use Rattle.std.specs.Prelude.{◌≡◌, ◌≢◌, true, false, [], IfSome, IfNone, IfOk, IfErr};
 ghost use Rattle.sync_steps.specs.declared.steps.event.Act.TheVariants as acts;
 ghost use Rattle.sync_steps.specs.declared.steps.event.Word.TheVariants as words;
-ghost use Rattle.sync_steps.specs.declared.steps.event.Object.TheVariants as objects;
-ghost use Rattle.sync_steps.specs.declared.steps.event.StepFault.TheVariants as faults;
-ghost use Rattle.sync_steps.specs.Past.{Calling};
-ghost use Rattle.sync_steps.specs.Moves.{stand_of};
-ghost use Rattle.sync_steps.specs.MutexTable.{mutex_has, mutex_next};
+ghost use Rattle.sync_steps.specs.MutexTable.{mutex_has};
 ghost use Rattle.sync_steps.specs.MutexPlace.{AtMutex};
-ghost use Rattle.sync_steps.specs.Next.{go_fault, answer_fault};
-ghost use Rattle.sync_steps.specs.Turns.{Goes, GoesOnFrom};
+ghost use Rattle.sync_steps.specs.MutexSteps.{MutexSteps};
+ghost use Rattle.sync_steps.specs.Turns.{RefusesGo, AnswersFrom, WaitsNot};
 
 use super::event::{Act, Answer, Call, StepFault, Then, Wake, Word};
 use super::place::{HoldKind, Party, Place, Turn};
@@ -40,7 +36,8 @@ pub enum MutexPlace {
 
 /// Where a call at a mutex begins.
 pub(crate) fn place_of<T: Copy>(call: Call<T>) -> Option<MutexPlace>
-    ensures has { IfSome result (λ place. (mutex_has call ≡ true) × AtMutex place (record { call = call; own = [] })) }
+    ensures has { IfSome result (λ place.
+        (mutex_has call ≡ true) × AtMutex place (record { call = call; own = [] })) }
     ensures other { IfNone result (mutex_has call ≡ false) }
 {
     match call {
@@ -60,8 +57,8 @@ pub(crate) fn go<T>(
     hold: Option<HoldKind>,
     word: u64,
 ) -> Result<Turn<T>, StepFault>
-    ensures next { IfOk result (λ turn. (c : Calling T) → AtMutex place c → Goes objects.Mutex c hold (mutex_next c.call c.own word) turn) }
-    ensures fault { IfErr result (λ fault. (c : Calling T) → AtMutex place c → go_fault (stand_of c.own) ≡ Some fault) }
+    ensures next { IfOk result (λ turn. MutexSteps place hold word turn) }
+    ensures fault { IfErr result (RefusesGo {T = T} (AtMutex place)) }
 {
     match place {
         MutexPlace::TryLock => Ok(try_lock(hold, word)),
@@ -101,7 +98,7 @@ fn exchange<T>(word: u64, done: bool) -> Act<T>
 
 /// The one exchange of `TryLock`.
 fn try_lock<T>(hold: Option<HoldKind>, word: u64) -> Turn<T>
-    ensures { (c : Calling T) → AtMutex MutexPlace.TryLock c → Goes objects.Mutex c hold (mutex_next c.call c.own word) result }
+    ensures { MutexSteps MutexPlace.TryLock hold word result }
 {
     if granted(word).is_some() {
         Turn {
@@ -123,7 +120,7 @@ fn try_lock<T>(hold: Option<HoldKind>, word: u64) -> Turn<T>
 
 /// An exchange of `Lock`: after one that failed it gives up, spins or stands.
 fn lock<T>(hold: Option<HoldKind>, word: u64, spins: u64, keep: bool) -> Turn<T>
-    ensures { (c : Calling T) → AtMutex (MutexPlace.Lock spins keep) c → Goes objects.Mutex c hold (mutex_next c.call c.own word) result }
+    ensures { MutexSteps (MutexPlace.Lock spins keep) hold word result }
 {
     if granted(word).is_some() {
         return Turn {
@@ -167,8 +164,8 @@ fn lock<T>(hold: Option<HoldKind>, word: u64, spins: u64, keep: bool) -> Turn<T>
 
 /// Where a call at a mutex goes on once its wait closure has answered, if it stands there.
 pub(crate) fn answer<T>(place: MutexPlace, action: WaitAction) -> Option<MutexPlace>
-    ensures waits { IfSome result (λ next. (c : Calling T) → AtMutex place c → GoesOnFrom c action (AtMutex next)) }
-    ensures other { IfNone result ((c : Calling T) → AtMutex place c → answer_fault (stand_of c.own) ≡ Some faults.NotWaiting) }
+    ensures waits { IfSome result (λ next. AnswersFrom {T = T} (AtMutex place) action (AtMutex next)) }
+    ensures other { IfNone result (WaitsNot {T = T} (AtMutex place)) }
 {
     match place {
         MutexPlace::Standing => Some(MutexPlace::Lock {

@@ -1,21 +1,13 @@
 //! The semaphore: its word is the number of permits that are there to take.
-ghost use Rattle.std.specs.Prelude.{◌≡◌, ◌≢◌, ◌+◌, ◌-◌, ◌%◌, ◌^◌, ◌≤◌, ℕ, true, false, [], None, Some, IfSome, IfNone, IfOk, IfErr};
-ghost use Rattle.sync_steps.specs.declared.TheConstants.{SPIN_REPETITIONS};
-ghost use Rattle.sync_steps.specs.declared.steps.event.Act.{Act as AnAct};
+ghost use Rattle.std.specs.Prelude.{◌≡◌, ◌≢◌, ◌+◌, ◌-◌, ◌%◌, ◌^◌, true, false, [], IfSome, IfNone, IfOk, IfErr};
 ghost use Rattle.sync_steps.specs.declared.steps.event.Act.TheVariants as acts;
-ghost use Rattle.sync_steps.specs.declared.steps.event.Call.TheVariants as calls;
 ghost use Rattle.sync_steps.specs.declared.steps.event.Answer.TheVariants as answers;
 ghost use Rattle.sync_steps.specs.declared.steps.event.Then.TheVariants as thens;
 ghost use Rattle.sync_steps.specs.declared.steps.event.Word.TheVariants as words;
-ghost use Rattle.sync_steps.specs.declared.steps.event.Object.TheVariants as objects;
-ghost use Rattle.sync_steps.specs.declared.steps.event.StepFault.TheVariants as faults;
-ghost use Rattle.sync_steps.specs.Past.{Calling};
-ghost use Rattle.sync_steps.specs.Moves.{stand_of, keeps};
-ghost use Rattle.sync_steps.specs.SemaphoreTable.{semaphore_has, semaphore_next, try_wait_then, wait_then, wait_spins};
+ghost use Rattle.sync_steps.specs.SemaphoreTable.{semaphore_has};
 ghost use Rattle.sync_steps.specs.SemaphorePlace.{AtSemaphore};
 ghost use Rattle.sync_steps.specs.SemaphoreLooks.{SemaphoreSteps, TryLooks, WaitLooks};
-ghost use Rattle.sync_steps.specs.Next.{go_fault, answer_fault};
-ghost use Rattle.sync_steps.specs.Turns.{Goes, GoesOnFrom};
+ghost use Rattle.sync_steps.specs.Turns.{RefusesGo, AnswersFrom, WaitsNot};
 
 use super::event::{Act, Answer, Call, StepFault, Then, Wake, Word};
 use super::place::{HoldKind, Party, Place, Turn};
@@ -70,7 +62,8 @@ pub enum SemaphorePlace {
 
 /// Where a call at a semaphore begins.
 pub(crate) fn place_of<T: Copy>(call: Call<T>) -> Option<SemaphorePlace>
-    ensures has { IfSome result (λ place. (semaphore_has call ≡ true) × AtSemaphore place (record { call = call; own = [] })) }
+    ensures has { IfSome result (λ place.
+        (semaphore_has call ≡ true) × AtSemaphore place (record { call = call; own = [] })) }
     ensures other { IfNone result (semaphore_has call ≡ false) }
 {
     match call {
@@ -92,7 +85,7 @@ pub(crate) fn go<T>(
     word: u64,
 ) -> Result<Turn<T>, StepFault>
     ensures next { IfOk result (λ turn. SemaphoreSteps place hold word turn) }
-    ensures fault { IfErr result (λ fault. (c : Calling T) → AtSemaphore place c → go_fault (stand_of c.own) ≡ Some fault) }
+    ensures fault { IfErr result (RefusesGo {T = T} (AtSemaphore place)) }
 {
     match place {
         SemaphorePlace::Value => Ok(Turn {
@@ -289,8 +282,8 @@ fn missed<T>(word: u64, seen: u64, to: u64) -> Act<T>
 
 /// Where a call at a semaphore goes on once its wait closure has answered, if it stands there.
 pub(crate) fn answer<T>(place: SemaphorePlace, action: WaitAction) -> Option<SemaphorePlace>
-    ensures waits { IfSome result (λ next. (c : Calling T) → AtSemaphore place c → GoesOnFrom c action (AtSemaphore next)) }
-    ensures other { IfNone result ((c : Calling T) → AtSemaphore place c → answer_fault (stand_of c.own) ≡ Some faults.NotWaiting) }
+    ensures waits { IfSome result (λ next. AnswersFrom {T = T} (AtSemaphore place) action (AtSemaphore next)) }
+    ensures other { IfNone result (WaitsNot {T = T} (AtSemaphore place)) }
 {
     match place {
         SemaphorePlace::Standing => Some(SemaphorePlace::Look {

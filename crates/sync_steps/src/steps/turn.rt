@@ -1,14 +1,11 @@
 //! One turn of a party: which primitive it goes to.
-ghost use Rattle.std.specs.Prelude.{◌≡◌, true, false, IfOk, IfErr, IfSome, IfNone};
+ghost use Rattle.std.specs.Prelude.{◌≡◌, false, IfOk, IfErr, IfSome, IfNone};
 ghost use Rattle.sync_steps.specs.declared.steps.event.Input.TheVariants as inputs;
-ghost use Rattle.sync_steps.specs.declared.steps.event.StepFault.TheVariants as faults;
-ghost use Rattle.sync_steps.specs.Past.{Calling};
-ghost use Rattle.sync_steps.specs.Moves.{stand_of};
-ghost use Rattle.sync_steps.specs.Places.{AtPlace};
-ghost use Rattle.sync_steps.specs.Next.{has_call, is_locking, needs_hold, go_fault, answer_fault};
-ghost use Rattle.sync_steps.specs.Turns.{BeginsAt, GoesOnFrom, StepsTo, TakesTurn, RefusesTurn};
-ghost use Rattle.sync_steps.specs.declared.steps.words.Words.{Words as TheWords};
 ghost use Rattle.sync_steps.specs.declared.steps.event.Object.{Object as AnyObject};
+ghost use Rattle.sync_steps.specs.declared.steps.words.Words.{Words as AnyWords};
+ghost use Rattle.sync_steps.specs.Places.{AtPlace};
+ghost use Rattle.sync_steps.specs.Next.{has_call, is_locking, needs_hold};
+ghost use Rattle.sync_steps.specs.Turns.{BeginsAt, StepsTo, RefusesGo, AnswersFrom, WaitsNot, TakesTurn, RefusesTurn};
 
 use super::event::{Act, Call, Input, Object, StepFault, Then};
 use super::place::{HoldKind, Party, Place, Turn};
@@ -61,7 +58,8 @@ pub(crate) fn begin<T: Copy>(
     party: Party,
     call: Call<T>,
 ) -> Result<Turn<T>, StepFault>
-    ensures next { IfOk result (λ turn. (words : TheWords) → TakesTurn object.now party words (inputs.Begin call) turn) }
+    ensures next { IfOk result (λ turn. (words : AnyWords) →
+        TakesTurn object.now party words (inputs.Begin call) turn) }
     ensures fault { IfErr result (λ fault. RefusesTurn object.now party (inputs.Begin call) fault) }
 {
     if party.place.is_some() {
@@ -90,7 +88,7 @@ pub(crate) fn begin<T: Copy>(
 #[tactic(auto, using(crate::proofs::Dispatch::mutex_goes))]
 fn step_at<T>(place: Place, hold: Option<HoldKind>, words: &Words) -> Result<Turn<T>, StepFault>
     ensures next { IfOk result (λ turn. StepsTo place hold words.now turn) }
-    ensures fault { IfErr result (λ fault. (o : AnyObject T) (c : Calling T) → AtPlace o place c → go_fault (stand_of c.own) ≡ Some fault) }
+    ensures fault { IfErr result (λ fault. (o : AnyObject T) → RefusesGo (AtPlace o place) fault) }
 {
     match place {
         Place::Mutex(place) => mutex::go(place, hold, words.state),
@@ -111,8 +109,9 @@ pub(crate) fn go<T: Copy>(party: Party, words: &Words) -> Result<Turn<T>, StepFa
 
 /// Where a call goes on once its wait closure has answered, if it stands there.
 fn answered<T>(place: Place, action: WaitAction) -> Option<Place>
-    ensures waits { IfSome result (λ next. (o : AnyObject T) (c : Calling T) → AtPlace o place c → GoesOnFrom c action (AtPlace o next)) }
-    ensures other { IfNone result ((o : AnyObject T) (c : Calling T) → AtPlace o place c → answer_fault (stand_of c.own) ≡ Some faults.NotWaiting) }
+    ensures waits { IfSome result (λ next. (o : AnyObject T) →
+        AnswersFrom (AtPlace o place) action (AtPlace o next)) }
+    ensures other { IfNone result ((o : AnyObject T) → WaitsNot (AtPlace o place)) }
 {
     match place {
         Place::Mutex(place) => Some(Place::Mutex(mutex::answer::<T>(place, action)?)),
@@ -124,8 +123,10 @@ fn answered<T>(place: Place, action: WaitAction) -> Option<Place>
 
 /// The wait closure of a party answers.
 pub(crate) fn answer<T: Copy>(party: Party, action: WaitAction) -> Result<Turn<T>, StepFault>
-    ensures next { IfOk result (λ turn. (o : AnyObject T) (words : TheWords) → TakesTurn o party words (inputs.Answer action) turn) }
-    ensures fault { IfErr result (λ fault. (o : AnyObject T) → RefusesTurn o party (inputs.Answer action) fault) }
+    ensures next { IfOk result (λ turn. (o : AnyObject T) (words : AnyWords) →
+        TakesTurn o party words (inputs.Answer action) turn) }
+    ensures fault { IfErr result (λ fault. (o : AnyObject T) →
+        RefusesTurn o party (inputs.Answer action) fault) }
 {
     let Some(place) = party.place else {
         return Err(StepFault::NotWaiting);

@@ -59,7 +59,8 @@ impl Words {
     }
 
     fn put(&mut self, word: Word, put: u64)
-        ensures { (other : AnyWord) → word_at self.new other ≡ (if is_word word other then put else word_at self.old other) }
+        ensures { (other : AnyWord) →
+            word_at self.new other ≡ (if is_word word other then put else word_at self.old other) }
     {
         match word {
             Word::State => self.state = put,
@@ -74,7 +75,8 @@ impl Words {
 
 /// The count of exchanges that failed, after the act; it stops at 2^64 - 1.
 pub(crate) fn failed_after<T>(failed: u64, act: &Act<T>) -> u64
-    ensures { (count : ℕ) → failed ≡ min count (2 ^ 64 - 1) → result ≡ min (failed_by act.now + count) (2 ^ 64 - 1) }
+    ensures { (count : ℕ) → failed ≡ min count (2 ^ 64 - 1) →
+        result ≡ min (failed_by act.now + count) (2 ^ 64 - 1) }
 {
     match act {
         Act::Exchange { done: false, .. } => failed.saturating_add(1),
