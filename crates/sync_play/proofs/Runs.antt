@@ -21,6 +21,7 @@ use Rattle.sync_steps.specs.Moves.{Move, goes_on}
 use Rattle.sync_steps.specs.SemaphoreTable.{semaphore_next, take_next, open_look, try_wait_then, wait_then}
 use Rattle.sync_steps.specs.MutexTable.{mutex_next}
 use Rattle.sync_steps.specs.Sights.{begins}
+use Rattle.sync_steps.specs.NextLaws.{go_begins_none}
 use Rattle.sync_steps.specs.Next.{fault_of, fault_at, moved_of, next_of, IsNext}
 use Rattle.sync_steps.specs.Past.{Calling, call_of, call_after, goes_on_as, holds_of, hold_among, word_in}
 use Rattle.sync_steps.specs.Run.{IsRun, after}
@@ -150,43 +151,6 @@ no_step o hold (thens.Chooses old) e None same ended h allowed = let refused = r
 no_step o hold (thens.Chooses old) e (Some c) same ended h allowed = let refused = rw (going_some e.act e c h, same) at allowed in cc
 no_step o hold (thens.Answers answer) e calling same ended h allowed = cc
 
-abbrev some_move : Move ℕ → Option (Move ℕ)
-some_move m = Some m
-
-move_is : (m n : Move ℕ) → some_move m ≡ some_move n → m ≡ n
-move_is m n e = cc
-
--- a step begins no call: of a mutex
-mutex_begins_none : (call : Call ℕ) (own : List Ev) (word : ℕ) (m : Move ℕ) → mutex_next call own word ≡ Some m → begins m.act ≡ false
-mutex_begins_none calls.TryLock own word m e = ap (λ (n : Move ℕ). begins n.act) (sym (move_is _ m e))
-mutex_begins_none calls.Lock own word m e = ap (λ (n : Move ℕ). begins n.act) (sym (move_is _ m e))
-mutex_begins_none calls.Unlock [] word m e = ap (λ (n : Move ℕ). begins n.act) (sym (move_is _ m e))
-mutex_begins_none calls.Unlock (own ∷ events) word m e = ap (λ (n : Move ℕ). begins n.act) (sym (move_is _ m e))
-mutex_begins_none other own word m e = absurd cc
-
--- of a semaphore
-take_begins_none : (look : Option ℕ) (word : ℕ) (stand : Then ℕ) → begins (take_next look word stand).act ≡ false
-take_begins_none None word stand = refl
-take_begins_none (Some v) word stand = refl
-
-semaphore_begins_none : (call : Call ℕ) (own : List Ev) (word : ℕ) (m : Move ℕ) → semaphore_next call own word ≡ Some m → begins m.act ≡ false
-semaphore_begins_none calls.Value own word m e = ap (λ (n : Move ℕ). begins n.act) (sym (move_is _ m e))
-semaphore_begins_none (calls.Post n) [] word m e = ap (λ (n : Move ℕ). begins n.act) (sym (move_is _ m e))
-semaphore_begins_none (calls.Post n) (own ∷ events) word m e = ap (λ (n : Move ℕ). begins n.act) (sym (move_is _ m e))
-semaphore_begins_none calls.TryWait own word m e = ap (λ (n : Move ℕ). begins n.act) (sym (move_is _ m e)) ∙ take_begins_none (open_look own) word (try_wait_then word)
-semaphore_begins_none calls.Wait own word m e = ap (λ (n : Move ℕ). begins n.act) (sym (move_is _ m e)) ∙ take_begins_none (open_look own) word (wait_then own word)
-semaphore_begins_none other own word m e = absurd cc
-
--- of any object
-next_begins_none : (o : Object ℕ) (c : Calling ℕ) (hold : Option HoldKind) (memory : Word → ℕ) (m : Move ℕ) → next_of u64_arithmetic o c hold memory ≡ Some m → begins m.act ≡ false
-next_begins_none objects.Mutex c hold memory m e = mutex_begins_none c.call c.own _ m e
-next_begins_none (objects.Semaphore initial) c hold memory m e = semaphore_begins_none c.call c.own _ m e
-next_begins_none other c hold memory m e = absurd cc
-
-go_begins_none : (o : Object ℕ) (calling : Option (Calling ℕ)) (hold : Option HoldKind) (memory : Word → ℕ) (m : Move ℕ) → moved_of u64_arithmetic o calling hold memory inputs.Go ≡ Some m → begins m.act ≡ false
-go_begins_none o None hold memory m e = absurd cc
-go_begins_none o (Some c) hold memory m e = next_begins_none o c hold memory m e
-
 unless_no_party : (b : Bool) (fault : Option StepFault) (none : StepFault) → cond b fault (Some none) ≡ None → fault ≡ None
 unless_no_party true fault none e = e
 unless_no_party false fault none e = absurd cc
@@ -194,7 +158,7 @@ unless_no_party false fault none e = absurd cc
 -- after an event that ends, no step is allowed
 pub no_more : (o : Object ℕ) (parties : ℕ) (past : List Ev) (party : ℕ) (e f : Ev) → IsNext u64_arithmetic o parties past party inputs.Go e → goes_on e.then ≡ false → IsNext u64_arithmetic o parties (e ∷ past) party inputs.Go f → ⊥
 no_more o parties past party e f first ended second =
-    let quiet : begins e.act ≡ false = go_begins_none o (call_of party past) (hold_among party (holds_of o past)) (word_in u64_arithmetic o past) (record { act = e.act; stand = e.then }) first.moved in
+    let quiet : begins e.act ≡ false = go_begins_none u64_arithmetic o (call_of party past) (hold_among party (holds_of o past)) (word_in u64_arithmetic o past) (record { act = e.act; stand = e.then }) first.moved in
     let own : eqb e.party party ≡ true = eq-eqb e.party party first.party_is in
     let allowed = unless_no_party (nat_lt party parties) (fault_at o (call_of party (e ∷ past)) (hold_among party (holds_of o (e ∷ past))) inputs.Go) steps.NoParty second.allowed in
     let known = rw own at allowed in

@@ -33,6 +33,7 @@ use Rattle.sync_steps.specs.Run.{IsPast}
 use Rattle.sync_steps.specs.Sights.{tells, begins}
 use Rattle.sync_steps.specs.MutexLaw.{MutexCause, IsLocked, IsExactGrant}
 use Rattle.sync_steps.specs.Headline.{IsExclusive, HasCause, is_refusal}
+use Rattle.sync_steps.specs.NextLaws.{mutex_begins_none}
 use Rattle.sync_steps.proofs.Holds.{eqb_same, call_of_same, call_of_other, hold_of_same, hold_of_other}
 
 -- What a move does to the word and the holds: nothing, a grant where the word was 0, or a release.
@@ -124,13 +125,6 @@ own_grows :
     {T : Type 0} (stand : Then T) (e : Event T) (calling : Option (Calling T)) (c : Calling T) → begins e.act ≡ false → call_after stand e calling ≡ Some c → c.own ≡ [] → ⊥
 own_grows (thens.Answers answer) e calling c quiet goes none = absurd cc
 own_grows other e calling c quiet goes none = own_grows_as e.act e calling c quiet goes none
-
-mutex_begins_not : {T : Type 0} (call : Call T) (own : List (Event T)) (w : ℕ) (m : Move T) → mutex_next call own w ≡ Some m → begins m.act ≡ false
-mutex_begins_not {T} calls.TryLock own w m is = let made : exchange {T = T} words.State 0 1 w ≡ m.act = cc in subst (λ a. begins a ≡ false) made refl
-mutex_begins_not {T} calls.Lock own w m is = let made : exchange {T = T} words.State 0 1 w ≡ m.act = cc in subst (λ a. begins a ≡ false) made refl
-mutex_begins_not {T} calls.Unlock [] w m is = let store : Act T = acts.Store words.State 0 in let made : store ≡ m.act = cc in subst (λ a. begins a ≡ false) made refl
-mutex_begins_not {T} calls.Unlock (e ∷ own) w m is = let woke : Act T = acts.Woke wakes.One in let made : woke ≡ m.act = cc in subst (λ a. begins a ≡ false) made refl
-mutex_begins_not other own w m is = absurd cc
 
 -- a party that may begin `Unlock` has a hold
 unlock_has_hold : {T : Type 0} (calling : Option (Calling T)) (hold : Option HoldKind) → begin_fault objects.Mutex calling hold calls.Unlock ≡ None → is_some hold ≡ true
@@ -277,7 +271,7 @@ release_began {T} z e calling hold memory (inputs.Choose choice) c allowed is go
     absurd (own_grows e.then e calling c (subst (λ a. begins a ≡ false) acted refl) goes none)
 release_began z e None hold memory inputs.Go c allowed is goes unlock none = absurd cc
 release_began z e (Some k) hold memory inputs.Go c allowed is goes unlock none =
-    absurd (own_grows e.then e (Some k) c (mutex_begins_not k.call k.own (memory words.State) _ is) goes none)
+    absurd (own_grows e.then e (Some k) c (mutex_begins_none k.call k.own (memory words.State) _ is) goes none)
 
 -- where the word is not 0 the mutex is locked
 locked_by : {T : Type 0} (z : Arithmetic T) (past : List (Event T)) → MutexLaw z past → word_in z objects.Mutex past words.State ≢ 0 → IsLocked past

@@ -20,5 +20,6 @@ pub mod Headline
 pub mod Stepped
 pub mod Played
 pub mod Applies
+pub mod NextLaws
 pub mod MutexSteps
 pub mod SemaphoreLooks
