@@ -1,9 +1,6 @@
 -- The events of a run are those that the definitions of a text name.
 use Rattle.std.proofs.Common.{◌≡◌, ℕ, zero, suc, ◌+◌, ◌≤◌, ◌<◌, Bool, true, false, cond, not, nat_lt, eqb, eq-eqb, List, [], ◌∷◌, ◌++◌, length, take, Option, Some, None, Result, Ok, Err, refl, sym, ap, subst, ◌∙◌, append_assoc, arith}
 use Rattle.std.specs.Prelude.{slice_get}
-use Rattle.sync_steps.specs.declared.steps.event.Word.{Word}
-use Rattle.sync_steps.specs.declared.steps.event.Call.{Call}
-use Rattle.sync_steps.specs.declared.steps.event.Call.TheVariants as calls
 use Rattle.sync_steps.specs.declared.steps.event.Act.{Act}
 use Rattle.sync_steps.specs.declared.steps.event.Act.TheVariants as acts
 use Rattle.sync_steps.specs.declared.steps.event.Then.{Then}
@@ -12,17 +9,14 @@ use Rattle.sync_steps.specs.declared.steps.event.Event.{Event}
 use Rattle.sync_steps.specs.declared.steps.event.Input.{Input}
 use Rattle.sync_steps.specs.declared.steps.event.Input.TheVariants as inputs
 use Rattle.sync_steps.specs.declared.steps.event.Object.{Object}
-use Rattle.sync_steps.specs.declared.steps.event.Object.TheVariants as objects
 use Rattle.sync_steps.specs.declared.steps.event.StepFault.{StepFault}
 use Rattle.sync_steps.specs.declared.steps.event.StepFault.TheVariants as steps
 use Rattle.sync_steps.specs.declared.steps.place.HoldKind.{HoldKind}
 use Rattle.sync_steps.specs.Integers.{u64_arithmetic}
-use Rattle.sync_steps.specs.Moves.{Move, goes_on}
-use Rattle.sync_steps.specs.SemaphoreTable.{semaphore_next, take_next, open_look, try_wait_then, wait_then}
-use Rattle.sync_steps.specs.MutexTable.{mutex_next}
+use Rattle.sync_steps.specs.Moves.{goes_on}
 use Rattle.sync_steps.specs.Sights.{begins}
 use Rattle.sync_steps.specs.NextLaws.{go_begins_none}
-use Rattle.sync_steps.specs.Next.{fault_of, fault_at, moved_of, next_of, IsNext}
+use Rattle.sync_steps.specs.Next.{fault_of, fault_at, IsNext}
 use Rattle.sync_steps.specs.Past.{Calling, call_of, call_after, goes_on_as, holds_of, hold_among, word_in}
 use Rattle.sync_steps.specs.Run.{IsRun, after}
 use Rattle.sync_play.specs.declared.fault.LineFault.{LineFault}
