@@ -26,39 +26,72 @@ pub enum Wake {
     All,
 }
 
-/// A call of a party at the object.
+/// A call of a party at the object, named as in the Rust crate.
+///
+/// Each object has some of them. The values that the calls of an `Atomic` bring are of its integer type `T`.
 #[derive(Clone, Copy, Debug, PartialEq, Eq)]
 pub enum Call<T> {
+    /// Takes the lock; waits while it is held.
     Lock,
+    /// Takes the lock, or gives up at once.
     TryLock,
+    /// Takes a spin lock, and only spins.
     BlockingLock,
+    /// Gives the hold back, and wakes.
     Unlock,
+    /// Tells a semaphore's value.
     Value,
+    /// Adds so many permits, and wakes one.
     Post(u64),
+    /// Waits: at a semaphore for a permit, at a barrier for its round, at a `Condvar` for a notify.
     Wait,
+    /// Takes a permit, or gives up where there is none.
     TryWait,
+    /// Takes a read hold; waits while a writer has the lock.
     ReadLock,
+    /// Takes a read hold, or gives up at once.
     TryReadLock,
+    /// Takes the write hold; waits while the lock is held.
     WriteLock,
+    /// Takes the write hold, or gives up at once.
     TryWriteLock,
+    /// Wakes one that waits at a `Condvar`.
     NotifyOne,
+    /// Wakes all that wait at a `Condvar`.
     NotifyAll,
+    /// Runs a once's closure, or waits until it has run.
     CallOnce,
+    /// Whether a once's closure has run.
     IsCompleted,
+    /// Gives a lazy value, and makes it first where it is not there.
     Force,
+    /// Reads an `Atomic`.
     Load,
+    /// Writes an `Atomic`.
     Store(T),
+    /// Writes it, and answers the old value.
     Swap(T),
+    /// Writes the second where it has the first, and answers the old value.
     CompareExchange(T, T),
+    /// The same: it fails only where the value differs.
     CompareExchangeWeak(T, T),
+    /// Adds, and wraps. As each of the following it answers the old value.
     FetchAdd(T),
+    /// Subtracts, and wraps.
     FetchSub(T),
+    /// Writes the bits that both have.
     FetchAnd(T),
+    /// Writes the bits that one of them has.
     FetchOr(T),
+    /// Writes the bits that only one of them has.
     FetchXor(T),
+    /// Writes the bits that not both have.
     FetchNand(T),
+    /// Writes the greater.
     FetchMax(T),
+    /// Writes the lesser.
     FetchMin(T),
+    /// Writes what its choice closure makes of the old value, if it makes one.
     FetchUpdate,
 }
 
@@ -112,15 +145,25 @@ pub enum Act<T> {
 /// What a call answers.
 #[derive(Clone, Copy, Debug, PartialEq, Eq)]
 pub enum Answer<T> {
+    /// The hold or the permit is taken.
     Success,
+    /// It gave up: nothing is held or taken by this call.
     Interrupted,
+    /// A call without a value has ended.
     Done,
+    /// The call's round of a barrier is full.
     Ok,
+    /// A barrier takes no more arrivals.
     Full,
+    /// A semaphore's value.
     Number(u64),
+    /// Whether a once has run.
     Flag(bool),
+    /// The value of a lazy cell or an `Atomic`.
     Value(T),
+    /// The old value; the new one was written.
     OkOld(T),
+    /// The old value; nothing was written.
     ErrOld(T),
 }
 
@@ -165,15 +208,21 @@ pub enum Input<T> {
 /// A primitive, with what it is opened with.
 #[derive(Clone, Copy, Debug, PartialEq, Eq)]
 pub enum Object<T> {
+    /// A lock for one; free at first.
     Mutex,
+    /// A lock for one that only spins.
     Spin,
     /// With its initial value.
     Semaphore(u64),
     /// With how many arrivals open a round.
     Barrier(u32),
+    /// A reader-writer lock that prefers readers.
     ReaderLock,
+    /// A reader-writer lock that prefers writers.
     WriterLock,
+    /// A condition variable and its mutex.
     Condvar,
+    /// A closure that runs once.
     Once,
     /// With the value that its closure gives.
     Lazy(T),

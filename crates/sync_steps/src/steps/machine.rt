@@ -33,6 +33,8 @@ impl<T> Model for Machine<T> {
 
 impl<T: AtomicInteger> Machine<T> {
     /// A machine of the object, where no party has begun a call yet. So far it serves mutexes and semaphores.
+    ///
+    /// It takes memory for the places of its parties, and answers `AllocError` where there is none.
     pub fn new(alloc: Global, object: Object<T>, parties: usize) -> Result<Machine<T>, AllocError>
         requires { is_served object ≡ true }
         ensures { IfOk result (StandsAt T.arithmetic object parties []) }
@@ -93,7 +95,9 @@ impl<T: AtomicInteger> Machine<T> {
         self.failed
     }
 
-    /// Plays one input: the event that it gives, or why it is refused; the machine is then unchanged. It takes no memory.
+    /// Plays one input of a party, counted from 0: the event that it gives, or why it is refused.
+    ///
+    /// After a fault the machine is unchanged. It takes no memory.
     pub fn step(&mut self, party: usize, input: Input<T>) -> Result<Event<T>, StepFault>
         // The event is the one that the input gives, or the fault is the first that applies.
         ensures next { IfOk result (λ event. Steps T.arithmetic self.old party input event self.new) }
