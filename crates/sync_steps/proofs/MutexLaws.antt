@@ -33,7 +33,7 @@ use Rattle.sync_steps.specs.Run.{IsPast}
 use Rattle.sync_steps.specs.Sights.{tells, begins}
 use Rattle.sync_steps.specs.MutexLaw.{MutexCause, IsLocked, IsExactGrant}
 use Rattle.sync_steps.specs.Headline.{IsExclusive, HasCause, is_refusal}
-use Rattle.sync_steps.specs.NextLaws.{mutex_begins_none}
+use Rattle.sync_steps.specs.NextLaws.{by_input, mutex_begins_none}
 use Rattle.sync_steps.proofs.Holds.{eqb_same, call_of_same, call_of_other, hold_of_same, hold_of_other}
 
 -- What a move does to the word and the holds: nothing, a grant where the word was 0, or a release.
@@ -203,40 +203,23 @@ effect_of :
     {T : Type 0} (z : Arithmetic T) (p : ℕ) (calling : Option (Calling T)) (hold : Option HoldKind) (memory : Word → ℕ) (holds : List Hold) (input : Input T) (m : Move T) →
     moved_of z objects.Mutex calling hold memory input ≡ Some m →
     Effect p (memory words.State) holds (word_after words.State m.act (memory words.State)) (acted_by p calling m.act holds) (ReleasingOf calling)
-effect_of {T} z p calling hold memory holds (inputs.Begin call) m is =
-    let act : Act T = acts.Begun call in
-    let made : act ≡ m.act = cc in
-    subst (λ a. Effect p (memory words.State) holds (word_after words.State a (memory words.State)) (acted_by p calling a holds) (ReleasingOf calling)) made (inl (refl, refl))
-effect_of {T} z p calling hold memory holds (inputs.Answer action) m is =
-    let act : Act T = acts.Answered action in
-    let made : act ≡ m.act = cc in
-    subst (λ a. Effect p (memory words.State) holds (word_after words.State a (memory words.State)) (acted_by p calling a holds) (ReleasingOf calling)) made (inl (refl, refl))
-effect_of {T} z p calling hold memory holds (inputs.Choose choice) m is =
-    let act : Act T = acts.Chosen choice in
-    let made : act ≡ m.act = cc in
-    subst (λ a. Effect p (memory words.State) holds (word_after words.State a (memory words.State)) (acted_by p calling a holds) (ReleasingOf calling)) made (inl (refl, refl))
-effect_of z p None hold memory holds inputs.Go m is = absurd cc
-effect_of z p (Some c) hold memory holds inputs.Go m is =
-    effect_weaker p (memory words.State) holds _ _ _ (ReleasingOf (Some c)) (λ r. (c, refl, r.0, r.1)) (mutex_effect p c.call c.own (memory words.State) holds m is)
+effect_of {T} z p calling hold memory holds input m is =
+    by_input z objects.Mutex calling hold memory
+      (λ (k : Option (Calling T)) (x : Move T). Effect p (memory words.State) holds (word_after words.State x.act (memory words.State)) (acted_by p k x.act holds) (ReleasingOf k))
+      input m (λ call. inl (refl, refl)) (λ action. inl (refl, refl)) (λ choice. inl (refl, refl))
+      (λ c same next. effect_weaker p (memory words.State) holds _ _ _ (ReleasingOf (Some c)) (λ r. (c, refl, r.0, r.1)) (mutex_effect p c.call c.own (memory words.State) holds m next))
+      is
 
 cause_of :
     {T : Type 0} (z : Arithmetic T) (p : ℕ) (past : List (Event T)) (calling : Option (Calling T)) (hold : Option HoldKind) (memory : Word → ℕ) (input : Input T) (m : Move T) →
     call_of p past ≡ calling → moved_of z objects.Mutex calling hold memory input ≡ Some m → (memory words.State ≢ 0 → IsLocked past) →
     MatchBool (is_refusal m.stand) (MatchOption calling ⊥ (λ c. MutexCause c.call p (event p m.act m.stand ∷ past))) (Unit {0})
-cause_of {T} z p past calling hold memory (inputs.Begin call) m called is locked =
-    let stand : Then T = thens.GoesOn in
-    let made : stand ≡ m.stand = cc in
-    subst (λ (n : Then T). MatchBool (is_refusal n) (MatchOption calling ⊥ (λ c. MutexCause c.call p (event p m.act n ∷ past))) (Unit {0})) made tt
-cause_of {T} z p past calling hold memory (inputs.Answer action) m called is locked =
-    let stand : Then T = thens.GoesOn in
-    let made : stand ≡ m.stand = cc in
-    subst (λ (n : Then T). MatchBool (is_refusal n) (MatchOption calling ⊥ (λ c. MutexCause c.call p (event p m.act n ∷ past))) (Unit {0})) made tt
-cause_of {T} z p past calling hold memory (inputs.Choose choice) m called is locked =
-    let stand : Then T = thens.GoesOn in
-    let made : stand ≡ m.stand = cc in
-    subst (λ (n : Then T). MatchBool (is_refusal n) (MatchOption calling ⊥ (λ c. MutexCause c.call p (event p m.act n ∷ past))) (Unit {0})) made tt
-cause_of z p past None hold memory inputs.Go m called is locked = absurd cc
-cause_of z p past (Some c) hold memory inputs.Go m called is locked = cause_move p past c.call c.own (memory words.State) m called is locked
+cause_of {T} z p past calling hold memory input m called is locked =
+    by_input z objects.Mutex calling hold memory
+      (λ (k : Option (Calling T)) (x : Move T). MatchBool (is_refusal x.stand) (MatchOption k ⊥ (λ c. MutexCause c.call p (event p x.act x.stand ∷ past))) (Unit {0}))
+      input m (λ call. tt) (λ action. tt) (λ choice. tt)
+      (λ c same next. cause_move p past c.call c.own (memory words.State) m (called ∙ same) next locked)
+      is
 
 same_act : {T : Type 0} (a m : Move T) → Some a ≡ Some m → a.act ≡ m.act
 same_act a m is = cc

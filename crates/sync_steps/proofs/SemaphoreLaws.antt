@@ -25,6 +25,7 @@ use Rattle.sync_steps.specs.SemaphoreTable.{semaphore_next, take_next, try_wait_
 use Rattle.sync_steps.specs.SemaphoreLaw.{given_by, is_take, given_in, taken_in, permits, told_by, number_of, SemaphoreCause}
 use Rattle.sync_steps.specs.Turns.{event}
 use Rattle.sync_steps.specs.Next.{moved_of}
+use Rattle.sync_steps.specs.NextLaws.{by_input}
 use Rattle.sync_steps.specs.Run.{IsPast}
 use Rattle.sync_steps.specs.Sights.{tells}
 use Rattle.sync_steps.specs.Headline.{Headline, is_refusal}
@@ -148,22 +149,15 @@ event_law :
     {T : Type 0} (z : Arithmetic T) (n p : ℕ) (past : List (Event T)) (calling : Option (Calling T)) (hold : Option HoldKind) (memory : Word → ℕ) (input : Input T) (m : Move T) →
     call_of p past ≡ calling → memory words.State ≡ permits n past → moved_of z (objects.Semaphore n) calling hold memory input ≡ Some m →
     EventLaw n p past calling (memory words.State) m
-event_law {T} z n p past calling hold memory (inputs.Begin call) m called is moved =
-    let move : Move T = record { act = acts.Begun call; stand = thens.GoesOn } in
-    let made : move ≡ m = cc in
-    subst (λ (x : Move T). EventLaw n p past calling (memory words.State) x) made (record { effect = inl (refl, refl, refl); told = tt; answered = tt; cause = tt })
-event_law {T} z n p past calling hold memory (inputs.Answer action) m called is moved =
-    let move : Move T = record { act = acts.Answered action; stand = thens.GoesOn } in
-    let made : move ≡ m = cc in
-    subst (λ (x : Move T). EventLaw n p past calling (memory words.State) x) made (record { effect = inl (refl, refl, refl); told = tt; answered = tt; cause = tt })
-event_law {T} z n p past calling hold memory (inputs.Choose choice) m called is moved =
-    let move : Move T = record { act = acts.Chosen choice; stand = thens.GoesOn } in
-    let made : move ≡ m = cc in
-    subst (λ (x : Move T). EventLaw n p past calling (memory words.State) x) made (record { effect = inl (refl, refl, refl); told = tt; answered = tt; cause = tt })
-event_law z n p past None hold memory inputs.Go m called is moved = absurd cc
-event_law z n p past (Some c) hold memory inputs.Go m called is moved =
-    let law = semaphore_move n p past c.call c.own (memory words.State) m called is moved in
-    record { effect = law.effect; told = law.told; answered = law.stands.0; cause = law.stands.1 }
+event_law {T} z n p past calling hold memory input m called is moved =
+    by_input z (objects.Semaphore n) calling hold memory (λ (k : Option (Calling T)) (x : Move T). EventLaw n p past k (memory words.State) x) input m
+      (λ call. record { effect = inl (refl, refl, refl); told = tt; answered = tt; cause = tt })
+      (λ action. record { effect = inl (refl, refl, refl); told = tt; answered = tt; cause = tt })
+      (λ choice. record { effect = inl (refl, refl, refl); told = tt; answered = tt; cause = tt })
+      (λ c same next.
+        let law = semaphore_move n p past c.call c.own (memory words.State) m (called ∙ same) is next in
+        record { effect = law.effect; told = law.told; answered = law.stands.0; cause = law.stands.1 })
+      moved
 
 -- nobody holds a semaphore
 

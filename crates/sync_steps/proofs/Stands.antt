@@ -111,14 +111,3 @@ stands_after_turn {T} z o parties past old new party found input turn within got
     let P : Object T → Type 0 = λ object. TakesTurn object found old.words input turn in
     let turns : TurnsAfter z o past party input turn = subst P at.object_is takes z (call_of party past) (hold_among party (holds_of o past)) (word_in z o past) own at.memory in
     stands_after z o parties past old new party input turn within at turns applies
-
--- the fault of a party that is there, from its place
-pub refused_after :
-    {T : Type 0} (z : Arithmetic T) (o : Object T) (parties : ℕ) (past : List (Event T)) (old : Standing T) (party : ℕ) (found : Party) (input : Input T) (fault : StepFault) →
-    party < length old.parties → slice_get old.parties party ≡ Some found → RefusesTurn old.object found input fault → StandsAt z o parties past old →
-    fault_of o parties past party input ≡ Some fault
-refused_after {T} z o parties past old party found input fault within got refuses at =
-    let below : party < parties = rw at.count at within in
-    let own : AtParty o found (call_of party past) (hold_among party (holds_of o past)) = at.each party below found got in
-    let P : Object T → Type 0 = λ object. RefusesTurn object found input fault in
-    rw (lt-ltb party parties below) (subst P at.object_is refuses (call_of party past) (hold_among party (holds_of o past)) own)

@@ -1,12 +1,16 @@
--- A step of a call begins no call, at any object.
-use Rattle.std.proofs.Common.{◌≡◌, ℕ, refl, sym, ◌∙◌, ap, false, List, [], ◌∷◌, Option, Some, None}
+-- What holds of a move at any object: by its input, and that a step begins no call.
+use Rattle.std.proofs.Common.{◌≡◌, ℕ, refl, sym, ◌∙◌, ap, subst, false, List, [], ◌∷◌, Option, Some, None}
+use Rattle.sync_steps.specs.declared.WaitAction.{WaitAction}
+use Rattle.sync_steps.specs.declared.steps.event.Act.TheVariants as acts
 use Rattle.sync_steps.specs.declared.steps.event.Call.{Call}
 use Rattle.sync_steps.specs.declared.steps.event.Call.TheVariants as calls
 use Rattle.sync_steps.specs.declared.steps.event.Event.{Event}
+use Rattle.sync_steps.specs.declared.steps.event.Input.{Input}
 use Rattle.sync_steps.specs.declared.steps.event.Input.TheVariants as inputs
 use Rattle.sync_steps.specs.declared.steps.event.Object.{Object}
 use Rattle.sync_steps.specs.declared.steps.event.Object.TheVariants as objects
 use Rattle.sync_steps.specs.declared.steps.event.Then.{Then}
+use Rattle.sync_steps.specs.declared.steps.event.Then.TheVariants as thens
 use Rattle.sync_steps.specs.declared.steps.event.Word.{Word}
 use Rattle.sync_steps.specs.declared.steps.place.HoldKind.{HoldKind}
 use Rattle.sync_steps.specs.Arithmetic.{Arithmetic}
@@ -52,3 +56,26 @@ pub go_begins_none :
     moved_of z o calling hold memory inputs.Go ≡ Some m → begins m.act ≡ false
 go_begins_none z o None hold memory m is = absurd cc
 go_begins_none z o (Some c) hold memory m is = next_begins_none z o c hold memory m is
+
+-- a fact of a move, by its input: a beginning, an answer, a choice, or the next step of the call under way
+pub by_input :
+    {T : Type 0} (z : Arithmetic T) (o : Object T) (calling : Option (Calling T)) (hold : Option HoldKind) (memory : Word → ℕ) (P : Option (Calling T) → Move T → Type 0) (input : Input T) (m : Move T) →
+    ((call : Call T) → P calling (record { act = acts.Begun call; stand = thens.GoesOn })) →
+    ((action : WaitAction) → P calling (record { act = acts.Answered action; stand = thens.GoesOn })) →
+    ((choice : Option T) → P calling (record { act = acts.Chosen choice; stand = thens.GoesOn })) →
+    ((c : Calling T) → calling ≡ Some c → next_of z o c hold memory ≡ Some m → P (Some c) m) →
+    moved_of z o calling hold memory input ≡ Some m → P calling m
+by_input {T} z o calling hold memory P (inputs.Begin call) m begins answers chooses steps is =
+    let move : Move T = record { act = acts.Begun call; stand = thens.GoesOn } in
+    let made : move ≡ m = cc in
+    subst (P calling) made (begins call)
+by_input {T} z o calling hold memory P (inputs.Answer action) m begins answers chooses steps is =
+    let move : Move T = record { act = acts.Answered action; stand = thens.GoesOn } in
+    let made : move ≡ m = cc in
+    subst (P calling) made (answers action)
+by_input {T} z o calling hold memory P (inputs.Choose choice) m begins answers chooses steps is =
+    let move : Move T = record { act = acts.Chosen choice; stand = thens.GoesOn } in
+    let made : move ≡ m = cc in
+    subst (P calling) made (chooses choice)
+by_input z o None hold memory P inputs.Go m begins answers chooses steps is = absurd cc
+by_input z o (Some c) hold memory P inputs.Go m begins answers chooses steps is = steps c refl is
