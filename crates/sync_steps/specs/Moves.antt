@@ -7,6 +7,7 @@ use Rattle.sync_steps.specs.declared.steps.event.Act.TheVariants as acts
 use Rattle.sync_steps.specs.declared.steps.event.Then.{Then}
 use Rattle.sync_steps.specs.declared.steps.event.Then.TheVariants as thens
 use Rattle.sync_steps.specs.declared.steps.event.Event.{Event}
+use Rattle.sync_steps.specs.Past.{is_failed}
 
 -- what a call does next, and how it stands then
 pub record Move (T : Type 0) : Type 0 where
@@ -31,15 +32,15 @@ abbrev pub keeps : {T : Type 0} → List (Event T) → Bool
 keeps [] = true
 keeps (e ∷ own) = if is_abort e.act then false else keeps own
 
-abbrev pub is_failed : {T : Type 0} → Act T → Bool
-is_failed (acts.Exchange word from to found false) = true
-is_failed act = false
-
 abbrev pub goes_on : {T : Type 0} → Then T → Bool
 goes_on thens.GoesOn = true
 goes_on other = false
 
--- how often a call spun: the exchanges that failed and after which it went on by itself
+-- how often a call spun: its acts that tried in vain, and after which it went on by itself
+abbrev pub spins_by : {T : Type 0} → (Act T → Bool) → List (Event T) → ℕ
+spins_by in_vain [] = 0
+spins_by in_vain (e ∷ own) = (if (in_vain e.act && goes_on e.then) then 1 else 0) + spins_by in_vain own
+
+-- of a `Lock`: the exchanges that failed
 abbrev pub lock_spins : {T : Type 0} → List (Event T) → ℕ
-lock_spins [] = 0
-lock_spins (e ∷ own) = (if (is_failed e.act && goes_on e.then) then 1 else 0) + lock_spins own
+lock_spins own = spins_by is_failed own

@@ -114,9 +114,12 @@ hold_among party (hold ∷ holds) = if hold.0 == party then Some hold.1 else hol
 
 -- The exchanges that failed.
 
+abbrev pub is_failed : {T : Type 0} → Act T → Bool
+is_failed (acts.Exchange word from to found false) = true
+is_failed act = false
+
 abbrev pub failed_by : {T : Type 0} → Act T → ℕ
-failed_by (acts.Exchange word from to found false) = 1
-failed_by act = 0
+failed_by act = if is_failed act then 1 else 0
 
 abbrev pub failed_in : {T : Type 0} → List (Event T) → ℕ
 failed_in [] = 0

@@ -11,7 +11,7 @@ use Rattle.sync_steps.specs.declared.steps.event.Answer.TheVariants as answers
 use Rattle.sync_steps.specs.declared.steps.event.Then.{Then}
 use Rattle.sync_steps.specs.declared.steps.event.Then.TheVariants as thens
 use Rattle.sync_steps.specs.declared.steps.event.Event.{Event}
-use Rattle.sync_steps.specs.Moves.{Move, exchange, keeps, goes_on}
+use Rattle.sync_steps.specs.Moves.{Move, exchange, keeps, spins_by}
 
 -- the calls that a semaphore has
 abbrev pub semaphore_has : {T : Type 0} → Call T → Bool
@@ -40,10 +40,13 @@ abbrev pub is_zero : Option ℕ → Bool
 is_zero None = false
 is_zero (Some v) = v == 0
 
--- how often a call spun: the looks at 0 after which it went on by itself
+-- a look that saw no permit
+abbrev pub is_empty_look : {T : Type 0} → Act T → Bool
+is_empty_look act = is_zero (look_of act)
+
+-- how often a `Wait` spun
 abbrev pub wait_spins : {T : Type 0} → List (Event T) → ℕ
-wait_spins [] = 0
-wait_spins (e ∷ own) = (if (is_zero (look_of e.act) && goes_on e.then) then 1 else 0) + wait_spins own
+wait_spins own = spins_by is_empty_look own
 
 -- after a look, `TryWait` gives up at 0, and else goes on to take a permit
 abbrev pub try_wait_then : {T : Type 0} → ℕ → Then T
