@@ -205,10 +205,10 @@ effect_of :
     Effect p (memory words.State) holds (word_after words.State m.act (memory words.State)) (acted_by p calling m.act holds) (ReleasingOf calling)
 effect_of {T} z p calling hold memory holds input m is =
     by_input z objects.Mutex calling hold memory
-      (λ (k : Option (Calling T)) (x : Move T). Effect p (memory words.State) holds (word_after words.State x.act (memory words.State)) (acted_by p k x.act holds) (ReleasingOf k))
-      input m (λ call. inl (refl, refl)) (λ action. inl (refl, refl)) (λ choice. inl (refl, refl))
-      (λ c same next. effect_weaker p (memory words.State) holds _ _ _ (ReleasingOf (Some c)) (λ r. (c, refl, r.0, r.1)) (mutex_effect p c.call c.own (memory words.State) holds m next))
-      is
+    (λ (k : Option (Calling T)) (x : Move T). Effect p (memory words.State) holds (word_after words.State x.act (memory words.State)) (acted_by p k x.act holds) (ReleasingOf k))
+    input m (λ call. inl (refl, refl)) (λ action. inl (refl, refl)) (λ choice. inl (refl, refl))
+    (λ c same next. effect_weaker p (memory words.State) holds _ _ _ (ReleasingOf (Some c)) (λ r. (c, refl, r.0, r.1)) (mutex_effect p c.call c.own (memory words.State) holds m next))
+    is
 
 cause_of :
     {T : Type 0} (z : Arithmetic T) (p : ℕ) (past : List (Event T)) (calling : Option (Calling T)) (hold : Option HoldKind) (memory : Word → ℕ) (input : Input T) (m : Move T) →
@@ -216,10 +216,10 @@ cause_of :
     MatchBool (is_refusal m.stand) (MatchOption calling ⊥ (λ c. MutexCause c.call p (event p m.act m.stand ∷ past))) (Unit {0})
 cause_of {T} z p past calling hold memory input m called is locked =
     by_input z objects.Mutex calling hold memory
-      (λ (k : Option (Calling T)) (x : Move T). MatchBool (is_refusal x.stand) (MatchOption k ⊥ (λ c. MutexCause c.call p (event p x.act x.stand ∷ past))) (Unit {0}))
-      input m (λ call. tt) (λ action. tt) (λ choice. tt)
-      (λ c same next. cause_move p past c.call c.own (memory words.State) m (called ∙ same) next locked)
-      is
+    (λ (k : Option (Calling T)) (x : Move T). MatchBool (is_refusal x.stand) (MatchOption k ⊥ (λ c. MutexCause c.call p (event p x.act x.stand ∷ past))) (Unit {0}))
+    input m (λ call. tt) (λ action. tt) (λ choice. tt)
+    (λ c same next. cause_move p past c.call c.own (memory words.State) m (called ∙ same) next locked)
+    is
 
 same_act : {T : Type 0} (a m : Move T) → Some a ≡ Some m → a.act ≡ m.act
 same_act a m is = cc

@@ -15,18 +15,18 @@ use Rattle.sync_steps.specs.declared.steps.event.Then.{Then}
 use Rattle.sync_steps.specs.declared.steps.event.Then.TheVariants as thens
 use Rattle.sync_steps.specs.declared.steps.event.Event.{Event}
 use Rattle.sync_steps.specs.declared.steps.event.Input.{Input}
-use Rattle.sync_steps.specs.declared.steps.event.Input.TheVariants as inputs
 use Rattle.sync_steps.specs.declared.steps.event.Object.TheVariants as objects
 use Rattle.sync_steps.specs.declared.steps.place.HoldKind.{HoldKind}
 use Rattle.sync_steps.specs.Arithmetic.{Arithmetic}
 use Rattle.sync_steps.specs.Past.{Hold, Calling, call_of, holds_of, word_in, word_after, without, with_hold, frees, taken_by}
 use Rattle.sync_steps.specs.Moves.{Move, keeps}
 use Rattle.sync_steps.specs.SemaphoreTable.{semaphore_next, take_next, try_wait_then, wait_then, wait_spins, open_look, above_zero, look_of}
-use Rattle.sync_steps.specs.SemaphoreLaw.{given_by, is_take, given_in, taken_in, permits, told_by, number_of, SemaphoreCause}
+use Rattle.sync_steps.specs.SemaphoreLaw.{given_by, is_take, given_in, taken_in, permits, number_of, SemaphoreCause}
 use Rattle.sync_steps.specs.Turns.{event}
 use Rattle.sync_steps.specs.Next.{moved_of}
 use Rattle.sync_steps.specs.NextLaws.{by_input}
 use Rattle.sync_steps.specs.Run.{IsPast}
+use Rattle.sync_steps.specs.Sights as sights
 use Rattle.sync_steps.specs.Sights.{tells}
 use Rattle.sync_steps.specs.Headline.{Headline, is_refusal}
 use Rattle.sync_steps.proofs.Holds.{eqb_same}
@@ -65,7 +65,7 @@ StandLaw n p past call w act stand =
 
 pub record MoveLaw {T : Type 0} (n p : ℕ) (past : List (Event T)) (call : Call T) (calling : Option (Calling T)) (w : ℕ) (m : Move T) : Type 0 where
   pub effect : Effect w (word_after words.State m.act w) (given_by m.act calling) (is_take m.act)
-  pub told : IfSome (told_by m.act) (λ v. v ≡ w)
+  pub told : IfSome (sights.told words.State m.act) (λ v. v ≡ w)
   pub stands : StandLaw n p past call w m.act m.stand
 
 try_wait_stand :
@@ -141,7 +141,7 @@ semaphore_move n p past other own w m called is next = absurd cc
 
 pub record EventLaw {T : Type 0} (n p : ℕ) (past : List (Event T)) (calling : Option (Calling T)) (w : ℕ) (m : Move T) : Type 0 where
   pub effect : Effect w (word_after words.State m.act w) (given_by m.act calling) (is_take m.act)
-  pub told : IfSome (told_by m.act) (λ v. v ≡ w)
+  pub told : IfSome (sights.told words.State m.act) (λ v. v ≡ w)
   pub answered : IfSome (number_of m.stand) (λ v. v ≡ w)
   pub cause : MatchBool (is_refusal m.stand) (MatchOption calling ⊥ (λ c. SemaphoreCause n c.call p (event p m.act m.stand ∷ past))) (Unit {0})
 
@@ -151,13 +151,13 @@ event_law :
     EventLaw n p past calling (memory words.State) m
 event_law {T} z n p past calling hold memory input m called is moved =
     by_input z (objects.Semaphore n) calling hold memory (λ (k : Option (Calling T)) (x : Move T). EventLaw n p past k (memory words.State) x) input m
-      (λ call. record { effect = inl (refl, refl, refl); told = tt; answered = tt; cause = tt })
-      (λ action. record { effect = inl (refl, refl, refl); told = tt; answered = tt; cause = tt })
-      (λ choice. record { effect = inl (refl, refl, refl); told = tt; answered = tt; cause = tt })
-      (λ c same next.
-        let law = semaphore_move n p past c.call c.own (memory words.State) m (called ∙ same) is next in
-        record { effect = law.effect; told = law.told; answered = law.stands.0; cause = law.stands.1 })
-      moved
+    (λ call. record { effect = inl (refl, refl, refl); told = tt; answered = tt; cause = tt })
+    (λ action. record { effect = inl (refl, refl, refl); told = tt; answered = tt; cause = tt })
+    (λ choice. record { effect = inl (refl, refl, refl); told = tt; answered = tt; cause = tt })
+    (λ c same next.
+    let law = semaphore_move n p past c.call c.own (memory words.State) m (called ∙ same) is next in
+    record { effect = law.effect; told = law.told; answered = law.stands.0; cause = law.stands.1 })
+    moved
 
 -- nobody holds a semaphore
 

@@ -7,16 +7,15 @@ use Rattle.std.proofs.Math.ListN.{length-set}
 use Rattle.sync_steps.specs.declared.steps.event.Event.{Event}
 use Rattle.sync_steps.specs.declared.steps.event.Input.{Input}
 use Rattle.sync_steps.specs.declared.steps.event.Object.{Object}
-use Rattle.sync_steps.specs.declared.steps.event.StepFault.{StepFault}
 use Rattle.sync_steps.specs.declared.steps.place.HoldKind.{HoldKind}
 use Rattle.sync_steps.specs.declared.steps.place.Party.{Party}
 use Rattle.sync_steps.specs.declared.steps.place.Turn.{Turn}
 use Rattle.sync_steps.specs.Arithmetic.{Arithmetic}
 use Rattle.sync_steps.specs.Past.{Calling, call_of, call_after, holds_of, hold_among, hold_after, word_in, word_after, failed_in}
-use Rattle.sync_steps.specs.Next.{fault_of, IsNext}
+use Rattle.sync_steps.specs.Next.{IsNext}
 use Rattle.sync_steps.specs.Places.{AtParty}
 use Rattle.sync_steps.specs.Standing.{Standing, StandsAt}
-use Rattle.sync_steps.specs.Turns.{event, Turns, TakesTurn, RefusesTurn}
+use Rattle.sync_steps.specs.Turns.{event, Turns, TakesTurn}
 use Rattle.sync_steps.specs.Applies.{Applies}
 use Rattle.sync_steps.proofs.Holds.{call_of_same, call_of_other, hold_of_same, hold_of_other}
 

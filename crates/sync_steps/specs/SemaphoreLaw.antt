@@ -10,7 +10,7 @@ use Rattle.sync_steps.specs.declared.steps.event.Then.{Then}
 use Rattle.sync_steps.specs.declared.steps.event.Then.TheVariants as thens
 use Rattle.sync_steps.specs.declared.steps.event.Event.{Event}
 use Rattle.sync_steps.specs.Past.{Calling, call_of}
-use Rattle.sync_steps.specs.Sights.{AtLastSight, HasAborted}
+use Rattle.sync_steps.specs.Sights.{told, AtLastSight, HasAborted}
 
 abbrev pub posted_by : {T : Type 0} → Call T → ℕ
 posted_by (calls.Post n) = n
@@ -40,14 +40,6 @@ taken_in (e ∷ past) = (if is_take e.act then 1 else 0) + taken_in past
 abbrev pub permits : {T : Type 0} → ℕ → List (Event T) → ℕ
 permits initial past = (given_in initial past - taken_in past) % 2 ^ 64
 
--- the value of the word that an act tells
-abbrev pub told_by : {T : Type 0} → Act T → Option ℕ
-told_by (acts.Load words.State seen) = Some seen
-told_by (acts.Swap words.State old put) = Some old
-told_by (acts.Add words.State old put) = Some old
-told_by (acts.Exchange words.State from to found done) = Some found
-told_by act = None
-
 abbrev pub number_of : {T : Type 0} → Then T → Option ℕ
 number_of (thens.Answers (answers.Number n)) = Some n
 number_of other = None
@@ -56,7 +48,7 @@ number_of other = None
 abbrev pub TellsPermits : {T : Type 0} → ℕ → List (Event T) → Type 0
 TellsPermits initial [] = Unit {0}
 TellsPermits initial (e ∷ past) =
-    IfSome (told_by e.act) (λ v. v ≡ permits initial past) × IfSome (number_of e.then) (λ v. v ≡ permits initial past)
+    IfSome (told words.State e.act) (λ v. v ≡ permits initial past) × IfSome (number_of e.then) (λ v. v ≡ permits initial past)
 
 -- where the latest event took a permit, the value is exactly 1 less than before it
 abbrev pub LowersByOne : {T : Type 0} → ℕ → List (Event T) → Type 0

@@ -1,5 +1,5 @@
 -- What a call at a semaphore does next, by its own events and the word.
-use Rattle.std.specs.Prelude.{ℕ, ◌+◌, ◌-◌, ◌%◌, ◌^◌, Bool, true, false, ◌&&◌, ◌==◌, nat_lt, if◌then◌else◌, List, [], ◌∷◌, Option, Some, None}
+use Rattle.std.specs.Prelude.{ℕ, ◌+◌, ◌-◌, ◌%◌, ◌^◌, Bool, true, false, ◌==◌, nat_lt, if◌then◌else◌, List, [], ◌∷◌, Option, Some, None}
 use Rattle.sync_steps.specs.declared.TheConstants.{SPIN_REPETITIONS}
 use Rattle.sync_steps.specs.declared.steps.event.Word.TheVariants as words
 use Rattle.sync_steps.specs.declared.steps.event.Wake.TheVariants as wakes

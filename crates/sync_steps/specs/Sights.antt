@@ -1,5 +1,5 @@
 -- What a call had seen last.
-use Rattle.std.specs.Prelude.{◌≡◌, ℕ, ◌==◌, Bool, true, false, List, [], ◌∷◌, MatchBool, MatchOption}
+use Rattle.std.specs.Prelude.{◌≡◌, ℕ, ◌==◌, Bool, true, false, List, [], ◌∷◌, MatchBool, MatchOption, if◌then◌else◌, Option, Some, None, is_some}
 use Rattle.sync_steps.specs.declared.steps.event.Word.{Word}
 use Rattle.sync_steps.specs.declared.steps.event.Act.{Act}
 use Rattle.sync_steps.specs.declared.steps.event.Act.TheVariants as acts
@@ -7,13 +7,17 @@ use Rattle.sync_steps.specs.declared.steps.event.Event.{Event}
 use Rattle.sync_steps.specs.Past.{is_word, call_of}
 use Rattle.sync_steps.specs.Moves.{keeps}
 
--- the act tells what the word held
+-- what an act tells that the word held
+abbrev pub told : {T : Type 0} → Word → Act T → Option ℕ
+told word (acts.Load w seen) = if is_word w word then Some seen else None
+told word (acts.Swap w old put) = if is_word w word then Some old else None
+told word (acts.Add w old put) = if is_word w word then Some old else None
+told word (acts.Exchange w from to found done) = if is_word w word then Some found else None
+told word other = None
+
+-- the act tells it
 abbrev pub tells : {T : Type 0} → Word → Act T → Bool
-tells word (acts.Load w seen) = is_word w word
-tells word (acts.Swap w old put) = is_word w word
-tells word (acts.Add w old put) = is_word w word
-tells word (acts.Exchange w from to found done) = is_word w word
-tells word other = false
+tells word act = is_some (told word act)
 
 abbrev pub begins : {T : Type 0} → Act T → Bool
 begins (acts.Begun call) = true
