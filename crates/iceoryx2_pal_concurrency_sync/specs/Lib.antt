@@ -1,0 +1,5 @@
+pub mod Parts
+pub mod Sights
+pub mod Answers
+pub mod MutexRule
+pub mod MutexShown

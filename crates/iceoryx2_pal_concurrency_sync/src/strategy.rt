@@ -1,0 +1,2 @@
+//! One module for each primitive.
+pub mod mutex;
