@@ -13,6 +13,10 @@ unseen = sights 0 0 false
 abbrev pub seen : Sights → ℕ → Sights
 seen s n = sights (s.count + 1) n false
 
+-- one more sight, of n, where an exchange from another value failed; `missed` tells that this was the value seen last
+abbrev pub seen_instead : Sights → ℕ → ℕ → Sights
+seen_instead s from n = sights (s.count + 1) n (s.last == from)
+
 -- what the second part of a pass knows, which counts nothing of what the first counts
 abbrev pub known : Sights → Sights
 known s = sights 0 s.last s.missed

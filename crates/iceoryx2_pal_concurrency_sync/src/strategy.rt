@@ -1,2 +1,3 @@
 //! One module for each primitive.
 pub mod mutex;
+pub mod semaphore;

@@ -4,6 +4,7 @@ ghost use Rattle.iceoryx2_pal_concurrency_sync.specs.Answers.{MayAnswerAbort, Ha
 
 use crate::WaitAction;
 use crate::strategy::mutex::{MutexRule, MutexView};
+use crate::strategy::semaphore::{SemRule, SemView};
 use atomic_table::{Shared, TableRule};
 
 /// How a call that may give up answers.
@@ -25,6 +26,7 @@ pub struct WaitWord<'t> {
 #[derive(Drop)]
 pub(crate) enum AnyWord<'t> {
     Mutex(Word<'t, MutexView, (), MutexRule>),
+    Semaphore(Word<'t, SemView, u64, SemRule>),
 }
 
 /// The word of a table at this index.
@@ -41,6 +43,7 @@ impl WaitWord<'_> {
     pub fn load(&self) -> u64 {
         match &self.word {
             AnyWord::Mutex(word) => word.shared.peek(word.index),
+            AnyWord::Semaphore(word) => word.shared.peek(word.index),
         }
     }
 }

@@ -1,0 +1,108 @@
+-- Each step of a semaphore keeps its rule.
+use Rattle.std.proofs.Common.{◌≡◌, ℕ, ◌+◌, ◌-◌, ◌%◌, ◌^◌, ◌<◌, ◌≤◌, eqb, List, [], ◌∷◌, ◌++◌, get_or, set, sym, refl, ap, ◌∙◌, subst, arith, length-set, get_or-set_same}
+use mathlib.Core.Logic.{dite}
+use mathlib.Core.Option.{none, some, some-injective, some-ne-none}
+use native.Mathlib.Decide.{ℕ_discrete}
+use lib.ListN.{get_elem?}
+use prog.Atomic.{either}
+use Rattle.atomic_table.specs.Table.{State, Me, step, opening, keeps, stepped, Allows, Splits, Joins, Final, Seen}
+use Rattle.atomic_table.proofs.Lists.{exchanged}
+use Rattle.iceoryx2_pal_concurrency_sync.specs.declared.strategy.semaphore.SemView.{SemView}
+use Rattle.iceoryx2_pal_concurrency_sync.specs.Parts.{IsWhole, total}
+use Rattle.iceoryx2_pal_concurrency_sync.specs.SemaphoreRule.{first_view, spent_view, part_of, given_of, taken_of, IsIdle, Permits, value_of, looked, missed, took, gave, left_view, right_view, joined_view, Loaded, Exchanged, Added}
+use Rattle.iceoryx2_pal_concurrency_sync.proofs.Sums.{total_set, total_snoc, within_total, shared_first, shared_step, shared_split, shared_join, alone}
+
+abbrev MeOf : Type 0
+MeOf = Me (Unit {0}) SemView
+
+-- a word and views that agree
+placed : (s : State (Unit {0}) SemView) (r : Permits s) (n id : ℕ) (me : MeOf) (w : SemView) → get_elem? s.views id ≡ some me.0 → 0 < me.0.part.share → w.part ≡ me.0.part
+    → total taken_of (set s.views id w) ≤ total given_of (set s.views id w) → n ≡ (total given_of (set s.views id w) - total taken_of (set s.views id w)) % 2 ^ 64
+    → Permits (stepped s 0 n id me.1 w keeps)
+placed s r n id me w at alive same enough is = record {
+  words = length-set s.words 0 n ∙ r.words;
+  enough = enough;
+  word = get_or-set_same s.words 0 n 0 (omega (arith, r.words)) ∙ is;
+  shared = shared_step s.views id me.0 w at same alive r.shared
+}
+
+-- a step that leaves the word and the tally as they are
+unmoved : (s : State (Unit {0}) SemView) (r : Permits s) (id : ℕ) (me : MeOf) (w : SemView) → get_elem? s.views id ≡ some me.0 → 0 < me.0.part.share → w.part ≡ me.0.part
+    → w.given ≡ me.0.given → w.taken ≡ me.0.taken → Permits (stepped s 0 (get_or s.words 0 0) id me.1 w keeps)
+unmoved s r id me w at alive same given taken = let enough = r.enough in let is = r.word in
+    let g : total given_of (set s.views id w) ≡ total given_of s.views = (let sum = total_set given_of s.views id me.0 w at in omega arith) in
+    let t : total taken_of (set s.views id w) ≡ total taken_of s.views = (let sum = total_set taken_of s.views id me.0 w at in omega arith) in
+    placed s r (get_or s.words 0 0) id me w at alive same (omega arith) (is ∙ sym (ap (λ (p : ℕ × ℕ). (p.0 - p.1) % 2 ^ 64) (λ i. (g i, t i))))
+
+-- where no other pass is left, the word is what the tally comes to
+counted : (s : State (Unit {0}) SemView) (r : Permits s) (id : ℕ) (v : SemView) → get_elem? s.views id ≡ some v → IsWhole v.part → get_or s.words 0 0 ≡ value_of v
+counted s r id v at whole = let g = alone given_of s.views id v at whole (λ u idle. idle.0) r.shared in let t = alone taken_of s.views id v at whole (λ u idle. idle.1) r.shared in
+    r.word ∙ ap (λ (p : ℕ × ℕ). (p.0 - p.1) % 2 ^ 64) (λ i. (g i, t i))
+
+pub opens : (initial : ℕ) → initial < 2 ^ 64 → Permits (opening (initial ∷ []) [] (first_view initial))
+opens initial fits = record { words = refl; enough = omega arith; word = omega arith; shared = shared_first (first_view initial) refl }
+
+pub loads : (slots id : ℕ) (me : MeOf) → 0 < me.0.part.share → Allows Permits slots id me 0 (λ x. x) (Loaded (step slots 0 0 0 none) me)
+loads slots id me alive s r _ at _ = let x : ℕ = get_or s.words 0 0 in (
+  looked me.0 x,
+  keeps,
+  tt,
+  unmoved s r id me (looked me.0 x) at alive refl refl refl,
+  record { none_out = refl; saw = refl; alone = counted s r id me.0 at },
+)
+
+pub exchanges : (slots id : ℕ) (me : MeOf) (old new : ℕ) → 0 < old → new ≡ old - 1 → 0 < me.0.part.share
+    → Allows Permits slots id me 0 (λ x. either (eqb x old) new x) (Exchanged (step slots 0 old new none) me)
+exchanges slots id me old new more is alive s r _ at _ = let x : ℕ = get_or s.words 0 0 in let word = r.word in let enough = r.enough in dite (ℕ_discrete x old)
+    (λ hit. let w : SemView = took me.0 in let g = total_set given_of s.views id me.0 w at in let t = total_set taken_of s.views id me.0 w at in (
+      w,
+      keeps,
+      tt,
+      exchanged x old new (λ n. Permits (stepped s 0 n id me.1 w keeps)) (λ _. placed s r new id me w at alive refl (omega arith) (omega arith)) (λ miss. absurd (miss hit)),
+      record { none_out = refl; done = λ _. refl; failed = λ miss. absurd (miss hit); alone = counted s r id me.0 at },
+    ))
+    (λ miss. let w : SemView = missed me.0 old x in (
+      w,
+      keeps,
+      tt,
+      exchanged x old new (λ n. Permits (stepped s 0 n id me.1 w keeps)) (λ hit. absurd (miss hit)) (λ _. unmoved s r id me w at alive refl refl refl),
+      record { none_out = refl; done = λ hit. absurd (miss hit); failed = λ _. refl; alone = counted s r id me.0 at },
+    ))
+
+pub adds : (slots id : ℕ) (me : MeOf) (k : ℕ) → 0 < me.0.part.share → Allows Permits slots id me 0 (λ x. (x + k) % 2 ^ 64) (Added (step slots 0 k 0 none) me)
+adds slots id me k alive s r _ at _ = let x : ℕ = get_or s.words 0 0 in let w : SemView = gave me.0 k in let word = r.word in let enough = r.enough in
+    let g = total_set given_of s.views id me.0 w at in let t = total_set taken_of s.views id me.0 w at in (
+  w,
+  keeps,
+  tt,
+  placed s r ((x + k) % 2 ^ 64) id me w at alive refl (omega arith) (omega arith),
+  record { none_out = refl; given = refl },
+)
+
+pub splits : (id : ℕ) (v : SemView) → 0 < v.part.share → Splits Permits id v (left_view v) (right_view v)
+splits id v alive s r at = let left : List SemView = set s.views id (left_view v) in let enough = r.enough in
+    let g : total given_of (left ++ right_view v ∷ []) ≡ total given_of s.views = (let sum = total_set given_of s.views id v (left_view v) at in let more = total_snoc given_of left (right_view v) in omega arith) in
+    let t : total taken_of (left ++ right_view v ∷ []) ≡ total taken_of s.views = (let sum = total_set taken_of s.views id v (left_view v) at in let more = total_snoc taken_of left (right_view v) in omega arith) in record {
+  words = r.words;
+  enough = omega arith;
+  word = r.word ∙ sym (ap (λ (p : ℕ × ℕ). (p.0 - p.1) % 2 ^ 64) (λ i. (g i, t i)));
+  shared = shared_split s.views id v (left_view v) (right_view v) at refl refl alive r.shared
+}
+
+pub joins : (id : ℕ) (v : SemView) (other : ℕ) (w : SemView) → 0 < v.part.share → Joins Permits id v other w (joined_view v w) spent_view
+joins id v other w alive s r at apart there = let both : SemView = joined_view v w in let all : List SemView = set s.views id both in let enough = r.enough in
+    let g : total given_of (set all other spent_view) ≡ total given_of s.views = (let sum = total_set given_of s.views id v both at in let less = total_set given_of all other w spent_view there in omega arith) in
+    let t : total taken_of (set all other spent_view) ≡ total taken_of s.views = (let sum = total_set taken_of s.views id v both at in let less = total_set taken_of all other w spent_view there in omega arith) in record {
+  words = r.words;
+  enough = omega arith;
+  word = r.word ∙ sym (ap (λ (p : ℕ × ℕ). (p.0 - p.1) % 2 ^ 64) (λ i. (g i, t i)));
+  shared = shared_join s.views id other v w both spent_view at there refl refl alive (refl, refl, refl) r.shared
+}
+
+-- the word at the end
+pub closes : (words : List ℕ) (slots : List (Unit {0})) (id : ℕ) (v : SemView) (n : ℕ) → get_elem? words 0 ≡ some n → Final (Seen Permits id v) words slots → IsWhole v.part → n ≡ value_of v
+closes words slots id v n at final whole = first_of words at ∙ subst (λ (ws : List ℕ). get_or ws 0 0 ≡ value_of v) final.2 (counted final.0 final.1.0 id v final.1.1 whole)
+  where
+    first_of : (words : List ℕ) → get_elem? words 0 ≡ some n → n ≡ get_or words 0 0
+    first_of [] at = absurd (some-ne-none n (sym at))
+    first_of (x ∷ xs) at = sym (some-injective x n at)
