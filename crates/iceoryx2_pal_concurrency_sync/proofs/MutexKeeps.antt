@@ -26,7 +26,7 @@ placed s r n id me w at alive same agrees one = let moved = total_set holds_of s
   words = length-set s.words 0 n ∙ r.words;
   word = get_or-set_same s.words 0 n 0 (omega (arith, r.words)) ∙ omega arith;
   one = omega arith;
-  shared = shared_step s.views id me.0 w at same alive r.shared
+  shared = shared_step s.views id me.0 w at same alive r.shared;
 }
 
 pub opens : Held (opening (0 ∷ []) [] first_view)
@@ -50,7 +50,7 @@ exchanges_for_1 slots id me alive s r _ at _ = let x : ℕ = get_or s.words 0 0 
         none_out = refl;
         free = λ hit. absurd (miss hit);
         locked = λ _. refl;
-        alone = λ whole off. is ∙ alone holds_of s.views id me.0 at whole (λ u idle. idle.0) r.shared ∙ off
+        alone = λ whole off. is ∙ alone holds_of s.views id me.0 at whole (λ u idle. idle.0) r.shared ∙ off;
       },
     ))
 
@@ -69,17 +69,17 @@ releases slots id me alive on s r _ at _ = let here = within_total holds_of s.vi
 pub splits : (id : ℕ) (v : MutexView) → 0 < v.part.share → Splits Held id v (left_view v) (right_view v)
 splits id v alive s r at = let moved = total_set holds_of s.views id v (left_view v) at in let added = total_snoc holds_of (set s.views id (left_view v)) (right_view v) in
     let is = r.word in let one = r.one in record {
-  words = r.words;
-  word = omega arith;
-  one = omega arith;
-  shared = shared_split s.views id v (left_view v) (right_view v) at refl refl alive r.shared
-}
+      words = r.words;
+      word = omega arith;
+      one = omega arith;
+      shared = shared_split s.views id v (left_view v) (right_view v) at refl refl alive r.shared;
+    }
 
 pub joins : (id : ℕ) (v : MutexView) (other : ℕ) (w : MutexView) → 0 < v.part.share → Joins Held id v other w (joined_view v w) spent_view
 joins id v other w alive s r at apart there = let both : MutexView = joined_view v w in let moved = total_set holds_of s.views id v both at in
     let left_out = total_set holds_of (set s.views id both) other w spent_view there in let is = r.word in let one = r.one in record {
-  words = r.words;
-  word = omega arith;
-  one = omega arith;
-  shared = shared_join s.views id other v w both spent_view at there refl refl alive (refl, refl) r.shared
-}
+      words = r.words;
+      word = omega arith;
+      one = omega arith;
+      shared = shared_join s.views id other v w both spent_view at there refl refl alive (refl, refl) r.shared;
+    }

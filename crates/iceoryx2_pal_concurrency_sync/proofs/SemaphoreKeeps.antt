@@ -23,7 +23,7 @@ placed s r n id me w at alive same enough is = record {
   words = length-set s.words 0 n ∙ r.words;
   enough = enough;
   word = get_or-set_same s.words 0 n 0 (omega (arith, r.words)) ∙ is;
-  shared = shared_step s.views id me.0 w at same alive r.shared
+  shared = shared_step s.views id me.0 w at same alive r.shared;
 }
 
 -- a step that leaves the word and the tally as they are
@@ -72,32 +72,32 @@ exchanges slots id me old new more is alive s r _ at _ = let x : ℕ = get_or s.
 pub adds : (slots id : ℕ) (me : MeOf) (k : ℕ) → 0 < me.0.part.share → Allows Permits slots id me 0 (λ x. (x + k) % 2 ^ 64) (Added (step slots 0 k 0 none) me)
 adds slots id me k alive s r _ at _ = let x : ℕ = get_or s.words 0 0 in let w : SemView = gave me.0 k in let word = r.word in let enough = r.enough in
     let g = total_set given_of s.views id me.0 w at in let t = total_set taken_of s.views id me.0 w at in (
-  w,
-  keeps,
-  tt,
-  placed s r ((x + k) % 2 ^ 64) id me w at alive refl (omega arith) (omega arith),
-  record { none_out = refl; given = refl },
-)
+      w,
+      keeps,
+      tt,
+      placed s r ((x + k) % 2 ^ 64) id me w at alive refl (omega arith) (omega arith),
+      record { none_out = refl; given = refl },
+    )
 
 pub splits : (id : ℕ) (v : SemView) → 0 < v.part.share → Splits Permits id v (left_view v) (right_view v)
 splits id v alive s r at = let left : List SemView = set s.views id (left_view v) in let enough = r.enough in
     let g : total given_of (left ++ right_view v ∷ []) ≡ total given_of s.views = (let sum = total_set given_of s.views id v (left_view v) at in let more = total_snoc given_of left (right_view v) in omega arith) in
     let t : total taken_of (left ++ right_view v ∷ []) ≡ total taken_of s.views = (let sum = total_set taken_of s.views id v (left_view v) at in let more = total_snoc taken_of left (right_view v) in omega arith) in record {
-  words = r.words;
-  enough = omega arith;
-  word = r.word ∙ sym (ap (λ (p : ℕ × ℕ). (p.0 - p.1) % 2 ^ 64) (λ i. (g i, t i)));
-  shared = shared_split s.views id v (left_view v) (right_view v) at refl refl alive r.shared
-}
+      words = r.words;
+      enough = omega arith;
+      word = r.word ∙ sym (ap (λ (p : ℕ × ℕ). (p.0 - p.1) % 2 ^ 64) (λ i. (g i, t i)));
+      shared = shared_split s.views id v (left_view v) (right_view v) at refl refl alive r.shared;
+    }
 
 pub joins : (id : ℕ) (v : SemView) (other : ℕ) (w : SemView) → 0 < v.part.share → Joins Permits id v other w (joined_view v w) spent_view
 joins id v other w alive s r at apart there = let both : SemView = joined_view v w in let all : List SemView = set s.views id both in let enough = r.enough in
     let g : total given_of (set all other spent_view) ≡ total given_of s.views = (let sum = total_set given_of s.views id v both at in let less = total_set given_of all other w spent_view there in omega arith) in
     let t : total taken_of (set all other spent_view) ≡ total taken_of s.views = (let sum = total_set taken_of s.views id v both at in let less = total_set taken_of all other w spent_view there in omega arith) in record {
-  words = r.words;
-  enough = omega arith;
-  word = r.word ∙ sym (ap (λ (p : ℕ × ℕ). (p.0 - p.1) % 2 ^ 64) (λ i. (g i, t i)));
-  shared = shared_join s.views id other v w both spent_view at there refl refl alive (refl, refl, refl) r.shared
-}
+      words = r.words;
+      enough = omega arith;
+      word = r.word ∙ sym (ap (λ (p : ℕ × ℕ). (p.0 - p.1) % 2 ^ 64) (λ i. (g i, t i)));
+      shared = shared_join s.views id other v w both spent_view at there refl refl alive (refl, refl, refl) r.shared;
+    }
 
 -- the word at the end
 pub closes : (words : List ℕ) (slots : List (Unit {0})) (id : ℕ) (v : SemView) (n : ℕ) → get_elem? words 0 ≡ some n → Final (Seen Permits id v) words slots → IsWhole v.part → n ≡ value_of v

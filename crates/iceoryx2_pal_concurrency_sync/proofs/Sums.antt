@@ -3,7 +3,7 @@ use Rattle.std.proofs.Common.{◌≡◌, ℕ, zero, suc, ◌+◌, ◌-◌, ◌*�
 use mathlib.Core.Option.{some, some-injective, some-ne-none}
 use lib.ListN.{get_elem?}
 use Rattle.iceoryx2_pal_concurrency_sync.specs.declared.part.Part.{Part}
-use Rattle.iceoryx2_pal_concurrency_sync.specs.Parts.{part, nothing, half, together, IsWhole, weight, total, Each, Shared}
+use Rattle.iceoryx2_pal_concurrency_sync.specs.Parts.{part, nothing, half, together, IsWhole, IsAgain, weight, total, Each, Shared}
 
 module _ {V : Type 0} where
   -- sums
@@ -98,8 +98,14 @@ halves_are_whole : (n d : ℕ) → n ≡ 2 ^ d → n * 2 ^ (d + 1) + n * 2 ^ (d 
 halves_are_whole n d is = let a : n * 2 ^ (d + 1) ≡ 2 ^ d * 2 ^ (d + 1) = ap (λ (m : ℕ). m * 2 ^ (d + 1)) is in let b : 2 ^ d * 2 ^ (d + 1) ≡ 2 ^ (d + (d + 1)) = sym (pow-add 2 d (d + 1)) in
     let c : 2 ^ ((d + 1) + (d + 1)) ≡ 2 ^ (1 + (d + (d + 1))) = ap (λ (m : ℕ). 2 ^ m) (omega arith) in let e = pow-add 2 1 (d + (d + 1)) in omega arith
 
-pub whole_again : (p q : Part) (w : Part) → IsWhole w → p ≡ half w → q ≡ half w → IsWhole (together p q)
-whole_again p q w is first second = subst (λ (a : Part). IsWhole (together a q)) (sym first) (subst (λ (b : Part). IsWhole (together (half w) b)) (sym second) (halves_are_whole w.share w.depth is))
+halves_are_same : (n d : ℕ) → (n * 2 ^ (d + 1) + n * 2 ^ (d + 1)) * 2 ^ d ≡ n * 2 ^ ((d + 1) + (d + 1))
+halves_are_same n d = let c : n * 2 ^ ((d + 1) + (d + 1)) ≡ n * 2 ^ (1 + ((d + 1) + d)) = ap (λ (m : ℕ). n * 2 ^ m) (omega arith) in let e = power_of_sum n 1 ((d + 1) + d) in
+    let f : n * (2 ^ 1 * 2 ^ ((d + 1) + d)) ≡ n * (2 ^ 1 * (2 ^ (d + 1) * 2 ^ d)) = ap (λ (m : ℕ). n * (2 ^ 1 * m)) (pow-add 2 (d + 1) d) in omega arith
+
+-- joined halves are the part again
+pub halves_again : (a b p : Part) → a ≡ half p → b ≡ half p → IsAgain p (together a b)
+halves_again a b p first second = subst (λ (x : Part). IsAgain p (together x b)) (sym first) (subst (λ (y : Part). IsAgain p (together (half p) y)) (sym second)
+    record { same = halves_are_same p.share p.depth; whole = halves_are_whole p.share p.depth })
 
 -- the parts under each kind of step
 
@@ -112,7 +118,7 @@ module _ {V : Type 0} {part_of : V → Part} {IsBlank : V → Type 0} where
     finest = 0;
     within = (subst (λ (p : Part). p.depth ≤ 0) (sym is) (omega arith), tt);
     one_whole = λ j deep. subst (λ (p : Part). weight j p + 0 ≡ 2 ^ j) (sym is) (alone_at j);
-    blank = ((λ none. absurd (omega (arith, ap (λ (p : Part). p.share) is))), tt)
+    blank = ((λ none. absurd (omega (arith, ap (λ (p : Part). p.share) is))), tt);
   }
 
   -- a step of one pass, which is still the same part
@@ -122,7 +128,7 @@ module _ {V : Type 0} {part_of : V → Part} {IsBlank : V → Type 0} where
     finest = s.finest;
     within = each_set (λ u. (part_of u).depth ≤ s.finest) views id w s.within (subst (λ (p : Part). p.depth ≤ s.finest) (sym same) (each_at (λ u. (part_of u).depth ≤ s.finest) views id v at s.within));
     one_whole = λ j deep. let moved = total_set (λ u. weight j (part_of u)) views id v w at in let was = s.one_whole j deep in let is = ap (weight j) same in omega arith;
-    blank = each_set (λ u. (part_of u).share ≡ 0 → IsBlank u) views id w s.blank (λ none. absurd (omega (arith, ap (λ (p : Part). p.share) same)))
+    blank = each_set (λ u. (part_of u).share ≡ 0 → IsBlank u) views id w s.blank (λ none. absurd (omega (arith, ap (λ (p : Part). p.share) same)));
   }
 
   pub shared_split : (views : List V) (id : ℕ) (v left right : V) → get_elem? views id ≡ some v → part_of left ≡ half (part_of v) → part_of right ≡ half (part_of v) → 0 < (part_of v).share
@@ -131,12 +137,12 @@ module _ {V : Type 0} {part_of : V → Part} {IsBlank : V → Type 0} where
       let later = each_so (λ u. (part_of u).depth ≤ s.finest) (λ u. (part_of u).depth ≤ s.finest + 1) views (λ u shallow. omega arith) s.within in
       let here : (w : V) → part_of w ≡ half p → (part_of w).depth ≤ s.finest + 1 = λ w is. subst (λ (q : Part). q.depth ≤ s.finest + 1) (sym is) (omega arith) in
       let alive' : (w : V) → part_of w ≡ half p → (part_of w).share ≡ 0 → IsBlank w = λ w is none. absurd (omega (arith, ap (λ (q : Part). q.share) is)) in record {
-    finest = s.finest + 1;
-    within = each_snoc (λ u. (part_of u).depth ≤ s.finest + 1) (set views id left) right (each_set (λ u. (part_of u).depth ≤ s.finest + 1) views id left later (here left first)) (here right second);
-    one_whole = λ j deep. let f : V → ℕ = λ u. weight j (part_of u) in let moved = total_set f views id v left at in let added = total_snoc f (set views id left) right in
-        let was = s.one_whole j (omega arith) in let halves = weight_half p j (omega arith) in let a = ap (weight j) first in let b = ap (weight j) second in omega arith;
-    blank = each_snoc (λ u. (part_of u).share ≡ 0 → IsBlank u) (set views id left) right (each_set (λ u. (part_of u).share ≡ 0 → IsBlank u) views id left s.blank (alive' left first)) (alive' right second)
-  }
+        finest = s.finest + 1;
+        within = each_snoc (λ u. (part_of u).depth ≤ s.finest + 1) (set views id left) right (each_set (λ u. (part_of u).depth ≤ s.finest + 1) views id left later (here left first)) (here right second);
+        one_whole = λ j deep. let f : V → ℕ = λ u. weight j (part_of u) in let moved = total_set f views id v left at in let added = total_snoc f (set views id left) right in
+            let was = s.one_whole j (omega arith) in let halves = weight_half p j (omega arith) in let a = ap (weight j) first in let b = ap (weight j) second in omega arith;
+        blank = each_snoc (λ u. (part_of u).share ≡ 0 → IsBlank u) (set views id left) right (each_set (λ u. (part_of u).share ≡ 0 → IsBlank u) views id left s.blank (alive' left first)) (alive' right second);
+      }
 
   pub shared_join : (views : List V) (id other : ℕ) (v w both spent : V) → get_elem? views id ≡ some v → get_elem? (set views id both) other ≡ some w
       → part_of both ≡ together (part_of v) (part_of w) → part_of spent ≡ nothing → 0 < (part_of v).share → IsBlank spent
@@ -144,12 +150,12 @@ module _ {V : Type 0} {part_of : V → Part} {IsBlank : V → Type 0} where
   shared_join views id other v w both spent at there joined none alive blank s = let p : Part = part_of v in let q : Part = part_of w in let most : ℕ = s.finest + (p.depth + q.depth) in
       let later = each_so (λ u. (part_of u).depth ≤ s.finest) (λ u. (part_of u).depth ≤ most) views (λ u shallow. omega arith) s.within in
       let P : V → Type 0 = λ u. (part_of u).depth ≤ most in let Q : V → Type 0 = λ u. (part_of u).share ≡ 0 → IsBlank u in record {
-    finest = most;
-    within = each_set P (set views id both) other spent (each_set P views id both later (subst (λ (r : Part). r.depth ≤ most) (sym joined) (omega arith))) (subst (λ (r : Part). r.depth ≤ most) (sym none) (omega arith));
-    one_whole = λ j deep. let f : V → ℕ = λ u. weight j (part_of u) in let moved = total_set f views id v both at in let left_out = total_set f (set views id both) other w spent there in
-        let was = s.one_whole j (omega arith) in let sum = weight_together p q j (omega arith) in let a = ap (weight j) joined in let b = ap (weight j) none in omega arith;
-    blank = each_set Q (set views id both) other spent (each_set Q views id both s.blank (λ empty. absurd (joined_alive p q alive (sym (ap (λ (r : Part). r.share) joined) ∙ empty)))) (λ _. blank)
-  }
+        finest = most;
+        within = each_set P (set views id both) other spent (each_set P views id both later (subst (λ (r : Part). r.depth ≤ most) (sym joined) (omega arith))) (subst (λ (r : Part). r.depth ≤ most) (sym none) (omega arith));
+        one_whole = λ j deep. let f : V → ℕ = λ u. weight j (part_of u) in let moved = total_set f views id v both at in let left_out = total_set f (set views id both) other w spent there in
+            let was = s.one_whole j (omega arith) in let sum = weight_together p q j (omega arith) in let a = ap (weight j) joined in let b = ap (weight j) none in omega arith;
+        blank = each_set Q (set views id both) other spent (each_set Q views id both s.blank (λ empty. absurd (joined_alive p q alive (sym (ap (λ (r : Part). r.share) joined) ∙ empty)))) (λ _. blank);
+      }
     where
       joined_alive : (p q : Part) → 0 < p.share → (together p q).share ≡ 0 → ⊥
       joined_alive p q alive empty = let some_share : 0 < p.share * 2 ^ q.depth = mul-pos alive (pow_pos q.depth) in absurd (omega arith)
@@ -159,5 +165,5 @@ module _ {V : Type 0} {part_of : V → Part} {IsBlank : V → Type 0} where
       → Shared part_of IsBlank views → total f views ≡ f v
   alone f views id v at is none s = let j : ℕ = s.finest in let deep = each_at (λ u. (part_of u).depth ≤ j) views id v at s.within in
       one_adds (λ u. weight j (part_of u)) f views id v at
-          (each_so (λ u. (part_of u).share ≡ 0 → IsBlank u) (λ u. weight j (part_of u) ≡ 0 → f u ≡ 0) views (λ u blank light. none u (blank (weight_nothing (part_of u) j light))) s.blank)
-          (s.one_whole j (omega arith) ∙ sym (weight_whole (part_of v) j deep is))
+      (each_so (λ u. (part_of u).share ≡ 0 → IsBlank u) (λ u. weight j (part_of u) ≡ 0 → f u ≡ 0) views (λ u blank light. none u (blank (weight_nothing (part_of u) j light))) s.blank)
+      (s.one_whole j (omega arith) ∙ sym (weight_whole (part_of v) j deep is))

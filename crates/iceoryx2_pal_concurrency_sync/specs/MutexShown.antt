@@ -41,6 +41,7 @@ Tries done p q = MatchBool done (((view p).holds ≡ 0) × (view q ≡ granted (
 
 -- the hold was off and is on, and nothing else changed but what was seen on the way
 pub record HasEntered (p q : MutexPass) : Type 0 where
+  pub same : IsSamePass p q
   pub off : (view p).holds ≡ 0
   pub on : (view q).holds ≡ 1
   pub part : (view q).part ≡ (view p).part

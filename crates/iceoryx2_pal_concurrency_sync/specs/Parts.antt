@@ -29,6 +29,11 @@ IsWhole p = p.share ≡ 2 ^ p.depth
 abbrev pub IsSamePart : Part → Part → Type 0
 IsSamePart p q = p.share * 2 ^ q.depth ≡ q.share * 2 ^ p.depth
 
+-- q is that part again, and so whole where it was
+pub record IsAgain (p q : Part) : Type 0 where
+  pub same : IsSamePart q p
+  pub whole : IsWhole p → IsWhole q
+
 -- how many of 2 ^ j equal parts it is, for each j from its depth on
 abbrev pub weight : ℕ → Part → ℕ
 weight j p = p.share * 2 ^ (j - p.depth)

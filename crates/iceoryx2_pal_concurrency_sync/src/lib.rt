@@ -1,7 +1,7 @@
 //! Synchronisation primitives out of single atomic 64-bit words; the caller hands in how to wait and how to wake.
 #![tactic(auto)]
 
-mod part;
+pub mod part;
 pub mod strategy;
 #[cfg(test)]
 mod tests;

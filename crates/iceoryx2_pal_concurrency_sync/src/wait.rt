@@ -8,7 +8,7 @@ use crate::strategy::semaphore::{SemRule, SemView};
 use atomic_table::{Shared, TableRule};
 
 /// How a call that may give up answers.
-#[derive(Debug, PartialEq, Eq)]
+#[derive(Debug, Drop, PartialEq, Eq)]
 pub enum WaitResult<H> {
     /// It got what it came for, a hold where it came for one.
     Success(H),

@@ -2,10 +2,10 @@
 ghost use Rattle.std.specs.Prelude.{◌≡◌, ◌<◌, ◌≤◌, [], IfOk};
 
 use crate::part::{Part, Sights};
-use atomic_table::{Join, Play, Seat, Split, Table, TableRule};
-use std::alloc::{AllocError, Allocator, Global};
 use crate::wait::{AnyWord, WaitResult, WaitWord, Word, may_give_up, wake};
 use crate::{SPIN_REPETITIONS, WaitAction};
+use atomic_table::{Join, Play, Seat, Split, Table, TableRule};
+use std::alloc::{AllocError, Allocator, Global};
 use std::sync::Wait;
 use sync_steps::steps::mutex::granted;
 
@@ -260,15 +260,12 @@ impl MutexPass {
     ghost use Rattle.iceoryx2_pal_concurrency_sync.specs.declared.part.Part.{Part};
     ghost use Rattle.iceoryx2_pal_concurrency_sync.specs.MutexRule.{left_view, right_view, joined_view};
     ghost use Rattle.iceoryx2_pal_concurrency_sync.specs.MutexShown.{IsPassOf, view};
-    ghost use Rattle.iceoryx2_pal_concurrency_sync.specs.Parts.{half, IsWhole};
+    ghost use Rattle.iceoryx2_pal_concurrency_sync.specs.Parts.{half, IsAgain};
     ghost use Rattle.std.specs.Prelude.{true, is_ok};
 
     /// Two passes of the same mutex. What they counted adds up to what this one had counted, and both know what it knew. `Err`,
     /// which never comes today, would hand the pass back.
-    pub fn split<A: Allocator>(
-        self,
-        of: &Mutex<A>,
-    ) -> Result<(MutexPass, MutexPass), MutexPass>
+    pub fn split<A: Allocator>(self, of: &Mutex<A>) -> Result<(MutexPass, MutexPass), MutexPass>
         requires own { IsPassOf of.now self }
         ensures never_refused { is_ok result ≡ true }
         ensures own { IfOk result (λ parts. IsPassOf of.now parts.0 × IsPassOf of.now parts.1) }
@@ -290,7 +287,7 @@ impl MutexPass {
         ensures never_refused { is_ok result ≡ true }
         ensures own { IfOk result (IsPassOf of.now) }
         ensures views { IfOk result (λ both. view both ≡ joined_view (view a) (view b)) }
-        ensures whole { (p : Part) → IsWhole p → (view a).part ≡ half p → (view b).part ≡ half p → IfOk result (λ both. IsWhole (view both).part) }
+        ensures again { (p : Part) → (view a).part ≡ half p → (view b).part ≡ half p → IfOk result (λ both. IsAgain p (view both).part) }
     {
         let MutexPass { mut seat } = a;
         let MutexPass { seat: other } = b;

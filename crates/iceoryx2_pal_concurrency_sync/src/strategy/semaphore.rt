@@ -289,7 +289,7 @@ impl SemPass {
     ghost use Rattle.iceoryx2_pal_concurrency_sync.specs.declared.part.Part.{Part};
     ghost use Rattle.iceoryx2_pal_concurrency_sync.specs.SemaphoreRule.{left_view, right_view, joined_view};
     ghost use Rattle.iceoryx2_pal_concurrency_sync.specs.SemaphoreShown.{IsPassOf, view};
-    ghost use Rattle.iceoryx2_pal_concurrency_sync.specs.Parts.{half, IsWhole};
+    ghost use Rattle.iceoryx2_pal_concurrency_sync.specs.Parts.{half, IsAgain};
     ghost use Rattle.std.specs.Prelude.{true, is_ok};
 
     /// Two passes of the same semaphore. What they counted adds up to what this one had counted, and both know what it knew. `Err`,
@@ -316,7 +316,7 @@ impl SemPass {
         ensures never_refused { is_ok result ≡ true }
         ensures own { IfOk result (IsPassOf of.now) }
         ensures views { IfOk result (λ both. view both ≡ joined_view (view a) (view b)) }
-        ensures whole { (p : Part) → IsWhole p → (view a).part ≡ half p → (view b).part ≡ half p → IfOk result (λ both. IsWhole (view both).part) }
+        ensures again { (p : Part) → (view a).part ≡ half p → (view b).part ≡ half p → IfOk result (λ both. IsAgain p (view both).part) }
     {
         let SemPass { mut seat } = a;
         let SemPass { seat: other } = b;

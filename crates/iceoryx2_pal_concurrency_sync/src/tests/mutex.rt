@@ -1,0 +1,211 @@
+//! The running mutex.
+ghost use Rattle.std.specs.Prelude.{◌≡◌, true, is_ok};
+ghost use Rattle.iceoryx2_pal_concurrency_sync.specs.MutexShown.{IsPassOf, IsSamePass, view};
+ghost use Rattle.iceoryx2_pal_concurrency_sync.specs.Parts.{half, IsWhole};
+
+use crate::strategy::mutex::{Mutex, MutexPass};
+use crate::{WaitAction, WaitResult};
+use std::alloc::Global;
+use std::sync::Wait;
+use std::sync::atomic::{AtomicU64, Ordering};
+use std::test::Fail;
+use std::thread;
+use std::thread::Threads;
+
+/// Locks and unlocks, with closures that yield and answer `Continue`: that is never interrupted.
+fn lock_and_unlock<R: Wait>(rt: &R, mutex: &Mutex, pass: &mut MutexPass)
+    requires own { IsPassOf mutex.now pass.old }
+    requires off { (view pass.old).holds ≡ 0 }
+    ensures same { IsSamePass pass.old pass.new }
+    ensures part { (view pass.new).part ≡ (view pass.old).part }
+    ensures off { (view pass.new).holds ≡ 0 }
+{
+    let locked = Mutex::lock(pass, mutex, rt, |_, _| {
+        thread::yield_now();
+        WaitAction::Continue
+    });
+    match locked {
+        WaitResult::Success(hold) => {
+            mutex.unlock(hold, |_| ());
+        }
+        WaitResult::Interrupted => unreachable!(),
+    }
+}
+
+fn lock_and_unlock_often<R: Wait>(rt: &R, mutex: &Mutex, mut pass: MutexPass) -> MutexPass
+    requires own { IsPassOf mutex.now pass }
+    requires off { (view pass).holds ≡ 0 }
+    ensures own { IsPassOf mutex.now result }
+    ensures part { (view result).part ≡ (view pass).part }
+    ensures off { (view result).holds ≡ 0 }
+{
+    for _ in 0..100u64 {
+        lock_and_unlock(rt, mutex, &mut pass);
+    }
+    pass
+}
+
+/// Two threads lock and unlock in turn. After the join the whole pass is granted.
+fn lock_in_two_threads<R: Threads + Wait + Sync>(
+    rt: &R,
+    mutex: &Mutex,
+    pass: MutexPass,
+) -> MutexPass
+    requires own { IsPassOf mutex.now pass }
+    requires whole { IsWhole (view pass).part × ((view pass).holds ≡ 0) }
+    ensures own { IsPassOf mutex.now result }
+    ensures whole { IsWhole (view result).part × ((view result).holds ≡ 0) }
+{
+    let Ok((one, two)) = pass.split(mutex) else {
+        unreachable!()
+    };
+    let (one, two) = thread::join(
+        rt,
+        || -> MutexPass
+            requires { IsPassOf mutex.now one × ((view one).holds ≡ 0) }
+            ensures { IsPassOf mutex.entry.now result × ((view result).part ≡ (view one).part) × ((view result).holds ≡ 0) }
+        { lock_and_unlock_often(rt, mutex, one) },
+        || -> MutexPass
+            requires { IsPassOf mutex.now two × ((view two).holds ≡ 0) }
+            ensures { IsPassOf mutex.entry.now result × ((view result).part ≡ (view two).part) × ((view result).holds ≡ 0) }
+        { lock_and_unlock_often(rt, mutex, two) },
+    );
+    let Ok(mut pass) = MutexPass::join(one, two, mutex) else {
+        unreachable!()
+    };
+    match Mutex::try_lock(&mut pass, mutex) {
+        WaitResult::Success(hold) => {
+            mutex.unlock(hold, |_| ());
+        }
+        WaitResult::Interrupted => unreachable!(),
+    }
+    pass
+}
+
+#[test]
+fn two_threads_lock_in_turn(rt: HostRuntime) -> Result<(), Fail> {
+    let (mutex, pass) = Mutex::new(rt.alloc())?;
+    lock_in_two_threads(&rt, &mutex, pass);
+    Ok(())
+}
+
+/// Whether `try_lock` is refused now.
+fn is_refused(mutex: &Mutex, pass: &mut MutexPass) -> bool
+    requires { IsPassOf mutex.now pass.old }
+    ensures { IsSamePass pass.old pass.new }
+{
+    match Mutex::try_lock(pass, mutex) {
+        WaitResult::Success(hold) => {
+            mutex.unlock(hold, |_| ());
+            false
+        }
+        WaitResult::Interrupted => true,
+    }
+}
+
+/// Whether `two` is refused while `one` has the hold, and whether it is afterwards.
+fn refused_while_held(
+    mutex: &Mutex,
+    one: &mut MutexPass,
+    two: &mut MutexPass,
+) -> Option<(bool, bool)>
+    requires { IsPassOf mutex.now one.old × IsPassOf mutex.now two.old }
+{
+    match Mutex::try_lock(one, mutex) {
+        WaitResult::Success(hold) => {
+            let held = is_refused(mutex, two);
+            mutex.unlock(hold, |_| ());
+            Some((held, is_refused(mutex, two)))
+        }
+        WaitResult::Interrupted => None,
+    }
+}
+
+#[test]
+fn one_holder_at_a_time(rt: HostRuntime) -> Result<(), Fail> {
+    let (mutex, pass) = Mutex::new(rt.alloc())?;
+    let Ok((mut one, mut two)) = pass.split(&mutex) else {
+        unreachable!()
+    };
+    assert_eq!(rt; refused_while_held(&mutex, &mut one, &mut two), Some((true, false)));
+    Ok(())
+}
+
+/// What a `lock` did whose wait closure answers `Abort` at once: whether it was interrupted, how often it asked, and with what.
+fn lock_and_abort<R: Wait>(rt: &R, mutex: &Mutex, pass: &mut MutexPass) -> (bool, u64, u64)
+    requires { IsPassOf mutex.now pass.old }
+    ensures { IsSamePass pass.old pass.new }
+{
+    let calls = AtomicU64::new(0);
+    let got = AtomicU64::new(0);
+    let locked = Mutex::lock(pass, mutex, rt, |_, seen| {
+        calls.fetch_add(1, Ordering::SeqCst);
+        got.store(*seen, Ordering::SeqCst);
+        WaitAction::Abort
+    });
+    let interrupted = match locked {
+        WaitResult::Success(hold) => {
+            mutex.unlock(hold, |_| ());
+            false
+        }
+        WaitResult::Interrupted => true,
+    };
+    let calls = calls.load(Ordering::SeqCst);
+    (interrupted, calls, got.load(Ordering::SeqCst))
+}
+
+/// The same while `one` has the hold.
+fn abort_while_held<R: Wait>(
+    rt: &R,
+    mutex: &Mutex,
+    one: &mut MutexPass,
+    two: &mut MutexPass,
+) -> Option<(bool, u64, u64)>
+    requires { IsPassOf mutex.now one.old × IsPassOf mutex.now two.old }
+    ensures { IsSamePass one.old one.new × IsSamePass two.old two.new }
+{
+    match Mutex::try_lock(one, mutex) {
+        WaitResult::Success(hold) => {
+            let answers = lock_and_abort(rt, mutex, two);
+            mutex.unlock(hold, |_| ());
+            Some(answers)
+        }
+        WaitResult::Interrupted => None,
+    }
+}
+
+#[test]
+fn a_waiter_aborts(rt: HostRuntime) -> Result<(), Fail> {
+    let (mutex, pass) = Mutex::new(rt.alloc())?;
+    let Ok((mut one, mut two)) = pass.split(&mutex) else {
+        unreachable!()
+    };
+    assert_eq!(rt; abort_while_held(&rt, &mutex, &mut one, &mut two), Some((true, 1, 1)));
+    assert_eq!(rt; lock_and_abort(&rt, &mutex, &mut two), (false, 0, 0));
+    Ok(())
+}
+
+/// How often `unlock` calls its wake closure, and the word that the closure sees.
+fn unlock_counted(mutex: &Mutex, pass: &mut MutexPass) -> Option<(u64, u64)>
+    requires { IsPassOf mutex.now pass.old }
+{
+    let calls = AtomicU64::new(0);
+    let word = AtomicU64::new(9);
+    match Mutex::try_lock(pass, mutex) {
+        WaitResult::Success(hold) => {
+            mutex.unlock(hold, |now| {
+                calls.fetch_add(1, Ordering::SeqCst);
+                word.store(now.load(), Ordering::SeqCst);
+            });
+            Some((calls.load(Ordering::SeqCst), word.load(Ordering::SeqCst)))
+        }
+        WaitResult::Interrupted => None,
+    }
+}
+
+#[test]
+fn unlock_wakes_once_after_its_store(rt: HostRuntime) -> Result<(), Fail> {
+    let (mutex, mut pass) = Mutex::new(rt.alloc())?;
+    assert_eq!(rt; unlock_counted(&mutex, &mut pass), Some((1, 0)));
+    Ok(())
+}
