@@ -4,6 +4,7 @@ ghost use Rattle.iceoryx2_pal_concurrency_sync.specs.MutexShown.{IsPassOf, IsSam
 ghost use Rattle.iceoryx2_pal_concurrency_sync.specs.Parts.{half, IsWhole};
 
 use crate::strategy::mutex::{Mutex, MutexPass};
+use crate::tests::signal::Signal;
 use crate::{WaitAction, WaitResult};
 use std::alloc::Global;
 use std::sync::Wait;
@@ -127,7 +128,10 @@ fn one_holder_at_a_time(rt: HostRuntime) -> Result<(), Fail> {
     let Ok((mut one, mut two)) = pass.split(&mutex) else {
         unreachable!()
     };
-    assert_eq!(rt; refused_while_held(&mutex, &mut one, &mut two), Some((true, false)));
+    assert_eq!(rt;
+        refused_while_held(&mutex, &mut one, &mut two),
+        Some((true, false))
+    );
     Ok(())
 }
 
@@ -180,7 +184,10 @@ fn a_waiter_aborts(rt: HostRuntime) -> Result<(), Fail> {
     let Ok((mut one, mut two)) = pass.split(&mutex) else {
         unreachable!()
     };
-    assert_eq!(rt; abort_while_held(&rt, &mutex, &mut one, &mut two), Some((true, 1, 1)));
+    assert_eq!(rt;
+        abort_while_held(&rt, &mutex, &mut one, &mut two),
+        Some((true, 1, 1))
+    );
     assert_eq!(rt; lock_and_abort(&rt, &mutex, &mut two), (false, 0, 0));
     Ok(())
 }
@@ -207,5 +214,75 @@ fn unlock_counted(mutex: &Mutex, pass: &mut MutexPass) -> Option<(u64, u64)>
 fn unlock_wakes_once_after_its_store(rt: HostRuntime) -> Result<(), Fail> {
     let (mutex, mut pass) = Mutex::new(rt.alloc())?;
     assert_eq!(rt; unlock_counted(&mutex, &mut pass), Some((1, 0)));
+    Ok(())
+}
+
+/// Locks, and unlocks only once the other thread asks for it. Tells of both.
+fn unlock_when_asked(
+    mutex: &Mutex,
+    pass: &mut MutexPass,
+    locked: &Signal,
+    asked: &Signal,
+    unlocked: &Signal,
+) -> bool
+    requires { IsPassOf mutex.now pass.old }
+{
+    match Mutex::try_lock(pass, mutex) {
+        WaitResult::Success(hold) => {
+            locked.give();
+            let was_asked = asked.awaited();
+            mutex.unlock(hold, |_| ());
+            unlocked.give();
+            was_asked
+        }
+        WaitResult::Interrupted => false,
+    }
+}
+
+/// Locks with a closure that asks for the mutex, and answers `Abort` only once it was unlocked.
+fn lock_after_unlock<R: Wait>(
+    rt: &R,
+    mutex: &Mutex,
+    pass: &mut MutexPass,
+    locked: &Signal,
+    asked: &Signal,
+    unlocked: &Signal,
+) -> bool
+    requires { IsPassOf mutex.now pass.old }
+{
+    let was_locked = locked.awaited();
+    let answer = Mutex::lock(pass, mutex, rt, |_, _| {
+        asked.give();
+        if unlocked.awaited() {
+            WaitAction::Abort
+        } else {
+            WaitAction::Continue
+        }
+    });
+    match answer {
+        WaitResult::Success(hold) => {
+            mutex.unlock(hold, |_| ());
+            was_locked
+        }
+        WaitResult::Interrupted => false,
+    }
+}
+
+/// The holder lets go only after the other call has asked its closure, so both calls are under way at once; and that call looks
+/// once more after its closure answered `Abort`.
+#[test]
+fn two_calls_meet_and_success_after_abort(rt: HostRuntime) -> Result<(), Fail> {
+    let (mutex, pass) = Mutex::new(rt.alloc())?;
+    let Ok((mut one, mut two)) = pass.split(&mutex) else {
+        unreachable!()
+    };
+    let (locked, asked, unlocked) = (Signal::new(), Signal::new(), Signal::new());
+    let (was_asked, entered) = thread::join(
+        &rt,
+        || unlock_when_asked(&mutex, &mut one, &locked, &asked, &unlocked),
+        || lock_after_unlock(&rt, &mutex, &mut two, &locked, &asked, &unlocked),
+    );
+    assert!(rt; was_asked);
+    assert!(rt; entered);
     Ok(())
 }

@@ -92,8 +92,14 @@ fn wait_and_abort<R: Wait>(
 #[test]
 fn a_waiter_aborts(rt: HostRuntime) -> Result<(), Fail> {
     let (semaphore, mut pass) = Semaphore::new(rt.alloc(), 1)?;
-    assert_eq!(rt; wait_and_abort(&rt, &semaphore, &mut pass), (WaitResult::Success(()), 0, 9));
-    assert_eq!(rt; wait_and_abort(&rt, &semaphore, &mut pass), (WaitResult::Interrupted, 1, 0));
+    assert_eq!(rt;
+        wait_and_abort(&rt, &semaphore, &mut pass),
+        (WaitResult::Success(()), 0, 9)
+    );
+    assert_eq!(rt;
+        wait_and_abort(&rt, &semaphore, &mut pass),
+        (WaitResult::Interrupted, 1, 0)
+    );
     assert_eq!(rt; semaphore.close(pass), 0);
     Ok(())
 }
