@@ -1,13 +1,14 @@
 -- What contracts see of a mutex, its pass and its hold, and what a call changes in a pass.
-use Rattle.std.specs.Prelude.{◌≡◌, ℕ, ◌≤◌, Bool, None, MatchBool}
+use Rattle.std.specs.Prelude.{◌≡◌, ℕ, ◌≤◌}
 use Rattle.std.specs.Borrow.{GName}
 use Rattle.atomic_table.specs.Seated.{TableId}
 use Rattle.iceoryx2_pal_concurrency_sync.specs.declared.strategy.mutex.MutexView.{MutexView}
 use Rattle.iceoryx2_pal_concurrency_sync.specs.declared.strategy.mutex.MutexPass.{MutexPass}
 use Rattle.iceoryx2_pal_concurrency_sync.specs.declared.strategy.mutex.MutexHold.{MutexHold}
 use Rattle.iceoryx2_pal_concurrency_sync.specs.declared.strategy.mutex.Mutex.{Mutex}
+use Rattle.iceoryx2_pal_concurrency_sync.specs.Parts.{IsWhole}
 use Rattle.iceoryx2_pal_concurrency_sync.specs.Sights.{HasLooked}
-use Rattle.iceoryx2_pal_concurrency_sync.specs.MutexRule.{granted, refused}
+use Rattle.iceoryx2_pal_concurrency_sync.specs.MutexRule.{granted, released, refused}
 
 -- which object the pass belongs to
 abbrev pub object_of : MutexPass → TableId
@@ -35,9 +36,21 @@ borrow_of h = h.pass.ghost_name
 abbrev pub IsLocked : ℕ → Type 0
 IsLocked word = word ≡ 1
 
--- one exchange turned the hold on, which was off, or saw the mutex locked
-abbrev pub Tries : Bool → MutexPass → MutexPass → Type 0
-Tries done p q = MatchBool done (((view p).holds ≡ 0) × (view q ≡ granted (view p))) (view q ≡ refused (view p))
+-- the hold, which was off, is on, and nothing else changed
+abbrev pub HasLocked : MutexPass → MutexPass → Type 0
+HasLocked p q = IsSamePass p q × ((view p).holds ≡ 0) × (view q ≡ granted (view p))
+
+-- the mutex was seen locked once, and nothing else changed
+abbrev pub HasSeenLocked : MutexPass → MutexPass → Type 0
+HasSeenLocked p q = IsSamePass p q × (view q ≡ refused (view p))
+
+-- the hold, which was on, is off, and nothing else changed
+abbrev pub HasUnlocked : MutexPass → MutexPass → Type 0
+HasUnlocked p q = IsSamePass p q × ((view p).holds ≡ 1) × (view q ≡ released (view p))
+
+-- the pass is whole, so that no other is left, and its hold is off
+abbrev pub IsAlone : MutexPass → Type 0
+IsAlone p = IsWhole (view p).part × ((view p).holds ≡ 0)
 
 -- the hold was off and is on, and nothing else changed but what was seen on the way
 pub record HasEntered (p q : MutexPass) : Type 0 where

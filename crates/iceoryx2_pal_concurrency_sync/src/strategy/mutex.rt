@@ -67,22 +67,10 @@ impl Play<(), MutexView> for Release {
     ghost then = { Stored };
 }
 
-/// The word of a locked mutex.
-#[inline(always)]
-fn locked() -> u64
-    ensures { result ≡ 1 }
-{
-    match granted(0) {
-        Some(word) => word,
-        None => unreachable!(),
-    }
-}
-
 impl<A: Allocator> Mutex<A> {
-    ghost use Rattle.iceoryx2_pal_concurrency_sync.specs.MutexShown.{IsPassOf, IsSamePass, view, pass_of, borrow_of, Tries, IsLocked, HasEntered, WasRefused};
-    ghost use Rattle.iceoryx2_pal_concurrency_sync.specs.MutexRule.{first_view, granted, released, refused};
-    ghost use Rattle.iceoryx2_pal_concurrency_sync.specs.Parts.{IsWhole};
     ghost use Rattle.iceoryx2_pal_concurrency_sync.specs.Answers.{IfSuccess, IfInterrupted, IsSuccess, RestsIfInterrupted, MayAnswerAbort, HasWoken};
+    ghost use Rattle.iceoryx2_pal_concurrency_sync.specs.MutexRule.{first_view};
+    ghost use Rattle.iceoryx2_pal_concurrency_sync.specs.MutexShown.{IsPassOf, IsAlone, IsLocked, view, pass_of, borrow_of, HasLocked, HasSeenLocked, HasUnlocked, HasEntered, WasRefused};
     ghost use Rattle.iceoryx2_pal_concurrency_sync.specs.contracts.strategy.mutex.MutexPass.{the_row};
     ghost use Rattle.std.specs.Borrow.{sem};
     ghost use Rattle.std.specs.Prelude.{true, false, MatchBool};
@@ -94,24 +82,6 @@ impl<A: Allocator> Mutex<A> {
     {
         let (table, seat) = Table::of_words(alloc, &[0], &())?;
         Ok((Mutex { table }, MutexPass { seat }))
-    }
-
-    /// One exchange of 0 for 1. `Success` with the hold where the mutex was free; `Interrupted` where it was seen locked, and then
-    /// this call changed nothing.
-    #[inline(always)]
-    pub fn try_lock<'p>(pass: &'p mut MutexPass, this: &Self) -> WaitResult<MutexHold<'p>>
-        requires own { IsPassOf this.now pass.old }
-        ensures* refused { sem 𝓛 (RestsIfInterrupted the_row pass.entry borrow_of result (λ n. IsSamePass pass.old n × (view n ≡ refused (view pass.old)))) }
-        ensures same_borrow { IfSuccess result (λ hold. borrow_of hold ≡ pass.entry.ghost_name) }
-        ensures granted { IfSuccess result (λ hold. ((view pass.old).holds ≡ 0) × (view (pass_of hold) ≡ granted (view pass.old))) }
-        ensures same { IfSuccess result (λ hold. IsSamePass pass.old (pass_of hold)) }
-        ensures exact { IsWhole (view pass.old).part → (view pass.old).holds ≡ 0 → IsSuccess result }
-    {
-        if this.exchange(pass) {
-            WaitResult::Success(MutexHold { pass })
-        } else {
-            WaitResult::Interrupted
-        }
     }
 
     /// Locks the mutex: one exchange of 0 for 1, up to 10000 more, and then the wait closure before each further one. `Interrupted`
@@ -128,7 +98,7 @@ impl<A: Allocator> Mutex<A> {
         ensures* refused { sem 𝓛 (RestsIfInterrupted the_row pass.entry borrow_of result (WasRefused 10002 pass.old)) }
         ensures same_borrow { IfSuccess result (λ hold. borrow_of hold ≡ pass.entry.ghost_name) }
         ensures granted { IfSuccess result (λ hold. HasEntered pass.old (pass_of hold)) }
-        ensures exact { IsWhole (view pass.old).part → (view pass.old).holds ≡ 0 → IsSuccess result }
+        ensures exact { IsAlone pass.old → IsSuccess result }
         ensures aborted { IfInterrupted result (MayAnswerAbort W.Fn wait IsLocked) }
     {
         if this.spin(pass) || this.ask(rt, pass, &wait) {
@@ -148,8 +118,7 @@ impl<A: Allocator> Mutex<A> {
         requires own { IsPassOf self.now (pass_of hold) }
         requires may { W.IsAlwaysCallable wake_one }
         ensures same_borrow { result.ghost_name ≡ borrow_of hold.entry }
-        ensures same { IsSamePass (pass_of hold.entry) result.now }
-        ensures off { view result.now ≡ released (view (pass_of hold.entry)) }
+        ensures released { HasUnlocked (pass_of hold.entry) result.now }
         ensures woke { HasWoken W.Fn wake_one }
     {
         let MutexHold { pass } = hold;
@@ -158,25 +127,30 @@ impl<A: Allocator> Mutex<A> {
         pass
     }
 
-    /// A store of 0, by the pass that has the hold.
+    /// One exchange of 0 for 1. `Success` where the mutex was free; `Interrupted` where it was seen locked, and then this call holds
+    /// nothing.
     #[inline(always)]
-    fn release(&self, pass: &mut MutexPass)
-        requires own { IsPassOf self.now pass.old }
-        requires on { (view pass.old).holds ≡ 1 }
-        ensures same { IsSamePass pass.old pass.new }
-        ensures off { view pass.new ≡ released (view pass.old) }
+    pub fn try_lock<'p>(pass: &'p mut MutexPass, this: &Self) -> WaitResult<MutexHold<'p>>
+        requires own { IsPassOf this.now pass.old }
+        ensures* refused { sem 𝓛 (RestsIfInterrupted the_row pass.entry borrow_of result (HasSeenLocked pass.old)) }
+        ensures same_borrow { IfSuccess result (λ hold. borrow_of hold ≡ pass.entry.ghost_name) }
+        ensures granted { IfSuccess result (λ hold. HasLocked pass.old (pass_of hold)) }
+        ensures exact { IsAlone pass.old → IsSuccess result }
     {
-        let shared = &self.table.shared;
-        shared.store::<Release>(&mut pass.seat, 0, 0);
+        if this.exchange(pass) {
+            WaitResult::Success(MutexHold { pass })
+        } else {
+            WaitResult::Interrupted
+        }
     }
 
     /// One exchange of 0 for 1, and whether it was done.
+    #[tactic(auto, using(crate::proofs::MutexKeeps::exchanges))]
     #[inline(always)]
     fn exchange(&self, pass: &mut MutexPass) -> bool
         requires own { IsPassOf self.now pass.old }
-        ensures same { IsSamePass pass.old pass.new }
-        ensures tries { Tries result pass.old pass.new }
-        ensures exact { IsWhole (view pass.old).part → (view pass.old).holds ≡ 0 → result ≡ true }
+        ensures locked { MatchBool result (HasLocked pass.old pass.new) (HasSeenLocked pass.old pass.new) }
+        ensures exact { IsAlone pass.old → result ≡ true }
     {
         let shared = &self.table.shared;
         shared.compare_exchange::<Exchange>(&mut pass.seat, 0, 0, locked()) == 0
@@ -185,9 +159,8 @@ impl<A: Allocator> Mutex<A> {
     /// One exchange, and as many more as a call makes by itself, until one is done.
     fn spin(&self, pass: &mut MutexPass) -> bool
         requires own { IsPassOf self.now pass.old }
-        ensures same { IsSamePass pass.old pass.new }
-        ensures tries { MatchBool result (HasEntered pass.old pass.new) (WasRefused 10001 pass.old pass.new) }
-        ensures exact { IsWhole (view pass.old).part → (view pass.old).holds ≡ 0 → result ≡ true }
+        ensures locked { MatchBool result (HasEntered pass.old pass.new) (WasRefused 10001 pass.old pass.new) }
+        ensures exact { IsAlone pass.old → result ≡ true }
     {
         if self.exchange(pass) {
             return true;
@@ -209,8 +182,7 @@ impl<A: Allocator> Mutex<A> {
     ) -> bool
         requires own { IsPassOf self.now pass.old }
         requires may { W.IsAlwaysCallable wait.now }
-        ensures same { IsSamePass pass.old pass.new }
-        ensures tries { MatchBool result (HasEntered pass.old pass.new) (WasRefused 1 pass.old pass.new) }
+        ensures locked { MatchBool result (HasEntered pass.old pass.new) (WasRefused 1 pass.old pass.new) }
         ensures aborted { result ≡ false → MayAnswerAbort W.Fn wait.now IsLocked }
     {
         for _ in rt.forever() {
@@ -225,6 +197,18 @@ impl<A: Allocator> Mutex<A> {
         unreachable!()
     }
 
+    /// A store of 0, by the pass that has the hold.
+    #[tactic(auto, using(crate::proofs::MutexKeeps::releases))]
+    #[inline(always)]
+    fn release(&self, pass: &mut MutexPass)
+        requires own { IsPassOf self.now pass.old }
+        requires on { (view pass.old).holds ≡ 1 }
+        ensures released { HasUnlocked pass.old pass.new }
+    {
+        let shared = &self.table.shared;
+        shared.store::<Release>(&mut pass.seat, 0, 0);
+    }
+
     /// The mutex's word, as closures see it.
     #[inline(always)]
     fn word(&self) -> WaitWord<'_> {
@@ -234,6 +218,17 @@ impl<A: Allocator> Mutex<A> {
                 index: 0,
             }),
         }
+    }
+}
+
+/// The word of a locked mutex.
+#[inline(always)]
+fn locked() -> u64
+    ensures { result ≡ 1 }
+{
+    match granted(0) {
+        Some(word) => word,
+        None => unreachable!(),
     }
 }
 

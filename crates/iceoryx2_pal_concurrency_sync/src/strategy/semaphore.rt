@@ -90,6 +90,7 @@ impl<A: Allocator> Semaphore<A> {
     }
 
     /// How many permits are there to take.
+    #[tactic(auto, using(crate::proofs::SemaphoreKeeps::loads))]
     #[inline(always)]
     pub fn value(&self, pass: &mut SemPass) -> u64
         requires own { IsPassOf self.now pass.old }
@@ -168,6 +169,7 @@ impl<A: Allocator> Semaphore<A> {
     }
 
     /// An exchange of the value seen for one less, and the value that it found.
+    #[tactic(auto, using(crate::proofs::SemaphoreKeeps::exchanges))]
     #[inline(always)]
     fn exchange(&self, pass: &mut SemPass, seen: u64, rest: u64) -> u64
         requires own { IsPassOf self.now pass.old }
@@ -182,6 +184,7 @@ impl<A: Allocator> Semaphore<A> {
     }
 
     /// An add of so many permits.
+    #[tactic(auto, using(crate::proofs::SemaphoreKeeps::adds))]
     #[inline(always)]
     fn add(&self, pass: &mut SemPass, value: u64)
         requires own { IsPassOf self.now pass.old }
