@@ -22,6 +22,10 @@ module _ {H : Type 0} where
   IsSuccess (Success h) = Unit {0}
   IsSuccess Interrupted = ⊥
 
+  abbrev pub IsInterrupted : WaitResult H → Type 0
+  IsInterrupted (Success h) = ⊥
+  IsInterrupted Interrupted = Unit {0}
+
   abbrev pub borrow_if_success : (H → GName) → WaitResult H → maybe.Option GName
   borrow_if_success borrow (Success h) = maybe.some (borrow h)
   borrow_if_success borrow Interrupted = maybe.none

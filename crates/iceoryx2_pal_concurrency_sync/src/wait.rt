@@ -1,6 +1,6 @@
 //! How a call that may wait answers, and the word that its closures see.
-ghost use Rattle.std.specs.Prelude.{◌≡◌, ◌<◌, true};
-ghost use Rattle.iceoryx2_pal_concurrency_sync.specs.Answers.{MayAnswerAbort, HasWoken};
+ghost use Rattle.std.specs.Prelude.{◌≡◌, ◌<◌, true, MatchBool};
+ghost use Rattle.iceoryx2_pal_concurrency_sync.specs.Answers.{IsSuccess, IsInterrupted, MayAnswerAbort, HasWoken};
 
 use crate::WaitAction;
 use crate::strategy::mutex::{MutexRule, MutexView};
@@ -14,6 +14,18 @@ pub enum WaitResult<H> {
     Success(H),
     /// It gave up, and has changed nothing.
     Interrupted,
+}
+
+/// The answer of a call that comes for no hold.
+#[inline(always)]
+pub(crate) fn success_if(done: bool) -> WaitResult<()>
+    ensures { MatchBool done (IsSuccess result) (IsInterrupted result) }
+{
+    if done {
+        WaitResult::Success(())
+    } else {
+        WaitResult::Interrupted
+    }
 }
 
 /// A word of an object, as wait and wake closures see it. It can be loaded, and no more.

@@ -2,7 +2,7 @@
 ghost use Rattle.std.specs.Prelude.{◌≡◌, ◌<◌, [], IfOk};
 
 use crate::part::{Part, Sights};
-use crate::wait::{AnyWord, WaitResult, WaitWord, Word, may_give_up, wake};
+use crate::wait::{AnyWord, WaitResult, WaitWord, Word, may_give_up, success_if, wake};
 use crate::{SPIN_REPETITIONS, WaitAction};
 use atomic_table::{Join, Play, Seat, Split, Table, TableRule};
 use std::alloc::{AllocError, Allocator, Global};
@@ -130,11 +130,7 @@ impl<A: Allocator> Semaphore<A> {
         ensures exact { IsWhole (view pass.old).part → 0 < value_of (view pass.old) → IsSuccess result }
         ensures aborted { IfInterrupted result (MayAnswerAbort W.Fn wait IsEmpty) }
     {
-        if self.spin(rt, pass) || self.ask(rt, pass, &wait) {
-            WaitResult::Success(())
-        } else {
-            WaitResult::Interrupted
-        }
+        success_if(self.spin(rt, pass) || self.ask(rt, pass, &wait))
     }
 
     /// Takes a permit where there is one, and tries again where another party's write came between its look and its exchange.
@@ -147,11 +143,7 @@ impl<A: Allocator> Semaphore<A> {
         ensures some { IsWhole (view pass.old).part → 0 < value_of (view pass.old) → IsSuccess result }
         ensures none { IsWhole (view pass.old).part → IfSuccess result (λ _. 0 < value_of (view pass.old)) }
     {
-        if self.take(rt, pass) {
-            WaitResult::Success(())
-        } else {
-            WaitResult::Interrupted
-        }
+        success_if(self.take(rt, pass))
     }
 
     /// Ends the semaphore, and answers its value. With the whole pass that is the initial value and all that was posted, less what
