@@ -101,7 +101,7 @@ impl<A: Allocator> Mutex<A> {
         ensures exact { IsAlone pass.old → IsSuccess result }
         ensures aborted { IfInterrupted result (MayAnswerAbort W.Fn wait IsLocked) }
     {
-        if this.spin(pass) || this.ask(rt, pass, &wait) {
+        if this.exchange(pass) || this.spin(pass) || this.ask(rt, pass, &wait) {
             WaitResult::Success(MutexHold { pass })
         } else {
             WaitResult::Interrupted
@@ -156,15 +156,11 @@ impl<A: Allocator> Mutex<A> {
         shared.compare_exchange::<Exchange>(&mut pass.seat, 0, 0, locked()) == 0
     }
 
-    /// One exchange, and as many more as a call makes by itself, until one is done.
+    /// Further exchanges, as many as a call makes by itself, until one is done.
     fn spin(&self, pass: &mut MutexPass) -> bool
         requires own { IsPassOf self.now pass.old }
-        ensures locked { MatchBool result (HasEntered pass.old pass.new) (WasRefused 10001 pass.old pass.new) }
-        ensures exact { IsAlone pass.old → result ≡ true }
+        ensures locked { MatchBool result (HasEntered pass.old pass.new) (WasRefused 10000 pass.old pass.new) }
     {
-        if self.exchange(pass) {
-            return true;
-        }
         for _ in 0..SPIN_REPETITIONS {
             if self.exchange(pass) {
                 return true;

@@ -130,7 +130,7 @@ impl<A: Allocator> Semaphore<A> {
         ensures exact { IsWhole (view pass.old).part → 0 < value_of (view pass.old) → IsSuccess result }
         ensures aborted { IfInterrupted result (MayAnswerAbort W.Fn wait IsEmpty) }
     {
-        success_if(self.spin(rt, pass) || self.ask(rt, pass, &wait))
+        success_if(self.take(rt, pass) || self.spin(rt, pass) || self.ask(rt, pass, &wait))
     }
 
     /// Takes a permit where there is one, and tries again where another party's write came between its look and its exchange.
@@ -208,15 +208,11 @@ impl<A: Allocator> Semaphore<A> {
         unreachable!()
     }
 
-    /// Takes a permit, or finds none as often as a call looks by itself.
+    /// Looks again, as often as a call does by itself, until a permit is taken.
     fn spin<R: Wait>(&self, rt: &R, pass: &mut SemPass) -> bool
         requires own { IsPassOf self.now pass.old }
-        ensures takes { MatchBool result (HasTaken pass.old pass.new) (WasRefused 10001 pass.old pass.new) }
-        ensures exact { IsWhole (view pass.old).part → 0 < value_of (view pass.old) → result ≡ true }
+        ensures takes { MatchBool result (HasTaken pass.old pass.new) (WasRefused 10000 pass.old pass.new) }
     {
-        if self.take(rt, pass) {
-            return true;
-        }
         for _ in 0..SPIN_REPETITIONS {
             if self.take(rt, pass) {
                 return true;
