@@ -1,0 +1,8 @@
+-- What the table calls each line.
+use Rattle.std.specs.Prelude.{ℕ, List, codes}
+use Rattle.sync_bench.specs.declared.lines.Line.{Line}
+use Rattle.sync_bench.specs.declared.lines.Line.TheVariants as lines
+
+abbrev pub name_of : Line → List ℕ
+name_of lines.BareExchangeStore = codes "bare exchange store"
+name_of lines.StdMutexLockUnlock = codes "std mutex lock unlock"

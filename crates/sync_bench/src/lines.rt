@@ -1,0 +1,61 @@
+//! The lines of the table. A file of this folder has those of one primitive.
+//!
+//! A new line is a function there, which makes its objects and hands its operation to `successes`; and here a variant,
+//! its place in `LINES`, its name and its call.
+ghost use Rattle.std.specs.Prelude.{◌≡◌, ◌≤◌};
+
+mod yardsticks;
+
+use std::sync::Wait;
+
+/// How many operations of a line a round makes.
+pub const OPERATIONS: u32 = 100_000;
+
+/// What is measured.
+#[derive(Clone, Copy, Debug)]
+pub enum Line {
+    BareExchangeStore,
+    StdMutexLockUnlock,
+}
+
+/// Every line, in the order of the table.
+pub const LINES: [Line; 2] = [Line::BareExchangeStore, Line::StdMutexLockUnlock];
+
+impl Line {
+    ghost use Rattle.sync_bench.specs.Lines.{name_of};
+
+    /// What the table calls it.
+    pub fn name(self) -> &'static str
+        ensures { result.now ≡ name_of self }
+    {
+        match self {
+            Line::BareExchangeStore => "bare exchange store",
+            Line::StdMutexLockUnlock => "std mutex lock unlock",
+        }
+    }
+
+    /// Makes its operations once over, and counts those that succeeded: with one thread these are all. What an operation
+    /// does has no contract here.
+    pub fn run(self, rt: &impl Wait) -> u32 {
+        match self {
+            Line::BareExchangeStore => yardsticks::bare_exchange_store(),
+            Line::StdMutexLockUnlock => yardsticks::std_mutex_lock_unlock(rt),
+        }
+    }
+}
+
+/// The measured loop. It is built once for each operation, which goes inside it; and since it is a function of its own,
+/// it cannot be known there that nobody else uses the operation's objects.
+#[inline(never)]
+fn successes<F: Fn() -> bool>(operation: F) -> u32
+    requires { F.IsAlwaysCallable operation }
+    ensures { result ≤ OPERATIONS }
+{
+    let mut count = 0;
+    for _ in 0..OPERATIONS {
+        if operation() {
+            count += 1;
+        }
+    }
+    count
+}
