@@ -1,6 +1,6 @@
-use Rattle.std.proofs.Common.{sym, ◌∙◌, ap, arith}
+use Rattle.std.proofs.Common.{arith}
 use Rattle.sync_bench.specs.Columns.{shape, one_more}
-use Rattle.sync_bench.proofs.Passes.{passed_step, passed_end}
+use Rattle.sync_bench.proofs.Passes.{passed_step}
 use Rattle.sync_bench.proofs.measure.one_round.Goals as goal
 
 pub loop-column-preserved : goal.loop-column-preserved

@@ -1,10 +1,10 @@
-use Rattle.std.proofs.Common.{◌≡◌, ◌++◌, ◌∷◌, [], sym, ◌∙◌, ap, take, arith}
+use Rattle.std.proofs.Common.{◌++◌, sym, ◌∙◌, ap, take, arith}
 use Rattle.std.specs.Prelude.{string_bytes}
-use Rattle.std.proofs.lemmas.List.{take_more_set, flat_map_more, map-id}
+use Rattle.std.proofs.lemmas.List.{take_more_set, flat_map_more}
 use Rattle.std.proofs.lemmas.List.Elements.{All-push, All-same}
-use Rattle.sync_bench.specs.Columns.{shape, IsFilled, IsInOrder}
+use Rattle.sync_bench.specs.Columns.{shape, IsInOrder}
 use Rattle.sync_bench.specs.Table.{column_words, columns_words}
-use Rattle.sync_bench.proofs.Passes.{passed_here, passed_step, passed_end}
+use Rattle.sync_bench.proofs.Passes.{passed_here, passed_step}
 use Rattle.sync_bench.proofs.table.print_columns.Goals as goal
 
 pub print_column-requires : goal.print_column-requires
