@@ -1,8 +1,9 @@
 //! The lines of the table. A file of this folder has those of one primitive.
 //!
 //! A new line is a function there, which makes its objects and hands its operation to `successes`; and here a variant,
-//! its place in `LINES`, its name and its call.
-ghost use Rattle.std.specs.Prelude.{◌≡◌, ◌≤◌};
+//! its place in `LINES`, its name and its call. The name is said once more in `specs/Lines.antt` and in the tests.
+ghost use Rattle.std.specs.Prelude.{◌≡◌};
+ghost use Rattle.sync_bench.specs.Lines.{HasCounted};
 
 mod yardsticks;
 
@@ -34,8 +35,8 @@ impl Line {
         }
     }
 
-    /// Makes its operations once over, and counts those that succeeded: with one thread these are all. What an operation
-    /// does has no contract here.
+    /// Makes `OPERATIONS` operations, and counts those that succeeded: in one thread these are all. What the operations do,
+    /// and how long they take, has no contract: they are only safe.
     pub fn run(self, rt: &impl Wait) -> u32 {
         match self {
             Line::BareExchangeStore => yardsticks::bare_exchange_store(),
@@ -44,12 +45,14 @@ impl Line {
     }
 }
 
-/// The measured loop. It is built once for each operation, which goes inside it; and since it is a function of its own,
-/// it cannot be known there that nobody else uses the operation's objects.
+/// The measured loop: makes the operation again and again, and counts how often it succeeded.
+///
+/// It is built anew for each operation, which is inlined into it. It is a function of its own, so that the compiler does not
+/// see there that nobody else has the operation's objects.
 #[inline(never)]
 fn successes<F: Fn() -> bool>(operation: F) -> u32
     requires { F.IsAlwaysCallable operation }
-    ensures { result ≤ OPERATIONS }
+    ensures { HasCounted (F.post operation) OPERATIONS result }
 {
     let mut count = 0;
     for _ in 0..OPERATIONS {
