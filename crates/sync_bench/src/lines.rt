@@ -48,7 +48,9 @@ impl Line {
 /// The measured loop: makes the operation again and again, and counts how often it succeeded.
 ///
 /// It is built anew for each operation, which is inlined into it. It is a function of its own, so that the compiler does not
-/// see there that nobody else has the operation's objects.
+/// see there that nobody else has the objects that the operation borrows. An object that the operation makes itself may be
+/// optimised away, unless a function with `#[inline(never)]` borrows it and its answer is used: the library's `black_box`
+/// hides nothing.
 #[inline(never)]
 fn successes<F: Fn() -> bool>(operation: F) -> u32
     requires { F.IsAlwaysCallable operation }
