@@ -1,3 +1,3 @@
-pub mod Counts
 pub mod Digits
 pub mod Passes
+pub mod Filled

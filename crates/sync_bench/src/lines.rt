@@ -1,12 +1,14 @@
 //! The lines of the table. A file of this folder has those of one primitive.
 //!
-//! A new line is a function there, which makes its objects and hands its operation to `successes`; and here a variant,
+//! A new line is an `Operation` there, which has its objects, and a function that hands it to `successes`; and here a variant,
 //! its place in `LINES`, its name and its call. The name is said once more in `specs/Lines.antt` and in the tests.
-ghost use Rattle.std.specs.Prelude.{◌≡◌};
-ghost use Rattle.sync_bench.specs.Lines.{HasCounted};
+ghost use Rattle.std.specs.Prelude.{◌≡◌, ◌≤◌};
 
+mod mutex;
+mod semaphore;
 mod yardsticks;
 
+use std::alloc::{AllocError, Global};
 use std::sync::Wait;
 
 /// How many operations of a line a round makes.
@@ -17,10 +19,23 @@ pub const OPERATIONS: u32 = 100_000;
 pub enum Line {
     BareExchangeStore,
     StdMutexLockUnlock,
+    MutexLockUnlock,
+    MutexTryLockUnlock,
+    MutexNewDrop,
+    SemaphoreTryWaitPost,
+    SemaphoreValue,
 }
 
 /// Every line, in the order of the table.
-pub const LINES: [Line; 2] = [Line::BareExchangeStore, Line::StdMutexLockUnlock];
+pub const LINES: [Line; 7] = [
+    Line::BareExchangeStore,
+    Line::StdMutexLockUnlock,
+    Line::MutexLockUnlock,
+    Line::MutexTryLockUnlock,
+    Line::MutexNewDrop,
+    Line::SemaphoreTryWaitPost,
+    Line::SemaphoreValue,
+];
 
 impl Line {
     ghost use Rattle.sync_bench.specs.Lines.{name_of};
@@ -32,33 +47,47 @@ impl Line {
         match self {
             Line::BareExchangeStore => "bare exchange store",
             Line::StdMutexLockUnlock => "std mutex lock unlock",
+            Line::MutexLockUnlock => "mutex lock unlock",
+            Line::MutexTryLockUnlock => "mutex try_lock unlock",
+            Line::MutexNewDrop => "mutex new drop",
+            Line::SemaphoreTryWaitPost => "semaphore try_wait post",
+            Line::SemaphoreValue => "semaphore value",
         }
     }
 
     /// Makes `OPERATIONS` operations, and counts those that succeeded: in one thread these are all. What the operations do,
     /// and how long they take, has no contract: they are only safe.
-    pub fn run(self, rt: &impl Wait) -> u32 {
+    pub fn run(self, rt: &impl Wait, alloc: Global) -> Result<u32, AllocError> {
         match self {
-            Line::BareExchangeStore => yardsticks::bare_exchange_store(),
-            Line::StdMutexLockUnlock => yardsticks::std_mutex_lock_unlock(rt),
+            Line::BareExchangeStore => Ok(yardsticks::bare_exchange_store()),
+            Line::StdMutexLockUnlock => Ok(yardsticks::std_mutex_lock_unlock(rt)),
+            Line::MutexLockUnlock => mutex::lock_unlock(rt, alloc),
+            Line::MutexTryLockUnlock => mutex::try_lock_unlock(alloc),
+            Line::MutexNewDrop => Ok(mutex::new_drop(alloc)),
+            Line::SemaphoreTryWaitPost => semaphore::try_wait_post(rt, alloc),
+            Line::SemaphoreValue => semaphore::value(alloc),
         }
     }
+}
+
+/// One operation that is measured, with the objects that it works on.
+trait Operation {
+    /// Makes it once, and tells whether it succeeded.
+    fn once(&mut self) -> bool;
 }
 
 /// The measured loop: makes the operation again and again, and counts how often it succeeded.
 ///
 /// It is built anew for each operation, which is inlined into it. It is a function of its own, so that the compiler does not
-/// see there that nobody else has the objects that the operation borrows. An object that the operation makes itself may be
-/// optimised away, unless a function with `#[inline(never)]` borrows it and its answer is used: the library's `black_box`
-/// hides nothing.
+/// see there that nobody else has the operation's objects. An object that the operation makes itself may be optimised away,
+/// unless a function with `#[inline(never)]` borrows it and its answer is used: the library's `black_box` hides nothing.
 #[inline(never)]
-fn successes<F: Fn() -> bool>(operation: F) -> u32
-    requires { F.IsAlwaysCallable operation }
-    ensures { HasCounted (F.post operation) OPERATIONS result }
+fn successes<O: Operation>(operation: &mut O) -> u32
+    ensures { result ≤ OPERATIONS }
 {
     let mut count = 0;
     for _ in 0..OPERATIONS {
-        if operation() {
+        if operation.once() {
             count += 1;
         }
     }

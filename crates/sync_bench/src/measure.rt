@@ -26,11 +26,11 @@ fn hundredths(spent: Duration) -> u64
 }
 
 /// Runs a line once, and tells its figure. Nothing is promised of how long a run takes.
-fn figure(rt: &(impl Clock + Wait), line: Line) -> Result<u64, BenchFault>
+fn figure(rt: &(impl Clock + Wait), alloc: Global, line: Line) -> Result<u64, BenchFault>
     ensures { IfErr result EndsMeasuring }
 {
     let start = Instant::now(rt).map_err(|_| BenchFault::Clock)?;
-    let successes = line.run(rt);
+    let successes = line.run(rt, alloc)?;
     let spent = start.elapsed(rt).map_err(|_| BenchFault::Clock)?;
     if successes != OPERATIONS {
         return Err(BenchFault::Refused);
@@ -51,22 +51,30 @@ fn empty_columns(alloc: Global, rounds: usize) -> Result<Vec<Column>, AllocError
 }
 
 /// Runs the line of a column once, and adds its figure.
-fn add_figure(rt: &(impl Clock + Wait), column: &mut Column) -> Result<(), BenchFault>
+fn add_figure(
+    rt: &(impl Clock + Wait),
+    alloc: Global,
+    column: &mut Column,
+) -> Result<(), BenchFault>
     ensures ok { OnOk result (shape column.new ≡ one_more (shape column.old)) }
     ensures err { IfErr result EndsMeasuring }
 {
-    let figure = figure(rt, column.line)?;
+    let figure = figure(rt, alloc, column.line)?;
     column.figures.push(figure)?;
     Ok(())
 }
 
 /// Runs each line once, in turn, so that what disturbs the machine for a while falls on all lines alike.
-fn one_round(rt: &(impl Clock + Wait), columns: &mut [Column]) -> Result<(), BenchFault>
+fn one_round(
+    rt: &(impl Clock + Wait),
+    alloc: Global,
+    columns: &mut [Column],
+) -> Result<(), BenchFault>
     ensures ok { OnOk result (shapes columns.new ≡ map one_more (shapes columns.old)) }
     ensures err { IfErr result EndsMeasuring }
 {
     for column in columns.iter_mut() {
-        add_figure(rt, column)?;
+        add_figure(rt, alloc, column)?;
     }
     Ok(())
 }
@@ -82,7 +90,7 @@ pub fn measured(
 {
     let mut columns = empty_columns(alloc, rounds as usize)?;
     for _ in 0..rounds {
-        one_round(rt, &mut columns)?;
+        one_round(rt, alloc, &mut columns)?;
     }
     Ok(columns)
 }

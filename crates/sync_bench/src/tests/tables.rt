@@ -6,7 +6,15 @@ use std::test::Fail;
 use std::time::{Clock, Duration};
 
 /// The names of the lines, in the order of the table.
-const NAMES: [&str; 2] = ["bare exchange store", "std mutex lock unlock"];
+const NAMES: [&str; 7] = [
+    "bare exchange store",
+    "std mutex lock unlock",
+    "mutex lock unlock",
+    "mutex try_lock unlock",
+    "mutex new drop",
+    "semaphore try_wait post",
+    "semaphore value",
+];
 
 const HEAD: &str = "name\tmedian\tlower tenth\tupper tenth\n";
 
