@@ -6,6 +6,7 @@ use crate::wait::{AnyWord, WaitResult, WaitWord, Word, may_give_up, wake};
 use crate::{SPIN_REPETITIONS, WaitAction};
 use atomic_table::{Join, Play, Seat, Split, Table, TableRule};
 use std::alloc::{AllocError, Allocator, Global};
+use std::hint::spin_loop;
 use std::sync::Wait;
 use sync_steps::steps::mutex::granted;
 
@@ -162,6 +163,7 @@ impl<A: Allocator> Mutex<A> {
         ensures locked { MatchBool result (HasEntered pass.old pass.new) (WasRefused 10000 pass.old pass.new) }
     {
         for _ in 0..SPIN_REPETITIONS {
+            spin_loop();
             if self.exchange(pass) {
                 return true;
             }

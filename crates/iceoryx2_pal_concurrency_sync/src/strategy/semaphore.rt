@@ -6,6 +6,7 @@ use crate::wait::{AnyWord, WaitResult, WaitWord, Word, may_give_up, success_if, 
 use crate::{SPIN_REPETITIONS, WaitAction};
 use atomic_table::{Join, Play, Seat, Split, Table, TableRule};
 use std::alloc::{AllocError, Allocator, Global};
+use std::hint::spin_loop;
 use std::sync::Wait;
 use sync_steps::steps::semaphore::taken;
 
@@ -214,6 +215,7 @@ impl<A: Allocator> Semaphore<A> {
         ensures takes { MatchBool result (HasTaken pass.old pass.new) (WasRefused 10000 pass.old pass.new) }
     {
         for _ in 0..SPIN_REPETITIONS {
+            spin_loop();
             if self.take(rt, pass) {
                 return true;
             }
