@@ -1,16 +1,14 @@
 -- Each step of a mutex keeps its rule.
-use Rattle.std.proofs.Common.{◌≡◌, ℕ, ◌+◌, ◌<◌, ◌≤◌, eqb, List, [], ◌∷◌, ◌++◌, get_or, set, sym, refl, ap, ◌∙◌, subst, arith, length-set, get_or-set_same}
+use Rattle.std.proofs.Common.{◌≡◌, ℕ, ◌+◌, ◌<◌, ◌≤◌, eqb, List, [], ◌∷◌, get_or, set, sym, refl, ◌∙◌, subst, arith, length-set, get_or-set_same}
 use mathlib.Core.Logic.{dite}
 use mathlib.Core.Option.{none, some}
 use native.Mathlib.Decide.{ℕ_discrete}
 use lib.ListN.{get_elem?}
 use prog.Atomic.{either}
 use Rattle.atomic_table.specs.Table.{State, Me, step, opening, keeps, stepped, Allows, Splits, Joins}
-use Rattle.atomic_table.proofs.Lists.{set_again, exchanged}
+use Rattle.atomic_table.proofs.Lists.{exchanged}
 use Rattle.iceoryx2_pal_concurrency_sync.specs.declared.strategy.mutex.MutexView.{MutexView}
-use Rattle.iceoryx2_pal_concurrency_sync.specs.Parts.{part, half, together, IsWhole, total, Shared}
-use Rattle.iceoryx2_pal_concurrency_sync.specs.Sights.{known, seen_by_both}
-use Rattle.iceoryx2_pal_concurrency_sync.specs.MutexRule.{mutex_view, first_view, spent_view, part_of, holds_of, IsIdle, Held, granted, released, refused, left_view, right_view, joined_view, Exchanged, Stored}
+use Rattle.iceoryx2_pal_concurrency_sync.specs.MutexRule.{first_view, spent_view, holds_of, Held, granted, released, refused, left_view, right_view, joined_view, Exchanged, Stored}
 use Rattle.iceoryx2_pal_concurrency_sync.proofs.Sums.{total_set, total_snoc, within_total, shared_first, shared_step, shared_split, shared_join, alone}
 
 abbrev Views : Type 0

@@ -9,8 +9,8 @@ use Rattle.atomic_table.specs.Table.{State, Me, step, opening, keeps, stepped, A
 use Rattle.atomic_table.proofs.Lists.{exchanged}
 use Rattle.iceoryx2_pal_concurrency_sync.specs.declared.strategy.semaphore.SemView.{SemView}
 use Rattle.iceoryx2_pal_concurrency_sync.specs.Parts.{IsWhole, total}
-use Rattle.iceoryx2_pal_concurrency_sync.specs.SemaphoreRule.{first_view, spent_view, part_of, given_of, taken_of, IsIdle, Permits, value_of, looked, missed, took, gave, left_view, right_view, joined_view, Loaded, Exchanged, Added}
-use Rattle.iceoryx2_pal_concurrency_sync.proofs.Sums.{total_set, total_snoc, within_total, shared_first, shared_step, shared_split, shared_join, alone}
+use Rattle.iceoryx2_pal_concurrency_sync.specs.SemaphoreRule.{first_view, spent_view, given_of, taken_of, Permits, value_of, looked, missed, took, gave, left_view, right_view, joined_view, Loaded, Exchanged, Added}
+use Rattle.iceoryx2_pal_concurrency_sync.proofs.Sums.{total_set, total_snoc, shared_first, shared_step, shared_split, shared_join, alone}
 
 abbrev MeOf : Type 0
 MeOf = Me (Unit {0}) SemView

@@ -1,5 +1,5 @@
 -- The rule of a mutex: its word is the number of holds, of which there is one at most.
-use Rattle.std.specs.Prelude.{◌≡◌, ◌≢◌, ℕ, ◌+◌, ◌≤◌, List, length, slice_index}
+use Rattle.std.specs.Prelude.{◌≡◌, ◌≢◌, ℕ, ◌+◌, ◌≤◌, length, slice_index}
 use Rattle.atomic_table.specs.Table.{State, Me, Step}
 use Rattle.iceoryx2_pal_concurrency_sync.specs.declared.part.Part.{Part}
 use Rattle.iceoryx2_pal_concurrency_sync.specs.declared.part.Sights.{Sights}

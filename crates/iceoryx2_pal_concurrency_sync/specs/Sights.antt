@@ -1,5 +1,5 @@
 -- What the calls with a pass saw of the word that decides them.
-use Rattle.std.specs.Prelude.{◌≡◌, ℕ, ◌+◌, ◌≤◌, Bool, true, false, ◌==◌, if◌then◌else◌}
+use Rattle.std.specs.Prelude.{ℕ, ◌+◌, ◌≤◌, Bool, false, ◌==◌, if◌then◌else◌}
 use Rattle.iceoryx2_pal_concurrency_sync.specs.declared.part.Sights.{Sights}
 
 abbrev pub sights : ℕ → ℕ → Bool → Sights

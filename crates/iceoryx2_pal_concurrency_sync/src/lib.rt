@@ -1,4 +1,8 @@
 //! Synchronisation primitives out of single atomic 64-bit words; the caller hands in how to wait and how to wake.
+//!
+//! A port of the Rust crate `iceoryx2-pal-concurrency-sync` 0.10.0, with its names of modules and items. Each object is made together
+//! with a pass, the right to call it, which carries what its owner did and saw there. A call that may wait takes `rt`, the right to
+//! wait, and its promises hold if it returns; every other call returns where its closures do.
 #![tactic(auto)]
 
 pub mod part;

@@ -4,7 +4,7 @@ use Rattle.std.proofs.lemmas.List.Elements.{All-nil, All-cons}
 use Rattle.std.specs.List.{All}
 use Rattle.sync_bench.specs.declared.lines.Line.{Line}
 use Rattle.sync_bench.specs.declared.measure.Column.{Column}
-use Rattle.sync_bench.specs.Columns.{shape, shapes, IsFilled}
+use Rattle.sync_bench.specs.Columns.{shape, IsFilled}
 
 abbrev figures_of : List (Line × ℕ) → ℕ
 figures_of [] = 1

@@ -1,4 +1,7 @@
 //! A lock with one holder at most. Its word is 0 where it is free and 1 where it is locked.
+//!
+//! It does what `strategy::mutex` of the Rust crate does, but that a lock answers a hold, and that only a hold can be unlocked.
+//! Calls that answer a hold take the pass first, since the hold borrows it.
 ghost use Rattle.std.specs.Prelude.{◌≡◌, ◌<◌, ◌≤◌, [], IfOk};
 
 use crate::part::{Part, Sights};
@@ -44,7 +47,8 @@ pub struct MutexPass {
     ghost alive: { 0 < seat.me.0.part.share },
 }
 
-/// The mutex is locked by this pass. A hold must be spent, by `Mutex::unlock` at the mutex that it came from.
+/// The mutex is locked by this pass, which is lent to the hold. A hold must be spent, by `Mutex::unlock` at the mutex that it came
+/// from.
 pub struct MutexHold<'p> {
     pass: &'p mut MutexPass,
     ghost on: { pass.now.seat.me.0.holds ≡ 1 },

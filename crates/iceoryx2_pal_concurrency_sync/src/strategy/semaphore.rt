@@ -1,4 +1,6 @@
 //! A counting semaphore. Its word is the number of permits that are there to take.
+//!
+//! It does what `strategy::semaphore` of the Rust crate does, and `close` gives its value back.
 ghost use Rattle.std.specs.Prelude.{◌≡◌, ◌<◌, [], IfOk};
 
 use crate::part::{Part, Sights};
@@ -90,7 +92,7 @@ impl<A: Allocator> Semaphore<A> {
         Ok((Semaphore { table }, SemPass { seat }))
     }
 
-    /// How many permits are there to take.
+    /// How many permits are there to take. Another party may post or take right after.
     #[tactic(auto, using(crate::proofs::SemaphoreKeeps::loads))]
     #[inline(always)]
     pub fn value(&self, pass: &mut SemPass) -> u64
