@@ -39,7 +39,8 @@ pub struct Mutex<A: Allocator = Global> {
     ghost one_word: { table.shared.table_id.words ≡ 1 },
 }
 
-/// The right to call a mutex, and what its owner did and saw there. It has no bytes, and may go to another thread.
+/// The right to call a mutex, and what its owner did and saw there. It has no bytes, and may go to another thread. A pass that is
+/// dropped takes its part with it, so that no other is ever whole again.
 #[derive(Drop)]
 pub struct MutexPass {
     seat: Seat<(), MutexView>,

@@ -41,7 +41,8 @@ pub struct Semaphore<A: Allocator = Global> {
     ghost no_slot: { table.shared.table_id.slots ≡ 0 },
 }
 
-/// The right to call a semaphore, and what its owner did and saw there. It has no bytes, and may go to another thread.
+/// The right to call a semaphore, and what its owner did and saw there. It has no bytes, and may go to another thread. A pass that
+/// is dropped takes its part with it, so that no other is ever whole again.
 #[derive(Drop)]
 pub struct SemPass {
     seat: Seat<(), SemView>,
