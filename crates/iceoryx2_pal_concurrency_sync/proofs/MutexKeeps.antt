@@ -8,8 +8,8 @@ use prog.Atomic.{either}
 use Rattle.atomic_table.specs.Table.{State, Me, step, opening, keeps, stepped, Allows, Splits, Joins}
 use Rattle.atomic_table.proofs.Lists.{exchanged}
 use Rattle.iceoryx2_pal_concurrency_sync.specs.declared.strategy.mutex.MutexView.{MutexView}
-use Rattle.iceoryx2_pal_concurrency_sync.specs.MutexRule.{first_view, spent_view, holds_of, Held, granted, released, refused, left_view, right_view, joined_view, Exchanged, Stored}
-use Rattle.iceoryx2_pal_concurrency_sync.proofs.Sums.{total_set, total_snoc, within_total, shared_first, shared_step, shared_split, shared_join, alone}
+use Rattle.iceoryx2_pal_concurrency_sync.specs.MutexRule.{first_view, spent_view, holds_of, Held, granted, released, refused, left_view, right_view, joined_view, Exchanged, Stored, OneHolder}
+use Rattle.iceoryx2_pal_concurrency_sync.proofs.Sums.{two_within, total_set, total_snoc, within_total, shared_first, shared_step, shared_split, shared_join, alone}
 
 abbrev Views : Type 0
 Views = List MutexView
@@ -81,3 +81,6 @@ joins id v other w alive s r at apart there = let both : MutexView = joined_view
       one = omega arith;
       shared = shared_join s.views id other v w both spent_view at there refl refl alive (refl, refl) r.shared;
     }
+
+pub one_holder : OneHolder
+one_holder s r i j v w here there on also = dite (ℕ_discrete i j) (λ same. same) (λ apart. let t = two_within holds_of s.views i j v w here there apart in let one = r.one in absurd (omega arith))

@@ -39,6 +39,11 @@ counted : (s : State (Unit {0}) SemView) (r : Permits s) (id : ℕ) (v : SemView
 counted s r id v at whole = let g = alone given_of s.views id v at whole (λ u idle. idle.0) r.shared in let t = alone taken_of s.views id v at whole (λ u idle. idle.1) r.shared in
     r.word ∙ ap (λ (p : ℕ × ℕ). (p.0 - p.1) % 2 ^ 64) (λ i. (g i, t i))
 
+-- and no more was taken than given
+backed : (s : State (Unit {0}) SemView) (r : Permits s) (id : ℕ) (v : SemView) → get_elem? s.views id ≡ some v → IsWhole v.part → v.taken ≤ v.given
+backed s r id v at whole = let g = alone given_of s.views id v at whole (λ u idle. idle.0) r.shared in let t = alone taken_of s.views id v at whole (λ u idle. idle.1) r.shared in
+    let e = r.enough in omega arith
+
 pub opens : (initial : ℕ) → initial < 2 ^ 64 → Permits (opening (initial ∷ []) [] (first_view initial))
 opens initial fits = record { words = refl; enough = omega arith; word = omega arith; shared = shared_first (first_view initial) refl }
 
@@ -48,7 +53,7 @@ loads slots id me alive s r _ at _ = let x : ℕ = get_or s.words 0 0 in (
   keeps,
   tt,
   unmoved s r id me (looked me.0 x) at alive refl refl refl,
-  record { none_out = refl; saw = refl; alone = counted s r id me.0 at },
+  record { none_out = refl; saw = refl; alone = counted s r id me.0 at; enough = backed s r id me.0 at },
 )
 
 pub exchanges : (slots id : ℕ) (me : MeOf) (old new : ℕ) → 0 < old → new ≡ old - 1 → 0 < me.0.part.share
@@ -106,3 +111,7 @@ closes words slots id v n at final whole = first_of words at ∙ subst (λ (ws :
     first_of : (words : List ℕ) → get_elem? words 0 ≡ some n → n ≡ get_or words 0 0
     first_of [] at = absurd (some-ne-none n (sym at))
     first_of (x ∷ xs) at = sym (some-injective x n at)
+
+-- no more was taken than given at the end
+pub closes_backed : (words : List ℕ) (slots : List (Unit {0})) (id : ℕ) (v : SemView) → Final (Seen Permits id v) words slots → IsWhole v.part → v.taken ≤ v.given
+closes_backed words slots id v final whole = backed final.0 final.1.0 id v final.1.1 whole

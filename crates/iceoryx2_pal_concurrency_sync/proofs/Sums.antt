@@ -1,9 +1,10 @@
 -- Sums over the views of all passes, and the parts of the whole under each kind of step.
-use Rattle.std.proofs.Common.{◌≡◌, ℕ, zero, suc, ◌+◌, ◌-◌, ◌*◌, ◌^◌, ◌<◌, ◌≤◌, List, [], ◌∷◌, ◌++◌, set, sym, refl, ap, ◌∙◌, subst, arith, pow-add, pow_pos, mul-pos}
+use Rattle.std.proofs.Common.{◌≡◌, ℕ, zero, suc, ◌+◌, ◌-◌, ◌*◌, ◌^◌, ◌/◌, ◌<◌, ◌≤◌, List, [], ◌∷◌, ◌++◌, set, sym, refl, ap, ◌∙◌, subst, arith, pow-add, pow_pos, mul-pos}
+use Rattle.std.proofs.Math.Nat.{mul-div_cancel_left}
 use mathlib.Core.Option.{some, some-injective, some-ne-none}
 use lib.ListN.{get_elem?}
 use Rattle.iceoryx2_pal_concurrency_sync.specs.declared.part.Part.{Part}
-use Rattle.iceoryx2_pal_concurrency_sync.specs.Parts.{part, nothing, half, together, IsWhole, IsAgain, weight, total, Each, Shared}
+use Rattle.iceoryx2_pal_concurrency_sync.specs.Parts.{part, nothing, half, together, IsWhole, IsAgain, IsSamePart, weight, total, Each, Shared}
 
 module _ {V : Type 0} where
   -- sums
@@ -22,6 +23,14 @@ module _ {V : Type 0} where
   within_total f [] id v at = absurd (some-ne-none v (sym at))
   within_total f (x ∷ xs) zero v at = let is : f x ≡ f v = ap f (some-injective x v at) in omega arith
   within_total f (x ∷ xs) (suc id) v at = let rest = within_total f xs id v at in omega arith
+
+  -- nor are two together
+  pub two_within : (f : V → ℕ) (views : List V) (i j : ℕ) (v w : V) → get_elem? views i ≡ some v → get_elem? views j ≡ some w → ¬ (i ≡ j) → f v + f w ≤ total f views
+  two_within f [] i j v w here there apart = absurd (some-ne-none v (sym here))
+  two_within f (x ∷ xs) zero zero v w here there apart = absurd (apart refl)
+  two_within f (x ∷ xs) zero (suc j) v w here there apart = let is : f x ≡ f v = ap f (some-injective x v here) in let r = within_total f xs j w there in omega arith
+  two_within f (x ∷ xs) (suc i) zero v w here there apart = let is : f x ≡ f w = ap f (some-injective x w there) in let r = within_total f xs i v here in omega arith
+  two_within f (x ∷ xs) (suc i) (suc j) v w here there apart = let r = two_within f xs i j v w here there (λ e. apart (ap suc e)) in omega arith
 
   -- facts of each
 
@@ -93,19 +102,24 @@ weight_nothing p j none = no_product p.share (2 ^ (j - p.depth)) (pow_pos (j - p
 weight_whole : (p : Part) (j : ℕ) → p.depth ≤ j → IsWhole p → weight j p ≡ 2 ^ j
 weight_whole p j deep is = let k : ℕ = j - p.depth in ap (λ (n : ℕ). n * 2 ^ k) is ∙ sym (pow-add 2 p.depth k) ∙ ap (λ (n : ℕ). 2 ^ n) (omega arith)
 
--- joined halves are the whole again
-halves_are_whole : (n d : ℕ) → n ≡ 2 ^ d → n * 2 ^ (d + 1) + n * 2 ^ (d + 1) ≡ 2 ^ ((d + 1) + (d + 1))
-halves_are_whole n d is = let a : n * 2 ^ (d + 1) ≡ 2 ^ d * 2 ^ (d + 1) = ap (λ (m : ℕ). m * 2 ^ (d + 1)) is in let b : 2 ^ d * 2 ^ (d + 1) ≡ 2 ^ (d + (d + 1)) = sym (pow-add 2 d (d + 1)) in
-    let c : 2 ^ ((d + 1) + (d + 1)) ≡ 2 ^ (1 + (d + (d + 1))) = ap (λ (m : ℕ). 2 ^ m) (omega arith) in let e = pow-add 2 1 (d + (d + 1)) in omega arith
+halves_are : (A i B j P d : ℕ) → A * 2 ^ (d + 1) ≡ P * 2 ^ i → B * 2 ^ (d + 1) ≡ P * 2 ^ j → (A * 2 ^ j + B * 2 ^ i) * 2 ^ d ≡ P * 2 ^ (i + j)
+halves_are A i B j P d ha hb =
+    let e1 : A * 2 ^ (d + 1) * 2 ^ j ≡ P * 2 ^ i * 2 ^ j = ap (λ (m : ℕ). m * 2 ^ j) ha in
+    let k1 : A * 2 ^ (d + 1) * 2 ^ j ≡ A * (2 ^ d * 2 ^ 1) * 2 ^ j = ap (λ (m : ℕ). A * m * 2 ^ j) (pow-add 2 d 1) in
+    let e2 : B * 2 ^ (d + 1) * 2 ^ i ≡ P * 2 ^ j * 2 ^ i = ap (λ (m : ℕ). m * 2 ^ i) hb in
+    let k2 : B * 2 ^ (d + 1) * 2 ^ i ≡ B * (2 ^ d * 2 ^ 1) * 2 ^ i = ap (λ (m : ℕ). B * m * 2 ^ i) (pow-add 2 d 1) in
+    let s : P * 2 ^ (i + j) ≡ P * (2 ^ i * 2 ^ j) = ap (λ (m : ℕ). P * m) (pow-add 2 i j) in omega arith
 
-halves_are_same : (n d : ℕ) → (n * 2 ^ (d + 1) + n * 2 ^ (d + 1)) * 2 ^ d ≡ n * 2 ^ ((d + 1) + (d + 1))
-halves_are_same n d = let c : n * 2 ^ ((d + 1) + (d + 1)) ≡ n * 2 ^ (1 + ((d + 1) + d)) = ap (λ (m : ℕ). n * 2 ^ m) (omega arith) in let e = power_of_sum n 1 ((d + 1) + d) in
-    let f : n * (2 ^ 1 * 2 ^ ((d + 1) + d)) ≡ n * (2 ^ 1 * (2 ^ (d + 1) * 2 ^ d)) = ap (λ (m : ℕ). n * (2 ^ 1 * m)) (pow-add 2 (d + 1) d) in omega arith
+cancels : (d q k : ℕ) → 0 < d → d * q ≡ d * k → q ≡ k
+cancels d q k above is = sym (mul-div_cancel_left q above) ∙ ap (λ (m : ℕ). m / d) is ∙ mul-div_cancel_left k above
 
--- joined halves are the part again
-pub halves_again : (a b p : Part) → a ≡ half p → b ≡ half p → IsAgain p (together a b)
-halves_again a b p first second = subst (λ (x : Part). IsAgain p (together x b)) (sym first) (subst (λ (y : Part). IsAgain p (together (half p) y)) (sym second)
-    record { same = halves_are_same p.share p.depth; whole = halves_are_whole p.share p.depth })
+-- joined halves are the part again, also where each is known only up to how much of the whole it is
+pub parts_again : (a b p : Part) → IsSamePart a (half p) → IsSamePart b (half p) → IsAgain p (together a b)
+parts_again a b p first second = let again : IsSamePart (together a b) p = halves_are a.share a.depth b.share b.depth p.share p.depth first second in record {
+  same = again;
+  whole = λ is. let j : ℕ = a.depth + b.depth in let q : ℕ = (together a b).share in
+      let e : p.share * 2 ^ j ≡ 2 ^ p.depth * 2 ^ j = ap (λ (m : ℕ). m * 2 ^ j) is in cancels (2 ^ p.depth) q (2 ^ j) (pow_pos p.depth) (omega (arith, again, e));
+}
 
 -- the parts under each kind of step
 

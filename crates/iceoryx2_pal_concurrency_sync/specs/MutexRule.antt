@@ -1,5 +1,7 @@
 -- The rule of a mutex: its word is the number of holds, of which there is one at most.
 use Rattle.std.specs.Prelude.{◌≡◌, ◌≢◌, ℕ, ◌+◌, ◌≤◌, length, slice_index}
+use mathlib.Core.Option.{some}
+use lib.ListN.{get_elem?}
 use Rattle.atomic_table.specs.Table.{State, Me, Step}
 use Rattle.iceoryx2_pal_concurrency_sync.specs.declared.part.Part.{Part}
 use Rattle.iceoryx2_pal_concurrency_sync.specs.declared.part.Sights.{Sights}
@@ -32,6 +34,10 @@ pub record Held (s : State (Unit {0}) MutexView) : Type 0 where
   pub word : slice_index s.words 0 ≡ total holds_of s.views
   pub one : total holds_of s.views ≤ 1
   pub shared : Shared part_of IsIdle s.views
+
+-- whenever the rule holds, no two passes have a hold
+abbrev pub OneHolder : Type 0
+OneHolder = (s : State (Unit {0}) MutexView) → Held s → (i j : ℕ) (v w : MutexView) → get_elem? s.views i ≡ some v → get_elem? s.views j ≡ some w → v.holds ≡ 1 → w.holds ≡ 1 → i ≡ j
 
 -- the hold was turned on
 abbrev pub granted : MutexView → MutexView

@@ -65,11 +65,12 @@ abbrev pub joined_view : SemView → SemView → SemView
 joined_view v w = sem_view (together v.part w.part) (seen_by_both v.sights w.sights) (v.given + w.given) (v.taken + w.taken)
 
 module _ (step : Step (Unit {0})) (v : Me (Unit {0}) SemView) (found : ℕ) (w : Me (Unit {0}) SemView) where
-  -- A load. Where no other pass is left, it gives what the tally comes to.
+  -- A load. Where no other pass is left, it gives what the tally comes to, and no more was taken than given.
   pub record Loaded : Type 0 where
     pub none_out : w.1 ≡ v.1
     pub saw : w.0 ≡ looked v.0 found
     pub alone : IsWhole v.0.part → found ≡ value_of v.0
+    pub enough : IsWhole v.0.part → v.0.taken ≤ v.0.given
 
   -- an exchange from a value to one less: it took a permit, or saw another value
   pub record Exchanged : Type 0 where

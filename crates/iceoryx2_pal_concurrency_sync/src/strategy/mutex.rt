@@ -2,7 +2,8 @@
 //!
 //! It does what `strategy::mutex` of the Rust crate does, but that a lock answers a hold, and that only a hold can be unlocked.
 //! Calls that answer a hold take the pass first, since the hold borrows it.
-ghost use Rattle.std.specs.Prelude.{◌≡◌, ◌<◌, ◌≤◌, [], IfOk};
+ghost use Rattle.std.specs.Prelude.{◌≡◌, ◌<◌, [], IfOk};
+ghost use Rattle.iceoryx2_pal_concurrency_sync.specs.MutexRule.{OneHolder};
 
 use crate::part::{Part, Sights};
 use crate::wait::{AnyWord, WaitResult, WaitWord, Word, may_give_up, wake};
@@ -258,7 +259,7 @@ impl MutexPass {
     ghost use Rattle.iceoryx2_pal_concurrency_sync.specs.declared.part.Part.{Part};
     ghost use Rattle.iceoryx2_pal_concurrency_sync.specs.MutexRule.{left_view, right_view, joined_view};
     ghost use Rattle.iceoryx2_pal_concurrency_sync.specs.MutexShown.{IsPassOf, view};
-    ghost use Rattle.iceoryx2_pal_concurrency_sync.specs.Parts.{half, IsAgain};
+    ghost use Rattle.iceoryx2_pal_concurrency_sync.specs.Parts.{half, IsAgain, IsSamePart};
     ghost use Rattle.std.specs.Prelude.{true, is_ok};
 
     /// Two passes of the same mutex. What they counted adds up to what this one had counted, and both know what it knew. `Err`,
@@ -285,7 +286,7 @@ impl MutexPass {
         ensures never_refused { is_ok result ≡ true }
         ensures own { IfOk result (IsPassOf of.now) }
         ensures views { IfOk result (λ both. view both ≡ joined_view (view a) (view b)) }
-        ensures again { (p : Part) → (view a).part ≡ half p → (view b).part ≡ half p → IfOk result (λ both. IsAgain p (view both).part) }
+        ensures again { (p : Part) → IsSamePart (view a).part (half p) → IsSamePart (view b).part (half p) → IfOk result (λ both. IsAgain p (view both).part) }
     {
         let MutexPass { mut seat } = a;
         let MutexPass { seat: other } = b;
@@ -293,3 +294,9 @@ impl MutexPass {
         Ok(MutexPass { seat })
     }
 }
+
+/// Whenever the rule of a mutex holds, no two of its passes have a hold. Says so of the rule alone, and does nothing.
+#[tactic(auto, using(crate::proofs::MutexKeeps::one_holder))]
+pub fn one_holder_at_most()
+    ensures { OneHolder }
+{}

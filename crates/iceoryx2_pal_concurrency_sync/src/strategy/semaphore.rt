@@ -1,7 +1,7 @@
 //! A counting semaphore. Its word is the number of permits that are there to take.
 //!
 //! It does what `strategy::semaphore` of the Rust crate does, and `close` gives its value back.
-ghost use Rattle.std.specs.Prelude.{◌≡◌, ◌<◌, [], IfOk};
+ghost use Rattle.std.specs.Prelude.{◌≡◌, ◌<◌, ◌≤◌, [], IfOk};
 
 use crate::part::{Part, Sights};
 use crate::wait::{AnyWord, WaitResult, WaitWord, Word, may_give_up, success_if, wake};
@@ -101,6 +101,7 @@ impl<A: Allocator> Semaphore<A> {
         ensures same { IsSamePass pass.old pass.new }
         ensures saw { view pass.new ≡ looked (view pass.old) result }
         ensures exact { IsWhole (view pass.old).part → result ≡ value_of (view pass.old) }
+        ensures enough { IsWhole (view pass.old).part → (view pass.old).taken ≤ (view pass.old).given }
     {
         self.table.shared.load::<Look>(&mut pass.seat, 0)
     }
@@ -131,7 +132,8 @@ impl<A: Allocator> Semaphore<A> {
         requires may { W.IsAlwaysCallable wait }
         ensures took { IfSuccess result (λ _. HasTaken pass.old pass.new) }
         ensures refused { IfInterrupted result (WasRefused 10002 pass.old pass.new) }
-        ensures exact { IsWhole (view pass.old).part → 0 < value_of (view pass.old) → IsSuccess result }
+        ensures some { IsWhole (view pass.old).part → 0 < value_of (view pass.old) → IsSuccess result }
+        ensures none { IsWhole (view pass.old).part → IfSuccess result (λ _. 0 < value_of (view pass.old)) }
         ensures aborted { IfInterrupted result (MayAnswerAbort W.Fn wait IsEmpty) }
     {
         success_if(self.take(rt, pass) || self.spin(rt, pass) || self.ask(rt, pass, &wait))
@@ -154,7 +156,8 @@ impl<A: Allocator> Semaphore<A> {
     /// was taken, modulo 2^64.
     pub fn close(self, pass: SemPass) -> u64
         requires own { IsPassOf self pass }
-        ensures { IsWhole (view pass).part → result ≡ value_of (view pass) }
+        ensures exact { IsWhole (view pass).part → result ≡ value_of (view pass) }
+        ensures enough { IsWhole (view pass).part → (view pass).taken ≤ (view pass).given }
     {
         let Semaphore { table } = self;
         let SemPass { seat } = pass;
@@ -216,6 +219,7 @@ impl<A: Allocator> Semaphore<A> {
     fn spin<R: Wait>(&self, rt: &R, pass: &mut SemPass) -> bool
         requires own { IsPassOf self.now pass.old }
         ensures takes { MatchBool result (HasTaken pass.old pass.new) (WasRefused 10000 pass.old pass.new) }
+        ensures none { IsWhole (view pass.old).part → value_of (view pass.old) ≡ 0 → result ≡ false }
     {
         for _ in 0..SPIN_REPETITIONS {
             spin_loop();
@@ -237,6 +241,7 @@ impl<A: Allocator> Semaphore<A> {
         requires may { W.IsAlwaysCallable wait.now }
         ensures takes { MatchBool result (HasTaken pass.old pass.new) (WasRefused 1 pass.old pass.new) }
         ensures aborted { result ≡ false → MayAnswerAbort W.Fn wait.now IsEmpty }
+        ensures none { IsWhole (view pass.old).part → value_of (view pass.old) ≡ 0 → result ≡ false }
     {
         for _ in rt.forever() {
             let last_try = may_give_up(wait, self.word(), 0);
@@ -285,7 +290,7 @@ impl SemPass {
     ghost use Rattle.iceoryx2_pal_concurrency_sync.specs.declared.part.Part.{Part};
     ghost use Rattle.iceoryx2_pal_concurrency_sync.specs.SemaphoreRule.{left_view, right_view, joined_view};
     ghost use Rattle.iceoryx2_pal_concurrency_sync.specs.SemaphoreShown.{IsPassOf, view};
-    ghost use Rattle.iceoryx2_pal_concurrency_sync.specs.Parts.{half, IsAgain};
+    ghost use Rattle.iceoryx2_pal_concurrency_sync.specs.Parts.{half, IsAgain, IsSamePart};
     ghost use Rattle.std.specs.Prelude.{true, is_ok};
 
     /// Two passes of the same semaphore. What they counted adds up to what this one had counted, and both know what it knew. `Err`,
@@ -312,7 +317,7 @@ impl SemPass {
         ensures never_refused { is_ok result ≡ true }
         ensures own { IfOk result (IsPassOf of.now) }
         ensures views { IfOk result (λ both. view both ≡ joined_view (view a) (view b)) }
-        ensures again { (p : Part) → (view a).part ≡ half p → (view b).part ≡ half p → IfOk result (λ both. IsAgain p (view both).part) }
+        ensures again { (p : Part) → IsSamePart (view a).part (half p) → IsSamePart (view b).part (half p) → IfOk result (λ both. IsAgain p (view both).part) }
     {
         let SemPass { mut seat } = a;
         let SemPass { seat: other } = b;
