@@ -8,7 +8,7 @@ use prog.Atomic.{either}
 use Rattle.atomic_table.specs.Table.{State, Me, step, opening, keeps, stepped, Allows, Splits, Joins}
 use Rattle.atomic_table.proofs.Lists.{exchanged}
 use Rattle.iceoryx2_pal_concurrency_sync.specs.declared.strategy.mutex.MutexView.{MutexView}
-use Rattle.iceoryx2_pal_concurrency_sync.specs.MutexRule.{first_view, spent_view, holds_of, Held, granted, released, refused, left_view, right_view, joined_view, Exchanged, Stored, OneHolder}
+use Rattle.iceoryx2_pal_concurrency_sync.specs.MutexRule.{first_view, spent_view, holds_of, Held, locked, unlocked, saw_locked, left_view, right_view, joined_view, Exchanged, Stored, OneHolder}
 use Rattle.iceoryx2_pal_concurrency_sync.proofs.Sums.{two_within, total_set, total_snoc, within_total, shared_first, shared_step, shared_split, shared_join, alone}
 
 abbrev Views : Type 0
@@ -33,22 +33,22 @@ opens = record { words = refl; word = refl; one = omega arith; shared = shared_f
 exchanges_for_1 : (slots id : ℕ) (me : MeOf) → 0 < me.0.part.share → Allows Held slots id me 0 (λ x. either (eqb x 0) 1 x) (Exchanged (step slots 0 0 1 none) me)
 exchanges_for_1 slots id me alive s r _ at _ = let x : ℕ = get_or s.words 0 0 in let here = within_total holds_of s.views id me.0 at in let is = r.word in let one = r.one in dite (ℕ_discrete x 0)
     (λ hit. (
-      granted me.0,
+      locked me.0,
       keeps,
       tt,
-      exchanged x 0 1 (λ n. Held (stepped s 0 n id me.1 (granted me.0) keeps)) (λ _. placed s r 1 id me (granted me.0) at alive refl (omega arith) (omega arith)) (λ miss. absurd (miss hit)),
-      record { none_out = refl; free = λ _. (omega arith, refl); locked = λ miss. absurd (miss hit); alone = λ _ _. hit },
+      exchanged x 0 1 (λ n. Held (stepped s 0 n id me.1 (locked me.0) keeps)) (λ _. placed s r 1 id me (locked me.0) at alive refl (omega arith) (omega arith)) (λ miss. absurd (miss hit)),
+      record { none_out = refl; free = λ _. (omega arith, refl); taken = λ miss. absurd (miss hit); alone = λ _ _. hit },
     ))
     (λ miss. (
-      refused me.0,
+      saw_locked me.0,
       keeps,
       tt,
-      exchanged x 0 1 (λ n. Held (stepped s 0 n id me.1 (refused me.0) keeps)) (λ hit. absurd (miss hit)) (λ _. placed s r x id me (refused me.0) at alive refl (omega arith) (omega arith)),
+      exchanged x 0 1 (λ n. Held (stepped s 0 n id me.1 (saw_locked me.0) keeps)) (λ hit. absurd (miss hit)) (λ _. placed s r x id me (saw_locked me.0) at alive refl (omega arith) (omega arith)),
       record {
         none_out = refl;
         free = λ hit. absurd (miss hit);
-        locked = λ _. refl;
-        alone = λ whole off. is ∙ alone holds_of s.views id me.0 at whole (λ u idle. idle.0) r.shared ∙ off;
+        taken = λ _. refl;
+        alone = λ whole off. is ∙ alone holds_of s.views id me.0 at whole (λ u blank. blank.0) r.shared ∙ off;
       },
     ))
 
@@ -57,10 +57,10 @@ exchanges slots id me new is alive = subst (λ (n : ℕ). Allows Held slots id m
 
 pub releases : (slots id : ℕ) (me : MeOf) → 0 < me.0.part.share → me.0.holds ≡ 1 → Allows Held slots id me 0 (λ _. 0) (λ _. Stored (step slots 0 0 0 none) me 0)
 releases slots id me alive on s r _ at _ = let here = within_total holds_of s.views id me.0 at in let is = r.word in let one = r.one in (
-  released me.0,
+  unlocked me.0,
   keeps,
   tt,
-  placed s r 0 id me (released me.0) at alive refl (omega arith) (omega arith),
+  placed s r 0 id me (unlocked me.0) at alive refl (omega arith) (omega arith),
   record { none_out = refl; off = refl },
 )
 

@@ -36,12 +36,12 @@ unmoved s r id me w at alive same given taken = let enough = r.enough in let is 
 
 -- where no other pass is left, the word is what the tally comes to
 counted : (s : State (Unit {0}) SemView) (r : Permits s) (id : ℕ) (v : SemView) → get_elem? s.views id ≡ some v → IsWhole v.part → get_or s.words 0 0 ≡ value_of v
-counted s r id v at whole = let g = alone given_of s.views id v at whole (λ u idle. idle.0) r.shared in let t = alone taken_of s.views id v at whole (λ u idle. idle.1) r.shared in
+counted s r id v at whole = let g = alone given_of s.views id v at whole (λ u blank. blank.0) r.shared in let t = alone taken_of s.views id v at whole (λ u blank. blank.1) r.shared in
     r.word ∙ ap (λ (p : ℕ × ℕ). (p.0 - p.1) % 2 ^ 64) (λ i. (g i, t i))
 
 -- and no more was taken than given
 backed : (s : State (Unit {0}) SemView) (r : Permits s) (id : ℕ) (v : SemView) → get_elem? s.views id ≡ some v → IsWhole v.part → v.taken ≤ v.given
-backed s r id v at whole = let g = alone given_of s.views id v at whole (λ u idle. idle.0) r.shared in let t = alone taken_of s.views id v at whole (λ u idle. idle.1) r.shared in
+backed s r id v at whole = let g = alone given_of s.views id v at whole (λ u blank. blank.0) r.shared in let t = alone taken_of s.views id v at whole (λ u blank. blank.1) r.shared in
     let e = r.enough in omega arith
 
 pub opens : (initial : ℕ) → initial < 2 ^ 64 → Permits (opening (initial ∷ []) [] (first_view initial))

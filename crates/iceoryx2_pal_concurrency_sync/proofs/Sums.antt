@@ -4,7 +4,7 @@ use Rattle.std.proofs.Math.Nat.{mul-div_cancel_left}
 use mathlib.Core.Option.{some, some-injective, some-ne-none}
 use lib.ListN.{get_elem?}
 use Rattle.iceoryx2_pal_concurrency_sync.specs.declared.part.Part.{Part}
-use Rattle.iceoryx2_pal_concurrency_sync.specs.Parts.{part, nothing, half, together, IsWhole, IsAgain, IsSamePart, weight, total, Each, Shared}
+use Rattle.iceoryx2_pal_concurrency_sync.specs.Parts.{part, nothing, half, together, IsWhole, IsAgain, IsSamePart, weight, total, Each, IsShared}
 
 module _ {V : Type 0} where
   -- sums
@@ -127,7 +127,7 @@ alone_at : (j : ℕ) → 1 * 2 ^ (j - 0) + 0 ≡ 2 ^ j
 alone_at j = let is : j - 0 ≡ j = omega arith in let same : 2 ^ (j - 0) ≡ 2 ^ j = ap (λ (m : ℕ). 2 ^ m) is in omega arith
 
 module _ {V : Type 0} {part_of : V → Part} {IsBlank : V → Type 0} where
-  pub shared_first : (v : V) → part_of v ≡ part 1 0 → Shared part_of IsBlank (v ∷ [])
+  pub shared_first : (v : V) → part_of v ≡ part 1 0 → IsShared part_of IsBlank (v ∷ [])
   shared_first v is = record {
     finest = 0;
     within = (subst (λ (p : Part). p.depth ≤ 0) (sym is) (omega arith), tt);
@@ -137,7 +137,7 @@ module _ {V : Type 0} {part_of : V → Part} {IsBlank : V → Type 0} where
 
   -- a step of one pass, which is still the same part
   pub shared_step : (views : List V) (id : ℕ) (v w : V) → get_elem? views id ≡ some v → part_of w ≡ part_of v → 0 < (part_of v).share
-      → Shared part_of IsBlank views → Shared part_of IsBlank (set views id w)
+      → IsShared part_of IsBlank views → IsShared part_of IsBlank (set views id w)
   shared_step views id v w at same alive s = record {
     finest = s.finest;
     within = each_set (λ u. (part_of u).depth ≤ s.finest) views id w s.within (subst (λ (p : Part). p.depth ≤ s.finest) (sym same) (each_at (λ u. (part_of u).depth ≤ s.finest) views id v at s.within));
@@ -146,7 +146,7 @@ module _ {V : Type 0} {part_of : V → Part} {IsBlank : V → Type 0} where
   }
 
   pub shared_split : (views : List V) (id : ℕ) (v left right : V) → get_elem? views id ≡ some v → part_of left ≡ half (part_of v) → part_of right ≡ half (part_of v) → 0 < (part_of v).share
-      → Shared part_of IsBlank views → Shared part_of IsBlank (set views id left ++ right ∷ [])
+      → IsShared part_of IsBlank views → IsShared part_of IsBlank (set views id left ++ right ∷ [])
   shared_split views id v left right at first second alive s = let p : Part = part_of v in let deepest = each_at (λ u. (part_of u).depth ≤ s.finest) views id v at s.within in
       let later = each_so (λ u. (part_of u).depth ≤ s.finest) (λ u. (part_of u).depth ≤ s.finest + 1) views (λ u shallow. omega arith) s.within in
       let here : (w : V) → part_of w ≡ half p → (part_of w).depth ≤ s.finest + 1 = λ w is. subst (λ (q : Part). q.depth ≤ s.finest + 1) (sym is) (omega arith) in
@@ -160,7 +160,7 @@ module _ {V : Type 0} {part_of : V → Part} {IsBlank : V → Type 0} where
 
   pub shared_join : (views : List V) (id other : ℕ) (v w both spent : V) → get_elem? views id ≡ some v → get_elem? (set views id both) other ≡ some w
       → part_of both ≡ together (part_of v) (part_of w) → part_of spent ≡ nothing → 0 < (part_of v).share → IsBlank spent
-      → Shared part_of IsBlank views → Shared part_of IsBlank (set (set views id both) other spent)
+      → IsShared part_of IsBlank views → IsShared part_of IsBlank (set (set views id both) other spent)
   shared_join views id other v w both spent at there joined none alive blank s = let p : Part = part_of v in let q : Part = part_of w in let most : ℕ = s.finest + (p.depth + q.depth) in
       let later = each_so (λ u. (part_of u).depth ≤ s.finest) (λ u. (part_of u).depth ≤ most) views (λ u shallow. omega arith) s.within in
       let P : V → Type 0 = λ u. (part_of u).depth ≤ most in let Q : V → Type 0 = λ u. (part_of u).share ≡ 0 → IsBlank u in record {
@@ -176,7 +176,7 @@ module _ {V : Type 0} {part_of : V → Part} {IsBlank : V → Type 0} where
 
   -- to what is 0 of each blank pass, a whole pass adds all
   pub alone : (f : V → ℕ) (views : List V) (id : ℕ) (v : V) → get_elem? views id ≡ some v → IsWhole (part_of v) → ((u : V) → IsBlank u → f u ≡ 0)
-      → Shared part_of IsBlank views → total f views ≡ f v
+      → IsShared part_of IsBlank views → total f views ≡ f v
   alone f views id v at is none s = let j : ℕ = s.finest in let deep = each_at (λ u. (part_of u).depth ≤ j) views id v at s.within in
       one_adds (λ u. weight j (part_of u)) f views id v at
       (each_so (λ u. (part_of u).share ≡ 0 → IsBlank u) (λ u. weight j (part_of u) ≡ 0 → f u ≡ 0) views (λ u blank light. none u (blank (weight_nothing (part_of u) j light))) s.blank)

@@ -8,7 +8,7 @@ use Rattle.iceoryx2_pal_concurrency_sync.specs.declared.strategy.mutex.MutexHold
 use Rattle.iceoryx2_pal_concurrency_sync.specs.declared.strategy.mutex.Mutex.{Mutex}
 use Rattle.iceoryx2_pal_concurrency_sync.specs.Parts.{IsWhole}
 use Rattle.iceoryx2_pal_concurrency_sync.specs.Sights.{HasLooked}
-use Rattle.iceoryx2_pal_concurrency_sync.specs.MutexRule.{granted, released, refused}
+use Rattle.iceoryx2_pal_concurrency_sync.specs.MutexRule.{locked, unlocked, saw_locked}
 
 -- which object the pass belongs to
 abbrev pub object_of : MutexPass → TableId
@@ -38,15 +38,15 @@ IsLocked word = word ≡ 1
 
 -- the hold, which was off, is on, and nothing else changed
 abbrev pub HasLocked : MutexPass → MutexPass → Type 0
-HasLocked p q = IsSamePass p q × ((view p).holds ≡ 0) × (view q ≡ granted (view p))
+HasLocked p q = IsSamePass p q × ((view p).holds ≡ 0) × (view q ≡ locked (view p))
 
 -- the mutex was seen locked once, and nothing else changed
 abbrev pub HasSeenLocked : MutexPass → MutexPass → Type 0
-HasSeenLocked p q = IsSamePass p q × (view q ≡ refused (view p))
+HasSeenLocked p q = IsSamePass p q × (view q ≡ saw_locked (view p))
 
 -- the hold, which was on, is off, and nothing else changed
 abbrev pub HasUnlocked : MutexPass → MutexPass → Type 0
-HasUnlocked p q = IsSamePass p q × ((view p).holds ≡ 1) × (view q ≡ released (view p))
+HasUnlocked p q = IsSamePass p q × ((view p).holds ≡ 1) × (view q ≡ unlocked (view p))
 
 -- the pass is whole, so that no other is left, and its hold is off
 abbrev pub IsAlone : MutexPass → Type 0
@@ -67,7 +67,7 @@ pub record HasStayed (p q : MutexPass) : Type 0 where
   pub part : (view q).part ≡ (view p).part
   pub saw : (view p).sights.count ≤ (view q).sights.count
 
--- the hold is as it was, and the mutex was seen locked n times at least, the last one among them
+-- The hold is as it was. At least n more sights were counted, and at the last of them the mutex was locked.
 pub record WasRefused (n : ℕ) (p q : MutexPass) : Type 0 where
   pub stayed : HasStayed p q
   pub looked : HasLooked IsLocked n (view p).sights (view q).sights

@@ -51,7 +51,7 @@ module _ {V : Type 0} where
 
 -- The passes of one object share the whole, and one without a part is blank: it has no hold, and counted and saw nothing.
 -- From `finest` on every depth serves to weigh them, so a split or a join only raises it.
-pub record Shared {V : Type 0} (part_of : V → Part) (IsBlank : V → Type 0) (views : List V) : Type 0 where
+pub record IsShared {V : Type 0} (part_of : V → Part) (IsBlank : V → Type 0) (views : List V) : Type 0 where
   pub finest : ℕ
   pub within : Each (λ v. (part_of v).depth ≤ finest) views
   pub one_whole : (j : ℕ) → finest ≤ j → total (λ v. weight j (part_of v)) views ≡ 2 ^ j

@@ -4,7 +4,7 @@ use Rattle.atomic_table.specs.Table.{State, Me, Step}
 use Rattle.iceoryx2_pal_concurrency_sync.specs.declared.part.Part.{Part}
 use Rattle.iceoryx2_pal_concurrency_sync.specs.declared.part.Sights.{Sights}
 use Rattle.iceoryx2_pal_concurrency_sync.specs.declared.strategy.semaphore.SemView.{SemView}
-use Rattle.iceoryx2_pal_concurrency_sync.specs.Parts.{whole, nothing, half, together, IsWhole, total, Shared}
+use Rattle.iceoryx2_pal_concurrency_sync.specs.Parts.{whole, nothing, half, together, IsWhole, total, IsShared}
 use Rattle.iceoryx2_pal_concurrency_sync.specs.Sights.{unseen, seen, seen_instead, known, seen_by_both}
 
 abbrev pub sem_view : Part → Sights → ℕ → ℕ → SemView
@@ -27,14 +27,14 @@ given_of v = v.given
 abbrev pub taken_of : SemView → ℕ
 taken_of v = v.taken
 
-abbrev pub IsIdle : SemView → Type 0
-IsIdle v = (v.given ≡ 0) × (v.taken ≡ 0) × (v.sights ≡ unseen)
+abbrev pub IsBlank : SemView → Type 0
+IsBlank v = (v.given ≡ 0) × (v.taken ≡ 0) × (v.sights ≡ unseen)
 
 pub record Permits (s : State (Unit {0}) SemView) : Type 0 where
   pub words : length s.words ≡ 1
   pub enough : total taken_of s.views ≤ total given_of s.views
   pub word : slice_index s.words 0 ≡ (total given_of s.views - total taken_of s.views) % 2 ^ 64
-  pub shared : Shared part_of IsIdle s.views
+  pub shared : IsShared part_of IsBlank s.views
 
 -- the value that a tally comes to, where no other pass has counted anything
 abbrev pub value_of : SemView → ℕ

@@ -41,12 +41,7 @@ pub record HasStayed (p q : SemPass) : Type 0 where
   pub part : (view q).part ≡ (view p).part
   pub saw : (view p).sights.count ≤ (view q).sights.count
 
--- and the semaphore was seen with this value last
-pub record HasSeen (p q : SemPass) (seen : ℕ) : Type 0 where
-  pub stayed : HasStayed p q
-  pub looked : HasLooked (λ n. n ≡ seen) 1 (view p).sights (view q).sights
-
--- nothing was taken or given, and the semaphore was seen empty n times at least, the last time it was seen among them
+-- Nothing was taken or given. At least n more sights were counted, and at the last of them the value was 0.
 pub record WasRefused (n : ℕ) (p q : SemPass) : Type 0 where
   pub stayed : HasStayed p q
   pub looked : HasLooked IsEmpty n (view p).sights (view q).sights

@@ -25,7 +25,7 @@ known s = sights 0 s.last s.missed
 abbrev pub seen_by_both : Sights → Sights → Sights
 seen_by_both s t = sights (s.count + t.count) (if s.count == 0 then t.last else s.last) (if s.count == 0 then t.missed else s.missed)
 
--- at least n more sights, the last of which is one that refuses
+-- at least n more sights were counted, and the last of them is of a value that refuses
 pub record HasLooked (IsRefusing : ℕ → Type 0) (n : ℕ) (before after : Sights) : Type 0 where
   pub more : before.count + n ≤ after.count
   pub refusing : IsRefusing after.last

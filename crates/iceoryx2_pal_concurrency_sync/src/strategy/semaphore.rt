@@ -79,10 +79,10 @@ impl Play<(), SemView> for Give {
 
 impl<A: Allocator> Semaphore<A> {
     ghost use Rattle.iceoryx2_pal_concurrency_sync.specs.Answers.{IfSuccess, IfInterrupted, IsSuccess, MayAnswerAbort, HasWoken};
-    ghost use Rattle.iceoryx2_pal_concurrency_sync.specs.SemaphoreShown.{IsPassOf, IsSamePass, view, IsEmpty, HasTaken, HasStayed, WasRefused};
+    ghost use Rattle.iceoryx2_pal_concurrency_sync.specs.SemaphoreShown.{IsPassOf, IsSamePass, view, IsEmpty, HasTaken, WasRefused};
     ghost use Rattle.iceoryx2_pal_concurrency_sync.specs.SemaphoreRule.{first_view, value_of, looked, missed, took, gave};
     ghost use Rattle.iceoryx2_pal_concurrency_sync.specs.Parts.{IsWhole};
-    ghost use Rattle.std.specs.Prelude.{true, false, ◌+◌, ◌-◌, ◌≢◌, MatchBool};
+    ghost use Rattle.std.specs.Prelude.{true, false, ◌-◌, ◌≢◌, MatchBool};
 
     /// A semaphore of this value, and the pass that is whole. `Err` where there was no memory; then nothing was made.
     pub fn new(alloc: A, initial: u64) -> Result<(Semaphore<A>, SemPass), AllocError>

@@ -1,7 +1,6 @@
 //! The running mutex.
-ghost use Rattle.std.specs.Prelude.{◌≡◌, true, is_ok};
-ghost use Rattle.iceoryx2_pal_concurrency_sync.specs.MutexShown.{IsPassOf, IsSamePass, view};
-ghost use Rattle.iceoryx2_pal_concurrency_sync.specs.Parts.{half, IsWhole};
+ghost use Rattle.std.specs.Prelude.{◌≡◌};
+ghost use Rattle.iceoryx2_pal_concurrency_sync.specs.MutexShown.{IsAlone, IsPassOf, IsSamePass, view};
 
 use crate::strategy::mutex::{Mutex, MutexPass};
 use crate::tests::signal::Signal;
@@ -16,7 +15,6 @@ use std::thread::Threads;
 /// Locks and unlocks, with closures that yield and answer `Continue`: that is never interrupted.
 fn lock_and_unlock<R: Wait>(rt: &R, mutex: &Mutex, pass: &mut MutexPass)
     requires own { IsPassOf mutex.now pass.old }
-    requires off { (view pass.old).holds ≡ 0 }
     ensures same { IsSamePass pass.old pass.new }
     ensures part { (view pass.new).part ≡ (view pass.old).part }
     ensures off { (view pass.new).holds ≡ 0 }
@@ -53,9 +51,9 @@ fn lock_in_two_threads<R: Threads + Wait + Sync>(
     pass: MutexPass,
 ) -> MutexPass
     requires own { IsPassOf mutex.now pass }
-    requires whole { IsWhole (view pass).part × ((view pass).holds ≡ 0) }
+    requires alone { IsAlone pass }
     ensures own { IsPassOf mutex.now result }
-    ensures whole { IsWhole (view result).part × ((view result).holds ≡ 0) }
+    ensures alone { IsAlone result }
 {
     let Ok((one, two)) = pass.split(mutex) else {
         unreachable!()
@@ -284,5 +282,41 @@ fn two_calls_meet_and_success_after_abort(rt: HostRuntime) -> Result<(), Fail> {
     );
     assert!(rt; was_asked);
     assert!(rt; entered);
+    Ok(())
+}
+
+/// Parts a pass of which nothing is known but that it is whole, in three, and joins them again: that one is granted.
+fn part_and_join(mutex: &Mutex, pass: MutexPass) -> MutexPass
+    requires own { IsPassOf mutex.now pass }
+    requires alone { IsAlone pass }
+    ensures own { IsPassOf mutex.now result }
+    ensures alone { IsAlone result }
+{
+    let Ok((one, other)) = pass.split(mutex) else {
+        unreachable!()
+    };
+    let Ok((two, three)) = other.split(mutex) else {
+        unreachable!()
+    };
+    let Ok(other) = MutexPass::join(two, three, mutex) else {
+        unreachable!()
+    };
+    let Ok(mut pass) = MutexPass::join(one, other, mutex) else {
+        unreachable!()
+    };
+    match Mutex::try_lock(&mut pass, mutex) {
+        WaitResult::Success(hold) => {
+            mutex.unlock(hold, |_| ());
+        }
+        WaitResult::Interrupted => unreachable!(),
+    }
+    pass
+}
+
+#[test]
+fn parts_are_the_whole_again(rt: HostRuntime) -> Result<(), Fail> {
+    let (mutex, pass) = Mutex::new(rt.alloc())?;
+    let mut pass = part_and_join(&mutex, pass);
+    assert!(rt; !is_refused(&mutex, &mut pass));
     Ok(())
 }

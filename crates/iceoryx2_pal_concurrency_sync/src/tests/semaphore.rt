@@ -1,5 +1,5 @@
 //! The running semaphore.
-ghost use Rattle.std.specs.Prelude.{◌≡◌, ◌+◌, true, false};
+ghost use Rattle.std.specs.Prelude.{◌≡◌, ◌+◌};
 ghost use Rattle.iceoryx2_pal_concurrency_sync.specs.Parts.{IsWhole};
 ghost use Rattle.iceoryx2_pal_concurrency_sync.specs.SemaphoreRule.{first_view};
 ghost use Rattle.iceoryx2_pal_concurrency_sync.specs.SemaphoreShown.{IsPassOf, IsSamePass, view};
