@@ -1,5 +1,5 @@
 -- Each step of a mutex keeps its rule.
-use Rattle.std.proofs.Common.{◌≡◌, ℕ, ◌+◌, ◌<◌, ◌≤◌, eqb, List, [], ◌∷◌, get_or, set, sym, refl, ◌∙◌, subst, arith, length-set, get_or-set_same}
+use Rattle.std.proofs.Common.{◌≡◌, ℕ, ◌+◌, ◌<◌, ◌≤◌, eqb, [], ◌∷◌, get_or, sym, refl, ◌∙◌, subst, arith, length-set, get_or-set_same}
 use mathlib.Core.Logic.{dite}
 use mathlib.Core.Option.{none, some}
 use native.Mathlib.Decide.{ℕ_discrete}
@@ -9,10 +9,7 @@ use Rattle.atomic_table.specs.Table.{State, Me, step, opening, keeps, stepped, A
 use Rattle.atomic_table.proofs.Lists.{exchanged}
 use Rattle.iceoryx2_pal_concurrency_sync.specs.declared.strategy.mutex.MutexView.{MutexView}
 use Rattle.iceoryx2_pal_concurrency_sync.specs.MutexRule.{first_view, spent_view, holds_of, Held, locked, unlocked, saw_locked, left_view, right_view, joined_view, Exchanged, Stored, OneHolder}
-use Rattle.iceoryx2_pal_concurrency_sync.proofs.Sums.{two_within, total_set, total_snoc, within_total, shared_first, shared_step, shared_split, shared_join, alone}
-
-abbrev Views : Type 0
-Views = List MutexView
+use Rattle.iceoryx2_pal_concurrency_sync.proofs.Sums.{total_set, total_split, total_join, within_total, two_within, shared_first, shared_step, shared_split, shared_join, alone}
 
 abbrev MeOf : Type 0
 MeOf = Me (Unit {0}) MutexView
@@ -65,22 +62,21 @@ releases slots id me alive on s r _ at _ = let here = within_total holds_of s.vi
 )
 
 pub splits : (id : ℕ) (v : MutexView) → 0 < v.part.share → Splits Held id v (left_view v) (right_view v)
-splits id v alive s r at = let moved = total_set holds_of s.views id v (left_view v) at in let added = total_snoc holds_of (set s.views id (left_view v)) (right_view v) in
-    let is = r.word in let one = r.one in record {
-      words = r.words;
-      word = omega arith;
-      one = omega arith;
-      shared = shared_split s.views id v (left_view v) (right_view v) at refl refl alive r.shared;
-    }
+splits id v alive s r at = let same = total_split holds_of s.views id v (left_view v) (right_view v) at (omega arith) in let one = r.one in record {
+  words = r.words;
+  word = r.word ∙ sym same;
+  one = omega arith;
+  shared = shared_split s.views id v (left_view v) (right_view v) at refl refl alive r.shared;
+}
 
 pub joins : (id : ℕ) (v : MutexView) (other : ℕ) (w : MutexView) → 0 < v.part.share → Joins Held id v other w (joined_view v w) spent_view
-joins id v other w alive s r at apart there = let both : MutexView = joined_view v w in let moved = total_set holds_of s.views id v both at in
-    let left_out = total_set holds_of (set s.views id both) other w spent_view there in let is = r.word in let one = r.one in record {
-      words = r.words;
-      word = omega arith;
-      one = omega arith;
-      shared = shared_join s.views id other v w both spent_view at there refl refl alive (refl, refl) r.shared;
-    }
+joins id v other w alive s r at apart there = let both : MutexView = joined_view v w in let same = total_join holds_of s.views id other v w both spent_view at there (omega arith) in let one = r.one in record {
+  words = r.words;
+  word = r.word ∙ sym same;
+  one = omega arith;
+  shared = shared_join s.views id other v w both spent_view at there refl refl alive (refl, refl) r.shared;
+}
 
+-- two holds would be more than one
 pub one_holder : OneHolder
 one_holder s r i j v w here there on also = dite (ℕ_discrete i j) (λ same. same) (λ apart. let t = two_within holds_of s.views i j v w here there apart in let one = r.one in absurd (omega arith))

@@ -10,7 +10,7 @@ use Rattle.atomic_table.proofs.Lists.{exchanged}
 use Rattle.iceoryx2_pal_concurrency_sync.specs.declared.strategy.semaphore.SemView.{SemView}
 use Rattle.iceoryx2_pal_concurrency_sync.specs.Parts.{IsWhole, total}
 use Rattle.iceoryx2_pal_concurrency_sync.specs.SemaphoreRule.{first_view, spent_view, given_of, taken_of, Permits, value_of, looked, missed, took, gave, left_view, right_view, joined_view, Loaded, Exchanged, Added}
-use Rattle.iceoryx2_pal_concurrency_sync.proofs.Sums.{total_set, total_snoc, shared_first, shared_step, shared_split, shared_join, alone}
+use Rattle.iceoryx2_pal_concurrency_sync.proofs.Sums.{total_set, total_same, total_split, total_join, shared_first, shared_step, shared_split, shared_join, alone}
 
 abbrev MeOf : Type 0
 MeOf = Me (Unit {0}) SemView
@@ -26,23 +26,32 @@ placed s r n id me w at alive same enough is = record {
   shared = shared_step s.views id me.0 w at same alive r.shared;
 }
 
+-- what the rule says of all tallies together
+abbrev Agrees : State (Unit {0}) SemView → List SemView → Type 0
+Agrees s views = (total taken_of views ≤ total given_of views) × (get_or s.words 0 0 ≡ (total given_of views - total taken_of views) % 2 ^ 64)
+
+-- it says so of other views with the same sums
+agrees : (s : State (Unit {0}) SemView) (r : Permits s) (views : List SemView) → total given_of views ≡ total given_of s.views → total taken_of views ≡ total taken_of s.views → Agrees s views
+agrees s r views given taken = let enough = r.enough in (omega arith, r.word ∙ sym (ap (λ (p : ℕ × ℕ). (p.0 - p.1) % 2 ^ 64) (λ i. (given i, taken i))))
+
 -- a step that leaves the word and the tally as they are
 unmoved : (s : State (Unit {0}) SemView) (r : Permits s) (id : ℕ) (me : MeOf) (w : SemView) → get_elem? s.views id ≡ some me.0 → 0 < me.0.part.share → w.part ≡ me.0.part
     → w.given ≡ me.0.given → w.taken ≡ me.0.taken → Permits (stepped s 0 (get_or s.words 0 0) id me.1 w keeps)
-unmoved s r id me w at alive same given taken = let enough = r.enough in let is = r.word in
-    let g : total given_of (set s.views id w) ≡ total given_of s.views = (let sum = total_set given_of s.views id me.0 w at in omega arith) in
-    let t : total taken_of (set s.views id w) ≡ total taken_of s.views = (let sum = total_set taken_of s.views id me.0 w at in omega arith) in
-    placed s r (get_or s.words 0 0) id me w at alive same (omega arith) (is ∙ sym (ap (λ (p : ℕ × ℕ). (p.0 - p.1) % 2 ^ 64) (λ i. (g i, t i))))
+unmoved s r id me w at alive same given taken =
+    let both = agrees s r (set s.views id w) (total_same given_of s.views id me.0 w at given) (total_same taken_of s.views id me.0 w at taken) in
+    placed s r (get_or s.words 0 0) id me w at alive same both.0 both.1
 
--- where no other pass is left, the word is what the tally comes to
+-- where no other pass is left, the sums are its tally
+tally_alone : (s : State (Unit {0}) SemView) (r : Permits s) (id : ℕ) (v : SemView) → get_elem? s.views id ≡ some v → IsWhole v.part → (total given_of s.views ≡ v.given) × (total taken_of s.views ≡ v.taken)
+tally_alone s r id v at whole = (alone given_of s.views id v at whole (λ u blank. blank.0) r.shared, alone taken_of s.views id v at whole (λ u blank. blank.1) r.shared)
+
+-- so the word is what it comes to
 counted : (s : State (Unit {0}) SemView) (r : Permits s) (id : ℕ) (v : SemView) → get_elem? s.views id ≡ some v → IsWhole v.part → get_or s.words 0 0 ≡ value_of v
-counted s r id v at whole = let g = alone given_of s.views id v at whole (λ u blank. blank.0) r.shared in let t = alone taken_of s.views id v at whole (λ u blank. blank.1) r.shared in
-    r.word ∙ ap (λ (p : ℕ × ℕ). (p.0 - p.1) % 2 ^ 64) (λ i. (g i, t i))
+counted s r id v at whole = let t = tally_alone s r id v at whole in r.word ∙ ap (λ (p : ℕ × ℕ). (p.0 - p.1) % 2 ^ 64) (λ i. (t.0 i, t.1 i))
 
 -- and no more was taken than given
 backed : (s : State (Unit {0}) SemView) (r : Permits s) (id : ℕ) (v : SemView) → get_elem? s.views id ≡ some v → IsWhole v.part → v.taken ≤ v.given
-backed s r id v at whole = let g = alone given_of s.views id v at whole (λ u blank. blank.0) r.shared in let t = alone taken_of s.views id v at whole (λ u blank. blank.1) r.shared in
-    let e = r.enough in omega arith
+backed s r id v at whole = let t = tally_alone s r id v at whole in let enough = r.enough in omega (arith, t.0, t.1)
 
 pub opens : (initial : ℕ) → initial < 2 ^ 64 → Permits (opening (initial ∷ []) [] (first_view initial))
 opens initial fits = record { words = refl; enough = omega arith; word = omega arith; shared = shared_first (first_view initial) refl }
@@ -85,24 +94,14 @@ adds slots id me k alive s r _ at _ = let x : ℕ = get_or s.words 0 0 in let w 
     )
 
 pub splits : (id : ℕ) (v : SemView) → 0 < v.part.share → Splits Permits id v (left_view v) (right_view v)
-splits id v alive s r at = let left : List SemView = set s.views id (left_view v) in let enough = r.enough in
-    let g : total given_of (left ++ right_view v ∷ []) ≡ total given_of s.views = (let sum = total_set given_of s.views id v (left_view v) at in let more = total_snoc given_of left (right_view v) in omega arith) in
-    let t : total taken_of (left ++ right_view v ∷ []) ≡ total taken_of s.views = (let sum = total_set taken_of s.views id v (left_view v) at in let more = total_snoc taken_of left (right_view v) in omega arith) in record {
-      words = r.words;
-      enough = omega arith;
-      word = r.word ∙ sym (ap (λ (p : ℕ × ℕ). (p.0 - p.1) % 2 ^ 64) (λ i. (g i, t i)));
-      shared = shared_split s.views id v (left_view v) (right_view v) at refl refl alive r.shared;
-    }
+splits id v alive s r at = let left : SemView = left_view v in let right : SemView = right_view v in
+    let both = agrees s r (set s.views id left ++ right ∷ []) (total_split given_of s.views id v left right at (omega arith)) (total_split taken_of s.views id v left right at (omega arith)) in
+    record { words = r.words; enough = both.0; word = both.1; shared = shared_split s.views id v left right at refl refl alive r.shared }
 
 pub joins : (id : ℕ) (v : SemView) (other : ℕ) (w : SemView) → 0 < v.part.share → Joins Permits id v other w (joined_view v w) spent_view
-joins id v other w alive s r at apart there = let both : SemView = joined_view v w in let all : List SemView = set s.views id both in let enough = r.enough in
-    let g : total given_of (set all other spent_view) ≡ total given_of s.views = (let sum = total_set given_of s.views id v both at in let less = total_set given_of all other w spent_view there in omega arith) in
-    let t : total taken_of (set all other spent_view) ≡ total taken_of s.views = (let sum = total_set taken_of s.views id v both at in let less = total_set taken_of all other w spent_view there in omega arith) in record {
-      words = r.words;
-      enough = omega arith;
-      word = r.word ∙ sym (ap (λ (p : ℕ × ℕ). (p.0 - p.1) % 2 ^ 64) (λ i. (g i, t i)));
-      shared = shared_join s.views id other v w both spent_view at there refl refl alive (refl, refl, refl) r.shared;
-    }
+joins id v other w alive s r at apart there = let all : SemView = joined_view v w in
+    let both = agrees s r (set (set s.views id all) other spent_view) (total_join given_of s.views id other v w all spent_view at there (omega arith)) (total_join taken_of s.views id other v w all spent_view at there (omega arith)) in
+    record { words = r.words; enough = both.0; word = both.1; shared = shared_join s.views id other v w all spent_view at there refl refl alive (refl, refl, refl) r.shared }
 
 -- the word at the end
 pub closes : (words : List ℕ) (slots : List (Unit {0})) (id : ℕ) (v : SemView) (n : ℕ) → get_elem? words 0 ≡ some n → Final (Seen Permits id v) words slots → IsWhole v.part → n ≡ value_of v

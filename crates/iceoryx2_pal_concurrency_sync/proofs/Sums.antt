@@ -1,10 +1,10 @@
 -- Sums over the views of all passes, and the parts of the whole under each kind of step.
-use Rattle.std.proofs.Common.{◌≡◌, ℕ, zero, suc, ◌+◌, ◌-◌, ◌*◌, ◌^◌, ◌/◌, ◌<◌, ◌≤◌, List, [], ◌∷◌, ◌++◌, set, sym, refl, ap, ◌∙◌, subst, arith, pow-add, pow_pos, mul-pos}
-use Rattle.std.proofs.Math.Nat.{mul-div_cancel_left}
+use Rattle.std.proofs.Common.{◌≡◌, ℕ, zero, suc, ◌+◌, ◌-◌, ◌*◌, ◌^◌, ◌<◌, ◌≤◌, List, [], ◌∷◌, ◌++◌, set, sym, refl, ap, ◌∙◌, subst, arith, pow-add, pow_pos, mul-pos, zero-mul}
+use Rattle.std.proofs.Math.Nat.{eq_of_mul-eq-mul_left, eq_of_mul-eq-mul_right}
 use mathlib.Core.Option.{some, some-injective, some-ne-none}
 use lib.ListN.{get_elem?}
 use Rattle.iceoryx2_pal_concurrency_sync.specs.declared.part.Part.{Part}
-use Rattle.iceoryx2_pal_concurrency_sync.specs.Parts.{part, nothing, half, together, IsWhole, IsAgain, IsSamePart, weight, total, Each, IsShared}
+use Rattle.iceoryx2_pal_concurrency_sync.specs.Parts.{whole, nothing, half, together, IsWhole, IsAgain, IsSamePart, weight, total, Each, IsShared}
 
 module _ {V : Type 0} where
   -- sums
@@ -17,6 +17,18 @@ module _ {V : Type 0} where
   pub total_snoc : (f : V → ℕ) (views : List V) (w : V) → total f (views ++ w ∷ []) ≡ total f views + f w
   total_snoc f [] w = omega arith
   total_snoc f (x ∷ xs) w = let rest = total_snoc f xs w in omega arith
+
+  -- under a step that changes it for no pass, under a split and under a join
+
+  pub total_same : (f : V → ℕ) (views : List V) (id : ℕ) (v w : V) → get_elem? views id ≡ some v → f w ≡ f v → total f (set views id w) ≡ total f views
+  total_same f views id v w at same = let moved = total_set f views id v w at in omega arith
+
+  pub total_split : (f : V → ℕ) (views : List V) (id : ℕ) (v left right : V) → get_elem? views id ≡ some v → f left + f right ≡ f v → total f (set views id left ++ right ∷ []) ≡ total f views
+  total_split f views id v left right at parts = let moved = total_set f views id v left at in let added = total_snoc f (set views id left) right in omega arith
+
+  pub total_join : (f : V → ℕ) (views : List V) (id other : ℕ) (v w both spent : V) → get_elem? views id ≡ some v → get_elem? (set views id both) other ≡ some w → f both + f spent ≡ f v + f w
+      → total f (set (set views id both) other spent) ≡ total f views
+  total_join f views id other v w both spent at there sum = let moved = total_set f views id v both at in let left_out = total_set f (set views id both) other w spent there in omega arith
 
   -- none is more than the sum
   pub within_total : (f : V → ℕ) (views : List V) (id : ℕ) (v : V) → get_elem? views id ≡ some v → f v ≤ total f views
@@ -51,10 +63,6 @@ module _ {V : Type 0} where
   pub each_so : (P Q : V → Type 0) (views : List V) → ((v : V) → P v → Q v) → Each P views → Each Q views
   each_so P Q [] so all = tt
   each_so P Q (x ∷ xs) so all = (so x all.0, each_so P Q xs so all.1)
-
-  pub each_both : (P Q : V → Type 0) (views : List V) → Each P views → Each Q views → Each (λ v. P v × Q v) views
-  each_both P Q [] first second = tt
-  each_both P Q (x ∷ xs) first second = ((first.0, second.0), each_both P Q xs first.1 second.1)
 
   -- a sum that is 0, and one to which a single pass adds
 
@@ -92,46 +100,39 @@ both_weigh m n d e j deep = let k : ℕ = j - (d + e) in let a = at_depth m d j 
 weight_together : (p q : Part) (j : ℕ) → p.depth + q.depth ≤ j → weight j (together p q) ≡ weight j p + weight j q
 weight_together p q = both_weigh p.share q.share p.depth q.depth
 
-no_product : (m n : ℕ) → 0 < n → m * n ≡ 0 → m ≡ 0
-no_product zero n more none = refl
-no_product (suc m) n more none = absurd (omega arith)
-
 weight_nothing : (p : Part) (j : ℕ) → weight j p ≡ 0 → p.share ≡ 0
-weight_nothing p j none = no_product p.share (2 ^ (j - p.depth)) (pow_pos (j - p.depth)) none
+weight_nothing p j none = let n : ℕ = 2 ^ (j - p.depth) in eq_of_mul-eq-mul_right n (pow_pos (j - p.depth)) p.share 0 (none ∙ sym (zero-mul n))
 
 weight_whole : (p : Part) (j : ℕ) → p.depth ≤ j → IsWhole p → weight j p ≡ 2 ^ j
 weight_whole p j deep is = let k : ℕ = j - p.depth in ap (λ (n : ℕ). n * 2 ^ k) is ∙ sym (pow-add 2 p.depth k) ∙ ap (λ (n : ℕ). 2 ^ n) (omega arith)
 
-halves_are : (A i B j P d : ℕ) → A * 2 ^ (d + 1) ≡ P * 2 ^ i → B * 2 ^ (d + 1) ≡ P * 2 ^ j → (A * 2 ^ j + B * 2 ^ i) * 2 ^ d ≡ P * 2 ^ (i + j)
-halves_are A i B j P d ha hb =
-    let e1 : A * 2 ^ (d + 1) * 2 ^ j ≡ P * 2 ^ i * 2 ^ j = ap (λ (m : ℕ). m * 2 ^ j) ha in
-    let k1 : A * 2 ^ (d + 1) * 2 ^ j ≡ A * (2 ^ d * 2 ^ 1) * 2 ^ j = ap (λ (m : ℕ). A * m * 2 ^ j) (pow-add 2 d 1) in
-    let e2 : B * 2 ^ (d + 1) * 2 ^ i ≡ P * 2 ^ j * 2 ^ i = ap (λ (m : ℕ). m * 2 ^ i) hb in
-    let k2 : B * 2 ^ (d + 1) * 2 ^ i ≡ B * (2 ^ d * 2 ^ 1) * 2 ^ i = ap (λ (m : ℕ). B * m * 2 ^ i) (pow-add 2 d 1) in
-    let s : P * 2 ^ (i + j) ≡ P * (2 ^ i * 2 ^ j) = ap (λ (m : ℕ). P * m) (pow-add 2 i j) in omega arith
+-- two parts m and n of depths i and j, each as much as half of q at depth d, are together as much as q
+halves_are : (m i n j q d : ℕ) → m * 2 ^ (d + 1) ≡ q * 2 ^ i → n * 2 ^ (d + 1) ≡ q * 2 ^ j → (m * 2 ^ j + n * 2 ^ i) * 2 ^ d ≡ q * 2 ^ (i + j)
+halves_are m i n j q d first second =
+    let a : m * 2 ^ (d + 1) * 2 ^ j ≡ q * 2 ^ i * 2 ^ j = ap (λ (k : ℕ). k * 2 ^ j) first in
+    let b : m * 2 ^ (d + 1) * 2 ^ j ≡ m * (2 ^ d * 2 ^ 1) * 2 ^ j = ap (λ (k : ℕ). m * k * 2 ^ j) (pow-add 2 d 1) in
+    let c : n * 2 ^ (d + 1) * 2 ^ i ≡ q * 2 ^ j * 2 ^ i = ap (λ (k : ℕ). k * 2 ^ i) second in
+    let e : n * 2 ^ (d + 1) * 2 ^ i ≡ n * (2 ^ d * 2 ^ 1) * 2 ^ i = ap (λ (k : ℕ). n * k * 2 ^ i) (pow-add 2 d 1) in
+    let f = power_of_sum q i j in omega arith
 
-cancels : (d q k : ℕ) → 0 < d → d * q ≡ d * k → q ≡ k
-cancels d q k above is = sym (mul-div_cancel_left q above) ∙ ap (λ (m : ℕ). m / d) is ∙ mul-div_cancel_left k above
+-- as much as the whole is the whole
+whole_as : (q p : Part) → IsSamePart q p → IsWhole p → IsWhole q
+whole_as q p same is = let n : ℕ = 2 ^ p.depth in let e : p.share * 2 ^ q.depth ≡ n * 2 ^ q.depth = ap (λ (m : ℕ). m * 2 ^ q.depth) is in
+    eq_of_mul-eq-mul_left n (pow_pos p.depth) q.share (2 ^ q.depth) (omega (arith, same, e))
 
 -- joined halves are the part again, also where each is known only up to how much of the whole it is
 pub parts_again : (a b p : Part) → IsSamePart a (half p) → IsSamePart b (half p) → IsAgain p (together a b)
-parts_again a b p first second = let again : IsSamePart (together a b) p = halves_are a.share a.depth b.share b.depth p.share p.depth first second in record {
-  same = again;
-  whole = λ is. let j : ℕ = a.depth + b.depth in let q : ℕ = (together a b).share in
-      let e : p.share * 2 ^ j ≡ 2 ^ p.depth * 2 ^ j = ap (λ (m : ℕ). m * 2 ^ j) is in cancels (2 ^ p.depth) q (2 ^ j) (pow_pos p.depth) (omega (arith, again, e));
-}
+parts_again a b p first second = let again : IsSamePart (together a b) p = halves_are a.share a.depth b.share b.depth p.share p.depth first second in
+    record { same = again; whole = whole_as (together a b) p again }
 
 -- the parts under each kind of step
 
-alone_at : (j : ℕ) → 1 * 2 ^ (j - 0) + 0 ≡ 2 ^ j
-alone_at j = let is : j - 0 ≡ j = omega arith in let same : 2 ^ (j - 0) ≡ 2 ^ j = ap (λ (m : ℕ). 2 ^ m) is in omega arith
-
 module _ {V : Type 0} {part_of : V → Part} {IsBlank : V → Type 0} where
-  pub shared_first : (v : V) → part_of v ≡ part 1 0 → IsShared part_of IsBlank (v ∷ [])
+  pub shared_first : (v : V) → part_of v ≡ whole → IsShared part_of IsBlank (v ∷ [])
   shared_first v is = record {
     finest = 0;
     within = (subst (λ (p : Part). p.depth ≤ 0) (sym is) (omega arith), tt);
-    one_whole = λ j deep. subst (λ (p : Part). weight j p + 0 ≡ 2 ^ j) (sym is) (alone_at j);
+    one_whole = λ j deep. subst (λ (p : Part). weight j p + 0 ≡ 2 ^ j) (sym is) (let all = weight_whole whole j (omega arith) refl in omega arith);
     blank = ((λ none. absurd (omega (arith, ap (λ (p : Part). p.share) is))), tt);
   }
 
@@ -141,7 +142,7 @@ module _ {V : Type 0} {part_of : V → Part} {IsBlank : V → Type 0} where
   shared_step views id v w at same alive s = record {
     finest = s.finest;
     within = each_set (λ u. (part_of u).depth ≤ s.finest) views id w s.within (subst (λ (p : Part). p.depth ≤ s.finest) (sym same) (each_at (λ u. (part_of u).depth ≤ s.finest) views id v at s.within));
-    one_whole = λ j deep. let moved = total_set (λ u. weight j (part_of u)) views id v w at in let was = s.one_whole j deep in let is = ap (weight j) same in omega arith;
+    one_whole = λ j deep. total_same (λ u. weight j (part_of u)) views id v w at (ap (weight j) same) ∙ s.one_whole j deep;
     blank = each_set (λ u. (part_of u).share ≡ 0 → IsBlank u) views id w s.blank (λ none. absurd (omega (arith, ap (λ (p : Part). p.share) same)));
   }
 
@@ -153,8 +154,8 @@ module _ {V : Type 0} {part_of : V → Part} {IsBlank : V → Type 0} where
       let alive' : (w : V) → part_of w ≡ half p → (part_of w).share ≡ 0 → IsBlank w = λ w is none. absurd (omega (arith, ap (λ (q : Part). q.share) is)) in record {
         finest = s.finest + 1;
         within = each_snoc (λ u. (part_of u).depth ≤ s.finest + 1) (set views id left) right (each_set (λ u. (part_of u).depth ≤ s.finest + 1) views id left later (here left first)) (here right second);
-        one_whole = λ j deep. let f : V → ℕ = λ u. weight j (part_of u) in let moved = total_set f views id v left at in let added = total_snoc f (set views id left) right in
-            let was = s.one_whole j (omega arith) in let halves = weight_half p j (omega arith) in let a = ap (weight j) first in let b = ap (weight j) second in omega arith;
+        one_whole = λ j deep. let sum = weight_half p j (omega arith) in let a = ap (weight j) first in let b = ap (weight j) second in
+            total_split (λ u. weight j (part_of u)) views id v left right at (omega arith) ∙ s.one_whole j (omega arith);
         blank = each_snoc (λ u. (part_of u).share ≡ 0 → IsBlank u) (set views id left) right (each_set (λ u. (part_of u).share ≡ 0 → IsBlank u) views id left s.blank (alive' left first)) (alive' right second);
       }
 
@@ -166,8 +167,8 @@ module _ {V : Type 0} {part_of : V → Part} {IsBlank : V → Type 0} where
       let P : V → Type 0 = λ u. (part_of u).depth ≤ most in let Q : V → Type 0 = λ u. (part_of u).share ≡ 0 → IsBlank u in record {
         finest = most;
         within = each_set P (set views id both) other spent (each_set P views id both later (subst (λ (r : Part). r.depth ≤ most) (sym joined) (omega arith))) (subst (λ (r : Part). r.depth ≤ most) (sym none) (omega arith));
-        one_whole = λ j deep. let f : V → ℕ = λ u. weight j (part_of u) in let moved = total_set f views id v both at in let left_out = total_set f (set views id both) other w spent there in
-            let was = s.one_whole j (omega arith) in let sum = weight_together p q j (omega arith) in let a = ap (weight j) joined in let b = ap (weight j) none in omega arith;
+        one_whole = λ j deep. let sum = weight_together p q j (omega arith) in let a = ap (weight j) joined in let b = ap (weight j) none in
+            total_join (λ u. weight j (part_of u)) views id other v w both spent at there (omega arith) ∙ s.one_whole j (omega arith);
         blank = each_set Q (set views id both) other spent (each_set Q views id both s.blank (λ empty. absurd (joined_alive p q alive (sym (ap (λ (r : Part). r.share) joined) ∙ empty)))) (λ _. blank);
       }
     where
