@@ -1,0 +1,47 @@
+-- What laws of every object speak of.
+use Rattle.std.specs.Prelude.{◌≡◌, ◌<◌, ℕ, ◌==◌, Bool, true, false, List, [], ◌∷◌, length, Contains, MatchBool, MatchOption}
+use Rattle.steps_events.specs.declared.event.Word.{Word}
+use Rattle.steps_events.specs.declared.event.Call.{Call}
+use Rattle.steps_events.specs.declared.event.Act.{Act}
+use Rattle.steps_events.specs.declared.event.Act.TheVariants as acts
+use Rattle.steps_events.specs.declared.event.Answer.TheVariants as answers
+use Rattle.steps_events.specs.declared.event.Then.{Then}
+use Rattle.steps_events.specs.declared.event.Then.TheVariants as thens
+use Rattle.steps_events.specs.declared.event.Event.{Event}
+use Rattle.steps_events.specs.declared.hold.HoldKind.TheVariants as kinds
+use Rattle.steps_events.specs.Tables.{Table}
+use Rattle.steps_events.specs.Past.{Hold, call_of, holds_of, word_in}
+
+-- an act that tells a word's value tells what the memory holds there, and an exchange is done exactly where it found its `from`
+abbrev pub IsTold : {T : Type 0} → Act T → (Word → ℕ) → Type 0
+IsTold (acts.Load word seen) memory = seen ≡ memory word
+IsTold (acts.Swap word old put) memory = old ≡ memory word
+IsTold (acts.Add word old put) memory = old ≡ memory word
+IsTold (acts.Exchange word from to found done) memory = (found ≡ memory word) × (done ≡ (found == from))
+IsTold act memory = Unit {0}
+
+-- Told: so does the latest event.
+abbrev pub TellsMemory : {T P : Type 0} → Table T P → List (Event T) → Type 0
+TellsMemory t [] = Unit {0}
+TellsMemory t (e ∷ past) = IsTold e.act (word_in t past)
+
+-- Exclusive: a write hold is the only hold.
+abbrev pub IsExclusive : List Hold → Type 0
+IsExclusive holds = (party : ℕ) → Contains holds (party, kinds.Write) → holds ≡ (party, kinds.Write) ∷ []
+
+-- some hold of the lock
+abbrev pub IsLocked : {T P : Type 0} → Table T P → List (Event T) → Type 0
+IsLocked t past = 0 < length (holds_of t past)
+
+abbrev pub is_refusal : {T : Type 0} → Then T → Bool
+is_refusal (thens.Answers answers.Interrupted) = true
+is_refusal (thens.Answers answers.Full) = true
+is_refusal other = false
+
+-- Cause: where the latest event refused its call, the call's cause is there, as a fact of the events up to the answer.
+abbrev pub HasCause : {T : Type 0} → (Call T → ℕ → List (Event T) → Type 0) → List (Event T) → Type 0
+HasCause Cause [] = Unit {0}
+HasCause Cause (e ∷ past) =
+    MatchBool (is_refusal e.then)
+    (MatchOption (call_of e.party past) ⊥ (λ c. Cause c.call e.party (e ∷ past)))
+    (Unit {0})

@@ -1,0 +1,11 @@
+pub mod Arithmetic
+pub mod Integers
+pub mod IntegerLaws
+pub mod WordsAt
+pub mod Rows
+pub mod Tables
+pub mod Past
+pub mod Moves
+pub mod Runs
+pub mod Sights
+pub mod Laws

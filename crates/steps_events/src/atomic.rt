@@ -1,0 +1,3 @@
+//! Wide atomics: here only what their integers are.
+
+pub mod internal;
