@@ -1,0 +1,4 @@
+pub mod Holds
+pub mod Steps
+pub mod Parties
+pub mod Locks

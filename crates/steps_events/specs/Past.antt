@@ -35,6 +35,10 @@ abbrev pub word_in : {T P : Type 0} → Table T P → List (Event T) → Word �
 word_in t [] word = t.opening word
 word_in t (e ∷ past) word = word_after word e.act (word_in t past word)
 
+-- the event of a party
+abbrev pub event : {T : Type 0} → ℕ → Act T → Then T → Event T
+event number act outcome = record { party = number; act = act; «then» = outcome }
+
 -- The calls.
 
 -- a call under way, with its events after the one that began it, newest first

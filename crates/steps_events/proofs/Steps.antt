@@ -1,0 +1,116 @@
+-- What an event is, at any table: by its input, with the form of its input, and telling what the memory holds.
+use Rattle.std.proofs.Common.{◌≡◌, refl, subst, ℕ, Bool, true, false, List, [], ◌∷◌, Option, Some, None}
+use Rattle.steps_events.specs.declared.WaitAction.{WaitAction}
+use Rattle.steps_events.specs.declared.event.Word.{Word}
+use Rattle.steps_events.specs.declared.event.Call.{Call}
+use Rattle.steps_events.specs.declared.event.Act.{Act}
+use Rattle.steps_events.specs.declared.event.Act.TheVariants as acts
+use Rattle.steps_events.specs.declared.event.Event.{Event}
+use Rattle.steps_events.specs.declared.event.Input.{Input}
+use Rattle.steps_events.specs.declared.event.Input.TheVariants as inputs
+use Rattle.steps_events.specs.declared.event.Then.TheVariants as thens
+use Rattle.steps_events.specs.declared.hold.HoldKind.{HoldKind}
+use Rattle.steps_events.specs.declared.row.Intent.{Intent}
+use Rattle.steps_events.specs.declared.row.Intent.TheVariants as intents
+use Rattle.steps_events.specs.Arithmetic.{Arithmetic}
+use Rattle.steps_events.specs.Rows.{carried_out, value_told, place_after}
+use Rattle.steps_events.specs.Tables.{Table}
+use Rattle.steps_events.specs.Past.{PendingCall, call_of, call_going_on, hold_of, word_in}
+use Rattle.steps_events.specs.Moves.{Move, stage_of, stage_after, step_at, step_of, move_of, fault_at, is_step, IsNext}
+use Rattle.steps_events.specs.Runs.{IsPast}
+use Rattle.steps_events.specs.Laws.{IsTold, TellsMemory}
+
+-- A step that is carried out.
+
+pub carried_is_step : {T : Type 0} (intent : Intent T) (memory : Word → ℕ) → is_step (carried_out intent memory) ≡ true
+carried_is_step (intents.Load word) memory = refl
+carried_is_step (intents.Store word put) memory = refl
+carried_is_step (intents.Swap word put) memory = refl
+carried_is_step (intents.Add word more) memory = refl
+carried_is_step (intents.Subtract word less) memory = refl
+carried_is_step (intents.Exchange word from to) memory = refl
+carried_is_step (intents.Wake wake) memory = refl
+carried_is_step intents.End memory = refl
+carried_is_step (intents.ReadCell value) memory = refl
+
+pub carried_is_told : {T : Type 0} (intent : Intent T) (memory : Word → ℕ) → IsTold (carried_out intent memory) memory
+carried_is_told (intents.Load word) memory = refl
+carried_is_told (intents.Store word put) memory = tt
+carried_is_told (intents.Swap word put) memory = refl
+carried_is_told (intents.Add word more) memory = refl
+carried_is_told (intents.Subtract word less) memory = refl
+carried_is_told (intents.Exchange word from to) memory = (refl, refl)
+carried_is_told (intents.Wake wake) memory = tt
+carried_is_told intents.End memory = tt
+carried_is_told (intents.ReadCell value) memory = tt
+
+-- its call has it as an event of its own
+pub carried_goes_on :
+    {T : Type 0} (intent : Intent T) (memory : Word → ℕ) (e : Event T) (c : PendingCall T) →
+    call_going_on (carried_out intent memory) e (Some c) ≡ Some (record { call = c.call; own = e ∷ c.own })
+carried_goes_on (intents.Load word) memory e c = refl
+carried_goes_on (intents.Store word put) memory e c = refl
+carried_goes_on (intents.Swap word put) memory e c = refl
+carried_goes_on (intents.Add word more) memory e c = refl
+carried_goes_on (intents.Subtract word less) memory e c = refl
+carried_goes_on (intents.Exchange word from to) memory e c = refl
+carried_goes_on (intents.Wake wake) memory e c = refl
+carried_goes_on intents.End memory e c = refl
+carried_goes_on (intents.ReadCell value) memory e c = refl
+
+-- and goes on as the row says
+pub carried_stage :
+    {T P : Type 0} (t : Table T P) (place : P) (intent : Intent T) (memory : Word → ℕ) →
+    stage_after t (carried_out intent memory) place ≡ place_after (t.after place (value_told (carried_out intent memory)))
+carried_stage t place (intents.Load word) memory = refl
+carried_stage t place (intents.Store word put) memory = refl
+carried_stage t place (intents.Swap word put) memory = refl
+carried_stage t place (intents.Add word more) memory = refl
+carried_stage t place (intents.Subtract word less) memory = refl
+carried_stage t place (intents.Exchange word from to) memory = refl
+carried_stage t place (intents.Wake wake) memory = refl
+carried_stage t place intents.End memory = refl
+carried_stage t place (intents.ReadCell value) memory = refl
+
+-- A fact of a move, by its input: a beginning, an answer, a choice, or the step at the place of the call under way.
+pub by_move :
+    {T P : Type 0} (t : Table T P) (pending : Option (PendingCall T)) (hold : Option HoldKind) (memory : Word → ℕ) (R : Option (PendingCall T) → Move T → Type 0) (input : Input T) (m : Move T) →
+    ((call : Call T) → input ≡ inputs.Begin call → R pending (record { act = acts.Begun call; outcome = thens.GoesOn })) →
+    ((action : WaitAction) → input ≡ inputs.Answer action → R pending (record { act = acts.Answered action; outcome = thens.GoesOn })) →
+    ((choice : Option T) → input ≡ inputs.Choose choice → R pending (record { act = acts.Chosen choice; outcome = thens.GoesOn })) →
+    ((c : PendingCall T) (place : P) → input ≡ inputs.Go → pending ≡ Some c → stage_of t c ≡ Some place → R (Some c) (step_at t place hold memory)) →
+    move_of t pending hold memory input ≡ Some m → R pending m
+by_move {T} t pending hold memory R (inputs.Begin call) m begins answers chooses steps is =
+    let move : Move T = record { act = acts.Begun call; outcome = thens.GoesOn } in
+    let made : move ≡ m = cc in
+    subst (R pending) made (begins call refl)
+by_move {T} t pending hold memory R (inputs.Answer action) m begins answers chooses steps is =
+    let move : Move T = record { act = acts.Answered action; outcome = thens.GoesOn } in
+    let made : move ≡ m = cc in
+    subst (R pending) made (answers action refl)
+by_move {T} t pending hold memory R (inputs.Choose choice) m begins answers chooses steps is =
+    let move : Move T = record { act = acts.Chosen choice; outcome = thens.GoesOn } in
+    let made : move ≡ m = cc in
+    subst (R pending) made (chooses choice refl)
+by_move t None hold memory R inputs.Go m begins answers chooses steps is = absurd cc
+by_move {T} {P} t (Some c) hold memory R inputs.Go m begins answers chooses steps is = by_stage (stage_of t c) refl is
+  where
+    by_stage : (stage : Option P) → stage_of t c ≡ stage → step_of t stage hold memory ≡ Some m → R (Some c) m
+    by_stage None at made = absurd cc
+    by_stage (Some place) at made =
+        let same : step_at t place hold memory ≡ m = cc in
+        subst (R (Some c)) same (steps c place refl refl at)
+
+-- Each act that tells a word's value tells what the memory holds.
+told_by_move :
+    {T P : Type 0} (t : Table T P) (pending : Option (PendingCall T)) (hold : Option HoldKind) (memory : Word → ℕ) (input : Input T) (m : Move T) →
+    move_of t pending hold memory input ≡ Some m → IsTold m.act memory
+told_by_move {T} t pending hold memory input m is =
+    by_move t pending hold memory (λ (k : Option (PendingCall T)) (x : Move T). IsTold x.act memory) input m
+    (λ call _. tt) (λ action _. tt) (λ choice _. tt)
+    (λ c place _ same at. carried_is_told (t.intent place hold) memory)
+    is
+
+pub tells_memory : {T P : Type 0} (z : Arithmetic T) (t : Table T P) (parties : ℕ) (past : List (Event T)) → IsPast z t parties past → TellsMemory t past
+tells_memory z t parties [] run = tt
+tells_memory z t parties (e ∷ past) run = told_by_move t (call_of e.party past) (hold_of t e.party past) (word_in t past) run.0.0 _ run.0.1.moved
