@@ -7,7 +7,7 @@ use Rattle.steps_events.specs.declared.event.Then.{Then}
 use Rattle.steps_events.specs.declared.event.Event.{Event}
 use Rattle.steps_events.specs.declared.hold.HoldKind.{HoldKind}
 use Rattle.steps_events.specs.Tables.{Table}
-use Rattle.steps_events.specs.Past.{Hold, call_of, call_after, holds_of, hold_of, hold_among, hold_or, hold_after, without, with_hold, is_release, hold_taken}
+use Rattle.steps_events.specs.Past.{Hold, call_of, call_after, holds_of, hold_among, hold_or, hold_after, without, with_hold, is_release, hold_taken}
 use Rattle.steps_events.specs.Past.{event}
 
 pub eqb_same : (p : ℕ) → (p == p) ≡ true

@@ -1,9 +1,9 @@
 -- What an event is, at any table: by its input, with the form of its input, and telling what the memory holds.
-use Rattle.std.proofs.Common.{◌≡◌, refl, subst, ℕ, Bool, true, false, List, [], ◌∷◌, Option, Some, None}
+use Rattle.std.proofs.Common.{◌≡◌, refl, ◌∙◌, subst, ℕ, Bool, true, false, cond, ◌&&◌, List, [], ◌∷◌, Option, Some, None}
+use Rattle.std.specs.Prelude.{not}
 use Rattle.steps_events.specs.declared.WaitAction.{WaitAction}
 use Rattle.steps_events.specs.declared.event.Word.{Word}
 use Rattle.steps_events.specs.declared.event.Call.{Call}
-use Rattle.steps_events.specs.declared.event.Act.{Act}
 use Rattle.steps_events.specs.declared.event.Act.TheVariants as acts
 use Rattle.steps_events.specs.declared.event.Event.{Event}
 use Rattle.steps_events.specs.declared.event.Input.{Input}
@@ -15,10 +15,10 @@ use Rattle.steps_events.specs.declared.row.Intent.TheVariants as intents
 use Rattle.steps_events.specs.Arithmetic.{Arithmetic}
 use Rattle.steps_events.specs.Rows.{carried_out, value_told, place_after}
 use Rattle.steps_events.specs.Tables.{Table}
-use Rattle.steps_events.specs.Past.{PendingCall, call_of, call_going_on, hold_of, word_in}
-use Rattle.steps_events.specs.Moves.{Move, stage_of, stage_after, step_at, step_of, move_of, fault_at, is_step, IsNext}
+use Rattle.steps_events.specs.Past.{PendingCall, same_word, word_after, call_of, call_going_on, hold_of, word_in}
+use Rattle.steps_events.specs.Moves.{Move, stage_of, stage_after, step_at, step_of, move_of, is_step}
 use Rattle.steps_events.specs.Runs.{IsPast}
-use Rattle.steps_events.specs.Laws.{IsTold, TellsMemory}
+use Rattle.steps_events.specs.Laws.{IsTold, TellsMemory, is_apart, Lacks}
 
 -- A step that is carried out.
 
@@ -114,3 +114,33 @@ told_by_move {T} t pending hold memory input m is =
 pub tells_memory : {T P : Type 0} (z : Arithmetic T) (t : Table T P) (parties : ℕ) (past : List (Event T)) → IsPast z t parties past → TellsMemory t past
 tells_memory z t parties [] run = tt
 tells_memory z t parties (e ∷ past) run = told_by_move t (call_of e.party past) (hold_of t e.party past) (word_in t past) run.0.0 _ run.0.1.moved
+
+-- A word that no step works on holds what it opened with.
+
+unlike : (b done : Bool) (put value : ℕ) → not b ≡ true → cond (b && done) put value ≡ value
+unlike true done put value apart = absurd cc
+unlike false done put value apart = refl
+
+other_word : (b : Bool) (put value : ℕ) → not b ≡ true → cond b put value ≡ value
+other_word true put value apart = absurd cc
+other_word false put value apart = refl
+
+apart_keeps : {T : Type 0} (word : Word) (intent : Intent T) (memory : Word → ℕ) (value : ℕ) → is_apart word intent ≡ true → word_after word (carried_out intent memory) value ≡ value
+apart_keeps word (intents.Load w) memory value apart = refl
+apart_keeps word (intents.Store w put) memory value apart = other_word (same_word w word) _ value apart
+apart_keeps word (intents.Swap w put) memory value apart = other_word (same_word w word) _ value apart
+apart_keeps word (intents.Add w more) memory value apart = other_word (same_word w word) _ value apart
+apart_keeps word (intents.Subtract w less) memory value apart = other_word (same_word w word) _ value apart
+apart_keeps word (intents.Exchange w from to) memory value apart = unlike (same_word w word) _ to value apart
+apart_keeps word (intents.Wake wake) memory value apart = refl
+apart_keeps word intents.End memory value apart = refl
+apart_keeps word (intents.ReadCell v) memory value apart = refl
+
+pub lacked_word : {T P : Type 0} (z : Arithmetic T) (t : Table T P) (parties : ℕ) (word : Word) → Lacks t word → (past : List (Event T)) → IsPast z t parties past → word_in t past word ≡ t.opening word
+lacked_word z t parties word lacks [] run = refl
+lacked_word {T} z t parties word lacks (e ∷ past) run =
+    by_move t (call_of e.party past) (hold_of t e.party past) (word_in t past) (λ (k : Option (PendingCall T)) (x : Move T). word_after word x.act (word_in t past word) ≡ word_in t past word)
+    run.0.0 (record { act = e.act; outcome = e.then }) (λ call _. refl) (λ action _. refl) (λ choice _. refl)
+    (λ c place _ same at. apart_keeps word (t.intent place (hold_of t e.party past)) (word_in t past) (word_in t past word) (lacks place (hold_of t e.party past)))
+    run.0.1.moved
+    ∙ lacked_word z t parties word lacks past run.1

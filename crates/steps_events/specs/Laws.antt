@@ -1,5 +1,5 @@
 -- What laws of every object speak of.
-use Rattle.std.specs.Prelude.{◌≡◌, ◌<◌, ℕ, ◌==◌, Bool, true, false, List, [], ◌∷◌, length, Contains, MatchBool, MatchOption}
+use Rattle.std.specs.Prelude.{◌≡◌, ◌<◌, ℕ, ◌==◌, Bool, true, false, not, Option, List, [], ◌∷◌, length, Contains, MatchBool, MatchOption}
 use Rattle.steps_events.specs.declared.event.Word.{Word}
 use Rattle.steps_events.specs.declared.event.Call.{Call}
 use Rattle.steps_events.specs.declared.event.Act.{Act}
@@ -8,9 +8,12 @@ use Rattle.steps_events.specs.declared.event.Answer.TheVariants as answers
 use Rattle.steps_events.specs.declared.event.Then.{Then}
 use Rattle.steps_events.specs.declared.event.Then.TheVariants as thens
 use Rattle.steps_events.specs.declared.event.Event.{Event}
+use Rattle.steps_events.specs.declared.hold.HoldKind.{HoldKind}
 use Rattle.steps_events.specs.declared.hold.HoldKind.TheVariants as kinds
+use Rattle.steps_events.specs.declared.row.Intent.{Intent}
+use Rattle.steps_events.specs.declared.row.Intent.TheVariants as intents
 use Rattle.steps_events.specs.Tables.{Table}
-use Rattle.steps_events.specs.Past.{Hold, call_of, holds_of, word_in}
+use Rattle.steps_events.specs.Past.{Hold, same_word, call_of, holds_of, word_in}
 
 -- an act that tells a word's value tells what the memory holds there, and an exchange is done exactly where it found its `from`
 abbrev pub IsTold : {T : Type 0} → Act T → (Word → ℕ) → Type 0
@@ -45,3 +48,17 @@ HasCause Cause (e ∷ past) =
     MatchBool (is_refusal e.then)
     (MatchOption (call_of e.party past) ⊥ (λ c. Cause c.call e.party (e ∷ past)))
     (Unit {0})
+
+-- a step that neither tells nor changes the word
+abbrev pub is_apart : {T : Type 0} → Word → Intent T → Bool
+is_apart word (intents.Load w) = not (same_word w word)
+is_apart word (intents.Store w put) = not (same_word w word)
+is_apart word (intents.Swap w put) = not (same_word w word)
+is_apart word (intents.Add w more) = not (same_word w word)
+is_apart word (intents.Subtract w less) = not (same_word w word)
+is_apart word (intents.Exchange w from to) = not (same_word w word)
+is_apart word other = true
+
+-- no step of the table works on the word
+abbrev pub Lacks : {T P : Type 0} → Table T P → Word → Type 0
+Lacks {T} {P} t word = (place : P) (hold : Option HoldKind) → is_apart word (t.intent place hold) ≡ true

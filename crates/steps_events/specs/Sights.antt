@@ -7,7 +7,7 @@ use Rattle.steps_events.specs.declared.event.Act.TheVariants as acts
 use Rattle.steps_events.specs.declared.event.Then.{Then}
 use Rattle.steps_events.specs.declared.event.Then.TheVariants as thens
 use Rattle.steps_events.specs.declared.event.Event.{Event}
-use Rattle.steps_events.specs.Past.{PendingCall, same_word, call_of, is_failure}
+use Rattle.steps_events.specs.Past.{same_word, call_of, is_failure}
 
 -- what an act tells that the word held: a sight of it
 abbrev pub sight_of : {T : Type 0} → Word → Act T → Option ℕ

@@ -1,5 +1,5 @@
 -- The words of an object, by their names.
-use Rattle.std.specs.Prelude.{ℕ, Bool, true, false}
+use Rattle.std.specs.Prelude.{ℕ}
 use Rattle.steps_events.specs.declared.event.Word.{Word}
 use Rattle.steps_events.specs.declared.event.Word.TheVariants as names
 use Rattle.steps_events.specs.declared.words.Words.{Words}
