@@ -185,3 +185,11 @@ each_call z t parties At kept past run party =
     (λ before input e next at.
     moved_at t At kept (call_of e.party before) (hold_of t e.party before) (word_in t before) input e.party _ (fault_at_none t parties before e.party input next.allowed) next.moved at)
     past run party
+
+-- of the call that a party has under way, at its place
+pub at_place :
+    {T P : Type 0} (z : Arithmetic T) (t : Table T P) (parties : ℕ) (At : P → PendingCall T → Option HoldKind → Type 0) → IsKept t At →
+    (past : List (Event T)) → IsPast z t parties past → (party : ℕ) (c : PendingCall T) (place : P) → call_of party past ≡ Some c → stage_of t c ≡ Some place → At place c (hold_of t party past)
+at_place {T} z t parties At kept past run party c place called stage =
+    let here : IsAtPlace t At (Some c) (hold_of t party past) = subst (λ (k : Option (PendingCall T)). IsAtPlace t At k (hold_of t party past)) called (each_call z t parties At kept past run party) in
+    subst (λ p. At p c (hold_of t party past)) (some_same here.0 place (sym here.1 ∙ stage)) here.2

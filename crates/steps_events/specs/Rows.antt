@@ -1,5 +1,5 @@
 -- The rows of a table of steps: what a step does to the words that it finds, and how its call goes on.
-use Rattle.std.specs.Prelude.{ℕ, ◌+◌, ◌-◌, ◌%◌, ◌^◌, ◌==◌, ◌&&◌, nat_lt, Bool, true, false, if◌then◌else◌, Option, Some, None}
+use Rattle.std.specs.Prelude.{◌≡◌, ℕ, ◌+◌, ◌-◌, ◌%◌, ◌^◌, ◌==◌, ◌&&◌, nat_lt, Bool, true, false, if◌then◌else◌, Option, Some, None}
 use Rattle.steps_events.specs.declared.WaitAction.{WaitAction}
 use Rattle.steps_events.specs.declared.WaitAction.TheVariants as actions
 use Rattle.steps_events.specs.declared.event.Word.{Word}
@@ -54,6 +54,13 @@ within wrap (afters.At place) = afters.At (wrap place)
 within wrap (afters.Waits place seen) = afters.Waits (wrap place) seen
 within wrap (afters.Chooses place old) = afters.Chooses (wrap place) old
 within wrap (afters.Ends answer) = afters.Ends answer
+
+-- after a call of a closure that wraps places
+abbrev pub IsWithin : {T P Q : Type 0} → (P → Q → Type 0) → After T P → After T Q → Type 0
+IsWithin {T} {P} {Q} Wraps (afters.At place) result = (wrapped : Q) × Wraps place wrapped × (result ≡ afters.At wrapped)
+IsWithin {T} {P} {Q} Wraps (afters.Waits place seen) result = (wrapped : Q) × Wraps place wrapped × (result ≡ afters.Waits wrapped seen)
+IsWithin {T} {P} {Q} Wraps (afters.Chooses place old) result = (wrapped : Q) × Wraps place wrapped × (result ≡ afters.Chooses wrapped old)
+IsWithin Wraps (afters.Ends answer) result = result ≡ afters.Ends answer
 
 -- A refused call spins 10000 times, then stands at its wait closure; once that has answered Abort, it gives up.
 abbrev pub refused : {T : Type 0} → Patience → ℕ → After T Patience

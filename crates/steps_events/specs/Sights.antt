@@ -95,3 +95,16 @@ AsksAfterSpinning in_vain (e ∷ past) =
     MatchBool (stands_at_wait e.then)
     (MatchOption (call_of e.party past) ⊥ (λ c. spins_in in_vain c.own ≡ 10000))
     (Unit {0})
+
+-- how often a call stood at its wait closure
+abbrev pub stands_in : {T : Type 0} → List (Event T) → ℕ
+stands_in [] = 0
+stands_in (e ∷ own) = (if stands_at_wait e.then then 1 else 0) + stands_in own
+
+abbrev pub is_exchange : {T : Type 0} → Act T → Bool
+is_exchange (acts.Exchange word from to found done) = true
+is_exchange act = false
+
+abbrev pub exchanges_in : {T : Type 0} → List (Event T) → ℕ
+exchanges_in [] = 0
+exchanges_in (e ∷ own) = (if is_exchange e.act then 1 else 0) + exchanges_in own

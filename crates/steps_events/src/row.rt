@@ -1,6 +1,6 @@
 //! The rows of a table of steps: what a step is to do, and how its call goes on by what the step finds.
 ghost use Rattle.std.specs.Prelude.{◌≡◌};
-ghost use Rattle.steps_events.specs.Rows.{value_told, outcome_of, place_after};
+ghost use Rattle.steps_events.specs.Rows.{value_told, outcome_of, IsWithin};
 
 use crate::event::{Act, Answer, Then, Wake, Word};
 
@@ -53,6 +53,20 @@ impl<T, P> After<T, P> {
             After::Waits(_, seen) => Then::Waits(*seen),
             After::Chooses(_, old) => Then::Chooses(*old),
             After::Ends(answer) => Then::Answers(*answer),
+        }
+    }
+
+    /// The same with the place as a place of something larger.
+    #[inline(always)]
+    pub fn within<Q, F: FnOnce(P) -> Q>(self, wrap: F) -> After<T, Q>
+        requires { F.IsAlwaysCallable wrap }
+        ensures { IsWithin (F.post wrap) self result }
+    {
+        match self {
+            After::At(place) => After::At(wrap(place)),
+            After::Waits(place, seen) => After::Waits(wrap(place), seen),
+            After::Chooses(place, old) => After::Chooses(wrap(place), old),
+            After::Ends(answer) => After::Ends(answer),
         }
     }
 }

@@ -1,0 +1,1 @@
+pub keeps_mutex : ?

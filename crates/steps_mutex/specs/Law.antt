@@ -1,0 +1,48 @@
+-- What a mutex keeps at every front of every run: one holder, a cause for each refusal, and how often a call tries.
+use Rattle.std.specs.Prelude.{◌≡◌, ℕ, ◌+◌, ◌↔◌, true, List, [], ◌∷◌, MatchBool, MatchOption}
+use Rattle.steps_events.specs.declared.event.Word.TheVariants as words
+use Rattle.steps_events.specs.declared.event.Call.{Call}
+use Rattle.steps_events.specs.declared.event.Call.TheVariants as calls
+use Rattle.steps_events.specs.declared.event.Answer.TheVariants as answers
+use Rattle.steps_events.specs.declared.event.Then.TheVariants as thens
+use Rattle.steps_events.specs.declared.event.Event.{Event}
+use Rattle.steps_events.specs.Past.{call_of, holds_of, is_failure, failures_in}
+use Rattle.steps_events.specs.Sights.{is_sight, AtLastSight, HasAborted, AsksAfterSpinning, stands_in, exchanges_in}
+use Rattle.steps_events.specs.Laws.{TellsMemory, IsExclusive, IsLocked, is_refusal, HasCause}
+use Rattle.steps_mutex.specs.Table.{mutex_table}
+
+-- `TryLock`: a hold stood at its last sight. `Lock`: its own closure had answered Abort before its last sight, and a hold stood at it.
+abbrev pub MutexCause : {T : Type 0} → Call T → ℕ → List (Event T) → Type 0
+MutexCause calls.TryLock party events = AtLastSight words.State (IsLocked mutex_table) party events
+MutexCause calls.Lock party events = AtLastSight words.State (λ before. HasAborted party before × IsLocked mutex_table before) party events
+MutexCause other party events = ⊥
+
+-- a `Lock` that gives up has made 10001 exchanges and one more for each time that it stood, and all have failed
+abbrev pub HasTried : {T : Type 0} → Call T → List (Event T) → Type 0
+HasTried calls.Lock own = (exchanges_in own ≡ 10001 + stands_in own) × (failures_in own ≡ exchanges_in own)
+HasTried other own = Unit {0}
+
+abbrev pub GivesUpAfterTrying : {T : Type 0} → List (Event T) → Type 0
+GivesUpAfterTrying [] = Unit {0}
+GivesUpAfterTrying (e ∷ past) = MatchBool (is_refusal e.then) (MatchOption (call_of e.party past) ⊥ (λ c. HasTried c.call (e ∷ c.own))) (Unit {0})
+
+-- Exact: the event in which a `TryLock` sees the word grants the mutex exactly where there was no hold before it.
+abbrev pub IsExactGrant : {T : Type 0} → List (Event T) → Type 0
+IsExactGrant [] = Unit {0}
+IsExactGrant (e ∷ past) =
+    MatchOption (call_of e.party past) (Unit {0})
+    (λ c. c.call ≡ calls.TryLock → is_sight words.State e.act ≡ true → ((e.then ≡ thens.Answers answers.Success) ↔ (holds_of mutex_table past ≡ [])))
+
+pub record KeepsMutex {T : Type 0} (past : List (Event T)) : Type 0 where
+  -- each act tells what the word held
+  pub told : TellsMemory mutex_table past
+  -- one holder at most
+  pub exclusive : IsExclusive (holds_of mutex_table past)
+  -- each refusal has its cause
+  pub cause : HasCause MutexCause past
+  -- `TryLock` is granted exactly where nobody holds the mutex
+  pub exact : IsExactGrant past
+  -- a wait closure is asked after 10000 spins, which are exchanges that failed
+  pub asks : AsksAfterSpinning is_failure past
+  -- and each `Lock` that gives up has tried so often
+  pub tries : GivesUpAfterTrying past
