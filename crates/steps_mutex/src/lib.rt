@@ -112,7 +112,6 @@ fn is_free(told: Option<u64>) -> bool
 
 /// What holds at every front of every run of a mutex, of any number of parties. It says so of the definitions alone, and
 /// does nothing.
-#[tactic(auto, using(crate::proofs::Laws::keeps_mutex))]
 pub fn at_every_front<T>()
     ensures { (z : Arithmetic T) (parties : ℕ) (past : List (AnEvent T)) →
         IsPast z mutex_table parties past → KeepsMutex past }
