@@ -1,0 +1,334 @@
+-- A semaphore keeps its law at every front of every run.
+use Rattle.std.proofs.Common.{◌≡◌, ◌≢◌, ℕ, ◌+◌, ◌-◌, ◌≤◌, ◌<◌, ◌%◌, ◌^◌, zero, ◌==◌, refl, sym, ◌∙◌, ap, subst, Bool, true, false, ◌&&◌, cond, List, [], ◌∷◌, Option, Some, None, inl, inr, arith}
+use Rattle.std.specs.Prelude.{IfSome, MatchBool, MatchOption, nat_lt}
+use Rattle.std.proofs.lemmas.Bool.{eqb-true, eqb-false}
+use Rattle.std.proofs.lemmas.Bool.Decides.{nat_tests}
+use Rattle.steps_events.specs.declared.WaitAction.{WaitAction}
+use Rattle.steps_events.specs.declared.WaitAction.TheVariants as actions
+use Rattle.steps_events.specs.declared.event.Word.{Word}
+use Rattle.steps_events.specs.declared.event.Word.TheVariants as words
+use Rattle.steps_events.specs.declared.event.Call.{Call}
+use Rattle.steps_events.specs.declared.event.Call.TheVariants as calls
+use Rattle.steps_events.specs.declared.event.Act.{Act}
+use Rattle.steps_events.specs.declared.event.Act.TheVariants as acts
+use Rattle.steps_events.specs.declared.event.Answer.TheVariants as answers
+use Rattle.steps_events.specs.declared.event.Event.{Event}
+use Rattle.steps_events.specs.declared.event.Then.{Then}
+use Rattle.steps_events.specs.declared.event.Then.TheVariants as thens
+use Rattle.steps_events.specs.declared.hold.HoldKind.{HoldKind}
+use Rattle.steps_events.specs.declared.patience.Patience.{Patience}
+use Rattle.steps_events.specs.declared.row.After.{After}
+use Rattle.steps_events.specs.declared.row.After.TheVariants as afters
+use Rattle.steps_events.specs.Arithmetic.{Arithmetic}
+use Rattle.steps_events.specs.Rows.{carried_out, value_told, outcome_of, place_after, within, is_continue}
+use Rattle.steps_events.specs.Past.{Hold, PendingCall, call_of, holds_of, hold_of, word_in, word_after, without, with_hold, is_release, hold_taken, latest_outcome, event}
+use Rattle.steps_events.specs.Moves.{Move, step_at, answer_fault}
+use Rattle.steps_events.specs.Runs.{IsPast}
+use Rattle.steps_events.specs.Sights.{sight_of, is_sight, keeps_asking, is_abort, HasAborted, spins_in, stands_at_wait}
+use Rattle.steps_events.specs.Laws.{is_refusal}
+use Rattle.steps_events.proofs.Holds.{eqb_same}
+use Rattle.steps_events.proofs.Steps.{by_move, tells_memory}
+use Rattle.steps_events.proofs.Parties.{IsKept, at_place}
+use Rattle.steps_semaphore.specs.declared.SemaphorePlace.{SemaphorePlace}
+use Rattle.steps_semaphore.specs.declared.SemaphorePlace.TheVariants as places
+use Rattle.steps_semaphore.specs.Table.{semaphore_table, semaphore_begins, semaphore_intent, semaphore_after, semaphore_answered}
+use Rattle.steps_semaphore.specs.Permits.{permits_given, permits_taken, is_take, number_answered}
+use Rattle.steps_semaphore.specs.Law.{permits_posted, semaphore_gives, semaphore_value, SemaphoreCause, is_empty_look, KeepsSemaphore}
+use Rattle.steps_semaphore.proofs.Permits.{Effect, Tallies, tallies_first, tallies_after, lowered}
+
+-- What is kept of a call at its place.
+
+-- the own events of a `Wait`: the place counts its spins and knows whether it keeps on asking
+pub record HasSpun {T : Type 0} (patience : Patience) (own : List (Event T)) : Type 0 where
+  pub spun : spins_in is_empty_look own ≡ patience.spins
+  pub keeps : keeps_asking own ≡ patience.keep
+  pub within_limit : patience.spins ≤ 10000
+
+abbrev pub AtSemaphore : {T : Type 0} → SemaphorePlace → PendingCall T → Option HoldKind → Type 0
+AtSemaphore places.Value c hold = c.call ≡ calls.Value
+AtSemaphore (places.Post n) c hold = c.call ≡ calls.Post n
+AtSemaphore places.Wake c hold = (n : ℕ) × (c.call ≡ calls.Post n)
+AtSemaphore places.TryLook c hold = c.call ≡ calls.TryWait
+AtSemaphore (places.TryTake seen to) c hold = (c.call ≡ calls.TryWait) × (seen ≡ to + 1)
+AtSemaphore (places.Look patience) c hold = (c.call ≡ calls.Wait) × HasSpun patience c.own
+AtSemaphore (places.Take seen to patience) c hold = (c.call ≡ calls.Wait) × HasSpun patience c.own × (seen ≡ to + 1) × (latest_outcome c.own ≡ thens.GoesOn)
+
+-- Where a call begins.
+
+begins_at :
+    {T : Type 0} (call : Call T) (place : SemaphorePlace) (hold : Option HoldKind) → semaphore_begins call ≡ Some place → AtSemaphore {T = T} place (record { call = call; own = [] }) hold
+begins_at {T} calls.Value place hold is =
+    let made : places.Value ≡ place = cc in
+    subst (λ p. AtSemaphore {T = T} p (record { call = calls.Value; own = [] }) hold) made refl
+begins_at {T} (calls.Post n) place hold is =
+    let made : places.Post n ≡ place = cc in
+    subst (λ p. AtSemaphore {T = T} p (record { call = calls.Post n; own = [] }) hold) made refl
+begins_at {T} calls.TryWait place hold is =
+    let made : places.TryLook ≡ place = cc in
+    subst (λ p. AtSemaphore {T = T} p (record { call = calls.TryWait; own = [] }) hold) made refl
+begins_at {T} calls.Wait place hold is =
+    let made : places.Look (record { spins = 0; keep = true }) ≡ place = cc in
+    subst (λ p. AtSemaphore {T = T} p (record { call = calls.Wait; own = [] }) hold) made (refl, record { spun = refl; keeps = refl; within_limit = omega arith })
+begins_at other place hold is = absurd cc
+
+-- Where a step leads.
+
+one_less : (v : ℕ) → v ≢ 0 → v ≡ (v - 1) + 1
+one_less v other = omega arith
+
+-- how `TryWait` goes on after a look, by whether it saw 0
+abbrev try_after : {T : Type 0} → ℕ → Bool → After T SemaphorePlace
+try_after v gone = cond gone (afters.Ends answers.Interrupted) (afters.At (places.TryTake v (v - 1)))
+
+try_steps :
+    {T : Type 0} (c : PendingCall T) (hold : Option HoldKind) (v : ℕ) (e : Event T) (next : SemaphorePlace) (gone : Bool) → c.call ≡ calls.TryWait → (v == 0) ≡ gone → place_after {T = T} (try_after v gone) ≡ Some next →
+    AtSemaphore next (record { call = c.call; own = e ∷ c.own }) hold
+try_steps c hold v e next true try sees is = absurd cc
+try_steps {T} c hold v e next false try sees is =
+    let made : places.TryTake v (v - 1) ≡ next = cc in
+    subst (λ p. AtSemaphore {T = T} p (record { call = c.call; own = e ∷ c.own }) hold) made (try, one_less v (eqb-false v 0 sees))
+
+spins_left : (n : ℕ) → nat_lt n 10000 ≡ true → n + 1 ≤ 10000
+spins_left n left = grind (arith, nat_tests)
+
+-- how `Wait` goes on after a look, by three tests: it saw 0, it keeps on asking, it has spins left
+abbrev wait_after : {T : Type 0} → Patience → ℕ → Bool → Bool → Bool → After T SemaphorePlace
+wait_after patience v gone keep left =
+    cond gone (within places.Look (cond keep (cond left (afters.At (record { spins = patience.spins + 1; keep = patience.keep })) (afters.Waits patience 0)) (afters.Ends answers.Interrupted)))
+    (afters.At (places.Take v (v - 1) patience))
+
+wait_steps :
+    {T : Type 0} (patience : Patience) (c : PendingCall T) (hold : Option HoldKind) (act : Act T) (v number : ℕ) (next : SemaphorePlace) (gone keep left : Bool) → c.call ≡ calls.Wait → HasSpun patience c.own →
+    is_abort act ≡ false → is_empty_look act ≡ gone → (v == 0) ≡ gone → nat_lt patience.spins 10000 ≡ left → place_after {T = T} (wait_after patience v gone keep left) ≡ Some next →
+    AtSemaphore next (record { call = c.call; own = event number act (outcome_of {T = T} (wait_after patience v gone keep left)) ∷ c.own }) hold
+wait_steps patience c hold act v number next true false left wait spun quiet empty sees spins is = absurd cc
+wait_steps {T} patience c hold act v number next true true true wait spun quiet empty sees spins is =
+    let more : Patience = record { spins = patience.spins + 1; keep = patience.keep } in
+    let made : places.Look more ≡ next = cc in
+    subst (λ p. AtSemaphore {T = T} p (record { call = c.call; own = event number act thens.GoesOn ∷ c.own }) hold) made
+    (wait, record { spun = rw empty (omega (arith, spun.spun)); keeps = rw quiet spun.keeps; within_limit = spins_left patience.spins spins })
+wait_steps {T} patience c hold act v number next true true false wait spun quiet empty sees spins is =
+    let made : places.Look patience ≡ next = cc in
+    subst (λ p. AtSemaphore {T = T} p (record { call = c.call; own = event number act (thens.Waits 0) ∷ c.own }) hold) made
+    (wait, record { spun = rw empty (omega (arith, spun.spun)); keeps = rw quiet spun.keeps; within_limit = spun.within_limit })
+wait_steps {T} patience c hold act v number next false keep left wait spun quiet empty sees spins is =
+    let made : places.Take v (v - 1) patience ≡ next = cc in
+    subst (λ p. AtSemaphore {T = T} p (record { call = c.call; own = event number act thens.GoesOn ∷ c.own }) hold) made
+    (wait, record { spun = rw empty (omega (arith, spun.spun)); keeps = rw quiet spun.keeps; within_limit = spun.within_limit }, one_less v (eqb-false v 0 sees), refl)
+
+-- an exchange from the value seen, by whether it was done
+try_takes :
+    {T : Type 0} (c : PendingCall T) (hold : Option HoldKind) (v : ℕ) (e : Event T) (next : SemaphorePlace) (done : Bool) → c.call ≡ calls.TryWait →
+    place_after {T = T} (cond done (afters.Ends answers.Success) (try_after v (v == 0))) ≡ Some next → AtSemaphore next (record { call = c.call; own = e ∷ c.own }) hold
+try_takes c hold v e next true try is = absurd cc
+try_takes c hold v e next false try is = try_steps c hold v e next (v == 0) try refl is
+
+wait_takes :
+    {T : Type 0} (patience : Patience) (c : PendingCall T) (hold : Option HoldKind) (v seen to number : ℕ) (next : SemaphorePlace) (done : Bool) → c.call ≡ calls.Wait → HasSpun patience c.own →
+    place_after {T = T} (cond done (afters.Ends answers.Success) (wait_after patience v (v == 0) patience.keep (nat_lt patience.spins 10000))) ≡ Some next →
+    AtSemaphore next
+    (record { call = c.call; own = event number (acts.Exchange words.State seen to v done) (outcome_of {T = T} (cond done (afters.Ends answers.Success) (wait_after patience v (v == 0) patience.keep (nat_lt patience.spins 10000)))) ∷ c.own }) hold
+wait_takes patience c hold v seen to number next true wait spun is = absurd cc
+wait_takes patience c hold v seen to number next false wait spun is =
+    wait_steps patience c hold (acts.Exchange words.State seen to v false) v number next (v == 0) patience.keep (nat_lt patience.spins 10000) wait spun refl refl refl refl is
+
+steps_at :
+    {T : Type 0} (initial : ℕ) (place : SemaphorePlace) (c : PendingCall T) (hold left : Option HoldKind) (memory : Word → ℕ) (number : ℕ) (next : SemaphorePlace) → AtSemaphore place c hold →
+    place_after {T = T} (semaphore_after place (value_told {T = T} (carried_out (semaphore_intent words.State place) memory))) ≡ Some next →
+    AtSemaphore next (record { call = c.call; own = event number (step_at (semaphore_table initial) place hold memory).act (step_at (semaphore_table initial) place hold memory).outcome ∷ c.own }) left
+steps_at initial places.Value c hold left memory number next at is = absurd cc
+steps_at {T} initial (places.Post n) c hold left memory number next at is =
+    let made : places.Wake ≡ next = cc in
+    subst (λ p. AtSemaphore {T = T} p (record { call = c.call; own = event number (step_at (semaphore_table initial) (places.Post n) hold memory).act thens.GoesOn ∷ c.own }) left) made (n, at)
+steps_at initial places.Wake c hold left memory number next at is = absurd cc
+steps_at initial places.TryLook c hold left memory number next at is = try_steps c left (memory words.State) _ next (memory words.State == 0) at refl is
+steps_at initial (places.TryTake seen to) c hold left memory number next at is = try_takes c left (memory words.State) _ next (memory words.State == seen) at.0 is
+steps_at initial (places.Look patience) c hold left memory number next at is =
+    wait_steps patience c left (acts.Load words.State (memory words.State)) (memory words.State) number next (memory words.State == 0) patience.keep (nat_lt patience.spins 10000) at.0 at.1 refl refl refl refl is
+steps_at initial (places.Take seen to patience) c hold left memory number next at is = wait_takes patience c left (memory words.State) seen to number next (memory words.State == seen) at.0 at.1 is
+
+-- Where an answer leads.
+
+answered_keep : {T : Type 0} (keep : Bool) (action : WaitAction) (own : List (Event T)) (number : ℕ) → keeps_asking own ≡ keep → keeps_asking (event number (acts.Answered action) thens.GoesOn ∷ own) ≡ (keep && is_continue action)
+answered_keep true actions.Continue own number is = is
+answered_keep false actions.Continue own number is = is
+answered_keep true actions.Abort own number is = refl
+answered_keep false actions.Abort own number is = refl
+
+answers_at :
+    {T : Type 0} (place : SemaphorePlace) (c : PendingCall T) (hold : Option HoldKind) (action : WaitAction) (number : ℕ) → AtSemaphore place c hold → answer_fault (latest_outcome c.own) ≡ None →
+    AtSemaphore {T = T} (semaphore_answered place action) (record { call = c.call; own = event number (acts.Answered action) thens.GoesOn ∷ c.own }) hold
+answers_at places.Value c hold action number at waits = at
+answers_at (places.Post n) c hold action number at waits = at
+answers_at places.Wake c hold action number at waits = at
+answers_at places.TryLook c hold action number at waits = at
+answers_at (places.TryTake seen to) c hold action number at waits = at
+answers_at (places.Look patience) c hold action number at waits =
+    (at.0, record { spun = omega (arith, at.1.spun); keeps = answered_keep patience.keep action c.own number at.1.keeps; within_limit = at.1.within_limit })
+answers_at {T} (places.Take seen to patience) c hold action number at waits =
+    let no : answer_fault {T = T} thens.GoesOn ≡ None = subst (λ (o : Then T). answer_fault o ≡ None) at.3 waits in absurd cc
+
+chooses_at :
+    {T : Type 0} (place : SemaphorePlace) (c : PendingCall T) (hold : Option HoldKind) (choice : Option T) (number : ℕ) → AtSemaphore place c hold →
+    AtSemaphore {T = T} place (record { call = c.call; own = event number (acts.Chosen choice) thens.GoesOn ∷ c.own }) hold
+chooses_at places.Value c hold choice number at = at
+chooses_at (places.Post n) c hold choice number at = at
+chooses_at places.Wake c hold choice number at = at
+chooses_at places.TryLook c hold choice number at = at
+chooses_at (places.TryTake seen to) c hold choice number at = at
+chooses_at (places.Look patience) c hold choice number at = (at.0, record { spun = omega (arith, at.1.spun); keeps = at.1.keeps; within_limit = at.1.within_limit })
+chooses_at (places.Take seen to patience) c hold choice number at =
+    (at.0, record { spun = omega (arith, at.1.spun); keeps = at.1.keeps; within_limit = at.1.within_limit }, at.2, refl)
+
+pub semaphore_kept : {T : Type 0} (initial : ℕ) → IsKept {T = T} (semaphore_table initial) AtSemaphore
+semaphore_kept initial =
+    record {
+      begins = λ call place hold is allowed. begins_at call place hold is;
+      steps = λ place c hold memory number next at free is. steps_at initial place c hold _ memory number next at is;
+      answers = answers_at;
+      chooses = λ place c hold choice number at stands. chooses_at place c hold choice number at;
+    }
+
+-- What a step does to the word, what it tells, and why it refuses.
+
+pub record EventLaw {T : Type 0} (initial party : ℕ) (past : List (Event T)) (pending : Option (PendingCall T)) (w : ℕ) (m : Move T) : Type 0 where
+  pub effect : Effect w (word_after words.State m.act w) (semaphore_gives m.act pending) (is_take words.State m.act)
+  pub told : IfSome (sight_of words.State m.act) (λ v. v ≡ w)
+  pub answered : IfSome (number_answered m.outcome) (λ v. v ≡ w)
+  pub cause : MatchBool (is_refusal m.outcome) (MatchOption pending ⊥ (λ c. SemaphoreCause initial c.call party (event party m.act m.outcome ∷ past))) (Unit {0})
+  pub asks : MatchBool (stands_at_wait m.outcome) (MatchOption pending ⊥ (λ c. spins_in is_empty_look c.own ≡ 10000)) (Unit {0})
+
+-- what follows from a look, apart from the act
+pub record LookLaw {T : Type 0} (initial party : ℕ) (past : List (Event T)) (c : PendingCall T) (w : ℕ) (act : Act T) (outcome : Then T) : Type 0 where
+  pub answered : IfSome (number_answered outcome) (λ v. v ≡ w)
+  pub cause : MatchBool (is_refusal outcome) (SemaphoreCause initial c.call party (event party act outcome ∷ past)) (Unit {0})
+  pub asks : MatchBool (stands_at_wait outcome) (spins_in is_empty_look c.own ≡ 10000) (Unit {0})
+
+try_law :
+    {T : Type 0} (initial party : ℕ) (past : List (Event T)) (c : PendingCall T) (w : ℕ) (act : Act T) (gone : Bool) → c.call ≡ calls.TryWait → w ≡ semaphore_value initial past → is_sight words.State act ≡ true → (w == 0) ≡ gone →
+    LookLaw initial party past c w act (outcome_of {T = T} (try_after w gone))
+try_law {T} initial party past c w act true try law sight sees =
+    let refuses : Event T = event party act (thens.Answers answers.Interrupted) in
+    record {
+      answered = tt;
+      cause = subst (λ (k : Call T). SemaphoreCause initial k party (refuses ∷ past)) (sym try) (rw (eqb_same party, sight) (sym law ∙ eqb-true w 0 sees));
+      asks = tt;
+    }
+try_law initial party past c w act false try law sight sees = record { answered = tt; cause = tt; asks = tt }
+
+spins_spent : (n : ℕ) → n ≤ 10000 → nat_lt n 10000 ≡ false → n ≡ 10000
+spins_spent n below left = grind (arith, nat_tests)
+
+wait_law :
+    {T : Type 0} (initial party : ℕ) (past : List (Event T)) (c : PendingCall T) (patience : Patience) (w : ℕ) (act : Act T) (gone keep left : Bool) → call_of party past ≡ Some c → c.call ≡ calls.Wait →
+    HasSpun patience c.own → w ≡ semaphore_value initial past → is_sight words.State act ≡ true → (w == 0) ≡ gone → patience.keep ≡ keep → nat_lt patience.spins 10000 ≡ left →
+    LookLaw initial party past c w act (outcome_of {T = T} (wait_after patience w gone keep left))
+wait_law initial party past c patience w act true true true called wait spun law sight sees keeps spins = record { answered = tt; cause = tt; asks = tt }
+wait_law initial party past c patience w act true true false called wait spun law sight sees keeps spins =
+    record { answered = tt; cause = tt; asks = spun.spun ∙ spins_spent patience.spins spun.within_limit spins }
+wait_law {T} initial party past c patience w act true false left called wait spun law sight sees keeps spins =
+    let refuses : Event T = event party act (thens.Answers answers.Interrupted) in
+    let aborted : HasAborted party past = rw called (spun.keeps ∙ keeps) in
+    record {
+      answered = tt;
+      cause = subst (λ (k : Call T). SemaphoreCause initial k party (refuses ∷ past)) (sym wait) (rw (eqb_same party, sight) (aborted, sym law ∙ eqb-true w 0 sees));
+      asks = tt;
+    }
+wait_law initial party past c patience w act false keep left called wait spun law sight sees keeps spins = record { answered = tt; cause = tt; asks = tt }
+
+-- a load of the word
+load_law : {T : Type 0} (initial party : ℕ) (past : List (Event T)) (c : PendingCall T) (w : ℕ) (outcome : Then T) → LookLaw initial party past c w (acts.Load words.State w) outcome →
+    EventLaw initial party past (Some c) w (record { act = acts.Load words.State w; outcome = outcome })
+load_law initial party past c w outcome law = record { effect = inl (refl, refl, refl); told = refl; answered = law.answered; cause = law.cause; asks = law.asks }
+
+-- an exchange from the value seen, by whether it was done
+take_law :
+    {T : Type 0} (initial party : ℕ) (past : List (Event T)) (c : PendingCall T) (w seen to : ℕ) (a : After T SemaphorePlace) (done : Bool) → seen ≡ to + 1 → (w == seen) ≡ done →
+    LookLaw initial party past c w (acts.Exchange words.State seen to w false) (outcome_of a) →
+    EventLaw initial party past (Some c) w (record { act = acts.Exchange words.State seen to w done; outcome = outcome_of {T = T} (cond done (afters.Ends answers.Success) a) })
+take_law initial party past c w seen to a true less is law =
+    let found : w ≡ to + 1 = eqb-true w seen is ∙ less in
+    record { effect = inr (inr (λ gone. absurd (omega (arith, found, gone)), omega (arith, found), refl, refl)); told = refl; answered = tt; cause = tt; asks = tt }
+take_law initial party past c w seen to a false less is law = record { effect = inl (refl, refl, refl); told = refl; answered = law.answered; cause = law.cause; asks = law.asks }
+
+step_law :
+    {T : Type 0} (initial party : ℕ) (past : List (Event T)) (c : PendingCall T) (place : SemaphorePlace) (hold : Option HoldKind) (memory : Word → ℕ) → call_of party past ≡ Some c → AtSemaphore place c hold →
+    memory words.State ≡ semaphore_value initial past → EventLaw initial party past (Some c) (memory words.State) (step_at (semaphore_table initial) place hold memory)
+step_law initial party past c places.Value hold memory called at law = record { effect = inl (refl, refl, refl); told = refl; answered = refl; cause = tt; asks = tt }
+step_law {T} initial party past c (places.Post n) hold memory called at law =
+    let gives : n ≡ permits_posted c.call = sym (ap (λ (k : Call T). permits_posted k) at) in
+    record { effect = inr (inl (ap (λ k. (memory words.State + k) % 2 ^ 64) gives, refl)); told = refl; answered = tt; cause = tt; asks = tt }
+step_law initial party past c places.Wake hold memory called at law = record { effect = inl (refl, refl, refl); told = tt; answered = tt; cause = tt; asks = tt }
+step_law initial party past c places.TryLook hold memory called at law =
+    let w = memory words.State in
+    load_law initial party past c w _ (try_law initial party past c w (acts.Load words.State w) (w == 0) at law refl refl)
+step_law initial party past c (places.TryTake seen to) hold memory called at law =
+    let w = memory words.State in
+    take_law initial party past c w seen to (try_after w (w == 0)) (w == seen) at.1 refl (try_law initial party past c w (acts.Exchange words.State seen to w false) (w == 0) at.0 law refl refl)
+step_law initial party past c (places.Look patience) hold memory called at law =
+    let w = memory words.State in
+    load_law initial party past c w _ (wait_law initial party past c patience w (acts.Load words.State w) (w == 0) patience.keep (nat_lt patience.spins 10000) called at.0 at.1 law refl refl refl refl)
+step_law initial party past c (places.Take seen to patience) hold memory called at law =
+    let w = memory words.State in
+    take_law initial party past c w seen to (wait_after patience w (w == 0) patience.keep (nat_lt patience.spins 10000)) (w == seen) at.2 refl
+    (wait_law initial party past c patience w (acts.Exchange words.State seen to w false) (w == 0) patience.keep (nat_lt patience.spins 10000) called at.0 at.1 law refl refl refl refl)
+
+event_law :
+    {T : Type 0} (z : Arithmetic T) (initial parties : ℕ) (past : List (Event T)) (e : Event T) → IsPast z (semaphore_table initial) parties (e ∷ past) → word_in (semaphore_table initial) past words.State ≡ semaphore_value initial past →
+    EventLaw initial e.party past (call_of e.party past) (word_in (semaphore_table initial) past words.State) (record { act = e.act; outcome = e.then })
+event_law {T} z initial parties past e run law =
+    by_move (semaphore_table initial) (call_of e.party past) (hold_of (semaphore_table initial) e.party past) (word_in (semaphore_table initial) past)
+    (λ (k : Option (PendingCall T)) (m : Move T). EventLaw initial e.party past k (word_in (semaphore_table initial) past words.State) m)
+    run.0.0 (record { act = e.act; outcome = e.then })
+    (λ call _. record { effect = inl (refl, refl, refl); told = tt; answered = tt; cause = tt; asks = tt })
+    (λ action _. record { effect = inl (refl, refl, refl); told = tt; answered = tt; cause = tt; asks = tt })
+    (λ choice _. record { effect = inl (refl, refl, refl); told = tt; answered = tt; cause = tt; asks = tt })
+    (λ c place _ called stage.
+    step_law initial e.party past c place (hold_of (semaphore_table initial) e.party past) (word_in (semaphore_table initial) past) called
+    (at_place z (semaphore_table initial) parties AtSemaphore (semaphore_kept initial) past run.1 e.party c place called stage) law)
+    run.0.1.moved
+
+-- Nobody holds a semaphore.
+
+takes_no_hold : {T : Type 0} (initial : ℕ) (act : Act T) (pending : Option (PendingCall T)) → hold_taken (semaphore_table initial) act pending ≡ None
+takes_no_hold initial (acts.Exchange words.State from to found true) (Some c) = refl
+takes_no_hold initial (acts.Swap words.State zero put) (Some c) = refl
+takes_no_hold initial act pending = refl
+
+no_holds : {T : Type 0} (initial : ℕ) (past : List (Event T)) → holds_of (semaphore_table initial) past ≡ []
+no_holds initial [] = refl
+no_holds {T} initial (e ∷ past) = by_test (is_release e.act) (no_holds initial past)
+  where
+    by_test : (b : Bool) → holds_of (semaphore_table initial) past ≡ [] →
+        ◌≡◌ {A = List Hold} (cond b (without e.party (holds_of (semaphore_table initial) past)) (with_hold e.party (hold_taken (semaphore_table initial) e.act (call_of e.party past)) (holds_of (semaphore_table initial) past))) []
+    by_test true none = rw none refl
+    by_test false none = rw (takes_no_hold initial e.act (call_of e.party past), none) refl
+
+-- The law of every run: the word's value and the effect of each event go hand in hand.
+
+semaphore_tallies :
+    {T : Type 0} (z : Arithmetic T) (initial parties : ℕ) → initial < 2 ^ 64 → (past : List (Event T)) → IsPast z (semaphore_table initial) parties past →
+    Tallies (word_in (semaphore_table initial) past words.State) (permits_given semaphore_gives initial past) (permits_taken words.State past)
+semaphore_tallies z initial parties fits [] run = tallies_first initial fits
+semaphore_tallies z initial parties fits (e ∷ past) run =
+    let before = semaphore_tallies z initial parties fits past run.1 in
+    tallies_after _ _ _ _ _ (is_take words.State e.act) before (event_law z initial parties past e run before.0).effect
+
+pub keeps_semaphore : {T : Type 0} (z : Arithmetic T) (initial parties : ℕ) (past : List (Event T)) → initial < 2 ^ 64 → IsPast z (semaphore_table initial) parties past → KeepsSemaphore initial past
+keeps_semaphore z initial parties [] fits run =
+    record { told = tt; unheld = refl; permits = record { at_most = omega arith; told = tt; lowers = tt }; cause = tt; asks = tt }
+keeps_semaphore z initial parties (e ∷ past) fits run =
+    let before = semaphore_tallies z initial parties fits past run.1 in
+    let after = semaphore_tallies z initial parties fits (e ∷ past) run in
+    let law = event_law z initial parties past e run before.0 in
+    record {
+      told = tells_memory z (semaphore_table initial) parties (e ∷ past) run;
+      unheld = no_holds initial (e ∷ past);
+      permits = record {
+        at_most = after.1;
+        told = (rw before.0 at law.told, rw before.0 at law.answered);
+        lowers = lowered _ _ _ _ _ (is_take words.State e.act) before law.effect;
+      };
+      cause = law.cause;
+      asks = law.asks;
+    }
