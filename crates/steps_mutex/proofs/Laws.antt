@@ -299,17 +299,13 @@ keeps_mutex z parties [] run =
       told = tt;
       exclusive = lock_exclusive 0 [] (lock_word z mutex_table parties (mutex_is_lock z parties) [] run);
       cause = tt;
-      exact = tt;
-      asks = tt;
-      tries = tt;
+      law = record { exact = tt; asks = tt; tries = tt };
     }
 keeps_mutex z parties (e ∷ past) run =
-    let law = event_law z parties past e run in
+    let event = event_law z parties past e run in
     record {
       told = tells_memory z mutex_table parties (e ∷ past) run;
       exclusive = lock_exclusive _ (holds_of mutex_table (e ∷ past)) (lock_word z mutex_table parties (mutex_is_lock z parties) (e ∷ past) run);
-      cause = law.cause;
-      exact = law.exact;
-      asks = law.asks;
-      tries = law.tries;
+      cause = event.cause;
+      law = record { exact = event.exact; asks = event.asks; tries = event.tries };
     }

@@ -33,16 +33,20 @@ IsExactGrant (e ∷ past) =
     MatchOption (call_of e.party past) (Unit {0})
     (λ c. c.call ≡ calls.TryLock → is_sight words.State e.act ≡ true → ((e.then ≡ thens.Answers answers.Success) ↔ (holds_of mutex_table past ≡ [])))
 
-pub record KeepsMutex {T : Type 0} (past : List (Event T)) : Type 0 where
-  -- each act tells what the word held
-  pub told : TellsMemory mutex_table past
-  -- one holder at most
-  pub exclusive : IsExclusive (holds_of mutex_table past)
-  -- each refusal has its cause
-  pub cause : HasCause MutexCause past
+-- What a mutex keeps beside what every object does.
+pub record MutexLaw {T : Type 0} (past : List (Event T)) : Type 0 where
   -- `TryLock` is granted exactly where nobody holds the mutex
   pub exact : IsExactGrant past
   -- a wait closure is asked after 10000 spins, which are exchanges that failed
   pub asks : AsksAfterSpinning is_failure past
   -- and each `Lock` that gives up has tried so often
   pub tries : GivesUpAfterTrying past
+
+pub record KeepsMutex {T : Type 0} (past : List (Event T)) : Type 0 where
+  -- each act that tells a word's value tells what the memory holds there
+  pub told : TellsMemory mutex_table past
+  -- one holder at most
+  pub exclusive : IsExclusive (holds_of mutex_table past)
+  -- each refusal has its cause
+  pub cause : HasCause MutexCause past
+  pub law : MutexLaw past

@@ -5,11 +5,12 @@ ghost use Rattle.std.specs.Prelude.{◌≡◌, ◌≢◌, Option, ℕ, List};
 ghost use Rattle.steps_events.specs.declared.event.Event.{Event as AnEvent};
 ghost use Rattle.steps_events.specs.Arithmetic.{Arithmetic};
 ghost use Rattle.steps_events.specs.Runs.{IsPast};
-ghost use Rattle.steps_mutex.specs.Table.{mutex_begins, mutex_intent, mutex_after, mutex_answered, is_free, mutex_table};
+ghost use Rattle.steps_mutex.specs.Table.{mutex_begins, mutex_intent, mutex_after, mutex_answered, is_free, mutex_grant, mutex_table};
 ghost use Rattle.steps_mutex.specs.Law.{KeepsMutex};
 
 use steps_events::WaitAction;
 use steps_events::event::{Answer, Call, Wake, Word};
+use steps_events::hold::HoldKind;
 use steps_events::patience::Patience;
 use steps_events::row::{After, Intent};
 
@@ -99,6 +100,17 @@ impl MutexPlace {
             MutexPlace::Lock(patience) => MutexPlace::Lock(patience.answered(action)),
             other => other,
         }
+    }
+}
+
+/// The hold that a locking call takes.
+#[inline(always)]
+pub fn grant<T>(call: &Call<T>) -> Option<HoldKind>
+    ensures { (from to : ℕ) → result ≡ mutex_grant call.now from to }
+{
+    match call {
+        Call::Lock | Call::TryLock => Some(HoldKind::Write),
+        _ => None,
     }
 }
 

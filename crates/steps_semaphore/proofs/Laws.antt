@@ -316,19 +316,21 @@ semaphore_tallies z initial parties fits (e ∷ past) run =
 
 pub keeps_semaphore : {T : Type 0} (z : Arithmetic T) (initial parties : ℕ) (past : List (Event T)) → initial < 2 ^ 64 → IsPast z (semaphore_table initial) parties past → KeepsSemaphore initial past
 keeps_semaphore z initial parties [] fits run =
-    record { told = tt; unheld = refl; permits = record { at_most = omega arith; told = tt; lowers = tt }; cause = tt; asks = tt }
+    record { told = tt; unheld = refl; cause = tt; law = record { permits = record { at_most = omega arith; told = tt; lowers = tt }; asks = tt } }
 keeps_semaphore z initial parties (e ∷ past) fits run =
     let before = semaphore_tallies z initial parties fits past run.1 in
     let after = semaphore_tallies z initial parties fits (e ∷ past) run in
-    let law = event_law z initial parties past e run before.0 in
+    let event = event_law z initial parties past e run before.0 in
     record {
       told = tells_memory z (semaphore_table initial) parties (e ∷ past) run;
       unheld = no_holds initial (e ∷ past);
-      permits = record {
-        at_most = after.1;
-        told = (rw before.0 at law.told, rw before.0 at law.answered);
-        lowers = lowered _ _ _ _ _ (is_take words.State e.act) before law.effect;
+      cause = event.cause;
+      law = record {
+        permits = record {
+          at_most = after.1;
+          told = (rw before.0 at event.told, rw before.0 at event.answered);
+          lowers = lowered _ _ _ _ _ (is_take words.State e.act) before event.effect;
+        };
+        asks = event.asks;
       };
-      cause = law.cause;
-      asks = law.asks;
     }

@@ -44,14 +44,18 @@ is_zero (Some v) = v == 0
 abbrev pub is_empty_look : {T : Type 0} → Act T → Bool
 is_empty_look act = is_zero (look_of act)
 
+-- What a semaphore keeps beside what every object does.
+pub record SemaphoreLaw {T : Type 0} (initial : ℕ) (past : List (Event T)) : Type 0 where
+  -- no more permits are taken than given, and each value that is told is what was given less what was taken
+  pub permits : KeepsPermits words.State semaphore_gives initial past
+  -- a wait closure is asked after 10000 spins, which are looks that saw no permit
+  pub asks : AsksAfterSpinning is_empty_look past
+
 pub record KeepsSemaphore {T : Type 0} (initial : ℕ) (past : List (Event T)) : Type 0 where
-  -- each act tells what the word held
+  -- each act that tells a word's value tells what the memory holds there
   pub told : TellsMemory (semaphore_table initial) past
   -- nobody holds a semaphore
   pub unheld : holds_of (semaphore_table initial) past ≡ []
-  -- no more permits are taken than given
-  pub permits : KeepsPermits words.State semaphore_gives initial past
   -- each refusal has its cause
   pub cause : HasCause (SemaphoreCause initial) past
-  -- a wait closure is asked after 10000 spins, which are looks that saw no permit
-  pub asks : AsksAfterSpinning is_empty_look past
+  pub law : SemaphoreLaw initial past

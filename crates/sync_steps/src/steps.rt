@@ -1,6 +1,5 @@
 //! The steps of every primitive, one atomic step at a time.
 
-mod event;
 mod fault;
 mod headline;
 mod machine;
@@ -9,10 +8,11 @@ mod place;
 mod playing;
 pub mod semaphore;
 mod turn;
-mod words;
 
-pub use event::{Act, Answer, Call, Event, Input, Object, StepFault, Then, Wake, Word};
 pub use fault::PlayFault;
 pub use headline::at_every_front;
 pub use machine::Machine;
 pub use playing::play;
+pub use steps_events::event::{
+    Act, Answer, Call, Event, Input, Object, StepFault, Then, Wake, Word,
+};

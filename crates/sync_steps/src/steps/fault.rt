@@ -1,4 +1,4 @@
-use super::event::{Event, StepFault};
+use steps_events::event::{Event, StepFault};
 
 /// Why a schedule was not played to its end.
 #[derive(Debug, Drop)]

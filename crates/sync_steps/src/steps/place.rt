@@ -1,34 +1,148 @@
-use super::event::{Act, Then};
-use super::mutex::MutexPlace;
-use super::semaphore::SemaphorePlace;
+//! Where the parties of a machine are, and which primitive's row that is.
+ghost use Rattle.std.specs.Prelude.{◌≡◌};
+ghost use Rattle.sync_steps.specs.Machine.Places.{begins_at, intent_at, after_at, answered_at, chosen_at, grant_at, needs_hold_at};
 
-/// What kind of hold a party has.
-#[derive(Clone, Copy, Debug, PartialEq, Eq)]
-pub enum HoldKind {
-    /// Beside other read holds.
-    Read,
-    /// Alone.
-    Write,
-}
+use steps_events::WaitAction;
+use steps_events::event::{Act, Call, Object, Then, Word};
+use steps_events::hold::HoldKind;
+use steps_events::row::{After, Intent};
+use steps_mutex::MutexPlace;
+use steps_semaphore::SemaphorePlace;
 
-/// Where a party stands in its call.
+/// Where a party is in its call: a place of its object's primitive.
 #[derive(Clone, Copy, Debug, PartialEq, Eq)]
 pub enum Place {
     Mutex(MutexPlace),
     Semaphore(SemaphorePlace),
 }
 
-/// A party: where it stands in the call that it has under way, and what it holds.
+/// A closure at which a call stands until it has answered.
 #[derive(Clone, Copy, Debug, PartialEq, Eq)]
-pub struct Party {
-    pub place: Option<Place>,
+pub enum Closure {
+    Wait,
+    Choice,
+}
+
+/// A call under way: where it is, and whether it stands at a closure.
+#[derive(Clone, Copy, Debug, PartialEq, Eq)]
+pub struct Doing<T> {
+    pub call: Call<T>,
+    pub place: Place,
+    pub stands: Option<Closure>,
+}
+
+/// A party: the call that it has under way, and what it holds.
+#[derive(Clone, Copy, Debug, PartialEq, Eq)]
+pub struct Party<T> {
+    pub doing: Option<Doing<T>>,
     pub hold: Option<HoldKind>,
 }
 
-/// What a party does at its turn, how its call stands then, and the party after it.
+/// What a party does at an input, how its call goes on, and the party after it.
 #[derive(Clone, Copy, Debug)]
 pub struct Turn<T> {
     pub act: Act<T>,
     pub then: Then<T>,
-    pub party: Party,
+    pub party: Party<T>,
+}
+
+impl Place {
+    /// Where a call begins, if the object has it.
+    pub fn begin<T>(object: &Object<T>, call: &Call<T>) -> Option<Place>
+        ensures { result ≡ begins_at object.now call.now }
+    {
+        match object {
+            Object::Mutex => Some(Place::Mutex(MutexPlace::begin(call)?)),
+            Object::Semaphore(_) => Some(Place::Semaphore(SemaphorePlace::begin(call)?)),
+            Object::Spin
+            | Object::Barrier(_)
+            | Object::ReaderLock
+            | Object::WriterLock
+            | Object::Condvar
+            | Object::Once
+            | Object::Lazy(_)
+            | Object::Atomic(_) => None,
+        }
+    }
+
+    /// What the step is to do, by its party's hold.
+    #[inline(always)]
+    pub fn intent<T>(self, _hold: Option<HoldKind>) -> Intent<T>
+        ensures { result ≡ intent_at self _hold }
+    {
+        match self {
+            Place::Mutex(place) => place.intent(Word::State),
+            Place::Semaphore(place) => place.intent(Word::State),
+        }
+    }
+
+    /// How the call goes on, by what the step told.
+    #[inline(always)]
+    pub fn after<T>(self, told: Option<u64>) -> After<T, Place>
+        ensures { result ≡ after_at self told }
+    {
+        match self {
+            Place::Mutex(place) => place.after(told).within(Place::Mutex),
+            Place::Semaphore(place) => place.after(told).within(Place::Semaphore),
+        }
+    }
+
+    /// Where the call goes on once its wait closure has answered.
+    pub fn answered(self, action: WaitAction) -> Place
+        ensures { result ≡ answered_at self action }
+    {
+        match self {
+            Place::Mutex(place) => Place::Mutex(place.answered(action)),
+            Place::Semaphore(place) => Place::Semaphore(place.answered(action)),
+        }
+    }
+
+    /// Where the call goes on once its choice closure has answered: no place of a mutex or a semaphore asks for a choice.
+    pub fn chosen<T>(self, _choice: Option<T>) -> Place
+        where
+            T: Copy,
+        ensures { result ≡ chosen_at self _choice }
+    {
+        match self {
+            Place::Mutex(place) => Place::Mutex(place),
+            Place::Semaphore(place) => Place::Semaphore(place),
+        }
+    }
+}
+
+/// The hold that a call takes where its exchange of the lock's word puts `_to` in the place of `_from`.
+#[inline(always)]
+pub fn grant<T>(object: &Object<T>, call: &Call<T>, _from: u64, _to: u64) -> Option<HoldKind>
+    ensures { result ≡ grant_at object.now call.now _from _to }
+{
+    match object {
+        Object::Mutex => steps_mutex::grant(call),
+        Object::Semaphore(_)
+        | Object::Spin
+        | Object::Barrier(_)
+        | Object::ReaderLock
+        | Object::WriterLock
+        | Object::Condvar
+        | Object::Once
+        | Object::Lazy(_)
+        | Object::Atomic(_) => None,
+    }
+}
+
+/// Whether only a party with a hold may begin the call.
+pub fn needs_hold<T>(object: &Object<T>, call: &Call<T>) -> bool
+    ensures { result ≡ needs_hold_at object.now call.now }
+{
+    match object {
+        Object::Mutex => matches!(call, Call::Unlock),
+        Object::Semaphore(_)
+        | Object::Spin
+        | Object::Barrier(_)
+        | Object::ReaderLock
+        | Object::WriterLock
+        | Object::Condvar
+        | Object::Once
+        | Object::Lazy(_)
+        | Object::Atomic(_) => false,
+    }
 }

@@ -1,29 +1,15 @@
-//! One turn of a party: which primitive it goes to.
-ghost use Rattle.std.specs.Prelude.{◌≡◌, false, IfOk, IfErr, IfSome, IfNone};
-ghost use Rattle.sync_steps.specs.declared.steps.event.Input.TheVariants as inputs;
-ghost use Rattle.sync_steps.specs.declared.steps.event.Object.{Object as AnyObject};
-ghost use Rattle.sync_steps.specs.declared.steps.words.Words.{Words as AnyWords};
-ghost use Rattle.sync_steps.specs.Places.{AtPlace};
-ghost use Rattle.sync_steps.specs.Next.{has_call, is_locking, needs_hold};
-ghost use Rattle.sync_steps.specs.Turns.{BeginsAt, StepsTo, RefusesGo, AnswersFrom, WaitsNot, TakesTurn, RefusesTurn};
+//! One turn of a party: what an input makes it do.
+ghost use Rattle.std.specs.Prelude.{◌≡◌};
+ghost use Rattle.steps_events.specs.WordsAt.{word_at};
+ghost use Rattle.steps_events.specs.Moves.{is_locking};
+ghost use Rattle.sync_steps.specs.Machine.Turns.{new_hold, doing_after, begin_turn, go_turn, answer_turn, choose_turn, turn_at};
 
-use super::event::{Act, Call, Input, Object, StepFault, Then};
-use super::place::{HoldKind, Party, Place, Turn};
-use super::words::Words;
-use super::{mutex, semaphore};
-use crate::WaitAction;
-
-/// Where a call begins at the object, if the object has it.
-fn place_of<T: Copy>(object: &Object<T>, call: Call<T>) -> Option<Place>
-    ensures has { IfSome result (λ place. BeginsAt object.now call place) }
-    ensures other { IfNone result (has_call object.now call ≡ false) }
-{
-    match object {
-        Object::Mutex => Some(Place::Mutex(mutex::place_of(call)?)),
-        Object::Semaphore(_) => Some(Place::Semaphore(semaphore::place_of(call)?)),
-        _ => None,
-    }
-}
+use super::place::{Closure, Doing, Party, Place, Turn, grant, needs_hold};
+use steps_events::WaitAction;
+use steps_events::event::{Act, Call, Input, Object, StepFault, Then, Word};
+use steps_events::hold::HoldKind;
+use steps_events::row::After;
+use steps_events::words::Words;
 
 /// Whether the call takes a hold of a lock.
 fn is_locking<T>(call: &Call<T>) -> bool
@@ -41,31 +27,71 @@ fn is_locking<T>(call: &Call<T>) -> bool
     )
 }
 
-/// Whether the call needs a hold.
-fn needs_hold<T>(object: &Object<T>, call: &Call<T>) -> bool
-    ensures { result ≡ needs_hold object.now call.now }
+/// The hold of a party after an act of its call.
+#[inline(always)]
+fn hold_after<T>(
+    object: &Object<T>,
+    call: &Call<T>,
+    act: &Act<T>,
+    hold: Option<HoldKind>,
+) -> Option<HoldKind>
+    ensures { result ≡ new_hold object.now call.now act.now hold }
 {
-    match call {
-        Call::Unlock => true,
-        Call::Wait => matches!(object, Object::Condvar),
-        _ => false,
+    match act {
+        Act::Store {
+            word: Word::State, ..
+        }
+        | Act::Add {
+            word: Word::State, ..
+        } => None,
+        Act::Exchange {
+            word: Word::State,
+            from,
+            to,
+            done: true,
+            ..
+        } => grant(object, call, *from, *to).or(hold),
+        Act::Swap {
+            word: Word::State,
+            old: 0,
+            put,
+        } => grant(object, call, 0, *put).or(hold),
+        _ => hold,
     }
 }
 
+/// The call of a party after a step of it.
+#[inline(always)]
+fn doing_after<T>(call: Call<T>, after: &After<T, Place>) -> Option<Doing<T>>
+    where
+        T: Copy,
+    ensures { result ≡ doing_after call after.now }
+{
+    let (place, stands) = match after {
+        After::At(place) => (*place, None),
+        After::Waits(place, _) => (*place, Some(Closure::Wait)),
+        After::Chooses(place, _) => (*place, Some(Closure::Choice)),
+        After::Ends(_) => return None,
+    };
+    Some(Doing {
+        call,
+        place,
+        stands,
+    })
+}
+
 /// A party begins a call.
-pub(crate) fn begin<T: Copy>(
+fn begin<T: Copy>(
     object: &Object<T>,
-    party: Party,
+    party: &Party<T>,
     call: Call<T>,
 ) -> Result<Turn<T>, StepFault>
-    ensures next { IfOk result (λ turn. (words : AnyWords) →
-        TakesTurn object.now party words (inputs.Begin call) turn) }
-    ensures fault { IfErr result (λ fault. RefusesTurn object.now party (inputs.Begin call) fault) }
+    ensures { result ≡ begin_turn object.now party.now call }
 {
-    if party.place.is_some() {
+    if party.doing.is_some() {
         return Err(StepFault::Busy);
     }
-    let Some(place) = place_of(object, call) else {
+    let Some(place) = Place::begin(object, &call) else {
         return Err(StepFault::OtherObject);
     };
     if is_locking(&call) && party.hold.is_some() {
@@ -78,86 +104,105 @@ pub(crate) fn begin<T: Copy>(
         act: Act::Begun(call),
         then: Then::GoesOn,
         party: Party {
-            place: Some(place),
+            doing: Some(Doing {
+                call,
+                place,
+                stands: None,
+            }),
             hold: party.hold,
         },
     })
 }
 
-/// The next step of the call that stands at this place.
-#[tactic(auto, using(crate::proofs::Dispatch::mutex_goes))]
-fn step_at<T>(place: Place, hold: Option<HoldKind>, words: &Words) -> Result<Turn<T>, StepFault>
-    ensures next { IfOk result (λ turn. StepsTo place hold words.now turn) }
-    ensures fault { IfErr result (λ fault. (o : AnyObject T) → RefusesGo (AtPlace o place) fault) }
-{
-    match place {
-        Place::Mutex(place) => mutex::go(place, hold, words.state),
-        Place::Semaphore(place) => semaphore::go(place, hold, words.state),
-    }
-}
-
 /// A party makes its next step.
-pub(crate) fn go<T: Copy>(party: Party, words: &Words) -> Result<Turn<T>, StepFault>
-    ensures next { IfOk result (λ turn. (o : AnyObject T) → TakesTurn o party words.now inputs.Go turn) }
-    ensures fault { IfErr result (λ fault. (o : AnyObject T) → RefusesTurn o party inputs.Go fault) }
+#[inline(always)]
+fn go<T: Copy>(
+    object: &Object<T>,
+    party: &Party<T>,
+    words: &Words,
+) -> Result<Turn<T>, StepFault>
+    ensures { result ≡ go_turn object.now party.now (word_at words.now) }
 {
-    match party.place {
-        None => Err(StepFault::Idle),
-        Some(place) => step_at(place, party.hold, words),
+    let Some(doing) = party.doing else {
+        return Err(StepFault::Idle);
+    };
+    if doing.stands.is_some() {
+        return Err(StepFault::WaitingForAnswer);
     }
-}
-
-/// Where a call goes on once its wait closure has answered, if it stands there.
-fn answered<T>(place: Place, action: WaitAction) -> Option<Place>
-    ensures waits { IfSome result (λ next. (o : AnyObject T) →
-        AnswersFrom (AtPlace o place) action (AtPlace o next)) }
-    ensures other { IfNone result ((o : AnyObject T) → WaitsNot (AtPlace o place)) }
-{
-    match place {
-        Place::Mutex(place) => Some(Place::Mutex(mutex::answer::<T>(place, action)?)),
-        Place::Semaphore(place) => {
-            Some(Place::Semaphore(semaphore::answer::<T>(place, action)?))
-        }
-    }
+    let act = words.carry_out(doing.place.intent(party.hold));
+    let after = doing.place.after(act.told());
+    Ok(Turn {
+        act,
+        then: after.outcome(),
+        party: Party {
+            doing: doing_after(doing.call, &after),
+            hold: hold_after(object, &doing.call, &act, party.hold),
+        },
+    })
 }
 
 /// The wait closure of a party answers.
-pub(crate) fn answer<T: Copy>(party: Party, action: WaitAction) -> Result<Turn<T>, StepFault>
-    ensures next { IfOk result (λ turn. (o : AnyObject T) (words : AnyWords) →
-        TakesTurn o party words (inputs.Answer action) turn) }
-    ensures fault { IfErr result (λ fault. (o : AnyObject T) →
-        RefusesTurn o party (inputs.Answer action) fault) }
+fn answer<T: Copy>(party: &Party<T>, action: WaitAction) -> Result<Turn<T>, StepFault>
+    ensures { result ≡ answer_turn party.now action }
 {
-    let Some(place) = party.place else {
+    let Some(doing) = party.doing else {
         return Err(StepFault::NotWaiting);
     };
-    let Some(place) = answered::<T>(place, action) else {
+    if doing.stands != Some(Closure::Wait) {
         return Err(StepFault::NotWaiting);
-    };
+    }
     Ok(Turn {
         act: Act::Answered(action),
         then: Then::GoesOn,
         party: Party {
-            place: Some(place),
+            doing: Some(Doing {
+                call: doing.call,
+                place: doing.place.answered(action),
+                stands: None,
+            }),
             hold: party.hold,
         },
     })
 }
 
-/// The turn of a party that is there, by its input.
-pub(crate) fn take<T: Copy>(
+/// The choice closure of a party answers.
+fn choose<T: Copy>(party: &Party<T>, choice: Option<T>) -> Result<Turn<T>, StepFault>
+    ensures { result ≡ choose_turn party.now choice }
+{
+    let Some(doing) = party.doing else {
+        return Err(StepFault::NotWaiting);
+    };
+    if doing.stands != Some(Closure::Choice) {
+        return Err(StepFault::NotWaiting);
+    }
+    Ok(Turn {
+        act: Act::Chosen(choice),
+        then: Then::GoesOn,
+        party: Party {
+            doing: Some(Doing {
+                call: doing.call,
+                place: doing.place.chosen(choice),
+                stands: None,
+            }),
+            hold: party.hold,
+        },
+    })
+}
+
+/// The turn of a party, by its input, or why it is refused.
+#[inline(always)]
+pub(crate) fn turn_at<T: Copy>(
     object: &Object<T>,
-    party: Party,
+    party: &Party<T>,
     words: &Words,
     input: Input<T>,
 ) -> Result<Turn<T>, StepFault>
-    ensures next { IfOk result (λ turn. TakesTurn object.now party words.now input turn) }
-    ensures fault { IfErr result (λ fault. RefusesTurn object.now party input fault) }
+    ensures { result ≡ turn_at object.now party.now (word_at words.now) input }
 {
     match input {
         Input::Begin(call) => begin(object, party, call),
-        Input::Go => go(party, words),
+        Input::Go => go(object, party, words),
         Input::Answer(action) => answer(party, action),
-        Input::Choose(_) => Err(StepFault::NotWaiting),
+        Input::Choose(choice) => choose(party, choice),
     }
 }

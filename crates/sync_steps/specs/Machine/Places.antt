@@ -1,0 +1,120 @@
+-- Where a machine's parties are: the code's places, as places of the object's table.
+use Rattle.std.specs.Prelude.{◌≡◌, ℕ, Bool, true, false, Option, Some, None}
+use Rattle.steps_events.specs.declared.WaitAction.{WaitAction}
+use Rattle.steps_events.specs.declared.event.Call.{Call}
+use Rattle.steps_events.specs.declared.event.Object.{Object}
+use Rattle.steps_events.specs.declared.event.Object.TheVariants as objects
+use Rattle.steps_events.specs.declared.event.Then.{Then}
+use Rattle.steps_events.specs.declared.event.Then.TheVariants as thens
+use Rattle.steps_events.specs.declared.event.Word.TheVariants as words
+use Rattle.steps_events.specs.declared.hold.HoldKind.{HoldKind}
+use Rattle.steps_events.specs.declared.row.After.{After}
+use Rattle.steps_events.specs.declared.row.Intent.{Intent}
+use Rattle.steps_events.specs.Arithmetic.{Arithmetic}
+use Rattle.steps_events.specs.Past.{PendingCall, latest_outcome}
+use Rattle.steps_events.specs.Moves.{stage_of}
+use Rattle.steps_events.specs.Rows.{within}
+use Rattle.steps_mutex.specs.Table.{mutex_begins, mutex_intent, mutex_after, mutex_answered, mutex_grant, mutex_needs_hold}
+use Rattle.steps_semaphore.specs.Table.{semaphore_begins, semaphore_intent, semaphore_after, semaphore_answered}
+use Rattle.sync_steps.specs.declared.steps.place.Closure.{Closure}
+use Rattle.sync_steps.specs.declared.steps.place.Closure.TheVariants as closures
+use Rattle.sync_steps.specs.declared.steps.place.Doing.{Doing}
+use Rattle.sync_steps.specs.declared.steps.place.Party.{Party}
+use Rattle.sync_steps.specs.declared.steps.place.Place.{Place}
+use Rattle.sync_steps.specs.declared.steps.place.Place.TheVariants as places
+use Rattle.sync_steps.specs.Objects.{place_of, table_of}
+
+-- the code's place for a place of the object's table
+abbrev pub place_in : {T : Type 0} (o : Object T) → place_of o → Place
+place_in objects.Mutex place = places.Mutex place
+place_in objects.Spin place = absurd place
+place_in (objects.Semaphore initial) place = places.Semaphore place
+place_in (objects.Barrier n) place = absurd place
+place_in objects.ReaderLock place = absurd place
+place_in objects.WriterLock place = absurd place
+place_in objects.Condvar place = absurd place
+place_in objects.Once place = absurd place
+place_in (objects.Lazy v) place = absurd place
+place_in (objects.Atomic v) place = absurd place
+
+-- the closure at which a call stands
+abbrev pub closure_of : {T : Type 0} → Then T → Option Closure
+closure_of (thens.Waits seen) = Some closures.Wait
+closure_of (thens.Chooses old) = Some closures.Choice
+closure_of other = None
+
+-- what a party does is this call under way: it is at the place of its stage, and stands at the closure of its latest event
+pub record IsDoing {T : Type 0} (z : Arithmetic T) (o : Object T) (doing : Doing T) (c : PendingCall T) : Type 0 where
+  pub call_is : doing.call ≡ c.call
+  pub place : (place : place_of o) × (place_in o place ≡ doing.place) × (stage_of (table_of z o) c ≡ Some place)
+  pub stands_is : doing.stands ≡ closure_of (latest_outcome c.own)
+
+-- a party does something exactly where it has a call under way
+abbrev pub DoesCall : {T : Type 0} → Arithmetic T → Object T → Option (Doing T) → Option (PendingCall T) → Type 0
+DoesCall z o None None = Unit {0}
+DoesCall z o (Some doing) (Some c) = IsDoing z o doing c
+DoesCall z o None (Some c) = ⊥
+DoesCall z o (Some doing) None = ⊥
+
+-- the party has this call under way and this hold
+pub record IsParty {T : Type 0} (z : Arithmetic T) (o : Object T) (party : Party T) (pending : Option (PendingCall T)) (hold : Option HoldKind) : Type 0 where
+  pub doing : DoesCall z o party.doing pending
+  pub hold_is : party.hold ≡ hold
+
+-- The rows by the code's places: what the functions of `src/steps/place.rt` answer.
+
+abbrev pub map_place : {P : Type 0} → (P → Place) → Option P → Option Place
+map_place wrap None = None
+map_place wrap (Some place) = Some (wrap place)
+
+abbrev pub begins_at : {T : Type 0} → Object T → Call T → Option Place
+begins_at objects.Mutex call = map_place places.Mutex (mutex_begins call)
+begins_at objects.Spin call = None
+begins_at (objects.Semaphore initial) call = map_place places.Semaphore (semaphore_begins call)
+begins_at (objects.Barrier n) call = None
+begins_at objects.ReaderLock call = None
+begins_at objects.WriterLock call = None
+begins_at objects.Condvar call = None
+begins_at objects.Once call = None
+begins_at (objects.Lazy v) call = None
+begins_at (objects.Atomic v) call = None
+
+abbrev pub intent_at : {T : Type 0} → Place → Option HoldKind → Intent T
+intent_at (places.Mutex place) hold = mutex_intent words.State place
+intent_at (places.Semaphore place) hold = semaphore_intent words.State place
+
+abbrev pub after_at : {T : Type 0} → Place → Option ℕ → After T Place
+after_at (places.Mutex place) told = within places.Mutex (mutex_after place told)
+after_at (places.Semaphore place) told = within places.Semaphore (semaphore_after place told)
+
+abbrev pub answered_at : Place → WaitAction → Place
+answered_at (places.Mutex place) action = places.Mutex (mutex_answered place action)
+answered_at (places.Semaphore place) action = places.Semaphore (semaphore_answered place action)
+
+abbrev pub chosen_at : {T : Type 0} → Place → Option T → Place
+chosen_at (places.Mutex place) choice = places.Mutex place
+chosen_at (places.Semaphore place) choice = places.Semaphore place
+
+abbrev pub grant_at : {T : Type 0} → Object T → Call T → ℕ → ℕ → Option HoldKind
+grant_at objects.Mutex call from to = mutex_grant call from to
+grant_at objects.Spin call from to = None
+grant_at (objects.Semaphore initial) call from to = None
+grant_at (objects.Barrier n) call from to = None
+grant_at objects.ReaderLock call from to = None
+grant_at objects.WriterLock call from to = None
+grant_at objects.Condvar call from to = None
+grant_at objects.Once call from to = None
+grant_at (objects.Lazy v) call from to = None
+grant_at (objects.Atomic v) call from to = None
+
+abbrev pub needs_hold_at : {T : Type 0} → Object T → Call T → Bool
+needs_hold_at objects.Mutex call = mutex_needs_hold call
+needs_hold_at objects.Spin call = false
+needs_hold_at (objects.Semaphore initial) call = false
+needs_hold_at (objects.Barrier n) call = false
+needs_hold_at objects.ReaderLock call = false
+needs_hold_at objects.WriterLock call = false
+needs_hold_at objects.Condvar call = false
+needs_hold_at objects.Once call = false
+needs_hold_at (objects.Lazy v) call = false
+needs_hold_at (objects.Atomic v) call = false

@@ -1,0 +1,123 @@
+-- What one input makes a party of a machine do: what the functions of `src/steps/turn.rt` answer.
+use Rattle.std.specs.Prelude.{◌≡◌, ℕ, zero, ◌+◌, ◌-◌, ◌^◌, min, Bool, true, false, ◌&&◌, is_some, is_none, if◌then◌else◌, slice_set, Option, Some, None, Result, Ok, Err}
+use Rattle.steps_events.specs.declared.WaitAction.{WaitAction}
+use Rattle.steps_events.specs.declared.event.Act.{Act}
+use Rattle.steps_events.specs.declared.event.Act.TheVariants as acts
+use Rattle.steps_events.specs.declared.event.Call.{Call}
+use Rattle.steps_events.specs.declared.event.Input.{Input}
+use Rattle.steps_events.specs.declared.event.Input.TheVariants as inputs
+use Rattle.steps_events.specs.declared.event.Object.{Object}
+use Rattle.steps_events.specs.declared.event.StepFault.{StepFault}
+use Rattle.steps_events.specs.declared.event.StepFault.TheVariants as faults
+use Rattle.steps_events.specs.declared.event.Then.TheVariants as thens
+use Rattle.steps_events.specs.declared.event.Word.{Word}
+use Rattle.steps_events.specs.declared.event.Word.TheVariants as words
+use Rattle.steps_events.specs.declared.hold.HoldKind.{HoldKind}
+use Rattle.steps_events.specs.declared.row.After.{After}
+use Rattle.steps_events.specs.declared.row.After.TheVariants as afters
+use Rattle.steps_events.specs.Rows.{carried_out, value_told, outcome_of}
+use Rattle.steps_events.specs.Past.{is_release, hold_or}
+use Rattle.steps_events.specs.Moves.{is_locking}
+use Rattle.sync_steps.specs.declared.steps.place.Closure.TheVariants as closures
+use Rattle.sync_steps.specs.declared.steps.place.Closure.{Closure}
+use Rattle.sync_steps.specs.declared.steps.place.Doing.{Doing}
+use Rattle.sync_steps.specs.declared.steps.place.Party.{Party}
+use Rattle.sync_steps.specs.declared.steps.place.Place.{Place}
+use Rattle.sync_steps.specs.declared.steps.place.Turn.{Turn}
+use Rattle.sync_steps.specs.Machine.Places.{begins_at, intent_at, after_at, answered_at, chosen_at, grant_at, needs_hold_at}
+
+-- the hold that an act of a call takes
+abbrev pub hold_won : {T : Type 0} → Object T → Call T → Act T → Option HoldKind
+hold_won o call (acts.Exchange words.State from to found true) = grant_at o call from to
+hold_won o call (acts.Swap words.State zero put) = grant_at o call 0 put
+hold_won o call act = None
+
+abbrev pub new_hold : {T : Type 0} → Object T → Call T → Act T → Option HoldKind → Option HoldKind
+new_hold o call act hold = if is_release act then None else hold_or (hold_won o call act) hold
+
+abbrev pub doing_after : {T : Type 0} → Call T → After T Place → Option (Doing T)
+doing_after call (afters.At place) = Some (record { call = call; place = place; stands = None })
+doing_after call (afters.Waits place seen) = Some (record { call = call; place = place; stands = Some closures.Wait })
+doing_after call (afters.Chooses place old) = Some (record { call = call; place = place; stands = Some closures.Choice })
+doing_after call (afters.Ends answer) = None
+
+-- a party begins a call at this place
+abbrev pub begun : {T : Type 0} → Party T → Call T → Place → Turn T
+begun party call place =
+    record {
+      act = acts.Begun call;
+      «then» = thens.GoesOn;
+      party = record { doing = Some (record { call = call; place = place; stands = None }); hold = party.hold };
+    }
+
+abbrev pub begin_at : {T : Type 0} → Object T → Party T → Call T → Option Place → Result (Turn T) StepFault
+begin_at o party call None = Err faults.OtherObject
+begin_at o party call (Some place) =
+    if (is_locking call && is_some party.hold)
+    then Err faults.Holding
+    else (if (needs_hold_at o call && is_none party.hold) then Err faults.NoHold else Ok (begun party call place))
+
+abbrev pub begin_turn : {T : Type 0} → Object T → Party T → Call T → Result (Turn T) StepFault
+begin_turn o party call = if is_some party.doing then Err faults.Busy else begin_at o party call (begins_at o call)
+
+-- the step at the place of a call
+abbrev pub stepped : {T : Type 0} → Object T → Doing T → Option HoldKind → (Word → ℕ) → Turn T
+stepped o doing hold memory =
+    record {
+      act = carried_out (intent_at doing.place hold) memory;
+      «then» = outcome_of (after_at doing.place (value_told (carried_out (intent_at doing.place hold) memory)));
+      party = record {
+        doing = doing_after doing.call (after_at doing.place (value_told (carried_out (intent_at doing.place hold) memory)));
+        hold = new_hold o doing.call (carried_out (intent_at doing.place hold) memory) hold;
+      };
+    }
+
+abbrev pub go_at : {T : Type 0} → Object T → Option (Doing T) → Option HoldKind → (Word → ℕ) → Result (Turn T) StepFault
+go_at o None hold memory = Err faults.Idle
+go_at o (Some doing) hold memory = if is_some doing.stands then Err faults.WaitingForAnswer else Ok (stepped o doing hold memory)
+
+abbrev pub go_turn : {T : Type 0} → Object T → Party T → (Word → ℕ) → Result (Turn T) StepFault
+go_turn o party memory = go_at o party.doing party.hold memory
+
+-- a closure has answered, and the call goes on from this place
+abbrev pub told_answer : {T : Type 0} → Act T → Doing T → Option HoldKind → Place → Turn T
+told_answer act doing hold place =
+    record {
+      act = act;
+      «then» = thens.GoesOn;
+      party = record { doing = Some (record { call = doing.call; place = place; stands = None }); hold = hold };
+    }
+
+abbrev pub is_at_wait : Option Closure → Bool
+is_at_wait (Some closures.Wait) = true
+is_at_wait other = false
+
+abbrev pub is_at_choice : Option Closure → Bool
+is_at_choice (Some closures.Choice) = true
+is_at_choice other = false
+
+abbrev pub answer_at : {T : Type 0} → Option (Doing T) → Option HoldKind → WaitAction → Result (Turn T) StepFault
+answer_at None hold action = Err faults.NotWaiting
+answer_at (Some doing) hold action =
+    if is_at_wait doing.stands
+    then Ok (told_answer (acts.Answered action) doing hold (answered_at doing.place action))
+    else Err faults.NotWaiting
+
+abbrev pub answer_turn : {T : Type 0} → Party T → WaitAction → Result (Turn T) StepFault
+answer_turn party action = answer_at party.doing party.hold action
+
+abbrev pub choose_at : {T : Type 0} → Option (Doing T) → Option HoldKind → Option T → Result (Turn T) StepFault
+choose_at None hold choice = Err faults.NotWaiting
+choose_at (Some doing) hold choice =
+    if is_at_choice doing.stands
+    then Ok (told_answer (acts.Chosen choice) doing hold (chosen_at doing.place choice))
+    else Err faults.NotWaiting
+
+abbrev pub choose_turn : {T : Type 0} → Party T → Option T → Result (Turn T) StepFault
+choose_turn party choice = choose_at party.doing party.hold choice
+
+abbrev pub turn_at : {T : Type 0} → Object T → Party T → (Word → ℕ) → Input T → Result (Turn T) StepFault
+turn_at o party memory (inputs.Begin call) = begin_turn o party call
+turn_at o party memory inputs.Go = go_turn o party memory
+turn_at o party memory (inputs.Answer action) = answer_turn party action
+turn_at o party memory (inputs.Choose choice) = choose_turn party choice

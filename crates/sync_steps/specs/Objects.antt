@@ -1,0 +1,72 @@
+-- What each object is: its places and its table of steps, what it may be opened with, and the words that it has.
+use Rattle.std.specs.Prelude.{ℕ, ◌<◌, ◌^◌, Bool, true, false}
+use Rattle.steps_events.specs.declared.event.Object.{Object}
+use Rattle.steps_events.specs.declared.event.Object.TheVariants as objects
+use Rattle.steps_events.specs.declared.event.Word.{Word}
+use Rattle.steps_events.specs.declared.event.Word.TheVariants as words
+use Rattle.steps_events.specs.Arithmetic.{Arithmetic, IsValue}
+use Rattle.steps_events.specs.Tables.{Table, no_calls}
+use Rattle.steps_mutex.specs.declared.MutexPlace.{MutexPlace}
+use Rattle.steps_mutex.specs.Table.{mutex_table}
+use Rattle.steps_semaphore.specs.declared.SemaphorePlace.{SemaphorePlace}
+use Rattle.steps_semaphore.specs.Table.{semaphore_table}
+
+-- the objects that a machine serves; the others have no places and no calls yet
+abbrev pub is_served : {T : Type 0} → Object T → Bool
+is_served objects.Mutex = true
+is_served objects.Spin = false
+is_served (objects.Semaphore initial) = true
+is_served (objects.Barrier n) = false
+is_served objects.ReaderLock = false
+is_served objects.WriterLock = false
+is_served objects.Condvar = false
+is_served objects.Once = false
+is_served (objects.Lazy v) = false
+is_served (objects.Atomic v) = false
+
+abbrev pub place_of : {T : Type 0} → Object T → Type 0
+place_of objects.Mutex = MutexPlace
+place_of objects.Spin = ⊥
+place_of (objects.Semaphore initial) = SemaphorePlace
+place_of (objects.Barrier n) = ⊥
+place_of objects.ReaderLock = ⊥
+place_of objects.WriterLock = ⊥
+place_of objects.Condvar = ⊥
+place_of objects.Once = ⊥
+place_of (objects.Lazy v) = ⊥
+place_of (objects.Atomic v) = ⊥
+
+abbrev pub table_of : {T : Type 0} → Arithmetic T → (o : Object T) → Table T (place_of o)
+table_of z objects.Mutex = mutex_table
+table_of z objects.Spin = no_calls
+table_of z (objects.Semaphore initial) = semaphore_table initial
+table_of z (objects.Barrier n) = no_calls
+table_of z objects.ReaderLock = no_calls
+table_of z objects.WriterLock = no_calls
+table_of z objects.Condvar = no_calls
+table_of z objects.Once = no_calls
+table_of z (objects.Lazy v) = no_calls
+table_of z (objects.Atomic v) = no_calls
+
+-- what an object is opened with is a value of its type
+abbrev pub IsObject : {T : Type 0} → Arithmetic T → Object T → Type 0
+IsObject z objects.Mutex = Unit {0}
+IsObject z objects.Spin = Unit {0}
+IsObject z (objects.Semaphore initial) = initial < 2 ^ 64
+IsObject z (objects.Barrier n) = n < 2 ^ 32
+IsObject z objects.ReaderLock = Unit {0}
+IsObject z objects.WriterLock = Unit {0}
+IsObject z objects.Condvar = Unit {0}
+IsObject z objects.Once = Unit {0}
+IsObject z (objects.Lazy v) = IsValue z v
+IsObject z (objects.Atomic v) = IsValue z v
+
+-- a mutex, a semaphore, a barrier and a once have one word; the others have more, or another
+abbrev pub has_word : {T : Type 0} → Object T → Word → Bool
+has_word o words.State = true
+has_word objects.WriterLock words.Counter = true
+has_word objects.Condvar words.Waiters = true
+has_word objects.Condvar words.Value = true
+has_word (objects.Atomic v) words.Low = true
+has_word (objects.Atomic v) words.High = true
+has_word o word = false

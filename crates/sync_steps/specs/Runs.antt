@@ -1,0 +1,37 @@
+-- Runs of an object: those of its table, where what it is opened with is a value of its type.
+use Rattle.std.specs.Prelude.{ℕ, List, Option}
+use Rattle.steps_events.specs.declared.event.Event.{Event}
+use Rattle.steps_events.specs.declared.event.Input.{Input}
+use Rattle.steps_events.specs.declared.event.Object.{Object}
+use Rattle.steps_events.specs.declared.event.StepFault.{StepFault}
+use Rattle.steps_events.specs.declared.event.Word.{Word}
+use Rattle.steps_events.specs.Arithmetic.{Arithmetic}
+use Rattle.steps_events.specs.Past as pasts
+use Rattle.steps_events.specs.Past.{Hold}
+use Rattle.steps_events.specs.Moves as moves
+use Rattle.steps_events.specs.Runs as runs
+use Rattle.sync_steps.specs.Objects.{table_of, IsObject}
+
+-- what a word holds after the events
+abbrev pub word_in : {T : Type 0} → Arithmetic T → Object T → List (Event T) → Word → ℕ
+word_in z o past word = pasts.word_in (table_of z o) past word
+
+-- the holds that there are after the events
+abbrev pub holds_of : {T : Type 0} → Arithmetic T → Object T → List (Event T) → List Hold
+holds_of z o past = pasts.holds_of (table_of z o) past
+
+-- the fault of an input after the events, if it has one
+abbrev pub fault_of : {T : Type 0} → Arithmetic T → Object T → ℕ → List (Event T) → ℕ → Input T → Option StepFault
+fault_of z o parties past party input = moves.fault_of (table_of z o) parties past party input
+
+-- after these events this event is the one that the input gives
+abbrev pub IsNext : {T : Type 0} → Arithmetic T → Object T → ℕ → List (Event T) → ℕ → Input T → Event T → Type 0
+IsNext z o parties past party input event = moves.IsNext z (table_of z o) parties past party input event
+
+-- the events are those of some schedule, newest first
+abbrev pub IsPast : {T : Type 0} → Arithmetic T → Object T → ℕ → List (Event T) → Type 0
+IsPast z o parties past = IsObject z o × runs.IsPast z (table_of z o) parties past
+
+-- after the past, the events are those of the schedule: one for each input, in order
+abbrev pub IsRun : {T : Type 0} → Arithmetic T → Object T → ℕ → List (Event T) → List (ℕ × Input T) → List (Event T) → Type 0
+IsRun z o parties past schedule events = runs.IsRun z (table_of z o) parties past schedule events

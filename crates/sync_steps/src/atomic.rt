@@ -1,3 +1,0 @@
-//! Wide atomics: here only what their integers are.
-
-pub mod internal;
