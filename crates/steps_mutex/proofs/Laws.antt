@@ -1,6 +1,6 @@
 -- A mutex keeps its law at every front of every run.
 use Rattle.std.proofs.Common.{◌≡◌, ℕ, ◌+◌, ◌≤◌, ◌==◌, refl, sym, ◌∙◌, ap, subst, Bool, true, false, ◌&&◌, cond, is_some, List, [], ◌∷◌, Option, Some, None, ◌↔◌, arith}
-use Rattle.std.specs.Prelude.{MatchBool, MatchOption, nat_lt}
+use Rattle.std.specs.Prelude.{MatchBool, MatchOption, nat_lt, not}
 use Rattle.std.proofs.lemmas.Bool.{eqb-true, eqb-false}
 use Rattle.std.proofs.lemmas.Bool.Decides.{nat_tests}
 use Rattle.steps_events.specs.declared.WaitAction.{WaitAction}
@@ -21,11 +21,11 @@ use Rattle.steps_events.specs.declared.row.After.{After}
 use Rattle.steps_events.specs.declared.row.After.TheVariants as afters
 use Rattle.steps_events.specs.Arithmetic.{Arithmetic}
 use Rattle.steps_events.specs.Rows.{carried_out, value_told, outcome_of, place_after, within, is_continue}
-use Rattle.steps_events.specs.Past.{PendingCall, call_of, holds_of, hold_of, word_in, latest_outcome, event, is_failure, failures_in}
+use Rattle.steps_events.specs.Past.{same_word, PendingCall, call_of, holds_of, hold_of, word_in, latest_outcome, event, is_failure, failures_in}
 use Rattle.steps_events.specs.Moves.{Move, step_at, hold_fault, answer_fault}
 use Rattle.steps_events.specs.Runs.{IsPast}
 use Rattle.steps_events.specs.Sights.{is_sight, keeps_asking, HasAborted, spins_in, stands_at_wait, stands_in, exchanges_in}
-use Rattle.steps_events.specs.Laws.{is_refusal}
+use Rattle.steps_events.specs.Laws.{Lacks, is_refusal}
 use Rattle.steps_events.proofs.Holds.{eqb_same}
 use Rattle.steps_events.proofs.Steps.{by_move, tells_memory}
 use Rattle.steps_events.proofs.Parties.{IsKept, at_place}
@@ -309,3 +309,10 @@ keeps_mutex z parties (e ∷ past) run =
       cause = event.cause;
       law = record { exact = event.exact; asks = event.asks; tries = event.tries };
     }
+
+-- a mutex has no other word
+pub mutex_lacks : (T : Type 0) (word : Word) → same_word words.State word ≡ false → Lacks {T = T} mutex_table word
+mutex_lacks T word other places.TryLock hold = ap not other
+mutex_lacks T word other (places.Lock patience) hold = ap not other
+mutex_lacks T word other places.Release hold = ap not other
+mutex_lacks T word other places.Wake hold = refl

@@ -1,6 +1,6 @@
 -- A semaphore keeps its law at every front of every run.
 use Rattle.std.proofs.Common.{◌≡◌, ◌≢◌, ℕ, ◌+◌, ◌-◌, ◌≤◌, ◌<◌, ◌%◌, ◌^◌, zero, ◌==◌, refl, sym, ◌∙◌, ap, subst, Bool, true, false, ◌&&◌, cond, List, [], ◌∷◌, Option, Some, None, inl, inr, arith}
-use Rattle.std.specs.Prelude.{IfSome, MatchBool, MatchOption, nat_lt}
+use Rattle.std.specs.Prelude.{IfSome, MatchBool, MatchOption, nat_lt, not}
 use Rattle.std.proofs.lemmas.Bool.{eqb-true, eqb-false}
 use Rattle.std.proofs.lemmas.Bool.Decides.{nat_tests}
 use Rattle.steps_events.specs.declared.WaitAction.{WaitAction}
@@ -21,11 +21,11 @@ use Rattle.steps_events.specs.declared.row.After.{After}
 use Rattle.steps_events.specs.declared.row.After.TheVariants as afters
 use Rattle.steps_events.specs.Arithmetic.{Arithmetic}
 use Rattle.steps_events.specs.Rows.{carried_out, value_told, outcome_of, place_after, within, is_continue}
-use Rattle.steps_events.specs.Past.{Hold, PendingCall, call_of, holds_of, hold_of, word_in, word_after, without, with_hold, is_release, hold_taken, latest_outcome, event}
+use Rattle.steps_events.specs.Past.{same_word, Hold, PendingCall, call_of, holds_of, hold_of, word_in, word_after, without, with_hold, is_release, hold_taken, latest_outcome, event}
 use Rattle.steps_events.specs.Moves.{Move, step_at, answer_fault}
 use Rattle.steps_events.specs.Runs.{IsPast}
 use Rattle.steps_events.specs.Sights.{sight_of, is_sight, keeps_asking, is_abort, HasAborted, spins_in, stands_at_wait}
-use Rattle.steps_events.specs.Laws.{is_refusal}
+use Rattle.steps_events.specs.Laws.{Lacks, is_refusal}
 use Rattle.steps_events.proofs.Holds.{eqb_same}
 use Rattle.steps_events.proofs.Steps.{by_move, tells_memory}
 use Rattle.steps_events.proofs.Parties.{IsKept, at_place}
@@ -334,3 +334,13 @@ keeps_semaphore z initial parties (e ∷ past) fits run =
         asks = event.asks;
       };
     }
+
+-- a semaphore has no other word
+pub semaphore_lacks : (T : Type 0) (initial : ℕ) (word : Word) → same_word words.State word ≡ false → Lacks {T = T} (semaphore_table initial) word
+semaphore_lacks T initial word other places.Value hold = ap not other
+semaphore_lacks T initial word other (places.Post n) hold = ap not other
+semaphore_lacks T initial word other places.Wake hold = refl
+semaphore_lacks T initial word other places.TryLook hold = ap not other
+semaphore_lacks T initial word other (places.TryTake seen to) hold = ap not other
+semaphore_lacks T initial word other (places.Look patience) hold = ap not other
+semaphore_lacks T initial word other (places.Take seen to patience) hold = ap not other

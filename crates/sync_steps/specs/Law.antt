@@ -4,14 +4,12 @@ use Rattle.steps_events.specs.declared.event.Call.{Call}
 use Rattle.steps_events.specs.declared.event.Event.{Event}
 use Rattle.steps_events.specs.declared.event.Object.{Object}
 use Rattle.steps_events.specs.declared.event.Object.TheVariants as objects
-use Rattle.steps_events.specs.declared.event.Word.{Word}
-use Rattle.steps_events.specs.declared.event.Word.TheVariants as words
 use Rattle.steps_events.specs.Arithmetic.{Arithmetic}
 use Rattle.steps_events.specs.Laws.{TellsMemory, IsExclusive, HasCause}
 use Rattle.steps_mutex.specs.Law.{MutexCause, MutexLaw}
 use Rattle.steps_semaphore.specs.Law.{SemaphoreCause, SemaphoreLaw}
-use Rattle.sync_steps.specs.Objects.{table_of, has_word}
-use Rattle.sync_steps.specs.Runs.{word_in, holds_of}
+use Rattle.sync_steps.specs.Objects.{table_of}
+use Rattle.sync_steps.specs.Runs.{holds_of}
 
 -- why a call of the object was refused, by the events up to its answer; an object that is not served refuses none
 abbrev pub CauseOf : {T : Type 0} → Object T → Call T → ℕ → List (Event T) → Type 0

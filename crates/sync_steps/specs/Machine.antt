@@ -18,9 +18,9 @@ use Rattle.sync_steps.specs.Objects.{table_of, has_word}
 use Rattle.sync_steps.specs.Runs.{word_in, fault_of, IsNext, IsPast, IsRun}
 use Rattle.sync_steps.specs.Law.{Headline}
 use Rattle.sync_steps.specs.Machine.Places.{IsParty}
-
 pub mod Places
 pub mod Turns
+pub mod Applies
 
 -- an object and its parties at a moment
 pub record Configuration (T : Type 0) : Type 0 where

@@ -1,5 +1,5 @@
 -- What each object is: its places and its table of steps, what it may be opened with, and the words that it has.
-use Rattle.std.specs.Prelude.{ℕ, ◌<◌, ◌^◌, Bool, true, false}
+use Rattle.std.specs.Prelude.{◌<◌, ◌^◌, Bool, true, false}
 use Rattle.steps_events.specs.declared.event.Object.{Object}
 use Rattle.steps_events.specs.declared.event.Object.TheVariants as objects
 use Rattle.steps_events.specs.declared.event.Word.{Word}

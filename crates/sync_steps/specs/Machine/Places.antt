@@ -1,11 +1,12 @@
 -- Where a machine's parties are: the code's places, as places of the object's table.
-use Rattle.std.specs.Prelude.{◌≡◌, ℕ, Bool, true, false, Option, Some, None}
+use Rattle.std.specs.Prelude.{◌≡◌, ℕ, Bool, false, Option, Some, None}
 use Rattle.steps_events.specs.declared.WaitAction.{WaitAction}
 use Rattle.steps_events.specs.declared.event.Call.{Call}
 use Rattle.steps_events.specs.declared.event.Object.{Object}
 use Rattle.steps_events.specs.declared.event.Object.TheVariants as objects
 use Rattle.steps_events.specs.declared.event.Then.{Then}
 use Rattle.steps_events.specs.declared.event.Then.TheVariants as thens
+use Rattle.steps_events.specs.declared.event.Word.{Word}
 use Rattle.steps_events.specs.declared.event.Word.TheVariants as words
 use Rattle.steps_events.specs.declared.hold.HoldKind.{HoldKind}
 use Rattle.steps_events.specs.declared.row.After.{After}
@@ -15,7 +16,7 @@ use Rattle.steps_events.specs.Past.{PendingCall, latest_outcome}
 use Rattle.steps_events.specs.Moves.{stage_of}
 use Rattle.steps_events.specs.Rows.{within}
 use Rattle.steps_mutex.specs.Table.{mutex_begins, mutex_intent, mutex_after, mutex_answered, mutex_grant, mutex_needs_hold}
-use Rattle.steps_semaphore.specs.Table.{semaphore_begins, semaphore_intent, semaphore_after, semaphore_answered}
+use Rattle.steps_semaphore.specs.Table.{semaphore_opening, semaphore_begins, semaphore_intent, semaphore_after, semaphore_answered}
 use Rattle.sync_steps.specs.declared.steps.place.Closure.{Closure}
 use Rattle.sync_steps.specs.declared.steps.place.Closure.TheVariants as closures
 use Rattle.sync_steps.specs.declared.steps.place.Doing.{Doing}
@@ -66,6 +67,19 @@ pub record IsParty {T : Type 0} (z : Arithmetic T) (o : Object T) (party : Party
 abbrev pub map_place : {P : Type 0} → (P → Place) → Option P → Option Place
 map_place wrap None = None
 map_place wrap (Some place) = Some (wrap place)
+
+-- the first word: what a semaphore opens with
+abbrev pub opening_at : {T : Type 0} → Object T → Word → ℕ
+opening_at objects.Mutex word = 0
+opening_at objects.Spin word = 0
+opening_at (objects.Semaphore initial) word = semaphore_opening initial word
+opening_at (objects.Barrier n) word = 0
+opening_at objects.ReaderLock word = 0
+opening_at objects.WriterLock word = 0
+opening_at objects.Condvar word = 0
+opening_at objects.Once word = 0
+opening_at (objects.Lazy v) word = 0
+opening_at (objects.Atomic v) word = 0
 
 abbrev pub begins_at : {T : Type 0} → Object T → Call T → Option Place
 begins_at objects.Mutex call = map_place places.Mutex (mutex_begins call)

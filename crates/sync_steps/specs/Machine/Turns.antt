@@ -1,5 +1,5 @@
 -- What one input makes a party of a machine do: what the functions of `src/steps/turn.rt` answer.
-use Rattle.std.specs.Prelude.{◌≡◌, ℕ, zero, ◌+◌, ◌-◌, ◌^◌, min, Bool, true, false, ◌&&◌, is_some, is_none, if◌then◌else◌, slice_set, Option, Some, None, Result, Ok, Err}
+use Rattle.std.specs.Prelude.{ℕ, zero, Bool, true, false, ◌&&◌, is_some, is_none, if◌then◌else◌, Option, Some, None, Result, Ok, Err}
 use Rattle.steps_events.specs.declared.WaitAction.{WaitAction}
 use Rattle.steps_events.specs.declared.event.Act.{Act}
 use Rattle.steps_events.specs.declared.event.Act.TheVariants as acts
@@ -60,17 +60,17 @@ begin_at o party call (Some place) =
 abbrev pub begin_turn : {T : Type 0} → Object T → Party T → Call T → Result (Turn T) StepFault
 begin_turn o party call = if is_some party.doing then Err faults.Busy else begin_at o party call (begins_at o call)
 
+-- after an act of a call that goes on so
+abbrev pub turn_after : {T : Type 0} → Object T → Call T → Option HoldKind → Act T → After T Place → Turn T
+turn_after o call hold act after =
+    record { act = act; «then» = outcome_of after; party = record { doing = doing_after call after; hold = new_hold o call act hold } }
+
 -- the step at the place of a call
+abbrev pub stepped_by : {T : Type 0} → Object T → Doing T → Option HoldKind → Act T → Turn T
+stepped_by o doing hold act = turn_after o doing.call hold act (after_at doing.place (value_told act))
+
 abbrev pub stepped : {T : Type 0} → Object T → Doing T → Option HoldKind → (Word → ℕ) → Turn T
-stepped o doing hold memory =
-    record {
-      act = carried_out (intent_at doing.place hold) memory;
-      «then» = outcome_of (after_at doing.place (value_told (carried_out (intent_at doing.place hold) memory)));
-      party = record {
-        doing = doing_after doing.call (after_at doing.place (value_told (carried_out (intent_at doing.place hold) memory)));
-        hold = new_hold o doing.call (carried_out (intent_at doing.place hold) memory) hold;
-      };
-    }
+stepped o doing hold memory = stepped_by o doing hold (carried_out (intent_at doing.place hold) memory)
 
 abbrev pub go_at : {T : Type 0} → Object T → Option (Doing T) → Option HoldKind → (Word → ℕ) → Result (Turn T) StepFault
 go_at o None hold memory = Err faults.Idle

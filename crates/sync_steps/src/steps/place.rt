@@ -2,6 +2,7 @@
 ghost use Rattle.std.specs.Prelude.{◌≡◌};
 ghost use Rattle.sync_steps.specs.Machine.Places.{begins_at, intent_at, after_at, answered_at, chosen_at, grant_at, needs_hold_at};
 
+use std::alloc::AllocError;
 use steps_events::WaitAction;
 use steps_events::event::{Act, Call, Object, Then, Word};
 use steps_events::hold::HoldKind;
@@ -32,14 +33,23 @@ pub struct Doing<T> {
 }
 
 /// A party: the call that it has under way, and what it holds.
-#[derive(Clone, Copy, Debug, PartialEq, Eq)]
+#[derive(Copy, Debug, PartialEq, Eq)]
 pub struct Party<T> {
     pub doing: Option<Doing<T>>,
     pub hold: Option<HoldKind>,
 }
 
+// By hand, since a derived one is not known to give the same party.
+impl<T: Copy> Clone for Party<T> {
+    ghost is_clone = { λ x y. y ≡ x };
+
+    fn clone(&self) -> Result<Self, AllocError> {
+        Ok(*self)
+    }
+}
+
 /// What a party does at an input, how its call goes on, and the party after it.
-#[derive(Clone, Copy, Debug)]
+#[derive(Debug, Drop)]
 pub struct Turn<T> {
     pub act: Act<T>,
     pub then: Then<T>,
@@ -99,8 +109,8 @@ impl Place {
 
     /// Where the call goes on once its choice closure has answered: no place of a mutex or a semaphore asks for a choice.
     pub fn chosen<T>(self, _choice: Option<T>) -> Place
-        where
-            T: Copy,
+    where
+        T: Copy,
         ensures { result ≡ chosen_at self _choice }
     {
         match self {

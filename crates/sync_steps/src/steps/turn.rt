@@ -1,11 +1,13 @@
 //! One turn of a party: what an input makes it do.
 ghost use Rattle.std.specs.Prelude.{◌≡◌};
 ghost use Rattle.steps_events.specs.WordsAt.{word_at};
-ghost use Rattle.steps_events.specs.Moves.{is_locking};
+ghost use Rattle.steps_events.specs.Arithmetic.{IsValue};
+ghost use Rattle.steps_events.specs.Moves.{is_locking, CallValues, InputValues};
 ghost use Rattle.sync_steps.specs.Machine.Turns.{new_hold, doing_after, begin_turn, go_turn, answer_turn, choose_turn, turn_at};
 
 use super::place::{Closure, Doing, Party, Place, Turn, grant, needs_hold};
 use steps_events::WaitAction;
+use steps_events::atomic::internal::AtomicInteger;
 use steps_events::event::{Act, Call, Input, Object, StepFault, Then, Word};
 use steps_events::hold::HoldKind;
 use steps_events::row::After;
@@ -39,10 +41,12 @@ fn hold_after<T>(
 {
     match act {
         Act::Store {
-            word: Word::State, ..
+            word: Word::State,
+            ..
         }
         | Act::Add {
-            word: Word::State, ..
+            word: Word::State,
+            ..
         } => None,
         Act::Exchange {
             word: Word::State,
@@ -63,8 +67,8 @@ fn hold_after<T>(
 /// The call of a party after a step of it.
 #[inline(always)]
 fn doing_after<T>(call: Call<T>, after: &After<T, Place>) -> Option<Doing<T>>
-    where
-        T: Copy,
+where
+    T: Copy,
     ensures { result ≡ doing_after call after.now }
 {
     let (place, stands) = match after {
@@ -81,11 +85,7 @@ fn doing_after<T>(call: Call<T>, after: &After<T, Place>) -> Option<Doing<T>>
 }
 
 /// A party begins a call.
-fn begin<T: Copy>(
-    object: &Object<T>,
-    party: &Party<T>,
-    call: Call<T>,
-) -> Result<Turn<T>, StepFault>
+fn begin<T: Copy>(object: &Object<T>, party: &Party<T>, call: Call<T>) -> Result<Turn<T>, StepFault>
     ensures { result ≡ begin_turn object.now party.now call }
 {
     if party.doing.is_some() {
@@ -116,11 +116,7 @@ fn begin<T: Copy>(
 
 /// A party makes its next step.
 #[inline(always)]
-fn go<T: Copy>(
-    object: &Object<T>,
-    party: &Party<T>,
-    words: &Words,
-) -> Result<Turn<T>, StepFault>
+fn go<T: Copy>(object: &Object<T>, party: &Party<T>, words: &Words) -> Result<Turn<T>, StepFault>
     ensures { result ≡ go_turn object.now party.now (word_at words.now) }
 {
     let Some(doing) = party.doing else {
@@ -187,6 +183,51 @@ fn choose<T: Copy>(party: &Party<T>, choice: Option<T>) -> Result<Turn<T>, StepF
             hold: party.hold,
         },
     })
+}
+
+/// What an input brings are values of its type. It reads them, and does nothing else.
+#[inline(always)]
+pub(crate) fn read_values<T: AtomicInteger>(input: &Input<T>)
+    ensures { InputValues T.arithmetic input.now }
+{
+    match input {
+        Input::Begin(call) => read_call(call),
+        Input::Choose(Some(value)) => read_value(*value),
+        Input::Choose(None) | Input::Go | Input::Answer(_) => {}
+    }
+}
+
+#[inline(always)]
+fn read_call<T: AtomicInteger>(call: &Call<T>)
+    ensures { CallValues T.arithmetic call.now }
+{
+    match call {
+        Call::Post(n) => {
+            let _n = *n;
+        }
+        Call::Store(value)
+        | Call::Swap(value)
+        | Call::FetchAdd(value)
+        | Call::FetchSub(value)
+        | Call::FetchAnd(value)
+        | Call::FetchOr(value)
+        | Call::FetchXor(value)
+        | Call::FetchNand(value)
+        | Call::FetchMax(value)
+        | Call::FetchMin(value) => read_value(*value),
+        Call::CompareExchange(current, new) | Call::CompareExchangeWeak(current, new) => {
+            read_value(*current);
+            read_value(*new);
+        }
+        _ => {}
+    }
+}
+
+#[inline(always)]
+fn read_value<T: AtomicInteger>(value: T)
+    ensures { IsValue T.arithmetic value }
+{
+    let _words = value.to_words();
 }
 
 /// The turn of a party, by its input, or why it is refused.

@@ -1,0 +1,108 @@
+-- The headline holds at every front of every run, and a word that an object does not have is 0.
+use Rattle.std.proofs.Common.{◌≡◌, ◌∙◌, ℕ, false, refl, sym, subst, List, [], ◌∷◌, None, arith}
+use Rattle.steps_events.specs.declared.event.Event.{Event}
+use Rattle.steps_events.specs.declared.event.Input.{Input}
+use Rattle.steps_events.specs.declared.event.Input.TheVariants as inputs
+use Rattle.steps_events.specs.declared.event.Object.{Object}
+use Rattle.steps_events.specs.declared.event.Object.TheVariants as objects
+use Rattle.steps_events.specs.declared.event.Word.{Word}
+use Rattle.steps_events.specs.declared.event.Word.TheVariants as words
+use Rattle.steps_events.specs.Arithmetic.{Arithmetic}
+use Rattle.steps_events.specs.Tables.{no_calls}
+use Rattle.steps_events.specs.Past.{same_word}
+use Rattle.steps_events.specs.Moves.{fault_at}
+use Rattle.steps_events.specs.Runs as runs
+use Rattle.steps_events.specs.Runs.{AtEveryFront}
+use Rattle.steps_events.specs.Laws.{IsExclusive}
+use Rattle.steps_events.proofs.Steps.{lacked_word}
+use Rattle.steps_events.proofs.Parties.{fault_at_none}
+use Rattle.steps_mutex.specs.Table.{mutex_table}
+use Rattle.steps_mutex.proofs.Laws.{keeps_mutex, mutex_lacks}
+use Rattle.steps_semaphore.specs.Table.{semaphore_table, semaphore_opening}
+use Rattle.steps_semaphore.proofs.Laws.{keeps_semaphore, semaphore_lacks}
+use Rattle.sync_steps.specs.Objects.{has_word}
+use Rattle.sync_steps.specs.Runs.{word_in, IsNext, IsPast, IsRun}
+use Rattle.sync_steps.specs.Law.{Headline}
+
+none_held : IsExclusive []
+none_held party among = absurd (omega (arith, among.1))
+
+-- at an object without calls nothing happens
+
+idle_refused : {T : Type 0} (input : Input T) → fault_at {T = T} no_calls None None input ≡ None → ⊥
+idle_refused (inputs.Begin call) allowed = absurd cc
+idle_refused inputs.Go allowed = absurd cc
+idle_refused (inputs.Answer action) allowed = absurd cc
+idle_refused (inputs.Choose choice) allowed = absurd cc
+
+nothing_happens : {T : Type 0} (z : Arithmetic T) (parties : ℕ) (past : List (Event T)) (e : Event T) → runs.IsPast z no_calls parties (e ∷ past) → ⊥
+nothing_happens z parties [] e run = idle_refused run.0.0 (fault_at_none no_calls parties [] e.party run.0.0 run.0.1.allowed)
+nothing_happens z parties (d ∷ past) e run = nothing_happens z parties past d run.1
+
+no_events : {T : Type 0} (z : Arithmetic T) (parties : ℕ) (past : List (Event T)) → runs.IsPast z no_calls parties past → past ≡ []
+no_events z parties [] run = refl
+no_events z parties (e ∷ past) run = absurd (nothing_happens z parties past e run)
+
+pub headline : {T : Type 0} (z : Arithmetic T) (o : Object T) (parties : ℕ) (past : List (Event T)) → IsPast z o parties past → Headline z o past
+headline z objects.Mutex parties past run =
+    let keeps = keeps_mutex z parties past run.1 in
+    record { told = keeps.told; exclusive = keeps.exclusive; law = keeps.law; cause = keeps.cause }
+headline z (objects.Semaphore initial) parties past run =
+    let keeps = keeps_semaphore z initial parties past run.0 run.1 in
+    record { told = keeps.told; exclusive = rw keeps.unheld none_held; law = keeps.law; cause = keeps.cause }
+headline {T} z objects.Spin parties past run = subst (λ (p : List (Event T)). Headline z objects.Spin p) (sym (no_events z parties past run.1)) (record { told = tt; exclusive = none_held; law = refl; cause = tt })
+headline {T} z (objects.Barrier n) parties past run = subst (λ (p : List (Event T)). Headline z (objects.Barrier n) p) (sym (no_events z parties past run.1)) (record { told = tt; exclusive = none_held; law = refl; cause = tt })
+headline {T} z objects.ReaderLock parties past run = subst (λ (p : List (Event T)). Headline z objects.ReaderLock p) (sym (no_events z parties past run.1)) (record { told = tt; exclusive = none_held; law = refl; cause = tt })
+headline {T} z objects.WriterLock parties past run = subst (λ (p : List (Event T)). Headline z objects.WriterLock p) (sym (no_events z parties past run.1)) (record { told = tt; exclusive = none_held; law = refl; cause = tt })
+headline {T} z objects.Condvar parties past run = subst (λ (p : List (Event T)). Headline z objects.Condvar p) (sym (no_events z parties past run.1)) (record { told = tt; exclusive = none_held; law = refl; cause = tt })
+headline {T} z objects.Once parties past run = subst (λ (p : List (Event T)). Headline z objects.Once p) (sym (no_events z parties past run.1)) (record { told = tt; exclusive = none_held; law = refl; cause = tt })
+headline {T} z (objects.Lazy v) parties past run = subst (λ (p : List (Event T)). Headline z (objects.Lazy v) p) (sym (no_events z parties past run.1)) (record { told = tt; exclusive = none_held; law = refl; cause = tt })
+headline {T} z (objects.Atomic v) parties past run = subst (λ (p : List (Event T)). Headline z (objects.Atomic v) p) (sym (no_events z parties past run.1)) (record { told = tt; exclusive = none_held; law = refl; cause = tt })
+
+-- at every front of a run that goes on from a past
+pub fronts :
+    {T : Type 0} (z : Arithmetic T) (o : Object T) (parties : ℕ) (past : List (Event T)) (schedule : List (ℕ × Input T)) (events : List (Event T)) →
+    IsPast z o parties past → IsRun z o parties past schedule events → AtEveryFront (Headline z o) past events
+fronts z o parties past [] [] run goes = headline z o parties past run
+fronts z o parties past (turn ∷ schedule) (e ∷ events) run goes =
+    (headline z o parties past run, fronts z o parties (e ∷ past) schedule events (next_past goes.0) goes.1)
+  where
+    next_past : IsNext z o parties past turn.0 turn.1 e → IsPast z o parties (e ∷ past)
+    next_past next = (run.0, ((turn.1, subst (λ p. IsNext z o parties past p turn.1 e) (sym next.party_is) next), run.1))
+fronts z o parties past [] (e ∷ events) run goes = absurd goes
+fronts z o parties past (turn ∷ schedule) [] run goes = absurd goes
+
+-- The words that an object does not have.
+
+not_state : (T : Type 0) (o : Object T) (word : Word) → has_word o word ≡ false → same_word words.State word ≡ false
+not_state T o words.State lacks = absurd cc
+not_state T o words.Counter lacks = refl
+not_state T o words.Waiters lacks = refl
+not_state T o words.Value lacks = refl
+not_state T o words.Low lacks = refl
+not_state T o words.High lacks = refl
+
+unopened : (initial : ℕ) (word : Word) → same_word words.State word ≡ false → semaphore_opening initial word ≡ 0
+unopened initial words.State other = absurd cc
+unopened initial words.Counter other = refl
+unopened initial words.Waiters other = refl
+unopened initial words.Value other = refl
+unopened initial words.Low other = refl
+unopened initial words.High other = refl
+
+silent_word : {T : Type 0} (z : Arithmetic T) (o : Object T) (parties : ℕ) (past : List (Event T)) (word : Word) → runs.IsPast z no_calls parties past → word_in z o [] word ≡ 0 → word_in z o past word ≡ 0
+silent_word {T} z o parties past word run opens = subst (λ (p : List (Event T)). word_in z o p word ≡ 0) (sym (no_events z parties past run)) opens
+
+pub absent_word : {T : Type 0} (z : Arithmetic T) (o : Object T) (parties : ℕ) (past : List (Event T)) (word : Word) → IsPast z o parties past → has_word o word ≡ false → word_in z o past word ≡ 0
+absent_word {T} z objects.Mutex parties past word run lacks = lacked_word z mutex_table parties word (mutex_lacks T word (not_state T objects.Mutex word lacks)) past run.1
+absent_word {T} z (objects.Semaphore initial) parties past word run lacks =
+    let other = not_state T (objects.Semaphore initial) word lacks in
+    lacked_word z (semaphore_table initial) parties word (semaphore_lacks T initial word other) past run.1 ∙ unopened initial word other
+absent_word z objects.Spin parties past word run lacks = silent_word z objects.Spin parties past word run.1 refl
+absent_word z (objects.Barrier n) parties past word run lacks = silent_word z (objects.Barrier n) parties past word run.1 refl
+absent_word z objects.ReaderLock parties past word run lacks = silent_word z objects.ReaderLock parties past word run.1 refl
+absent_word z objects.WriterLock parties past word run lacks = silent_word z objects.WriterLock parties past word run.1 refl
+absent_word z objects.Condvar parties past word run lacks = silent_word z objects.Condvar parties past word run.1 refl
+absent_word z objects.Once parties past word run lacks = silent_word z objects.Once parties past word run.1 refl
+absent_word z (objects.Lazy v) parties past word run lacks = silent_word z (objects.Lazy v) parties past word run.1 refl
+absent_word z (objects.Atomic v) parties past word run lacks = silent_word z (objects.Atomic v) parties past word run.1 refl

@@ -1,0 +1,5 @@
+pub mod Places
+pub mod Turns
+pub mod Stands
+pub mod Headlines
+pub mod Plays

@@ -1,0 +1,67 @@
+-- Playing one more input.
+use Rattle.std.proofs.Common.{◌≡◌, ℕ, ◌+◌, ◌<◌, refl, sym, ◌∙◌, ap, subst, List, [], ◌∷◌, ◌++◌, length, take, get_or, Some, slice_get}
+use Rattle.std.proofs.lemmas.Option.{slice_get-get_or}
+use Rattle.std.proofs.lemmas.List.{take_more}
+use Rattle.steps_events.specs.declared.event.Event.{Event}
+use Rattle.steps_events.specs.declared.event.Input.{Input}
+use Rattle.steps_events.specs.declared.event.Object.{Object}
+use Rattle.steps_events.specs.declared.event.StepFault.{StepFault}
+use Rattle.steps_events.specs.Arithmetic.{Arithmetic}
+use Rattle.steps_events.specs.Runs.{after}
+use Rattle.sync_steps.specs.Runs.{fault_of, IsNext, IsRun}
+use Rattle.sync_steps.specs.Machine.{Configuration, StandsAt, Steps, Continues, Plays, PlaysUpTo}
+use Rattle.sync_steps.proofs.Headlines.{headline, fronts}
+
+run_more :
+    {T : Type 0} (z : Arithmetic T) (o : Object T) (parties : ℕ) (past : List (Event T)) (schedule : List (ℕ × Input T)) (events : List (Event T)) (input : ℕ × Input T) (e : Event T) →
+    IsRun z o parties past schedule events → IsNext z o parties (after events past) input.0 input.1 e → IsRun z o parties past (schedule ++ input ∷ []) (events ++ e ∷ [])
+run_more z o parties past [] [] input e run next = (next, tt)
+run_more z o parties past (t ∷ schedule) (d ∷ events) input e run next = (run.0, run_more z o parties (d ∷ past) schedule events input e run.1 next)
+run_more z o parties past [] (d ∷ events) input e run next = absurd run
+run_more z o parties past (t ∷ schedule) [] input e run next = absurd run
+
+after_more : {T : Type 0} (events : List (Event T)) (e : Event T) (past : List (Event T)) → after (events ++ e ∷ []) past ≡ e ∷ after events past
+after_more [] e past = refl
+after_more (d ∷ events) e past = after_more events e (d ∷ past)
+
+-- nothing is played yet
+pub plays_none : {T : Type 0} (z : Arithmetic T) (m : Configuration T) → Plays z [] m [] m
+plays_none z m o parties past at = record { run = tt; stands = at; fronts = headline z o parties past at.run }
+
+plays_more :
+    {T : Type 0} (z : Arithmetic T) (schedule : List (ℕ × Input T)) (old mid new : Configuration T) (events : List (Event T)) (input : ℕ × Input T) (e : Event T) →
+    Plays z schedule old events mid → Steps z mid input.0 input.1 e new → Plays z (schedule ++ input ∷ []) old (events ++ e ∷ []) new
+plays_more {T} z schedule old mid new events input e plays steps o parties past at =
+    let before = plays o parties past at in
+    let one = steps o parties (after events past) before.stands in
+    let run = run_more z o parties past schedule events input e before.run one.0 in
+    record {
+      run = run;
+      stands = subst (λ (p : List (Event T)). StandsAt z o parties p new) (sym (after_more events e past)) one.1;
+      fronts = fronts z o parties past (schedule ++ input ∷ []) (events ++ e ∷ []) at.run run;
+    }
+
+-- one more input of the schedule is played
+pub plays_next :
+    {T : Type 0} (z : Arithmetic T) (schedule : List (ℕ × Input T)) (i : ℕ) (old mid new : Configuration T) (events : List (Event T)) (input : ℕ × Input T) (e : Event T) →
+    i < length schedule → input ≡ get_or schedule i input → Plays z (take i schedule) old events mid → Steps z mid input.0 input.1 e new →
+    Plays z (take (i + 1) schedule) old (events ++ e ∷ []) new
+plays_next {T} z schedule i old mid new events input e below is plays steps =
+    let taken : take (i + 1) schedule ≡ take i schedule ++ input ∷ [] = take_more schedule i input below ∙ ap (λ (t : ℕ × Input T). take i schedule ++ t ∷ []) (sym is) in
+    subst (λ (s : List (ℕ × Input T)). Plays z s old (events ++ e ∷ []) new) (sym taken) (plays_more z (take i schedule) old mid new events input e plays steps)
+
+-- the next input of the schedule is refused
+pub refuses_next :
+    {T : Type 0} (z : Arithmetic T) (schedule : List (ℕ × Input T)) (i : ℕ) (old mid new : Configuration T) (events : List (Event T)) (input : ℕ × Input T) (fault : StepFault) →
+    i < length schedule → input ≡ get_or schedule i input → length events ≡ i → Plays z (take i schedule) old events mid → new ≡ mid →
+    ((o : Object T) (parties : ℕ) (past : List (Event T)) → StandsAt z o parties past mid → fault_of z o parties past input.0 input.1 ≡ Some fault) →
+    (o : Object T) (parties : ℕ) (past : List (Event T)) → StandsAt z o parties past old → PlaysUpTo z o parties past schedule events fault new
+refuses_next {T} z schedule i old mid new events input fault below is count plays same refuses o parties past at =
+    let before = plays o parties past at in
+    let here : Continues z o parties past (take i schedule) events new = subst (λ (m : Configuration T). Continues z o parties past (take i schedule) events m) (sym same) before in
+    record {
+      before = subst (λ k. Continues z o parties past (take k schedule) events new) (sym count) here;
+      input = input;
+      refused = ap (slice_get schedule) count ∙ slice_get-get_or schedule i input below ∙ ap Some (sym is);
+      fault_is = refuses o parties (after events past) before.stands;
+    }

@@ -1,0 +1,180 @@
+-- A turn leads from where a run stands to where it stands with one more event.
+use Rattle.std.proofs.Common.{◌≡◌, ◌≢◌, ℕ, zero, suc, ◌<◌, refl, sym, ◌∙◌, ap, subst, List, [], ◌∷◌, length, false, Option, Some, None, Result, Ok, Err, ◌⊎◌, inl, inr, slice_get, slice_set, arith}
+use std.Path.{fun_ext}
+use Rattle.std.specs.Option.{ForSome}
+use Rattle.std.proofs.lemmas.Bool.{lt-ltb}
+use Rattle.std.proofs.lemmas.Bool.Decides.{eqb_tells}
+use Rattle.std.proofs.Math.ListN.{length-set}
+use Rattle.std.proofs.lemmas.List.{length-replicate}
+use Rattle.std.specs.Prelude.{replicate}
+use Rattle.steps_events.specs.declared.event.Event.{Event}
+use Rattle.steps_events.specs.declared.event.Input.{Input}
+use Rattle.steps_events.specs.declared.event.Object.{Object}
+use Rattle.steps_events.specs.declared.event.StepFault.{StepFault}
+use Rattle.steps_events.specs.declared.event.Word.{Word}
+use Rattle.steps_events.specs.declared.hold.HoldKind.{HoldKind}
+use Rattle.steps_events.specs.WordsAt.{word_at}
+use Rattle.steps_events.specs.Arithmetic.{Arithmetic}
+use Rattle.steps_events.specs.Past.{PendingCall, call_of, call_after, hold_of, hold_after, word_after, failures_in, event}
+use Rattle.steps_events.specs.Moves.{InputValues, fault_at}
+use Rattle.steps_events.proofs.Holds.{call_of_same, call_of_other, hold_of_same, hold_of_other}
+use Rattle.sync_steps.specs.declared.steps.place.Doing.{Doing}
+use Rattle.sync_steps.specs.declared.steps.place.Party.{Party}
+use Rattle.sync_steps.specs.declared.steps.place.Turn.{Turn}
+use Rattle.sync_steps.specs.Objects.{table_of, has_word, IsObject}
+use Rattle.sync_steps.specs.Runs.{word_in, fault_of, IsNext}
+use Rattle.sync_steps.specs.Machine.{Configuration, StandsAt}
+use Rattle.sync_steps.specs.Machine.Applies.{Applies}
+use Rattle.sync_steps.specs.Machine.Places.{IsParty, DoesCall, opening_at}
+use Rattle.sync_steps.specs.Machine.Turns.{turn_at}
+use Rattle.sync_steps.proofs.Headlines.{absent_word}
+use Rattle.sync_steps.proofs.Places.{opening_is}
+use Rattle.sync_steps.proofs.Turns.{Turns, TurnsOr, turns_at}
+
+slice_get-set_same : {A : Type 0} (xs : List A) (i : ℕ) (v : A) → i < length xs → slice_get (slice_set xs i v) i ≡ Some v
+slice_get-set_same [] i v h = absurd (omega arith)
+slice_get-set_same (x ∷ xs) zero v h = refl
+slice_get-set_same (x ∷ xs) (suc i) v h = slice_get-set_same xs i v (omega arith)
+
+slice_get-set_other : {A : Type 0} (xs : List A) (i j : ℕ) (v : A) → j ≢ i → slice_get (slice_set xs i v) j ≡ slice_get xs j
+slice_get-set_other [] i j v other = refl
+slice_get-set_other (x ∷ xs) zero zero v other = absurd (other refl)
+slice_get-set_other (x ∷ xs) zero (suc j) v other = refl
+slice_get-set_other (x ∷ xs) (suc i) zero v other = refl
+slice_get-set_other (x ∷ xs) (suc i) (suc j) v other = slice_get-set_other xs i j v (λ e. other (ap suc e))
+
+-- the turn is the party's next after the events
+abbrev pub TurnsAfter : {T : Type 0} → Arithmetic T → Object T → List (Event T) → ℕ → Input T → Turn T → Type 0
+TurnsAfter z o past party input turn = Turns z o (call_of party past) (hold_of (table_of z o) party past) (word_in z o past) input turn
+
+is_next :
+    {T : Type 0} (z : Arithmetic T) (o : Object T) (parties : ℕ) (past : List (Event T)) (party : ℕ) (input : Input T) (turn : Turn T) →
+    party < parties → InputValues z input → TurnsAfter z o past party input turn → IsNext z o parties past party input (event party turn.act turn.then)
+is_next z o parties past party input turn below values turns =
+    record {
+      allowed = rw (lt-ltb party parties below) turns.allowed;
+      values = values;
+      party_is = refl;
+      form = turns.form;
+      moved = turns.moved;
+    }
+
+-- a party other than the one whose turn it was is as before, and that one as its turn leaves it
+stands_each :
+    {T : Type 0} (z : Arithmetic T) (o : Object T) (past : List (Event T)) (party : ℕ) (input : Input T) (turn : Turn T) (old : List (Party T)) →
+    party < length old → TurnsAfter z o past party input turn →
+    ((p : ℕ) → p < length old → ForSome (slice_get old p) (λ x. IsParty z o x (call_of p past) (hold_of (table_of z o) p past))) →
+    (p : ℕ) → p < length old → (x : Party T) → slice_get (slice_set old party turn.party) p ≡ Some x →
+    ((p ≡ party) ⊎ (p ≢ party)) →
+    IsParty z o x (call_of p (event party turn.act turn.then ∷ past)) (hold_of (table_of z o) p (event party turn.act turn.then ∷ past))
+stands_each {T} z o past party input turn old within turns each p below x got (inl is) =
+    let t = table_of z o in
+    let e = event party turn.act turn.then in
+    let before : IsParty z o turn.party (call_after turn.then e (call_of party past)) (hold_after t turn.act (call_of party past) (hold_of t party past)) = turns.leaves party in
+    let P : Option (PendingCall T) → Type 0 = λ c. IsParty z o turn.party c (hold_after t turn.act (call_of party past) (hold_of t party past)) in
+    let called : IsParty z o turn.party (call_of party (e ∷ past)) (hold_after t turn.act (call_of party past) (hold_of t party past)) =
+    subst P (sym (call_of_same party turn.act turn.then past)) before in
+    let Q : Option HoldKind → Type 0 = λ h. IsParty z o turn.party (call_of party (e ∷ past)) h in
+    let held : IsParty z o turn.party (call_of party (e ∷ past)) (hold_of t party (e ∷ past)) =
+    subst Q (sym (hold_of_same t party turn.act turn.then past)) called in
+    let same : slice_get (slice_set old party turn.party) p ≡ Some turn.party =
+    ap (slice_get (slice_set old party turn.party)) is ∙ slice_get-set_same old party turn.party within in
+    let here : turn.party ≡ x = cc in
+    let R : ℕ → Type 0 = λ q. IsParty z o turn.party (call_of q (e ∷ past)) (hold_of t q (e ∷ past)) in
+    let S : Party T → Type 0 = λ y. IsParty z o y (call_of p (e ∷ past)) (hold_of t p (e ∷ past)) in
+    subst S here (subst R (sym is) held)
+stands_each {T} z o past party input turn old within turns each p below x got (inr other) =
+    let t = table_of z o in
+    let e = event party turn.act turn.then in
+    let before : IsParty z o x (call_of p past) (hold_of t p past) = each p below x (sym (slice_get-set_other old party p turn.party other) ∙ got) in
+    let P : Option (PendingCall T) → Type 0 = λ c. IsParty z o x c (hold_of t p past) in
+    let Q : Option HoldKind → Type 0 = λ h. IsParty z o x (call_of p (e ∷ past)) h in
+    subst Q (sym (hold_of_other t party p turn.act turn.then past other)) (subst P (sym (call_of_other party p turn.act turn.then past other)) before)
+
+-- the run with one more event stands at the machine after the turn
+stands_after :
+    {T : Type 0} (z : Arithmetic T) (o : Object T) (parties : ℕ) (past : List (Event T)) (old new : Configuration T) (party : ℕ) (input : Input T) (turn : Turn T) →
+    party < length old.parties → InputValues z input → StandsAt z o parties past old → TurnsAfter z o past party input turn → Applies party turn old new →
+    IsNext z o parties past party input (event party turn.act turn.then) × StandsAt z o parties (event party turn.act turn.then ∷ past) new
+stands_after {T} z o parties past old new party input turn within values at turns applies =
+    let below : party < parties = rw at.count at within in
+    let next = is_next z o parties past party input turn below values turns in
+    let same_length : length new.parties ≡ length old.parties = ap length applies.parties ∙ length-set old.parties party turn.party in (
+      next,
+      record {
+        run = (at.run.0, ((input, next), at.run.1));
+        object_is = applies.object ∙ at.object_is;
+        count = same_length ∙ at.count;
+        memory = λ word. applies.words word ∙ ap (word_after word turn.act) (at.memory word);
+        failed = applies.failed (failures_in past) at.failed;
+        each = λ p h x got.
+            stands_each z o past party input turn old.parties within turns (λ q k. at.each q (rw at.count at k)) p (rw (sym at.count) at h) x (rw applies.parties at got) (place_of p);
+      },
+    )
+  where
+    place_of : (p : ℕ) → (p ≡ party) ⊎ (p ≢ party)
+    place_of p = elim (eqb_tells p party) [ inl e ↦ inl e.1 | inr e ↦ inr e.1 ]
+
+-- what the machine's own words and object make of it
+turns_there :
+    {T : Type 0} (z : Arithmetic T) (o : Object T) (parties : ℕ) (past : List (Event T)) (m : Configuration T) (party : ℕ) (found : Party T) (input : Input T) →
+    party < length m.parties → slice_get m.parties party ≡ Some found → StandsAt z o parties past m →
+    TurnsOr z o (call_of party past) (hold_of (table_of z o) party past) (word_in z o past) input (turn_at m.object found (word_at m.words) input)
+turns_there {T} z o parties past m party found input within got at =
+    let t = table_of z o in
+    let own : IsParty z o found (call_of party past) (hold_of t party past) = at.each party (rw at.count at within) found got in
+    let M : (Word → ℕ) → Type 0 = λ memory. TurnsOr z o (call_of party past) (hold_of t party past) (word_in z o past) input (turn_at o found memory input) in
+    let O : Object T → Type 0 = λ object. TurnsOr z o (call_of party past) (hold_of t party past) (word_in z o past) input (turn_at object found (word_at m.words) input) in
+    let turns = turns_at z o found (word_in z o past) input (call_of party past) (hold_of t party past) own in
+    let same : word_at m.words ≡ word_in z o past = fun_ext at.memory in
+    subst O (sym at.object_is) (subst M (sym same) turns)
+
+-- a turn of the party
+pub stands_after_turn :
+    {T : Type 0} (z : Arithmetic T) (o : Object T) (parties : ℕ) (past : List (Event T)) (old new : Configuration T) (party : ℕ) (found : Party T) (input : Input T) (turn : Turn T) →
+    party < length old.parties → slice_get old.parties party ≡ Some found → InputValues z input → turn_at old.object found (word_at old.words) input ≡ Ok turn → Applies party turn old new → StandsAt z o parties past old →
+    IsNext z o parties past party input (event party turn.act turn.then) × StandsAt z o parties (event party turn.act turn.then ∷ past) new
+stands_after_turn {T} z o parties past old new party found input turn within got values is applies at =
+    let t = table_of z o in
+    let turns : TurnsAfter z o past party input turn =
+    subst (λ (r : Result (Turn T) StepFault). TurnsOr z o (call_of party past) (hold_of t party past) (word_in z o past) input r) is (turns_there z o parties past old party found input within got at) in
+    stands_after z o parties past old new party input turn within values at turns applies
+
+-- a fault in its place
+pub refused_there :
+    {T : Type 0} (z : Arithmetic T) (o : Object T) (parties : ℕ) (past : List (Event T)) (m : Configuration T) (party : ℕ) (found : Party T) (input : Input T) (fault : StepFault) →
+    party < length m.parties → slice_get m.parties party ≡ Some found → turn_at m.object found (word_at m.words) input ≡ Err fault → StandsAt z o parties past m → fault_of z o parties past party input ≡ Some fault
+refused_there {T} z o parties past m party found input fault within got is at =
+    let t = table_of z o in
+    let below : party < parties = rw at.count at within in
+    let refused : fault_at t (call_of party past) (hold_of t party past) input ≡ Some fault =
+    subst (λ (r : Result (Turn T) StepFault). TurnsOr z o (call_of party past) (hold_of t party past) (word_in z o past) input r) is (turns_there z o parties past m party found input within got at) in
+    rw (lt-ltb party parties below) refused
+
+-- a word that the object does not have is 0 at the machine
+pub absent_at :
+    {T : Type 0} (z : Arithmetic T) (o : Object T) (parties : ℕ) (past : List (Event T)) (m : Configuration T) (word : Word) → StandsAt z o parties past m → has_word o word ≡ false → word_at m.words word ≡ 0
+absent_at z o parties past m word at lacks = at.memory word ∙ absent_word z o parties past word at.run lacks
+
+idle_at :
+    {T : Type 0} (z : Arithmetic T) (o : Object T) (idle : Party T) (parties p : ℕ) → idle.doing ≡ None → idle.hold ≡ None → ForSome (slice_get (replicate parties idle) p) (λ party. IsParty z o party None None)
+idle_at z o idle zero p doing hold party is = absurd cc
+idle_at {T} z o idle (suc parties) zero doing hold party is =
+    let same : idle ≡ party = cc in
+    let D : Option (Doing T) → Type 0 = λ d. DoesCall z o d None in
+    subst (λ (x : Party T). IsParty z o x None None) same (record { doing = subst D (sym doing) tt; hold_is = hold })
+idle_at z o idle (suc parties) (suc p) doing hold party is = idle_at z o idle parties p doing hold party is
+
+-- the empty run stands at a new machine
+pub stands_first :
+    {T : Type 0} (z : Arithmetic T) (o : Object T) (parties : ℕ) (idle : Party T) (m : Configuration T) → IsObject z o → m.object ≡ o → m.failed ≡ 0 → ((word : Word) → word_at m.words word ≡ opening_at o word) →
+    idle.doing ≡ None → idle.hold ≡ None → m.parties ≡ replicate parties idle → StandsAt z o parties [] m
+stands_first {T} z o parties idle m fits object failed opens doing hold parties_are =
+    record {
+      run = (fits, tt);
+      object_is = object;
+      count = ap length parties_are ∙ length-replicate parties idle;
+      memory = λ word. opens word ∙ opening_is z o word;
+      failed = failed;
+      each = λ p below. subst (λ (xs : List (Party T)). ForSome (slice_get xs p) (λ party. IsParty z o party None None)) (sym parties_are) (idle_at z o idle parties p doing hold);
+    }

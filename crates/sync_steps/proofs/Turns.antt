@@ -1,0 +1,267 @@
+-- The turn of a party that is where a run's call is, is the move that the definitions give, and leaves it where they do.
+use Rattle.std.proofs.Common.{◌≡◌, refl, sym, ◌∙◌, ap, subst, ℕ, Bool, true, false, ◌&&◌, cond, is_some, is_none, ◌∷◌, Option, Some, None, Result, Ok, Err, ◌⊎◌, inl, inr}
+use Rattle.steps_events.specs.declared.WaitAction.{WaitAction}
+use Rattle.steps_events.specs.declared.event.Act.{Act}
+use Rattle.steps_events.specs.declared.event.Act.TheVariants as acts
+use Rattle.steps_events.specs.declared.event.Call.{Call}
+use Rattle.steps_events.specs.declared.event.Event.{Event}
+use Rattle.steps_events.specs.declared.event.Input.{Input}
+use Rattle.steps_events.specs.declared.event.Input.TheVariants as inputs
+use Rattle.steps_events.specs.declared.event.Object.{Object}
+use Rattle.steps_events.specs.declared.event.StepFault.{StepFault}
+use Rattle.steps_events.specs.declared.event.StepFault.TheVariants as faults
+use Rattle.steps_events.specs.declared.event.Then.{Then}
+use Rattle.steps_events.specs.declared.event.Then.TheVariants as thens
+use Rattle.steps_events.specs.declared.event.Word.{Word}
+use Rattle.steps_events.specs.declared.hold.HoldKind.{HoldKind}
+use Rattle.steps_events.specs.declared.row.Intent.{Intent}
+use Rattle.steps_events.specs.declared.row.After.{After}
+use Rattle.steps_events.specs.declared.row.After.TheVariants as afters
+use Rattle.steps_events.specs.Arithmetic.{Arithmetic}
+use Rattle.steps_events.specs.Rows.{carried_out, value_told, outcome_of, place_after, within}
+use Rattle.steps_events.specs.Past.{PendingCall, call_after, call_going_on, hold_after, latest_outcome, event}
+use Rattle.steps_events.specs.Moves.{stage_of, next_stage, stage_after, move_of, fault_at, go_fault, answer_fault, choose_fault, is_locking, HasForm}
+use Rattle.steps_events.proofs.Steps.{carried_is_step, carried_goes_on, carried_stage}
+use Rattle.sync_steps.specs.declared.steps.place.Doing.{Doing}
+use Rattle.sync_steps.specs.declared.steps.place.Party.{Party}
+use Rattle.sync_steps.specs.declared.steps.place.Place.{Place}
+use Rattle.sync_steps.specs.declared.steps.place.Turn.{Turn}
+use Rattle.sync_steps.specs.Objects.{place_of, table_of}
+use Rattle.sync_steps.specs.Machine.Places.{place_in, closure_of, IsDoing, DoesCall, IsParty, map_place, begins_at, answered_at, chosen_at, needs_hold_at}
+use Rattle.sync_steps.specs.Machine.Turns.{doing_after, turn_after, stepped_by, begun, begin_at, begin_turn, stepped, go_at, told_answer, is_at_wait, is_at_choice, answer_at, choose_at, turn_at}
+use Rattle.sync_steps.proofs.Places.{begins_is, intent_is, after_is, answered_is, chosen_is, needs_hold_is, new_hold_is}
+
+-- the turn is what the input gives: the move of the definitions, which leaves the party where they do
+pub record Turns {T : Type 0} (z : Arithmetic T) (o : Object T) (pending : Option (PendingCall T)) (hold : Option HoldKind) (memory : Word → ℕ) (input : Input T) (turn : Turn T) : Type 0 where
+  pub allowed : fault_at (table_of z o) pending hold input ≡ None
+  pub form : HasForm input turn.act
+  pub moved : move_of (table_of z o) pending hold memory input ≡ Some (record { act = turn.act; outcome = turn.then })
+  pub leaves : (number : ℕ) → IsParty z o turn.party (call_after turn.then (event number turn.act turn.then) pending) (hold_after (table_of z o) turn.act pending hold)
+
+-- what is promised of a turn, or of the fault in its place
+abbrev pub TurnsOr : {T : Type 0} → Arithmetic T → Object T → Option (PendingCall T) → Option HoldKind → (Word → ℕ) → Input T → Result (Turn T) StepFault → Type 0
+TurnsOr z o pending hold memory input (Ok turn) = Turns z o pending hold memory input turn
+TurnsOr z o pending hold memory input (Err fault) = fault_at (table_of z o) pending hold input ≡ Some fault
+
+-- A beginning.
+
+begins_some : {P : Type 0} (wrap : P → Place) (found : Option P) (place : Place) → map_place wrap found ≡ Some place → (p : P) × (found ≡ Some p) × (wrap p ≡ place)
+begins_some wrap None place is = absurd cc
+begins_some wrap (Some p) place is = (p, refl, some_is (wrap p) place is)
+  where
+    some_is : (x y : Place) → Some x ≡ Some y → x ≡ y
+    some_is x y same = cc
+
+begins_none : {P : Type 0} (wrap : P → Place) (found : Option P) → map_place wrap found ≡ None → found ≡ None
+begins_none wrap None is = refl
+begins_none wrap (Some p) is = absurd cc
+
+-- an input that may begin the call, by two tests: who holds may not lock, and who does not may not unlock
+begins_by :
+    {T : Type 0} (z : Arithmetic T) (o : Object T) (call : Call T) (hold : Option HoldKind) (memory : Word → ℕ) (place : Place) (p : place_of o) (holds lacks : Bool) → (table_of z o).begins call ≡ Some p → place_in o p ≡ place →
+    (is_locking call && is_some hold) ≡ holds → (needs_hold_at o call && is_none hold) ≡ lacks →
+    TurnsOr z o None hold memory (inputs.Begin call) (cond holds (Err faults.Holding) (cond lacks (Err faults.NoHold) (Ok (begun (record { doing = None; hold = hold }) call place))))
+begins_by z o call hold memory place p true lacks begins is locks needs = rw (begins, locks) refl
+begins_by {T} z o call hold memory place p false true begins is locks needs =
+    let needed : ((table_of z o).needs_hold call && is_none hold) ≡ true = ap (λ b. b && is_none hold) (sym (needs_hold_is z o call)) ∙ needs in
+    rw (begins, locks, needed) refl
+begins_by {T} z o call hold memory place p false false begins is locks needs =
+    let needed : ((table_of z o).needs_hold call && is_none hold) ≡ false = ap (λ b. b && is_none hold) (sym (needs_hold_is z o call)) ∙ needs in
+    record {
+      allowed = rw (begins, locks, needed) refl;
+      form = refl;
+      moved = refl;
+      leaves = λ number. record { doing = record { call_is = refl; place = (p, is, begins); stands_is = refl }; hold_is = refl };
+    }
+
+begin_turns :
+    {T : Type 0} (z : Arithmetic T) (o : Object T) (doing : Option (Doing T)) (hold : Option HoldKind) (memory : Word → ℕ) (call : Call T) (pending : Option (PendingCall T)) → DoesCall z o doing pending →
+    TurnsOr z o pending hold memory (inputs.Begin call) (begin_turn o (record { doing = doing; hold = hold }) call)
+begin_turns z o None hold memory call (Some c) at = absurd at
+begin_turns z o (Some doing) hold memory call None at = absurd at
+begin_turns z o (Some doing) hold memory call (Some c) at = refl
+begin_turns {T} z o None hold memory call None at = by_place (begins_at o call) (sym (begins_is z o call))
+  where
+    by_place : (found : Option Place) → map_place (place_in o) ((table_of z o).begins call) ≡ found →
+        TurnsOr z o None hold memory (inputs.Begin call) (begin_at o (record { doing = None; hold = hold }) call found)
+    by_place None is = rw (begins_none (place_in o) ((table_of z o).begins call) is) refl
+    by_place (Some place) is =
+        let found = begins_some (place_in o) ((table_of z o).begins call) place is in
+        begins_by z o call hold memory place found.0 (is_locking call && is_some hold) (needs_hold_at o call && is_none hold) found.1 found.2 refl refl
+
+-- A step.
+
+outcome_within : {T P Q : Type 0} (wrap : P → Q) (a : After T P) → outcome_of (within wrap a) ≡ outcome_of a
+outcome_within wrap (afters.At place) = refl
+outcome_within wrap (afters.Waits place seen) = refl
+outcome_within wrap (afters.Chooses place old) = refl
+outcome_within wrap (afters.Ends answer) = refl
+
+-- the party after a step, by how its call goes on
+leaves_by :
+    {T : Type 0} (z : Arithmetic T) (o : Object T) (c : PendingCall T) (hold : Option HoldKind) (memory : Word → ℕ) (p : place_of o) (number : ℕ) (a : After T (place_of o)) → stage_of (table_of z o) c ≡ Some p →
+    (table_of z o).after p (value_told (carried_out ((table_of z o).intent p hold) memory)) ≡ a →
+    DoesCall z o (doing_after c.call (within (place_in o) a))
+    (call_after (outcome_of (within (place_in o) a)) (event number (carried_out ((table_of z o).intent p hold) memory) (outcome_of (within (place_in o) a))) (Some c))
+leaves_by {T} z o c hold memory p number a stage is = by_after a is
+  where
+    act : Act T
+    act = carried_out ((table_of z o).intent p hold) memory
+
+    reaches : (e : Event T) (b : After T (place_of o)) (q : place_of o) → (table_of z o).after p (value_told act) ≡ b → place_after b ≡ Some q → next_stage (table_of z o) act (stage_of (table_of z o) c) ≡ Some q
+    reaches e b q same to = ap (next_stage (table_of z o) act) stage ∙ carried_stage (table_of z o) p ((table_of z o).intent p hold) memory ∙ ap place_after same ∙ to
+
+    goes : (doing : Doing T) (e : Event T) → IsDoing z o doing (record { call = c.call; own = e ∷ c.own }) → DoesCall z o (Some doing) (call_going_on act e (Some c))
+    goes doing e at = subst (λ (k : Option (PendingCall T)). DoesCall z o (Some doing) k) (sym (carried_goes_on ((table_of z o).intent p hold) memory e c)) at
+
+    by_after : (b : After T (place_of o)) → (table_of z o).after p (value_told act) ≡ b →
+        DoesCall z o (doing_after c.call (within (place_in o) b)) (call_after (outcome_of (within (place_in o) b)) (event number act (outcome_of (within (place_in o) b))) (Some c))
+    by_after (afters.At q) same =
+        let e : Event T = event number act thens.GoesOn in
+        goes _ e (record { call_is = refl; place = (q, refl, reaches e (afters.At q) q same refl); stands_is = refl })
+    by_after (afters.Waits q seen) same =
+        let e : Event T = event number act (thens.Waits seen) in
+        goes _ e (record { call_is = refl; place = (q, refl, reaches e (afters.Waits q seen) q same refl); stands_is = refl })
+    by_after (afters.Chooses q old) same =
+        let e : Event T = event number act (thens.Chooses old) in
+        goes _ e (record { call_is = refl; place = (q, refl, reaches e (afters.Chooses q old) q same refl); stands_is = refl })
+    by_after (afters.Ends answer) same = tt
+
+-- the step at a place of the table
+table_steps :
+    {T : Type 0} (z : Arithmetic T) (o : Object T) (c : PendingCall T) (hold : Option HoldKind) (memory : Word → ℕ) (p : place_of o) → stage_of (table_of z o) c ≡ Some p → go_fault (latest_outcome c.own) ≡ None →
+    Turns z o (Some c) hold memory inputs.Go
+    (turn_after o c.call hold (carried_out ((table_of z o).intent p hold) memory) (within (place_in o) ((table_of z o).after p (value_told (carried_out ((table_of z o).intent p hold) memory)))))
+table_steps {T} z o c hold memory p stage free =
+    let act = carried_out ((table_of z o).intent p hold) memory in
+    let a = (table_of z o).after p (value_told act) in
+    record {
+      allowed = free;
+      form = carried_is_step ((table_of z o).intent p hold) memory;
+      moved = rw (stage, outcome_within (place_in o) a) refl;
+      leaves = λ number. record { doing = leaves_by z o c hold memory p number a stage refl; hold_is = new_hold_is z o act c hold };
+    }
+
+-- the step at the code's place
+steps_at :
+    {T : Type 0} (z : Arithmetic T) (o : Object T) (doing : Doing T) (c : PendingCall T) (hold : Option HoldKind) (memory : Word → ℕ) → IsDoing z o doing c → go_fault (latest_outcome c.own) ≡ None →
+    Turns z o (Some c) hold memory inputs.Go (stepped o doing hold memory)
+steps_at {T} z o doing c hold memory at free =
+    let p = at.place.0 in
+    let act = carried_out ((table_of z o).intent p hold) memory in
+    let I : Intent T → Type 0 = λ i. Turns z o (Some c) hold memory inputs.Go (stepped_by o (record { call = c.call; place = place_in o p; stands = doing.stands }) hold (carried_out i memory)) in
+    let A : After T Place → Type 0 = λ a. Turns z o (Some c) hold memory inputs.Go (turn_after o c.call hold act a) in
+    let D : Place → Type 0 = λ place. Turns z o (Some c) hold memory inputs.Go (stepped o (record { call = c.call; place = place; stands = doing.stands }) hold memory) in
+    let C : Call T → Type 0 = λ call. Turns z o (Some c) hold memory inputs.Go (stepped o (record { call = call; place = doing.place; stands = doing.stands }) hold memory) in
+    let by_table = subst A (sym (after_is z o p (value_told act))) (table_steps z o c hold memory p at.place.2 free) in
+    subst C (sym at.call_is) (subst D at.place.1 (subst I (sym (intent_is z o p hold)) by_table))
+
+-- whether a call makes steps, by how it was left
+goes_by : {T : Type 0} (outcome : Then T) → ((is_some (closure_of outcome) ≡ true) × (go_fault outcome ≡ Some faults.WaitingForAnswer)) ⊎ ((is_some (closure_of outcome) ≡ false) × (go_fault outcome ≡ None))
+goes_by thens.GoesOn = inr (refl, refl)
+goes_by (thens.Waits seen) = inl (refl, refl)
+goes_by (thens.Chooses old) = inl (refl, refl)
+goes_by (thens.Answers answer) = inr (refl, refl)
+
+go_turns :
+    {T : Type 0} (z : Arithmetic T) (o : Object T) (doing : Option (Doing T)) (hold : Option HoldKind) (memory : Word → ℕ) (pending : Option (PendingCall T)) → DoesCall z o doing pending →
+    TurnsOr z o pending hold memory inputs.Go (go_at o doing hold memory)
+go_turns z o None hold memory (Some c) at = absurd at
+go_turns z o (Some doing) hold memory None at = absurd at
+go_turns z o None hold memory None at = refl
+go_turns {T} z o (Some doing) hold memory (Some c) at = by_outcome (goes_by (latest_outcome c.own))
+  where
+    by_outcome : ((is_some (closure_of (latest_outcome c.own)) ≡ true) × (go_fault (latest_outcome c.own) ≡ Some faults.WaitingForAnswer)) ⊎ ((is_some (closure_of (latest_outcome c.own)) ≡ false) × (go_fault (latest_outcome c.own) ≡ None)) →
+        TurnsOr z o (Some c) hold memory inputs.Go (cond (is_some doing.stands) (Err faults.WaitingForAnswer) (Ok (stepped o doing hold memory)))
+    by_outcome (inl stands) = let is : is_some doing.stands ≡ true = ap is_some at.stands_is ∙ stands.0 in rw is stands.1
+    by_outcome (inr free) = let is : is_some doing.stands ≡ false = ap is_some at.stands_is ∙ free.0 in rw is (steps_at z o doing c hold memory at free.1)
+
+-- An answer.
+
+-- the closure of a call has answered, and it goes on from another place of the table
+leaves_at :
+    {T : Type 0} (z : Arithmetic T) (o : Object T) (c : PendingCall T) (act : Act T) (p q : place_of o) (place : Place) → place ≡ place_in o q → stage_of (table_of z o) c ≡ Some p → stage_after (table_of z o) act p ≡ Some q → (number : ℕ) →
+    IsDoing z o (record { call = c.call; place = place; stands = None }) (record { call = c.call; own = event number act thens.GoesOn ∷ c.own })
+leaves_at z o c act p q place is stage to number = record { call_is = refl; place = (q, sym is, ap (next_stage (table_of z o) act) stage ∙ to); stands_is = refl }
+
+at_place_of : {T : Type 0} (z : Arithmetic T) (o : Object T) (doing : Doing T) (c : PendingCall T) (f : Place → Place) (p q : place_of o) → place_in o p ≡ doing.place → f (place_in o p) ≡ place_in o q → f doing.place ≡ place_in o q
+at_place_of z o doing c f p q is to = ap f (sym is) ∙ to
+
+answers_by : {T : Type 0} (outcome : Then T) → ((is_at_wait (closure_of outcome) ≡ true) × (answer_fault outcome ≡ None)) ⊎ ((is_at_wait (closure_of outcome) ≡ false) × (answer_fault outcome ≡ Some faults.NotWaiting))
+answers_by thens.GoesOn = inr (refl, refl)
+answers_by (thens.Waits seen) = inl (refl, refl)
+answers_by (thens.Chooses old) = inr (refl, refl)
+answers_by (thens.Answers answer) = inr (refl, refl)
+
+chooses_by : {T : Type 0} (outcome : Then T) → ((is_at_choice (closure_of outcome) ≡ true) × (choose_fault outcome ≡ None)) ⊎ ((is_at_choice (closure_of outcome) ≡ false) × (choose_fault outcome ≡ Some faults.NotWaiting))
+chooses_by thens.GoesOn = inr (refl, refl)
+chooses_by (thens.Waits seen) = inr (refl, refl)
+chooses_by (thens.Chooses old) = inl (refl, refl)
+chooses_by (thens.Answers answer) = inr (refl, refl)
+
+answer_turns :
+    {T : Type 0} (z : Arithmetic T) (o : Object T) (doing : Option (Doing T)) (hold : Option HoldKind) (memory : Word → ℕ) (action : WaitAction) (pending : Option (PendingCall T)) → DoesCall z o doing pending →
+    TurnsOr z o pending hold memory (inputs.Answer action) (answer_at doing hold action)
+answer_turns z o None hold memory action (Some c) at = absurd at
+answer_turns z o (Some doing) hold memory action None at = absurd at
+answer_turns z o None hold memory action None at = refl
+answer_turns {T} z o (Some doing) hold memory action (Some c) at = by_outcome (answers_by (latest_outcome c.own))
+  where
+    made : Turn T
+    made = told_answer (acts.Answered action) doing hold (answered_at doing.place action)
+
+    p : place_of o
+    p = at.place.0
+
+    does : (number : ℕ) → IsDoing z o (record { call = doing.call; place = answered_at doing.place action; stands = None }) (record { call = c.call; own = event number (acts.Answered action) thens.GoesOn ∷ c.own })
+    does number =
+        let is = at_place_of z o doing c (λ k. answered_at k action) p ((table_of z o).answered p action) at.place.1 (answered_is z o p action) in
+        subst (λ (call : Call T). IsDoing z o (record { call = call; place = answered_at doing.place action; stands = None }) (record { call = c.call; own = event number (acts.Answered action) thens.GoesOn ∷ c.own })) (sym at.call_is)
+        (leaves_at z o c (acts.Answered action) p ((table_of z o).answered p action) (answered_at doing.place action) is at.place.2 refl number)
+
+    by_outcome : ((is_at_wait (closure_of (latest_outcome c.own)) ≡ true) × (answer_fault (latest_outcome c.own) ≡ None)) ⊎ ((is_at_wait (closure_of (latest_outcome c.own)) ≡ false) × (answer_fault (latest_outcome c.own) ≡ Some faults.NotWaiting)) →
+        TurnsOr z o (Some c) hold memory (inputs.Answer action) (cond (is_at_wait doing.stands) (Ok made) (Err faults.NotWaiting))
+    by_outcome (inl stands) =
+        let is : is_at_wait doing.stands ≡ true = ap is_at_wait at.stands_is ∙ stands.0 in
+        rw is (record { allowed = stands.1; form = refl; moved = refl; leaves = λ number. record { doing = does number; hold_is = refl } })
+    by_outcome (inr free) = let is : is_at_wait doing.stands ≡ false = ap is_at_wait at.stands_is ∙ free.0 in rw is free.1
+
+choose_turns :
+    {T : Type 0} (z : Arithmetic T) (o : Object T) (doing : Option (Doing T)) (hold : Option HoldKind) (memory : Word → ℕ) (choice : Option T) (pending : Option (PendingCall T)) → DoesCall z o doing pending →
+    TurnsOr z o pending hold memory (inputs.Choose choice) (choose_at doing hold choice)
+choose_turns z o None hold memory choice (Some c) at = absurd at
+choose_turns z o (Some doing) hold memory choice None at = absurd at
+choose_turns z o None hold memory choice None at = refl
+choose_turns {T} z o (Some doing) hold memory choice (Some c) at = by_outcome (chooses_by (latest_outcome c.own))
+  where
+    made : Turn T
+    made = told_answer (acts.Chosen choice) doing hold (chosen_at doing.place choice)
+
+    p : place_of o
+    p = at.place.0
+
+    does : (number : ℕ) → IsDoing z o (record { call = doing.call; place = chosen_at doing.place choice; stands = None }) (record { call = c.call; own = event number (acts.Chosen choice) thens.GoesOn ∷ c.own })
+    does number =
+        let is = at_place_of z o doing c (λ k. chosen_at k choice) p ((table_of z o).chosen p choice) at.place.1 (chosen_is z o p choice) in
+        subst (λ (call : Call T). IsDoing z o (record { call = call; place = chosen_at doing.place choice; stands = None }) (record { call = c.call; own = event number (acts.Chosen choice) thens.GoesOn ∷ c.own })) (sym at.call_is)
+        (leaves_at z o c (acts.Chosen choice) p ((table_of z o).chosen p choice) (chosen_at doing.place choice) is at.place.2 refl number)
+
+    by_outcome : ((is_at_choice (closure_of (latest_outcome c.own)) ≡ true) × (choose_fault (latest_outcome c.own) ≡ None)) ⊎ ((is_at_choice (closure_of (latest_outcome c.own)) ≡ false) × (choose_fault (latest_outcome c.own) ≡ Some faults.NotWaiting)) →
+        TurnsOr z o (Some c) hold memory (inputs.Choose choice) (cond (is_at_choice doing.stands) (Ok made) (Err faults.NotWaiting))
+    by_outcome (inl stands) =
+        let is : is_at_choice doing.stands ≡ true = ap is_at_choice at.stands_is ∙ stands.0 in
+        rw is (record { allowed = stands.1; form = refl; moved = refl; leaves = λ number. record { doing = does number; hold_is = refl } })
+    by_outcome (inr free) = let is : is_at_choice doing.stands ≡ false = ap is_at_choice at.stands_is ∙ free.0 in rw is free.1
+
+-- Whatever the input.
+pub turns_at :
+    {T : Type 0} (z : Arithmetic T) (o : Object T) (party : Party T) (memory : Word → ℕ) (input : Input T) (pending : Option (PendingCall T)) (hold : Option HoldKind) → IsParty z o party pending hold →
+    TurnsOr z o pending hold memory input (turn_at o party memory input)
+turns_at {T} z o party memory input pending hold at =
+    subst (λ h. TurnsOr z o pending h memory input (turn_at o party memory input)) at.hold_is (by_input input)
+  where
+    by_input : (i : Input T) → TurnsOr z o pending party.hold memory i (turn_at o party memory i)
+    by_input (inputs.Begin call) = begin_turns z o party.doing party.hold memory call pending at.doing
+    by_input inputs.Go = go_turns z o party.doing party.hold memory pending at.doing
+    by_input (inputs.Answer action) = answer_turns z o party.doing party.hold memory action pending at.doing
+    by_input (inputs.Choose choice) = choose_turns z o party.doing party.hold memory choice pending at.doing

@@ -1,0 +1,174 @@
+ghost use Rattle.std.specs.Prelude.{◌≡◌, ◌<◌, true, [], length, IfOk, IfErr, OnErr};
+ghost use Rattle.steps_events.specs.declared.event.Word.TheVariants as words;
+ghost use Rattle.steps_events.specs.Past.{event};
+ghost use Rattle.sync_steps.specs.Objects.{is_served, IsObject};
+ghost use Rattle.sync_steps.specs.Machine.{StandsAt, Tells, IsNoneWithout, TellsFailed, Steps, RefusesStep, KeepsHeadline};
+ghost use Rattle.sync_steps.specs.Machine.Applies.{Applies};
+ghost use Rattle.sync_steps.specs.Machine.Places.{opening_at};
+ghost use Rattle.steps_events.specs.declared.event.Word.{Word as AnyWord};
+ghost use Rattle.steps_events.specs.Arithmetic.{Arithmetic};
+ghost use Rattle.steps_events.specs.WordsAt.{word_at};
+
+use super::place::{Party, Turn};
+use super::turn;
+use std::alloc::{AllocError, Global};
+use std::marker::Model;
+use steps_events::atomic::internal::AtomicInteger;
+use steps_events::event::{Event, Input, Object, StepFault};
+use steps_events::words::{Words, failed_after};
+
+/// One object and its parties, numbered from 0, each with at most one call under way and at most one hold.
+#[derive(Debug, Drop)]
+pub struct Machine<T> {
+    object: Object<T>,
+    parties: Vec<Party<T>>,
+    words: Words,
+    failed: u64,
+}
+
+impl<T> Model for Machine<T> {
+    ghost use Rattle.sync_steps.specs.Machine.{Configuration};
+
+    ghost Value = { Configuration T };
+
+    ghost view = { λ m. record { object = m.object; parties = m.parties.items; words = m.words; failed = m.failed } };
+}
+
+impl<T: AtomicInteger> Machine<T> {
+    /// A machine of the object, where no party has begun a call yet. So far it serves mutexes and semaphores.
+    ///
+    /// It takes memory for the places of its parties, and answers `AllocError` where there is none.
+    pub fn new(alloc: Global, object: Object<T>, parties: usize) -> Result<Machine<T>, AllocError>
+        requires { is_served object ≡ true }
+        ensures { IfOk result (StandsAt T.arithmetic object parties []) }
+    {
+        let party = Party {
+            doing: None,
+            hold: None,
+        };
+        let words = opened(&object);
+        Ok(Machine {
+            object,
+            parties: vec![in alloc; party; parties]?,
+            words,
+            failed: 0,
+        })
+    }
+
+    /// The word: of a lock, a semaphore, a barrier or a once; of a `Condvar` its mutex's, of an `Atomic` its lock's.
+    pub fn word(&self) -> u64
+        ensures { Tells T.arithmetic self.now words.State result }
+    {
+        self.words.state
+    }
+
+    /// The wake counter of a `WriterLock`, else 0.
+    pub fn counter(&self) -> u64
+        ensures told { Tells T.arithmetic self.now words.Counter result }
+        ensures absent { IsNoneWithout T.arithmetic self.now words.Counter result }
+    {
+        self.words.counter
+    }
+
+    /// How many wait at a `Condvar`, else 0.
+    pub fn waiters(&self) -> u64
+        ensures told { Tells T.arithmetic self.now words.Waiters result }
+        ensures absent { IsNoneWithout T.arithmetic self.now words.Waiters result }
+    {
+        self.words.waiters
+    }
+
+    /// The permits of a `Condvar`, else 0.
+    pub fn value(&self) -> u64
+        ensures told { Tells T.arithmetic self.now words.Value result }
+        ensures absent { IsNoneWithout T.arithmetic self.now words.Value result }
+    {
+        self.words.value
+    }
+
+    /// The low and the high word of an `Atomic`'s value, else 0 and 0.
+    pub fn low_high(&self) -> (u64, u64)
+        ensures low { Tells T.arithmetic self.now words.Low result.0 }
+        ensures high { Tells T.arithmetic self.now words.High result.1 }
+        ensures low_absent { IsNoneWithout T.arithmetic self.now words.Low result.0 }
+        ensures high_absent { IsNoneWithout T.arithmetic self.now words.High result.1 }
+    {
+        (self.words.low, self.words.high)
+    }
+
+    /// How many exchanges failed; it stops at 2^64 - 1.
+    pub fn failed(&self) -> u64
+        ensures { TellsFailed T.arithmetic self.now result }
+    {
+        self.failed
+    }
+
+    /// Plays one input of a party, counted from 0: the event that it gives, or why it is refused.
+    ///
+    /// After a fault the machine is unchanged. It takes no memory.
+    #[inline(always)]
+    pub fn step(&mut self, party: usize, input: Input<T>) -> Result<Event<T>, StepFault>
+        // The event is the one that the input gives, or the fault is the first that applies.
+        ensures next { IfOk result (λ event. Steps T.arithmetic self.old party input event self.new) }
+        ensures fault { IfErr result (RefusesStep T.arithmetic self.old party input) }
+        ensures err { OnErr result (self.new ≡ self.old) }
+
+        // What holds at every front of every run holds after the event.
+        ensures headline { IfOk result (KeepsHeadline T.arithmetic self.old) }
+    {
+        if party >= self.parties.len() {
+            return Err(StepFault::NoParty);
+        }
+        turn::read_values(&input);
+        match turn::turn_at(&self.object, &self.parties[party], &self.words, input) {
+            Ok(turn) => Ok(self.apply(party, turn)),
+            Err(fault) => Err(fault),
+        }
+    }
+}
+
+impl<T: Copy> Machine<T> {
+    /// Makes the turn of a party.
+    #[inline(always)]
+    fn apply(&mut self, party: usize, turn: Turn<T>) -> Event<T>
+        requires { party < length self.old.parties }
+        ensures event { result ≡ event party turn.act turn.then }
+        ensures applied { Applies party turn self.old self.new }
+    {
+        self.words.apply(&turn.act);
+        self.failed = failed_after(self.failed, &turn.act);
+        self.parties[party] = turn.party;
+        Event {
+            party,
+            act: turn.act,
+            then: turn.then,
+        }
+    }
+}
+
+/// The words of an object before the first event.
+fn opened<T>(object: &Object<T>) -> Words
+    ensures words { (word : AnyWord) → word_at result word ≡ opening_at object.now word }
+    ensures values { is_served object.now ≡ true → (z : Arithmetic T) → IsObject z object.now }
+{
+    let state = match object {
+        Object::Semaphore(initial) => *initial,
+        Object::Mutex
+        | Object::Spin
+        | Object::Barrier(_)
+        | Object::ReaderLock
+        | Object::WriterLock
+        | Object::Condvar
+        | Object::Once
+        | Object::Lazy(_)
+        | Object::Atomic(_) => 0,
+    };
+    Words {
+        state,
+        counter: 0,
+        waiters: 0,
+        value: 0,
+        low: 0,
+        high: 0,
+    }
+}
