@@ -22,8 +22,8 @@ impl Patience {
 
     /// How a call goes on where it was refused and saw this value: it spins, asks its wait closure, or gives up.
     #[inline(always)]
-    pub fn refused<T>(self, seen: u64) -> After<T, Patience>
-        ensures { result ≡ refused self seen }
+    pub fn refused<T>(&self, seen: u64) -> After<T, Patience>
+        ensures { result ≡ refused self.now seen }
     {
         if !self.keep {
             After::Ends(Answer::Interrupted)
@@ -33,14 +33,14 @@ impl Patience {
                 keep: self.keep,
             })
         } else {
-            After::Waits(self, seen)
+            After::Waits(*self, seen)
         }
     }
 
     /// The same after the wait closure has answered.
     #[inline(always)]
-    pub fn answered(self, action: WaitAction) -> Patience
-        ensures { result ≡ answered self action }
+    pub fn answered(&self, action: WaitAction) -> Patience
+        ensures { result ≡ answered self.now action }
     {
         Patience {
             spins: self.spins,

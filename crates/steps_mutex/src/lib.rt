@@ -52,8 +52,8 @@ impl MutexPlace {
 
     /// What the step is to do, at a mutex with this word.
     #[inline(always)]
-    pub fn intent<T>(self, word: Word) -> Intent<T>
-        ensures { result ≡ mutex_intent word self }
+    pub fn intent<T>(&self, word: Word) -> Intent<T>
+        ensures { result ≡ mutex_intent word self.now }
     {
         match self {
             MutexPlace::TryLock | MutexPlace::Lock(_) => Intent::Exchange {
@@ -68,8 +68,8 @@ impl MutexPlace {
 
     /// How the call goes on, by what the step told.
     #[inline(always)]
-    pub fn after<T>(self, told: Option<u64>) -> After<T, MutexPlace>
-        ensures { result ≡ mutex_after self told }
+    pub fn after<T>(&self, told: Option<u64>) -> After<T, MutexPlace>
+        ensures { result ≡ mutex_after self.now told }
     {
         match self {
             MutexPlace::TryLock => {
@@ -93,12 +93,14 @@ impl MutexPlace {
 
     /// Where the call goes on once its wait closure has answered.
     #[inline(always)]
-    pub fn answered(self, action: WaitAction) -> MutexPlace
-        ensures { result ≡ mutex_answered self action }
+    pub fn answered(&self, action: WaitAction) -> MutexPlace
+        ensures { result ≡ mutex_answered self.now action }
     {
         match self {
             MutexPlace::Lock(patience) => MutexPlace::Lock(patience.answered(action)),
-            other => other,
+            MutexPlace::TryLock => MutexPlace::TryLock,
+            MutexPlace::Release => MutexPlace::Release,
+            MutexPlace::Wake => MutexPlace::Wake,
         }
     }
 }

@@ -73,20 +73,20 @@ impl SemaphorePlace {
 
     /// What the step is to do, at a semaphore with this word.
     #[inline(always)]
-    pub fn intent<T>(self, word: Word) -> Intent<T>
-        ensures { result ≡ semaphore_intent word self }
+    pub fn intent<T>(&self, word: Word) -> Intent<T>
+        ensures { result ≡ semaphore_intent word self.now }
     {
         match self {
             SemaphorePlace::Value | SemaphorePlace::TryLook | SemaphorePlace::Look(_) => {
                 Intent::Load(word)
             }
-            SemaphorePlace::Post(n) => Intent::Add { word, more: n },
+            SemaphorePlace::Post(n) => Intent::Add { word, more: *n },
             SemaphorePlace::Wake => Intent::Wake(Wake::One),
             SemaphorePlace::TryTake { seen, to } | SemaphorePlace::Take { seen, to, .. } => {
                 Intent::Exchange {
                     word,
-                    from: seen,
-                    to,
+                    from: *seen,
+                    to: *to,
                 }
             }
         }
@@ -94,8 +94,8 @@ impl SemaphorePlace {
 
     /// How the call goes on, by what the step told.
     #[inline(always)]
-    pub fn after<T>(self, told: Option<u64>) -> After<T, SemaphorePlace>
-        ensures { result ≡ semaphore_after self told }
+    pub fn after<T>(&self, told: Option<u64>) -> After<T, SemaphorePlace>
+        ensures { result ≡ semaphore_after self.now told }
     {
         let found = told.unwrap_or(0);
         match self {
@@ -104,7 +104,7 @@ impl SemaphorePlace {
             SemaphorePlace::Wake => After::Ends(Answer::Done),
             SemaphorePlace::TryLook => try_look(found),
             SemaphorePlace::TryTake { seen, .. } => {
-                if found == seen {
+                if found == *seen {
                     After::Ends(Answer::Success)
                 } else {
                     try_look(found)
@@ -112,7 +112,7 @@ impl SemaphorePlace {
             }
             SemaphorePlace::Look(patience) => look(patience, found),
             SemaphorePlace::Take { seen, patience, .. } => {
-                if found == seen {
+                if found == *seen {
                     After::Ends(Answer::Success)
                 } else {
                     look(patience, found)
@@ -123,12 +123,17 @@ impl SemaphorePlace {
 
     /// Where the call goes on once its wait closure has answered.
     #[inline(always)]
-    pub fn answered(self, action: WaitAction) -> SemaphorePlace
-        ensures { result ≡ semaphore_answered self action }
+    pub fn answered(&self, action: WaitAction) -> SemaphorePlace
+        ensures { result ≡ semaphore_answered self.now action }
     {
         match self {
             SemaphorePlace::Look(patience) => SemaphorePlace::Look(patience.answered(action)),
-            other => other,
+            SemaphorePlace::Value
+            | SemaphorePlace::Post(_)
+            | SemaphorePlace::Wake
+            | SemaphorePlace::TryLook
+            | SemaphorePlace::TryTake { .. }
+            | SemaphorePlace::Take { .. } => *self,
         }
     }
 }
@@ -146,11 +151,15 @@ fn try_look<T>(seen: u64) -> After<T, SemaphorePlace>
 
 /// After a look `Wait` is refused at 0, and else goes on to take a permit.
 #[inline(always)]
-fn look<T>(patience: Patience, seen: u64) -> After<T, SemaphorePlace>
-    ensures { result ≡ look patience seen }
+fn look<T>(patience: &Patience, seen: u64) -> After<T, SemaphorePlace>
+    ensures { result ≡ look patience.now seen }
 {
     match taken(seen) {
-        Some(to) => After::At(SemaphorePlace::Take { seen, to, patience }),
+        Some(to) => After::At(SemaphorePlace::Take {
+            seen,
+            to,
+            patience: *patience,
+        }),
         None => patience.refused(0).within(SemaphorePlace::Look),
     }
 }

@@ -1,4 +1,4 @@
-ghost use Rattle.std.specs.Prelude.{◌≡◌, ◌<◌, true, [], length, IfOk, IfErr, OnErr};
+ghost use Rattle.std.specs.Prelude.{◌≡◌, ◌<◌, true, [], length, IfOk, IfErr, OnErr, is_ok};
 ghost use Rattle.steps_events.specs.declared.event.Word.TheVariants as words;
 ghost use Rattle.steps_events.specs.Past.{event};
 ghost use Rattle.sync_steps.specs.Objects.{is_served, IsObject};
@@ -120,14 +120,48 @@ impl<T: AtomicInteger> Machine<T> {
             return Err(StepFault::NoParty);
         }
         turn::read_values(&input);
-        match turn::turn_at(&self.object, &self.parties[party], &self.words, input) {
-            Ok(turn) => Ok(self.apply(party, turn)),
-            Err(fault) => Err(fault),
+        match input {
+            Input::Begin(call) => {
+                let turn = turn::begin(&self.object, &self.parties[party], call);
+                self.finish(party, turn)
+            }
+            Input::Go => {
+                let turn = turn::go(&self.object, &self.parties[party], &self.words);
+                self.finish(party, turn)
+            }
+            Input::Answer(action) => {
+                let turn = turn::answer(&self.parties[party], action);
+                self.finish(party, turn)
+            }
+            Input::Choose(choice) => {
+                let turn = turn::choose(&self.parties[party], choice);
+                self.finish(party, turn)
+            }
         }
     }
 }
 
 impl<T: Copy> Machine<T> {
+    /// Makes the turn of a party, where it has one.
+    #[inline(always)]
+    fn finish(
+        &mut self,
+        party: usize,
+        turn: Result<Turn<T>, StepFault>,
+    ) -> Result<Event<T>, StepFault>
+        requires { party < length self.old.parties }
+        ensures ok { IfOk result (λ made. IfOk turn (λ turn.
+            (made ≡ event party turn.act turn.then) × Applies party turn self.old self.new)) }
+        ensures err { IfErr result (λ fault. turn ≡ Err fault) }
+        ensures is_ok { is_ok result ≡ is_ok turn }
+        ensures unchanged { OnErr result (self.new ≡ self.old) }
+    {
+        match turn {
+            Ok(turn) => Ok(self.apply(party, turn)),
+            Err(fault) => Err(fault),
+        }
+    }
+
     /// Makes the turn of a party.
     #[inline(always)]
     fn apply(&mut self, party: usize, turn: Turn<T>) -> Event<T>

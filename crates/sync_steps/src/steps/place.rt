@@ -77,8 +77,8 @@ impl Place {
 
     /// What the step is to do, by its party's hold.
     #[inline(always)]
-    pub fn intent<T>(self, _hold: Option<HoldKind>) -> Intent<T>
-        ensures { result ≡ intent_at self _hold }
+    pub fn intent<T>(&self, _hold: Option<HoldKind>) -> Intent<T>
+        ensures { result ≡ intent_at self.now _hold }
     {
         match self {
             Place::Mutex(place) => place.intent(Word::State),
@@ -88,8 +88,8 @@ impl Place {
 
     /// How the call goes on, by what the step told.
     #[inline(always)]
-    pub fn after<T>(self, told: Option<u64>) -> After<T, Place>
-        ensures { result ≡ after_at self told }
+    pub fn after<T>(&self, told: Option<u64>) -> After<T, Place>
+        ensures { result ≡ after_at self.now told }
     {
         match self {
             Place::Mutex(place) => place.after(told).within(Place::Mutex),
@@ -98,8 +98,8 @@ impl Place {
     }
 
     /// Where the call goes on once its wait closure has answered.
-    pub fn answered(self, action: WaitAction) -> Place
-        ensures { result ≡ answered_at self action }
+    pub fn answered(&self, action: WaitAction) -> Place
+        ensures { result ≡ answered_at self.now action }
     {
         match self {
             Place::Mutex(place) => Place::Mutex(place.answered(action)),
@@ -108,14 +108,14 @@ impl Place {
     }
 
     /// Where the call goes on once its choice closure has answered: no place of a mutex or a semaphore asks for a choice.
-    pub fn chosen<T>(self, _choice: Option<T>) -> Place
+    pub fn chosen<T>(&self, _choice: Option<T>) -> Place
     where
         T: Copy,
-        ensures { result ≡ chosen_at self _choice }
+        ensures { result ≡ chosen_at self.now _choice }
     {
         match self {
-            Place::Mutex(place) => Place::Mutex(place),
-            Place::Semaphore(place) => Place::Semaphore(place),
+            Place::Mutex(place) => Place::Mutex(*place),
+            Place::Semaphore(place) => Place::Semaphore(*place),
         }
     }
 }

@@ -3,7 +3,7 @@ ghost use Rattle.std.specs.Prelude.{◌≡◌};
 ghost use Rattle.steps_events.specs.WordsAt.{word_at};
 ghost use Rattle.steps_events.specs.Arithmetic.{IsValue};
 ghost use Rattle.steps_events.specs.Moves.{is_locking, CallValues, InputValues};
-ghost use Rattle.sync_steps.specs.Machine.Turns.{new_hold, doing_after, begin_turn, go_turn, answer_turn, choose_turn, turn_at};
+ghost use Rattle.sync_steps.specs.Machine.Turns.{new_hold, doing_after, begin_turn, go_turn, answer_turn, choose_turn};
 
 use super::place::{Closure, Doing, Party, Place, Turn, grant, needs_hold};
 use steps_events::WaitAction;
@@ -85,7 +85,11 @@ where
 }
 
 /// A party begins a call.
-fn begin<T: Copy>(object: &Object<T>, party: &Party<T>, call: Call<T>) -> Result<Turn<T>, StepFault>
+pub(crate) fn begin<T: Copy>(
+    object: &Object<T>,
+    party: &Party<T>,
+    call: Call<T>,
+) -> Result<Turn<T>, StepFault>
     ensures { result ≡ begin_turn object.now party.now call }
 {
     if party.doing.is_some() {
@@ -116,10 +120,14 @@ fn begin<T: Copy>(object: &Object<T>, party: &Party<T>, call: Call<T>) -> Result
 
 /// A party makes its next step.
 #[inline(always)]
-fn go<T: Copy>(object: &Object<T>, party: &Party<T>, words: &Words) -> Result<Turn<T>, StepFault>
+pub(crate) fn go<T: Copy>(
+    object: &Object<T>,
+    party: &Party<T>,
+    words: &Words,
+) -> Result<Turn<T>, StepFault>
     ensures { result ≡ go_turn object.now party.now (word_at words.now) }
 {
-    let Some(doing) = party.doing else {
+    let Some(doing) = &party.doing else {
         return Err(StepFault::Idle);
     };
     if doing.stands.is_some() {
@@ -138,10 +146,10 @@ fn go<T: Copy>(object: &Object<T>, party: &Party<T>, words: &Words) -> Result<Tu
 }
 
 /// The wait closure of a party answers.
-fn answer<T: Copy>(party: &Party<T>, action: WaitAction) -> Result<Turn<T>, StepFault>
+pub(crate) fn answer<T: Copy>(party: &Party<T>, action: WaitAction) -> Result<Turn<T>, StepFault>
     ensures { result ≡ answer_turn party.now action }
 {
-    let Some(doing) = party.doing else {
+    let Some(doing) = &party.doing else {
         return Err(StepFault::NotWaiting);
     };
     if doing.stands != Some(Closure::Wait) {
@@ -162,10 +170,10 @@ fn answer<T: Copy>(party: &Party<T>, action: WaitAction) -> Result<Turn<T>, Step
 }
 
 /// The choice closure of a party answers.
-fn choose<T: Copy>(party: &Party<T>, choice: Option<T>) -> Result<Turn<T>, StepFault>
+pub(crate) fn choose<T: Copy>(party: &Party<T>, choice: Option<T>) -> Result<Turn<T>, StepFault>
     ensures { result ≡ choose_turn party.now choice }
 {
-    let Some(doing) = party.doing else {
+    let Some(doing) = &party.doing else {
         return Err(StepFault::NotWaiting);
     };
     if doing.stands != Some(Closure::Choice) {
@@ -228,22 +236,4 @@ fn read_value<T: AtomicInteger>(value: T)
     ensures { IsValue T.arithmetic value }
 {
     let _words = value.to_words();
-}
-
-/// The turn of a party, by its input, or why it is refused.
-#[inline(always)]
-pub(crate) fn turn_at<T: Copy>(
-    object: &Object<T>,
-    party: &Party<T>,
-    words: &Words,
-    input: Input<T>,
-) -> Result<Turn<T>, StepFault>
-    ensures { result ≡ turn_at object.now party.now (word_at words.now) input }
-{
-    match input {
-        Input::Begin(call) => begin(object, party, call),
-        Input::Go => go(object, party, words),
-        Input::Answer(action) => answer(party, action),
-        Input::Choose(choice) => choose(party, choice),
-    }
 }
