@@ -1,0 +1,72 @@
+# Each text of examples/ is played by each of `players`. NAME.txt has beside it what is written to standard output (NAME.out, or the
+# player's own ending), NAME.err for standard error where it is not empty, and NAME.status where the status is not 0.
+test_examples() {
+    local line player ending endings=() text stem
+    for line in "${players[@]}"; do
+        read -r player ending <<<"$line"
+        endings+=("$ending")
+        if ! is_built "$player"; then
+            continue
+        fi
+        for text in examples/*.txt; do
+            play_example "$player" "$ending" "${text%.txt}"
+        done
+    done
+    for text in examples/*; do
+        stem=${text%.*}
+        if [[ " txt err status ${endings[*]} " != *" ${text##*.} "* ]]; then
+            fail "$text" "no program writes a file of this ending"
+        elif [[ ! -e $stem.txt ]]; then
+            fail "$text" "there is no $stem.txt"
+        fi
+    done
+    for text in examples/*.txt; do
+        is_quoted "${text%.txt}"
+    done
+}
+
+# Builds a program where it has to be built, so that no later limit of time or memory meets the build.
+is_built() {
+    "./$1" </dev/null >/dev/null 2>"$room/err"
+    if (($? == 3)); then
+        fail "$1" "$(<"$room/err")"
+        return 1
+    fi
+}
+
+play_example() {
+    local label="./$1 < $3.txt" wanted_err=/dev/null wanted_status=0
+    if [[ ! -f $3.$2 ]]; then
+        fail "$label" "there is no $3.$2"
+        return
+    fi
+    if [[ -f $3.err ]]; then
+        wanted_err=$3.err
+    fi
+    if [[ -f $3.status ]]; then
+        wanted_status=$(<"$3.status")
+    fi
+    attempt "./$1" <"$3.txt"
+    judge "$label" "$wanted_status" "$3.$2" "$wanted_err"
+}
+
+# docs/TEXT.md has the text, and what is printed, as they stand in the files, each as a block of its own.
+is_quoted() {
+    local why
+    if why=$(python3 - docs/TEXT.md "$1" 2>&1 <<'PYTHON'
+import os, re, sys
+
+page, stem = sys.argv[1:]
+blocks = re.findall(r"(?:(?<=\n)|\A)(?: {4}.*\n)+", open(page).read())
+for ending in ("txt", "out", "err"):
+    file = f"{stem}.{ending}"
+    text = open(file).read() if os.path.exists(file) else ""
+    if text and "".join(f"    {line}\n" for line in text.splitlines()) not in blocks:
+        sys.exit(f"{page} does not have {file} as it is")
+PYTHON
+    ); then
+        succeed
+    else
+        fail "$1" "$why"
+    fi
+}
