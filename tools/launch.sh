@@ -47,7 +47,7 @@ places() {
 }
 
 sum_of_sources() {
-    find "${sources[@]}" -type f -print0 | sort -z | xargs -0 sha256sum -- | sha256sum
+    find "${sources[@]}" -type f -print0 | LC_ALL=C sort -z | xargs -0 sha256sum -- | sha256sum
 }
 
 sum_of_program() {
@@ -65,14 +65,14 @@ is_current() {
     fi
 }
 
-# Reads what rt says into `said`. Tells of a wait for another rt, and of the time once a build takes more than `patience` seconds.
+# Reads what rt says into `said`. Tells of a wait for another rt, and that it builds (`building`) once that takes `patience` seconds.
 listen() {
     local line part= waits= took= status
     SECONDS=0
     while true; do
         if [[ -z $took ]] && ((SECONDS >= patience)); then
             took=told
-            say "building the program; the first time this proves everything it stands on, which takes some minutes"
+            say "$building"
         fi
         status=0
         IFS= read -r -t 1 line || status=$?
@@ -98,8 +98,10 @@ build() {
     mkdir -p -- "$folder/out" 2>/dev/null && [[ -w $folder/out ]] ||
         fail "the program has to be built first, and $folder/out cannot be written"
     local said=() patience=0
+    local building="building the program; the first time this proves everything it stands on, which takes some minutes"
     if [[ -x $program ]]; then
         patience=20
+        building="building the program again, since a source has changed"
     fi
     # rt runs what it has built: here on the crate's stored run, so that the caller's input is left alone.
     if ! { cd -- "$folder" && rt run <stdin 2>&1; } | listen; then

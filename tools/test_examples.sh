@@ -20,9 +20,6 @@ test_examples() {
             fail "$text" "there is no $stem.txt"
         fi
     done
-    for text in examples/*.txt; do
-        is_quoted "${text%.txt}"
-    done
 }
 
 # Builds a program where it has to be built, so that no later limit of time or memory meets the build.
@@ -48,25 +45,4 @@ play_example() {
     fi
     attempt "./$1" <"$3.txt"
     judge "$label" "$wanted_status" "$3.$2" "$wanted_err"
-}
-
-# docs/TEXT.md has the text, and what is printed, as they stand in the files, each as a block of its own.
-is_quoted() {
-    local why
-    if why=$(python3 - docs/TEXT.md "$1" 2>&1 <<'PYTHON'
-import os, re, sys
-
-page, stem = sys.argv[1:]
-blocks = re.findall(r"(?:(?<=\n)|\A)(?: {4}.*\n)+", open(page).read())
-for ending in ("txt", "out", "err"):
-    file = f"{stem}.{ending}"
-    text = open(file).read() if os.path.exists(file) else ""
-    if text and "".join(f"    {line}\n" for line in text.splitlines()) not in blocks:
-        sys.exit(f"{page} does not have {file} as it is")
-PYTHON
-    ); then
-        succeed
-    else
-        fail "$1" "$why"
-    fi
 }
