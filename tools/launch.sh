@@ -3,7 +3,7 @@
 # Sourced by a script at the top that bears the program's name and sets `top`, the repository's folder, and `crate`, the program's.
 # Status: the program's own, or 3 where it could not be built or started.
 set -euo pipefail
-shopt -s execfail lastpipe
+shopt -s execfail lastpipe globstar nullglob
 
 name=$(basename -- "$0")
 folder=$top/crates/$crate
@@ -20,8 +20,10 @@ fail() {
     exit 3
 }
 
-# Prints where the sources are: crates.txt, and the folders of the crate and of each crate of this repository that it stands on.
-places() {
+# Sets `sources`: crates.txt, and all that is in the folders of the crate and of each crate of this repository that it stands on.
+find_sources() {
+    # One order of the files, whoever calls.
+    local LC_ALL=C
     local -A below=()
     local line dep part at
     while IFS= read -r line; do
@@ -31,7 +33,7 @@ places() {
         fi
     done <crates.txt
     local crates=("$crate")
-    printf '%s\n' crates.txt
+    sources=(crates.txt)
     for ((at = 0; at < ${#crates[@]}; at++)); do
         for dep in ${below[${crates[at]}]-}; do
             if [[ -v below[$dep] && " ${crates[*]} " != *" $dep "* ]]; then
@@ -39,15 +41,19 @@ places() {
             fi
         done
         for part in src specs proofs; do
-            if [[ -d crates/${crates[at]}/$part ]]; then
-                printf '%s\n' "crates/${crates[at]}/$part"
-            fi
+            sources+=("crates/${crates[at]}/$part"/**)
         done
     done
 }
 
 sum_of_sources() {
-    find "${sources[@]}" -type f -print0 | LC_ALL=C sort -z | xargs -0 sha256sum -- | sha256sum
+    local files=() source
+    for source in "${sources[@]}"; do
+        if [[ -f $source ]]; then
+            files+=("$source")
+        fi
+    done
+    sha256sum -- "${files[@]}" | sha256sum
 }
 
 sum_of_program() {
@@ -55,13 +61,18 @@ sum_of_program() {
 }
 
 is_current() {
+    local source
     if [[ ! -x $program ]]; then
         return 1
     elif [[ -r $built_of ]]; then
         [[ $(<"$built_of") == "$1"$'\n'"$(sum_of_program)" ]]
     else
         # `rt ci` or `rt run` has built it.
-        [[ -z $(find "${sources[@]}" -newer "$program" -print -quit) ]]
+        for source in "${sources[@]}"; do
+            if [[ $source -nt $program ]]; then
+                return 1
+            fi
+        done
     fi
 }
 
@@ -117,7 +128,7 @@ build() {
 }
 
 cd -- "$top" || fail "$top cannot be entered"
-mapfile -t sources < <(places)
+find_sources
 sum=$(sum_of_sources) || fail "the sources below $top cannot be read"
 if ! is_current "$sum"; then
     build "$sum"

@@ -1,7 +1,7 @@
 # The launcher, in a repository of two crates whose rt only pretends: it writes a program, and notes each time that it was called.
 test_launch() {
     local top=$room/top crate low out tool
-    crate=$(sed -n 's/^crate=//p' sync-play)
+    crate=$(crate_of sync-play)
     low=${crate}_low
     out=$top/crates/$crate/out
     mkdir -p -- "$room/bin" "$top/tools" "$top/crates/$crate/src" "$top/crates/$low/specs" "$top/crates/other/src"
@@ -48,11 +48,21 @@ sync-play: the program was not built; all that rt said is in $out/build.log"
     attempt "$top/sync-play" </dev/null
     judge_line "a folder that cannot be written" 3 "" "sync-play: the program has to be built first, and $out cannot be written"
     rm -- "$out" "$room/bin/rt"
-    for tool in bash basename dirname env find mkdir readlink sha256sum sort timeout xargs; do
+    for tool in bash basename dirname env mkdir readlink sha256sum timeout; do
         ln -s -- "$(type -P "$tool")" "$room/bin"
     done
     PATH=$room/bin attempt "$top/sync-play" </dev/null
     judge_line "no rt" 3 "" "sync-play: the program has to be built first, and the kit's command rt is not on PATH"
+}
+
+# The crate that a script at the top names.
+crate_of() {
+    local line
+    while IFS= read -r line; do
+        if [[ $line == crate=* ]]; then
+            echo "${line#crate=}"
+        fi
+    done <"$1"
 }
 
 # An rt for test_launch.
@@ -107,7 +117,7 @@ is_interrupted() {
         fail "$label" "it did not begin"
     elif kill -KILL -- "-$launcher" 2>/dev/null; then
         fail "$label" "it goes on"
-    elif [[ -n $(find "$out" -name 'build*' -print -quit) ]]; then
+    elif compgen -G "$out/build.*" >/dev/null; then
         fail "$label" "it left a log"
     else
         succeed

@@ -16,7 +16,7 @@ test_streams() {
 
 wants_streams() {
     local short=examples/mutex-abort.txt
-    attempt prlimit --as=$((48 << 20)) "./$1" < <(yes '' | head -c 64M)
+    attempt env LC_ALL=C prlimit --as=$((48 << 20)) "./$1" < <(yes '' | head -c 64M)
     judge_line "$1: a text that is larger than the memory" 1 "" "no memory"
     attempt bash -c 'exec "$0" <&-' "./$1"
     judge_line "$1: standard input is closed" 1 "" "reading failed"
