@@ -22,8 +22,6 @@ fail() {
 
 # Sets `sources`: crates.txt, and all that is in the folders of the crate and of each crate of this repository that it stands on.
 find_sources() {
-    # One order of the files, whoever calls.
-    local LC_ALL=C
     local -A below=()
     local line dep part at
     while IFS= read -r line; do
@@ -53,7 +51,7 @@ sum_of_sources() {
             files+=("$source")
         fi
     done
-    sha256sum -- "${files[@]}" | sha256sum
+    sha256sum -- "${files[@]}" | LC_ALL=C sort | sha256sum
 }
 
 sum_of_program() {

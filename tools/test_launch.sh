@@ -48,7 +48,7 @@ sync-play: the program was not built; all that rt said is in $out/build.log"
     attempt "$top/sync-play" </dev/null
     judge_line "a folder that cannot be written" 3 "" "sync-play: the program has to be built first, and $out cannot be written"
     rm -- "$out" "$room/bin/rt"
-    for tool in bash basename dirname env mkdir readlink sha256sum timeout; do
+    for tool in bash basename dirname env mkdir readlink sha256sum sort timeout; do
         ln -s -- "$(type -P "$tool")" "$room/bin"
     done
     PATH=$room/bin attempt "$top/sync-play" </dev/null
