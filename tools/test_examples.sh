@@ -22,15 +22,6 @@ test_examples() {
     done
 }
 
-# Builds a program where it has to be built, so that no later limit of time or memory meets the build.
-is_built() {
-    "./$1" </dev/null >/dev/null 2>"$room/err"
-    if (($? == 3)); then
-        fail "$1" "$(<"$room/err")"
-        return 1
-    fi
-}
-
 play_example() {
     local label="./$1 < $3.txt" wanted_err=/dev/null wanted_status=0
     if [[ ! -f $3.$2 ]]; then
