@@ -12,7 +12,7 @@ program=$folder/out/$crate
 built_of=$folder/out/built_of
 
 say() {
-    printf '%s: %s\n' "$name" "$1" >&2
+    printf '%s: %s\n' "$name" "$1" >&2 || true
 }
 
 fail() {
@@ -114,7 +114,7 @@ build() {
     fi
     # rt runs what it has built: here on the crate's stored run, so that the caller's input is left alone.
     if ! { cd -- "$folder" && rt run <stdin 2>&1; } | listen; then
-        printf '%s\n' "${said[@]}" | tail -n 20 >&2
+        printf '%s\n' "${said[@]}" | tail -n 20 >&2 || true
         if { printf '%s\n' "${said[@]}" >"$folder/out/build.log"; } 2>/dev/null; then
             fail "the program was not built; all that rt said is in $folder/out/build.log"
         fi

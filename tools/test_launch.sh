@@ -53,6 +53,8 @@ sync-play: the program was not built; all that rt said is in $out/build.log"
     done
     PATH=$room/bin attempt "$top/sync-play" </dev/null
     judge_line "no rt" 3 "" "sync-play: the program has to be built first, and the kit's command rt is not on PATH"
+    PATH=$room/bin attempt bash -c 'exec "$0" <&- >&- 2>&-' "$top/sync-play"
+    judge_line "no rt, and all streams closed" 3 "" ""
 }
 
 # The crate that a script at the top names.
