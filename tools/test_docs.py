@@ -1,0 +1,68 @@
+"""What the pages show is what stands in the repository. Prints a line for each thing that was looked at: 'ok', or what is wrong."""
+
+import glob
+import os
+import re
+
+PAGES = ["README.md", *sorted(glob.glob("docs/**/*.md", recursive=True))]
+TEXTS = {page: open(page, encoding="utf-8").read() for page in PAGES}
+
+
+def read(file):
+    return open(file, encoding="utf-8").read() if os.path.exists(file) else ""
+
+
+def report(label, wrong):
+    print(f"{label}: {wrong}" if wrong else "ok")
+
+
+def blocks(page):
+    """The page's indented blocks, as they are."""
+    return re.findall(r"(?:(?<=\n)|\A)(?: {4}.*\n)+", TEXTS[page])
+
+
+def quoted(page, stem):
+    """Whether the page has the example's text and what it prints, each as a block of its own."""
+    for ending in ("txt", "out", "err"):
+        text = read(f"{stem}.{ending}")
+        if text and "".join(f"    {line}\n" for line in text.splitlines()) not in blocks(page):
+            return f"{page} does not have {stem}.{ending} as it is"
+
+
+def anchors(page):
+    """The anchors of the page's headings, as the usual viewers make them."""
+    heads = re.findall(r"^#+ (.*)$", TEXTS[page], re.MULTILINE)
+    return {re.sub(r"[^\w\- ]", "", head.lower()).replace(" ", "-") for head in heads}
+
+
+def leads(page, link):
+    """What is wrong with a link to a file of the repository."""
+    path, _, anchor = link.partition("#")
+    file = os.path.normpath(os.path.join(os.path.dirname(page), path)) if path else page
+    if not os.path.exists(file):
+        return f"it links to {link}, which is not there"
+    if anchor and (file not in TEXTS or anchor not in anchors(file)):
+        return f"it links to {link}, and {file} has no such heading"
+
+
+for text in sorted(glob.glob("examples/*.txt")):
+    stem = text.removesuffix(".txt")
+    report(stem, quoted("docs/TEXT.md", stem))
+    if text in TEXTS["README.md"]:
+        report(stem, quoted("README.md", stem))
+
+named = set(re.findall(r"`(\w+\.edit)`", "".join(TEXTS.values())))
+edits = {os.path.basename(it): it for it in glob.glob("crates/*/must-fail/*.edit")}
+for edit in sorted(named | edits.keys()):
+    if edit not in named:
+        report(edits[edit], "no page names it")
+    else:
+        report(edit, None if edit in edits else "a page names it, and no crate has it")
+
+for page in PAGES:
+    for link in re.findall(r"\]\(([^)\s]+)\)", TEXTS[page]):
+        if not re.match(r"[a-z]+:", link):
+            report(page, leads(page, link))
+
+lines = TEXTS["README.md"].count("\n")
+report("README.md", None if lines <= 200 else f"it has {lines} lines, and is to have 200 at most")

@@ -1,0 +1,58 @@
+# The programs that play texts, where memory, input or output are wanting: each ends with its line on standard error and its status,
+# and none crashes. And a text of many pieces, each way.
+test_streams() {
+    local line player
+    long_text >"$room/long.txt"
+    for line in "${players[@]}"; do
+        player=${line%% *}
+        if is_built "$player"; then
+            wants_streams "$player"
+        fi
+    done
+    if is_built sync-play; then
+        plays_at_length
+    fi
+}
+
+wants_streams() {
+    local short=examples/mutex-abort.txt
+    attempt env LC_ALL=C prlimit --as=$((48 << 20)) "./$1" < <(yes '' | head -c 64M)
+    judge_line "$1: a text that is larger than the memory" 1 "" "no memory"
+    attempt bash -c 'exec "$0" <&-' "./$1"
+    judge_line "$1: standard input is closed" 1 "" "reading failed"
+    attempt "./$1" <examples
+    judge_line "$1: standard input is a folder" 1 "" "reading failed"
+    attempt bash -c 'exec "$0" >&-' "./$1" <$short
+    judge_line "$1: standard output is closed" 1 "" "writing failed"
+    attempt bash -c 'exec "$0" >/dev/full' "./$1" <$short
+    judge_line "$1: standard output is full" 1 "" "writing failed"
+    attempt bash -c 'exec "$0" 2>&-' "./$1" <examples/mutex-fault.txt
+    judge_line "$1: a fault, and standard error is closed" 2 "" ""
+    attempt bash -c '"$0" | head -c 1 >/dev/null; exit "${PIPESTATUS[0]}"' "./$1" <"$room/long.txt"
+    judge_line "$1: the reader of standard output leaves" 1 "" "writing failed"
+}
+
+plays_at_length() {
+    long_output >"$room/long.out"
+    attempt ./sync-play <"$room/long.txt"
+    judge "sync-play: a long text" 0 "$room/long.out" /dev/null
+    attempt ./sync-play < <(dd if="$room/long.txt" ibs=64k obs=7 status=none)
+    judge "sync-play: a long text in pieces of 7 bytes" 0 "$room/long.out" /dev/null
+    attempt bash -c '"$0" | dd ibs=7 obs=64k status=none; exit "${PIPESTATUS[0]}"' ./sync-play <"$room/long.txt"
+    judge "sync-play: a long text, written to a reader of pieces of 7 bytes" 0 "$room/long.out" /dev/null
+    printf '1 unlock\n' >>"$room/long.txt"
+    attempt ./sync-play <"$room/long.txt"
+    judge_line "sync-play: a long text with a fault in its last line" 2 "" "line 80002: no hold"
+}
+
+# 640 KB: a mutex that one party takes and frees 20000 times.
+long_text() {
+    echo "mutex 1"
+    yes $'1 try_lock\n1 run\n1 unlock\n1 run' | head -n 80000
+}
+
+# 580 KB: what it prints.
+long_output() {
+    yes $'1 success\n1 wakes one\n1 done' | head -n 60000
+    echo "word 0 failed 0"
+}
