@@ -1,5 +1,6 @@
 -- A turn leads from where a run stands to where it stands with one more event.
-use Rattle.std.proofs.Common.{◌≡◌, ◌≢◌, ℕ, zero, suc, ◌<◌, refl, sym, ◌∙◌, ap, subst, List, [], ◌∷◌, length, false, Option, Some, None, Result, Ok, Err, ◌⊎◌, inl, inr, slice_get, slice_set, arith}
+use Rattle.std.proofs.Common.{◌≡◌, ◌≢◌, ℕ, zero, suc, ◌<◌, refl, sym, ◌∙◌, ap, subst, List, [], ◌∷◌, length, false, Option, Some, None, Result, Ok, Err, IfOk, IfErr, is_ok, ◌⊎◌, inl, inr, slice_get, slice_set, get_or, arith}
+use Rattle.std.proofs.lemmas.Option.{slice_get-get_or}
 use std.Path.{fun_ext}
 use Rattle.std.specs.Option.{ForSome}
 use Rattle.std.proofs.lemmas.Bool.{lt-ltb}
@@ -23,11 +24,11 @@ use Rattle.sync_steps.specs.declared.steps.place.Party.{Party}
 use Rattle.sync_steps.specs.declared.steps.place.Turn.{Turn}
 use Rattle.sync_steps.specs.Objects.{table_of, has_word, IsObject}
 use Rattle.sync_steps.specs.Runs.{word_in, fault_of, IsNext}
-use Rattle.sync_steps.specs.Machine.{Configuration, StandsAt}
+use Rattle.sync_steps.specs.Machine.{Configuration, StandsAt, Steps, RefusesStep, KeepsHeadline}
 use Rattle.sync_steps.specs.Machine.Applies.{Applies}
 use Rattle.sync_steps.specs.Machine.Places.{IsParty, DoesCall, opening_at}
 use Rattle.sync_steps.specs.Machine.Turns.{turn_at}
-use Rattle.sync_steps.proofs.Headlines.{absent_word}
+use Rattle.sync_steps.proofs.Headlines.{headline, absent_word}
 use Rattle.sync_steps.proofs.Places.{opening_is}
 use Rattle.sync_steps.proofs.Turns.{Turns, TurnsOr, turns_at}
 
@@ -130,7 +131,7 @@ turns_there {T} z o parties past m party found input within got at =
     subst O (sym at.object_is) (subst M (sym same) turns)
 
 -- a turn of the party
-pub stands_after_turn :
+stands_after_turn :
     {T : Type 0} (z : Arithmetic T) (o : Object T) (parties : ℕ) (past : List (Event T)) (old new : Configuration T) (party : ℕ) (found : Party T) (input : Input T) (turn : Turn T) →
     party < length old.parties → slice_get old.parties party ≡ Some found → InputValues z input → turn_at old.object found (word_at old.words) input ≡ Ok turn → Applies party turn old new → StandsAt z o parties past old →
     IsNext z o parties past party input (event party turn.act turn.then) × StandsAt z o parties (event party turn.act turn.then ∷ past) new
@@ -141,7 +142,7 @@ stands_after_turn {T} z o parties past old new party found input turn within got
     stands_after z o parties past old new party input turn within values at turns applies
 
 -- a fault in its place
-pub refused_there :
+refused_there :
     {T : Type 0} (z : Arithmetic T) (o : Object T) (parties : ℕ) (past : List (Event T)) (m : Configuration T) (party : ℕ) (found : Party T) (input : Input T) (fault : StepFault) →
     party < length m.parties → slice_get m.parties party ≡ Some found → turn_at m.object found (word_at m.words) input ≡ Err fault → StandsAt z o parties past m → fault_of z o parties past party input ≡ Some fault
 refused_there {T} z o parties past m party found input fault within got is at =
@@ -178,3 +179,39 @@ stands_first {T} z o parties idle m fits object failed opens doing hold parties_
       failed = failed;
       each = λ p below. subst (λ (xs : List (Party T)). ForSome (slice_get xs p) (λ party. IsParty z o party None None)) (sym parties_are) (idle_at z o idle parties p doing hold);
     }
+
+-- the turn, or the fault, of a party of the machine at an input
+abbrev pub IsTurnOf : {T : Type 0} → ℕ → Party T → Input T → Result (Turn T) StepFault → Configuration T → Type 0
+IsTurnOf party found input turn m = (party < length m.parties) × (slice_get m.parties party ≡ Some found) × (turn ≡ turn_at m.object found (word_at m.words) input)
+
+-- as the code comes by it: the party is read from the list, and the input is known
+pub is_turn_of :
+    {T : Type 0} (party : ℕ) (found : Party T) (input known : Input T) (turn : Result (Turn T) StepFault) (m : Configuration T) →
+    party < length m.parties → found ≡ get_or m.parties party found → turn ≡ turn_at m.object found (word_at m.words) known → input ≡ known → IsTurnOf party found input turn m
+is_turn_of party found input known turn m within there is same =
+    (within, slice_get-get_or m.parties party found within ∙ ap Some (sym there), is ∙ ap (turn_at m.object found (word_at m.words)) (sym same))
+
+-- where the turn was made, the machine has stepped
+pub finishes :
+    {T : Type 0} (z : Arithmetic T) (party : ℕ) (found : Party T) (input : Input T) (turn : Result (Turn T) StepFault) (old new : Configuration T) (result : Result (Event T) StepFault) →
+    InputValues z input → IsTurnOf party found input turn old → IfOk result (λ made. IfOk turn (λ t. (made ≡ event party t.act t.then) × Applies party t old new)) → is_ok result ≡ is_ok turn →
+    IfOk result (λ made. Steps z old party input made new)
+finishes {T} z party found input (Ok turn) old new (Ok made) values of made_is same = λ o parties past at.
+    let both = stands_after_turn z o parties past old new party found input turn of.0 of.1 values (sym of.2) made_is.1 at in
+    subst (λ (e : Event T). IsNext z o parties past party input e × StandsAt z o parties (e ∷ past) new) (sym made_is.0) both
+finishes z party found input (Err fault) old new (Ok made) values of made_is same = absurd cc
+finishes z party found input turn old new (Err fault) values of made_is same = tt
+
+-- and the headline holds after the event
+pub finishes_headline :
+    {T : Type 0} (z : Arithmetic T) (party : ℕ) (input : Input T) (old new : Configuration T) (result : Result (Event T) StepFault) →
+    IfOk result (λ made. Steps z old party input made new) → IfOk result (KeepsHeadline z old)
+finishes_headline z party input old new (Ok made) steps = λ o parties past at. headline z o parties (made ∷ past) (steps o parties past at).1.run
+finishes_headline z party input old new (Err fault) steps = tt
+
+-- where it was refused, the fault is the input's
+pub finishes_fault :
+    {T : Type 0} (z : Arithmetic T) (party : ℕ) (found : Party T) (input : Input T) (turn : Result (Turn T) StepFault) (old : Configuration T) (result : Result (Event T) StepFault) →
+    IsTurnOf party found input turn old → IfErr result (λ fault. turn ≡ Err fault) → IfErr result (RefusesStep z old party input)
+finishes_fault z party found input turn old (Ok made) of refused = tt
+finishes_fault z party found input turn old (Err fault) of refused = λ o parties past at. refused_there z o parties past old party found input fault of.0 of.1 (sym of.2 ∙ refused) at
