@@ -133,7 +133,7 @@ impl<T: AtomicInteger> Machine<T> {
 
 impl<T: Copy> Machine<T> {
     /// A party begins a call.
-    #[inline(never)]
+    #[inline(always)]
     fn begin(&mut self, party: usize, call: Call<T>) -> Result<Event<T>, StepFault>
         requires { party < length self.old.parties }
         ensures ok { IfOk result (HasTurned party (inputs.Begin call) self.old self.new) }
@@ -166,7 +166,7 @@ impl<T: Copy> Machine<T> {
     }
 
     /// The wait closure of a party answers.
-    #[inline(never)]
+    #[inline(always)]
     fn answer(&mut self, party: usize, action: WaitAction) -> Result<Event<T>, StepFault>
         requires { party < length self.old.parties }
         ensures ok { IfOk result (HasTurned party (inputs.Answer action) self.old self.new) }
@@ -180,7 +180,7 @@ impl<T: Copy> Machine<T> {
     }
 
     /// The choice closure of a party answers.
-    #[inline(never)]
+    #[inline(always)]
     fn choose(&mut self, party: usize, choice: Option<T>) -> Result<Event<T>, StepFault>
         requires { party < length self.old.parties }
         ensures ok { IfOk result (HasTurned party (inputs.Choose choice) self.old self.new) }
