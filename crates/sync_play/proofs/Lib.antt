@@ -5,3 +5,7 @@ pub mod TaskLaws
 pub mod TextLaws
 pub mod Bytes
 pub mod RunLaw
+pub mod OutputLaw
+pub mod Moves
+pub mod FaultLaw
+pub mod OwnLine

@@ -19,7 +19,6 @@ use Rattle.sync_play.specs.declared.fault.LineFault.{LineFault}
 use Rattle.sync_play.specs.declared.orders.Task.{Task}
 use Rattle.sync_play.specs.declared.orders.Task.TheVariants as tasks
 use Rattle.sync_play.specs.declared.orders.Order.{Order}
-use Rattle.sync_play.specs.declared.orders.TheConstants.{STEP_LIMIT}
 use Rattle.sync_play.specs.Faults.{◌>>=◌, FaultAt, at_line}
 use Rattle.sync_play.specs.Lines.{lines_of}
 use Rattle.sync_play.specs.Words.{words_of}
@@ -30,7 +29,7 @@ use Rattle.sync_play.specs.Events.{event_by, unless_refused, event_of, events_of
 use Rattle.sync_play.specs.Output.{output_after, output_of_lines}
 use Rattle.sync_play.specs.Printed.{printed, event_lines, last_line}
 use Rattle.sync_play.specs.TextRuns.{EndsFirstAtLast, AreInputsOf, LineAsks, LinesAsk, IsRunOfText, OutputsAreRuns}
-use Rattle.sync_play.proofs.Runs.{bind_ok, ok_is}
+use Rattle.sync_play.proofs.Runs.{bind_ok, ok_is, run_length}
 use Rattle.sync_play.proofs.TaskLaws.{after_both}
 
 abbrev Ev : Type 0
@@ -41,14 +40,14 @@ Ev = Event ℕ
 abbrev ok_in : {A E : Type 0} → A → Result A E
 ok_in x = Ok x
 
-same_ok : {A E : Type 0} (x y : A) → ok_in {E = E} x ≡ ok_in y → x ≡ y
+pub same_ok : {A E : Type 0} (x y : A) → ok_in {E = E} x ≡ ok_in y → x ≡ y
 same_ok x y e = cc
 
-bind_in : {A B E : Type 0} (r : Result A E) (f : A → Result B E) (y : B) → (r >>= f) ≡ Ok y → (x : A) × (r ≡ Ok x) × (f x ≡ Ok y)
+pub bind_in : {A B E : Type 0} (r : Result A E) (f : A → Result B E) (y : B) → (r >>= f) ≡ Ok y → (x : A) × (r ≡ Ok x) × (f x ≡ Ok y)
 bind_in (Ok x) f y e = (x, refl, e)
 bind_in (Err d) f y e = absurd cc
 
-ok_at_line : {A : Type 0} (n : ℕ) (r : Result A LineFault) (x : A) → at_line n r ≡ Ok x → r ≡ Ok x
+pub ok_at_line : {A : Type 0} (n : ℕ) (r : Result A LineFault) (x : A) → at_line n r ≡ Ok x → r ≡ Ok x
 ok_at_line {A} n (Ok y) x e = let same : y ≡ x = same_ok {E = FaultAt} y x e in ap (λ (z : A). Ok z) same
 ok_at_line n (Err fault) x e = absurd cc
 
@@ -66,7 +65,7 @@ allowed_by party None (Some m) e h =
     let made : Ev = record { party = party; act = m.act; «then» = m.stand } in
     subst (λ (x : Ev). IsAllowed party None (Some m) x) (same_ok {E = LineFault} made e h) (record { allowed = refl; party_is = refl; moved = refl })
 
-next_is : (o : Object ℕ) (parties : ℕ) (past : List Ev) (party : ℕ) (input : Input ℕ) (e : Ev) → InputValues u64_arithmetic input → event_of o parties past party input ≡ Ok e → IsNext u64_arithmetic o parties past party input e
+pub next_is : (o : Object ℕ) (parties : ℕ) (past : List Ev) (party : ℕ) (input : Input ℕ) (e : Ev) → InputValues u64_arithmetic input → event_of o parties past party input ≡ Ok e → IsNext u64_arithmetic o parties past party input e
 unfolding event_of
 next_is o parties past party input e values h =
     let a = allowed_by party (fault_of o parties past party input) (moved_of u64_arithmetic o (call_of party past) (hold_among party (holds_of o past)) (word_in u64_arithmetic o past) input) e h in
@@ -74,7 +73,7 @@ next_is o parties past party input e values h =
 
 -- The inputs of a line bring values of the type.
 
-abbrev HasValues : Task → Type 0
+abbrev pub HasValues : Task → Type 0
 HasValues (tasks.Give input) = InputValues u64_arithmetic input
 HasValues (tasks.Go n) = Unit {0}
 HasValues tasks.Run = Unit {0}
@@ -92,7 +91,7 @@ alone_makes task (word ∷ words) h t e = absurd cc
 
 go_makes : (words : List (List ℕ)) → MakesValues (go_task words)
 go_makes [] t e = subst HasValues (ok_is (tasks.Go 1) t e) tt
-go_makes (word ∷ []) t e = let b = bind_ok (number_within 1 STEP_LIMIT word) (λ n. Ok (tasks.Go n)) t e in subst HasValues (ok_is (tasks.Go b.0) t b.2) tt
+go_makes (word ∷ []) t e = let b = bind_ok (number_within 1 100000 word) (λ n. Ok (tasks.Go n)) t e in subst HasValues (ok_is (tasks.Go b.0) t b.2) tt
 go_makes (word ∷ other ∷ words) t e = absurd cc
 
 at_most : (b : Bool) (n m : ℕ) (fault : LineFault) → cond b (Ok n) (Err fault) ≡ Ok m → (b ≡ true) × (n ≡ m)
@@ -151,7 +150,7 @@ task_makes o verb words =
     (either_makes _ _ _ (some_makes words)
     (either_makes _ _ _ (alone_makes (tasks.Give (inputs.Choose None)) words tt) (call_makes o verb words))))))
 
-order_values : (o : Object ℕ) (words : List (List ℕ)) (order : Order) → order_of o words ≡ Ok order → HasValues order.task
+pub order_values : (o : Object ℕ) (words : List (List ℕ)) (order : Order) → order_of o words ≡ Ok order → HasValues order.task
 unfolding order_of
 order_values o [] order e = absurd cc
 order_values o (party ∷ []) order e = absurd cc
@@ -163,7 +162,7 @@ order_values o (party ∷ verb ∷ words) order e =
 
 -- The events of a line are a run.
 
-run_of_both : (o : Object ℕ) (parties : ℕ) (past : List Ev) (first others : List (ℕ × Input ℕ)) (front back : List Ev) → IsRun u64_arithmetic o parties past first front → IsRun u64_arithmetic o parties (after front past) others back
+pub run_of_both : (o : Object ℕ) (parties : ℕ) (past : List Ev) (first others : List (ℕ × Input ℕ)) (front back : List Ev) → IsRun u64_arithmetic o parties past first front → IsRun u64_arithmetic o parties (after front past) others back
     → IsRun u64_arithmetic o parties past (first ++ others) (front ++ back)
 run_of_both o parties past [] others [] back h k = k
 run_of_both o parties past [] others (e ∷ front) back h k = absurd h
@@ -223,10 +222,10 @@ run_to_end o parties past party (suc limit) events h =
     (λ es k. run_to_end o parties (a.0 ∷ past) party limit es k) a.2
 
 -- a line's inputs and their run
-record LineRuns (o : Object ℕ) (parties : ℕ) (past : List Ev) (words : List (List ℕ)) (events : List Ev) : Type 0 where
-  schedule : List (ℕ × Input ℕ)
-  asks : LineAsks o words schedule events
-  run : IsRun u64_arithmetic o parties past schedule events
+pub record LineRuns (o : Object ℕ) (parties : ℕ) (past : List Ev) (words : List (List ℕ)) (events : List Ev) : Type 0 where
+  pub schedule : List (ℕ × Input ℕ)
+  pub asks : LineAsks o words schedule events
+  pub run : IsRun u64_arithmetic o parties past schedule events
 
 record TaskRuns (o : Object ℕ) (parties : ℕ) (past : List Ev) (party : ℕ) (task : Task) (events : List Ev) : Type 0 where
   schedule : List (ℕ × Input ℕ)
@@ -237,7 +236,7 @@ task_runs : (o : Object ℕ) (parties : ℕ) (past : List Ev) (party : ℕ) (tas
 task_runs o parties past party (tasks.Give input) events values h = record { schedule = (party, input) ∷ []; asks = refl; run = one_is_run o parties past party input events values h }
 task_runs o parties past party (tasks.Go n) events values h = record { schedule = steps_of n party; asks = refl; run = steps_are_run o parties past party n events h }
 task_runs o parties past party tasks.Run events values h =
-    let r = run_to_end o parties past party STEP_LIMIT events h in
+    let r = run_to_end o parties past party 100000 events h in
     record { schedule = steps_of r.steps party; asks = (r.steps, r.within, refl, r.ends); run = r.run }
 
 record PartyRuns (o : Object ℕ) (parties : ℕ) (past : List Ev) (number : ℕ) (task : Task) (events : List Ev) : Type 0 where
@@ -249,7 +248,7 @@ party_runs : (o : Object ℕ) (parties : ℕ) (past : List Ev) (number : ℕ) (t
 party_runs o parties past zero task events values h = absurd cc
 party_runs o parties past (suc party) task events values h = record { party = party; number_is = omega arith; runs = task_runs o parties past party task events values h }
 
-line_runs : (o : Object ℕ) (parties : ℕ) (past : List Ev) (words : List (List ℕ)) (events : List Ev) → line_events o parties past words ≡ Ok events → LineRuns o parties past words events
+pub line_runs : (o : Object ℕ) (parties : ℕ) (past : List Ev) (words : List (List ℕ)) (events : List Ev) → line_events o parties past words ≡ Ok events → LineRuns o parties past words events
 unfolding line_events
 line_runs o parties past [] events h =
     record { schedule = []; asks = refl; run = subst (λ (es : List Ev). IsRun u64_arithmetic o parties past [] es) (ok_is [] events h) tt }
@@ -280,7 +279,7 @@ lines_run o parties number (line ∷ lines) past bytes h =
     record {
       schedule = front.schedule ++ back.schedule;
       events = a.0 ++ back.events;
-      asks = (front.schedule, back.schedule, a.0, back.events, refl, refl, front.asks, back.asks);
+      asks = (front.schedule, back.schedule, a.0, back.events, refl, refl, sym (run_length o parties past front.schedule a.0 front.run), front.asks, back.asks);
       run = run_of_both o parties past front.schedule back.schedule a.0 back.events front.run back.run;
       bytes_are = sym (same_ok {E = FaultAt} (printed a.0 ++ b.0) bytes b.2) ∙ ap (λ (l : List ℕ). printed a.0 ++ l) back.bytes_are
           ∙ sym (append_assoc (printed a.0) (printed back.events) (last_line o (after back.events (after a.0 past))))

@@ -76,7 +76,7 @@ pub text_begins : (o : Object ℕ) (parties first : ℕ) (lines : List (List ℕ
 text_begins o parties first lines past old machine stands =
     record { events = []; so_far = with_no_text (output_after o parties first lines past); output = sym (append-nil old); stands = stands }
 
-line_then : (o : Object ℕ) (parties number : ℕ) (line : List ℕ) (rest : List (List ℕ)) (past : List Ev) (events : List Ev) → line_events o parties past (words_of line) ≡ Ok events
+pub line_then : (o : Object ℕ) (parties number : ℕ) (line : List ℕ) (rest : List (List ℕ)) (past : List Ev) (events : List Ev) → line_events o parties past (words_of line) ≡ Ok events
     → output_after o parties number (line ∷ rest) past ≡ with_text (printed events) (output_after o parties (number + 1) rest (after events past))
 unfolding output_after
 line_then o parties number line rest past events e = rw e refl
@@ -100,7 +100,7 @@ text_goes_on o parties first lines past number rest line rest' old mid new machi
       stands = rw there a.stands;
     }
 
-line_fails : (o : Object ℕ) (parties number : ℕ) (line : List ℕ) (rest : List (List ℕ)) (past : List Ev) (fault : LineFault) → line_events o parties past (words_of line) ≡ Err fault
+pub line_fails : (o : Object ℕ) (parties number : ℕ) (line : List ℕ) (rest : List (List ℕ)) (past : List Ev) (fault : LineFault) → line_events o parties past (words_of line) ≡ Err fault
     → output_after o parties number (line ∷ rest) past ≡ Err (record { line = number; fault = fault })
 unfolding output_after
 line_fails o parties number line rest past fault e = rw e refl
@@ -113,7 +113,7 @@ text_fails o parties first lines past number rest line rest' old mid machine fau
     h.so_far ∙ ap (with_text (printed h.events)) (ap (λ (l : List (List ℕ)). output_after o parties number l (after h.events past)) same ∙ line_fails o parties number line rest' (after h.events past) fault (fails (after h.events past) h.stands))
     ∙ ap (λ (f : LineFault). Err (record { line = number; fault = f })) is_told
 
-lines_end : (o : Object ℕ) (parties number : ℕ) (past : List Ev) → output_after o parties number [] past ≡ Ok (last_line o past)
+pub lines_end : (o : Object ℕ) (parties number : ℕ) (past : List Ev) → output_after o parties number [] past ≡ Ok (last_line o past)
 unfolding output_after
 lines_end o parties number past = refl
 

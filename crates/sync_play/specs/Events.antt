@@ -13,7 +13,6 @@ use Rattle.sync_play.specs.declared.fault.LineFault.{LineFault}
 use Rattle.sync_play.specs.declared.fault.LineFault.TheVariants as faults
 use Rattle.sync_play.specs.declared.orders.Task.{Task}
 use Rattle.sync_play.specs.declared.orders.Task.TheVariants as tasks
-use Rattle.sync_play.specs.declared.orders.TheConstants.{STEP_LIMIT}
 use Rattle.sync_play.specs.Faults.{◌>>=◌, line_fault_of}
 use Rattle.sync_play.specs.Orders.{order_of}
 
@@ -57,7 +56,7 @@ steps_of (suc steps) party = (party, inputs.Go) ∷ steps_of steps party
 abbrev pub task_events : Object ℕ → ℕ → List (Event ℕ) → ℕ → Task → Result (List (Event ℕ)) LineFault
 task_events o parties past party (tasks.Give input) = events_of o parties past ((party, input) ∷ [])
 task_events o parties past party (tasks.Go n) = events_of o parties past (steps_of n party)
-task_events o parties past party tasks.Run = run_of o parties STEP_LIMIT past party
+task_events o parties past party tasks.Run = run_of o parties 100000 past party
 
 -- in a text the parties are counted from 1
 abbrev pub party_events : Object ℕ → ℕ → List (Event ℕ) → ℕ → Task → Result (List (Event ℕ)) LineFault

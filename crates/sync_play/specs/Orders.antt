@@ -12,7 +12,6 @@ use Rattle.sync_play.specs.declared.fault.LineFault.TheVariants as faults
 use Rattle.sync_play.specs.declared.orders.Task.{Task}
 use Rattle.sync_play.specs.declared.orders.Task.TheVariants as tasks
 use Rattle.sync_play.specs.declared.orders.Order.{Order}
-use Rattle.sync_play.specs.declared.orders.TheConstants.{STEP_LIMIT}
 use Rattle.sync_play.specs.Faults.{◌>>=◌}
 use Rattle.sync_play.specs.Numbers.{number_within}
 
@@ -24,7 +23,7 @@ alone task (word ∷ words) = Err faults.BadLine
 -- `go` makes one step, or as many as it says
 abbrev pub go_task : List (List ℕ) → Result Task LineFault
 go_task [] = Ok (tasks.Go 1)
-go_task (word ∷ []) = number_within 1 STEP_LIMIT word >>= λ n. Ok (tasks.Go n)
+go_task (word ∷ []) = number_within 1 100000 word >>= λ n. Ok (tasks.Go n)
 go_task (word ∷ other ∷ words) = Err faults.BadLine
 
 -- `some` answers a choice closure with a value

@@ -50,7 +50,7 @@ fn run(
     party: usize,
     out: &mut String,
 ) -> Result<(), Refusal>
-    ensures { Does (λ o parties past. run_of o parties STEP_LIMIT past party)
+    ensures { Does (λ o parties past. run_of o parties 100000 past party)
         (string_bytes out.old) (string_bytes out.new) machine.old machine.new result }
 {
     let schedule = steps(alloc, party, PIECE)?;

@@ -4,8 +4,6 @@ use Rattle.sync_steps.specs.declared.steps.event.Event.{Event}
 use Rattle.sync_steps.specs.declared.steps.event.Object.{Object}
 use Rattle.sync_steps.specs.Integers.{u64_arithmetic}
 use Rattle.sync_steps.specs.Standing.{StandsAt}
-use Rattle.sync_play.specs.declared.orders.TheConstants.{STEP_LIMIT}
-use Rattle.sync_play.specs.declared.pieces.tasks.TheConstants.{PIECE}
 use Rattle.sync_play.specs.Events.{run_of}
 use Rattle.sync_play.proofs.TaskLaws.{Halfway}
 use Rattle.sync_play.proofs.pieces.tasks.run.Given as goal
@@ -13,4 +11,4 @@ use Rattle.sync_play.proofs.pieces.tasks.run.Given as goal
 abbrev pub invariant-loop : goal.invariant-loop
 invariant-loop l =
     (o : Object ℕ) (parties : ℕ) (past : List (Event ℕ)) → StandsAt u64_arithmetic o parties past l.initial.machine →
-    Halfway o parties past (run_of o parties STEP_LIMIT past l.party) (λ there. run_of o parties (STEP_LIMIT - PIECE * l.counter) there l.party) (string_bytes l.initial.out) (string_bytes l.out) l.machine
+    Halfway o parties past (run_of o parties 100000 past l.party) (λ there. run_of o parties (100000 - 100 * l.counter) there l.party) (string_bytes l.initial.out) (string_bytes l.out) l.machine
