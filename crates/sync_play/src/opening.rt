@@ -14,6 +14,4 @@ pub struct Opening {
     pub parties: u64,
 }
 
-mod first;
-
-pub use first::opening;
+pub mod first;

@@ -1,9 +1,8 @@
 //! What a line after the first asks, and of whom.
 
-mod tasks;
+pub mod tasks;
 
 use sync_steps::steps::Input;
-pub use tasks::order;
 
 /// How many steps a line makes at most.
 pub const STEP_LIMIT: u64 = 100000;

@@ -4,21 +4,11 @@
 //! and 1 where reading, writing or memory failed.
 #![tactic(auto)]
 
-pub mod fault;
-mod lines;
-mod numbers;
-mod opening;
-mod orders;
-mod pieces;
-mod printed;
-pub mod run;
-pub mod text;
-mod words;
-
 use std::process::ExitCode;
+use sync_play::run::run;
 
 fn main(rt: HostRuntime) -> ExitCode {
-    match run::run(rt.alloc(), &mut rt.stdin(), &mut rt.stdout()) {
+    match run(rt.alloc(), &mut rt.stdin(), &mut rt.stdout()) {
         Ok(()) => ExitCode::SUCCESS,
         Err(fault) => {
             let _ = eprintln!(rt; "{fault}");
@@ -26,6 +16,3 @@ fn main(rt: HostRuntime) -> ExitCode {
         }
     }
 }
-
-#[cfg(test)]
-mod tests;
