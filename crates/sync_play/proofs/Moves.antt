@@ -1,8 +1,7 @@
 -- A call under way is one that its object has, and it has a next step.
-use Rattle.std.proofs.Common.{◌≡◌, ℕ, Bool, true, false, cond, eqb, nat_lt, ◌&&◌, List, [], ◌∷◌, Option, Some, None, is_some, is_none, refl, sym, ap, subst, ◌∙◌}
+use Rattle.std.proofs.Common.{◌≡◌, ℕ, Bool, true, false, cond, eqb, nat_lt, List, [], ◌∷◌, Option, Some, None, refl, ap, subst, ◌∙◌}
 use Rattle.sync_steps.specs.declared.steps.event.Act.{Act}
 use Rattle.sync_steps.specs.declared.steps.event.Act.TheVariants as acts
-use Rattle.sync_steps.specs.declared.steps.event.Answer.{Answer}
 use Rattle.sync_steps.specs.declared.steps.event.Call.{Call}
 use Rattle.sync_steps.specs.declared.steps.event.Call.TheVariants as calls
 use Rattle.sync_steps.specs.declared.steps.event.Event.{Event}
@@ -24,7 +23,6 @@ use Rattle.sync_steps.specs.NextLaws.{go_begins_none}
 use Rattle.sync_steps.specs.Past.{Calling, call_of, call_after, goes_on_as, holds_of, hold_among, word_in}
 use Rattle.sync_steps.specs.Run.{IsRun, after}
 use Rattle.sync_steps.specs.SemaphoreTable.{semaphore_has, semaphore_next}
-use Rattle.sync_steps.specs.Sights.{begins}
 
 abbrev Ev : Type 0
 Ev = Event ℕ

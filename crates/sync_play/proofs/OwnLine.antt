@@ -1,5 +1,5 @@
 -- A text whose `run` would borrow its end from a later line has another output.
-use Rattle.std.proofs.Common.{◌≡◌, ℕ, true, List, [], ◌∷◌, ◌++◌, length, Result, Ok, Err, refl, sym, ap, ◌∙◌, arith}
+use Rattle.std.proofs.Common.{◌≡◌, ℕ, true, List, [], ◌∷◌, length, Some, Result, Ok, Err, refl, sym, ap, ◌∙◌, arith}
 use Rattle.std.proofs.lemmas.Fmt.{decimal_digit}
 use Rattle.std.specs.Prelude.{codes}
 use Rattle.sync_steps.specs.declared.steps.event.Act.{Act}
@@ -16,15 +16,14 @@ use Rattle.sync_steps.specs.declared.steps.event.Wake.TheVariants as wakes
 use Rattle.sync_steps.specs.declared.steps.event.Word.TheVariants as words
 use Rattle.sync_steps.specs.Integers.{u64_arithmetic}
 use Rattle.sync_steps.specs.Run.{IsRun}
-use Rattle.sync_play.specs.declared.orders.Task.TheVariants as tasks
-use Rattle.sync_play.specs.Events.{steps_of}
-use Rattle.sync_play.specs.Faults.{FaultAt}
-use Rattle.sync_play.specs.Opening.{opening_of}
-use Rattle.sync_play.specs.Orders.{order_of, task_of}
-use Rattle.sync_play.specs.Output.{output_of}
-use Rattle.sync_play.specs.Printed.{printed, last_line}
-use Rattle.sync_play.specs.TextRuns.{LinesAsk, IsRunOfText, EndsInItsLine}
-use Rattle.sync_play.proofs.OutputLaw.{runs_are_outputs}
+use Rattle.sync_play.specs.declared.command.Task.TheVariants as tasks
+use Rattle.sync_play.specs.Player.{steps_of}
+use Rattle.sync_play.specs.Fault.{FaultAt}
+use Rattle.sync_play.specs.Header.{header_of}
+use Rattle.sync_play.specs.Command.{command_of, task_of}
+use Rattle.sync_play.specs.Print.{last_line}
+use Rattle.sync_play.specs.Law.{LinesAsk, IsRunOfText, EndsInItsLine}
+use Rattle.sync_play.proofs.RunsAreOutputs.{runs_are_outputs}
 
 abbrev Ev : Type 0
 Ev = Event ℕ
@@ -95,7 +94,7 @@ abbrev lines : List (List ℕ)
 lines = codes "1 try_lock" ∷ codes "1 go" ∷ codes "1 unlock" ∷ codes "1 run" ∷ codes "2 lock" ∷ codes "2 go" ∷ []
 
 asks : LinesAsk objects.Mutex lines inputs_0 events_0
-unfolding order_of task_of steps_of
+unfolding command_of task_of steps_of
 asks = (
   (0, inputs.Begin calls.TryLock) ∷ [],
   inputs_1,
@@ -104,7 +103,7 @@ asks = (
   refl,
   refl,
   refl,
-  (record { party = 1; task = tasks.Give (inputs.Begin calls.TryLock) }, 0, refl, refl, refl),
+  (Some (record { party = 0; task = tasks.Give (inputs.Begin calls.TryLock) }), refl, refl),
   (
     (0, inputs.Go) ∷ [],
     inputs_2,
@@ -113,7 +112,7 @@ asks = (
     refl,
     refl,
     refl,
-    (record { party = 1; task = tasks.Go 1 }, 0, refl, refl, refl),
+    (Some (record { party = 0; task = tasks.Go 1 }), refl, refl),
     (
       (0, inputs.Begin calls.Unlock) ∷ [],
       inputs_3,
@@ -122,7 +121,7 @@ asks = (
       refl,
       refl,
       refl,
-      (record { party = 1; task = tasks.Give (inputs.Begin calls.Unlock) }, 0, refl, refl, refl),
+      (Some (record { party = 0; task = tasks.Give (inputs.Begin calls.Unlock) }), refl, refl),
       (
         (0, inputs.Go) ∷ (0, inputs.Go) ∷ [],
         inputs_4,
@@ -131,7 +130,7 @@ asks = (
         refl,
         refl,
         refl,
-        (record { party = 1; task = tasks.Run }, 0, refl, refl, (2, omega arith, refl, (refl, refl))),
+        (Some (record { party = 0; task = tasks.Run 100000 }), refl, (2, omega arith, refl, (refl, refl))),
         (
           (1, inputs.Begin calls.Lock) ∷ [],
           inputs_5,
@@ -140,7 +139,7 @@ asks = (
           refl,
           refl,
           refl,
-          (record { party = 2; task = tasks.Give (inputs.Begin calls.Lock) }, 1, refl, refl, refl),
+          (Some (record { party = 1; task = tasks.Give (inputs.Begin calls.Lock) }), refl, refl),
           (
             (1, inputs.Go) ∷ [],
             [],
@@ -149,7 +148,7 @@ asks = (
             refl,
             refl,
             refl,
-            (record { party = 2; task = tasks.Go 1 }, 1, refl, refl, refl),
+            (Some (record { party = 1; task = tasks.Go 1 }), refl, refl),
             refl,
           ),
         ),
@@ -162,9 +161,9 @@ abbrev output : List ℕ
 output = codes "1 success\n1 wakes one\n1 done\n2 success\nword 1 failed 0\n"
 
 is_run_of_text : IsRunOfText text output
-unfolding opening_of last_line
+unfolding header_of last_line
 is_run_of_text =
-    record { first = codes "mutex 2"; lines = lines; text_is = refl; opened = record { object = objects.Mutex; parties = 2 }; names = refl; schedule = inputs_0; events = events_0; asks = asks; run = is_run; bytes_are = rw (decimal_digit 0 (omega arith), decimal_digit 1 (omega arith), decimal_digit 2 (omega arith)) refl }
+    record { first = codes "mutex 2"; lines = lines; text_is = refl; header = record { object = objects.Mutex; parties = 2 }; names = refl; schedule = inputs_0; events = events_0; asks = asks; run = is_run; bytes_are = rw (decimal_digit 0 (omega arith), decimal_digit 1 (omega arith), decimal_digit 2 (omega arith)) refl }
 
 abbrev output_length : Result (List ℕ) FaultAt → ℕ
 output_length (Ok bytes) = length bytes

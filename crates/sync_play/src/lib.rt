@@ -2,17 +2,19 @@
 //!
 //! [`run::run`] plays the text that a reader brings, and writes what it prints to a writer; [`text::play_text`] plays a text that is
 //! already there. The program of the crate beside this one is the first of them over standard input and output.
+//!
+//! A text is read once, from bytes to lines ([`lexer`]), commands ([`header`], [`command`]), events ([`player`]) and what they
+//! print ([`print`]).
 #![tactic(auto)]
 
+pub mod command;
 pub mod fault;
-mod lines;
-mod numbers;
-mod opening;
-mod orders;
-mod pieces;
-mod printed;
+pub mod header;
+pub mod law;
+pub mod lexer;
+pub mod player;
+pub mod print;
 pub mod run;
 #[cfg(test)]
 mod tests;
 pub mod text;
-mod words;
