@@ -1,5 +1,5 @@
 //! Plays a command event by event.
-ghost use Rattle.std.specs.Prelude.{◌≡◌, ◌<◌, ℕ, List, IfOk, IfSome};
+ghost use Rattle.std.specs.Prelude.{◌≡◌, ◌<◌, ℕ, List, IfOk, OnErr, IfSome};
 ghost use Rattle.sync_steps.specs.Integers.{u64_arithmetic};
 ghost use Rattle.sync_steps.specs.Moves.{goes_on};
 ghost use Rattle.sync_steps.specs.Standing.{StandsAt};
@@ -53,13 +53,16 @@ impl Task {
 
 /// The next event of a command, and `left` is then what is left of it. `None` once all of it is done.
 ///
-/// After a fault the machine is as it was.
+/// After a fault the machine and `left` are as they were. It takes no memory.
 pub fn next_event(
     machine: &mut Machine<u64>,
     left: &mut Command,
 ) -> Result<Option<Event<u64>>, LineFault>
     ensures turn { (o : AnObject ℕ) (parties : ℕ) (past : List (AnEvent ℕ)) → StandsAt u64_arithmetic o parties past machine.old →
         meaning.IsTurn o parties past left.old left.new machine.new result }
+    ensures party { left.new.party ≡ left.old.party }
+    ensures machine_kept { OnErr result (machine.new ≡ machine.old) }
+    ensures left_kept { OnErr result (left.new ≡ left.old) }
     ensures shorter { IfOk result (λ event. IfSome event (λ _. meaning.steps_left left.new.task < meaning.steps_left left.old.task)) }
 {
     let Some(input) = left.task.next()? else {

@@ -1,4 +1,4 @@
-//! What events print, and the last line.
+//! What an event prints, and the last line.
 ghost use Rattle.std.specs.Prelude.{◌≡◌, ◌++◌, OnOk, string_bytes};
 ghost use Rattle.sync_play.specs.Print.{answer_words, counts_line, act_line, then_line, event_lines};
 
