@@ -189,7 +189,8 @@ pub turn_made : (o : Object ℕ) (parties : ℕ) (past : List Ev) (old new : Com
     → StandsAt u64_arithmetic o parties past machine → Steps u64_arithmetic machine old.party input e machine' → IsTurn o parties past old new machine' (Ok (Some e))
 turn_made o parties past old new input e machine machine' next party left stands steps =
     let s = steps o parties past stands in
-    (rw (party, left) (task_turn o parties past old.party old.task input e next (event_is o parties past old.party input e s.0)), s.1)
+    let is = event_is o parties past old.party input e s.0 in
+    record { input = input; asked = next; event = is; others = rw (party, left) (task_turn o parties past old.party old.task input e next is); stands = s.1 }
 
 pub turn_refused : (o : Object ℕ) (parties : ℕ) (past : List Ev) (old : Command) (input : Input ℕ) (fault : StepFault) (machine : Standing ℕ) → next_input old.task ≡ Ok (Some input)
     → StandsAt u64_arithmetic o parties past machine → RefusesStep u64_arithmetic machine old.party input fault → command_events o parties past old ≡ Err (line_fault_of fault)

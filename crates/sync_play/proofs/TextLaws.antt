@@ -84,7 +84,7 @@ command_goes_on o parties past command old new told e out mid out' machine machi
     let there = after h.events past in
     let turn = subst (λ (x : Option Ev). IsTurn o parties there old new machine' (Ok x)) some (turns o parties there h.stands) in
     goes_further o parties past (Rest o parties command past) (Rest o parties old) (Rest o parties new) out mid out' machine machine' h
-    (record { events = e ∷ []; so_far = turn.0; output = written ∙ ap (λ (l : List ℕ). mid ++ l) (printed_one e); stands = turn.1 })
+    (record { events = e ∷ []; so_far = turn.others; output = written ∙ ap (λ (l : List ℕ). mid ++ l) (printed_one e); stands = turn.stands })
 
 pub command_ends : (o : Object ℕ) (parties : ℕ) (past : List Ev) (number : ℕ) (command old new : Command) (told : Option Ev) (out mid : List ℕ) (machine machine' : Standing ℕ) → told ≡ None
     → Halfway o parties past (Rest o parties command past) (Rest o parties old) out mid machine → Turns old new machine machine' (Ok told)

@@ -82,10 +82,16 @@ left_after going (tasks.Give input) = tasks.Go 0
 left_after going (tasks.Go n) = tasks.Go (n - 1)
 left_after going (tasks.Run limit) = if going then tasks.Run (limit - 1) else tasks.Go 0
 
--- What the player tells of a command after the past, and what it leaves of it: no event is meant, or the fault is the one that is meant,
--- or the event is the first, and what is left gives the others.
+-- the event is the one that the next input of the command gives, what is left gives the others, and the run with it stands at the machine
+pub record MakesTurn (o : Object ℕ) (parties : ℕ) (past : List (Event ℕ)) (old new : Command) (machine : Standing ℕ) (e : Event ℕ) : Type 0 where
+  pub input : Input ℕ
+  pub asked : next_input old.task ≡ Ok (Some input)
+  pub event : event_of o parties past old.party input ≡ Ok e
+  pub others : command_events o parties past old ≡ (command_events o parties (e ∷ past) new >>= λ events. Ok (e ∷ events))
+  pub stands : StandsAt u64_arithmetic o parties (e ∷ past) machine
+
+-- What the player tells of a command after the past, and what it leaves of it: all was done, or the next event, or the fault of the command.
 abbrev pub IsTurn : Object ℕ → ℕ → List (Event ℕ) → Command → Command → Standing ℕ → Result (Option (Event ℕ)) LineFault → Type 0
 IsTurn o parties past old new machine (Ok None) = (command_events o parties past old ≡ Ok []) × StandsAt u64_arithmetic o parties past machine
-IsTurn o parties past old new machine (Ok (Some e)) =
-    (command_events o parties past old ≡ (command_events o parties (e ∷ past) new >>= λ events. Ok (e ∷ events))) × StandsAt u64_arithmetic o parties (e ∷ past) machine
+IsTurn o parties past old new machine (Ok (Some e)) = MakesTurn o parties past old new machine e
 IsTurn o parties past old new machine (Err fault) = command_events o parties past old ≡ Err fault
