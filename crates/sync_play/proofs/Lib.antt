@@ -1,7 +1,10 @@
-pub mod Cutting
-pub mod Digits
-pub mod Runs
-pub mod TaskLaws
+pub mod LexerLaws
+pub mod CommandLaws
+pub mod PlayerLaws
 pub mod TextLaws
-pub mod Bytes
-pub mod RunLaw
+pub mod RunLaws
+pub mod OutputsAreRuns
+pub mod RunsAreOutputs
+pub mod Moves
+pub mod FaultsAreRefusals
+pub mod OwnLine

@@ -1,6 +1,7 @@
--- Lines make up a text.
-use Rattle.std.proofs.Common.{◌≡◌, ◌≢◌, ℕ, zero, suc, ◌+◌, ◌-◌, ◌^◌, min, List, [], ◌∷◌, ◌++◌, Result, Ok, Err, refl, sym, ap, ◌∙◌, append_assoc, arith}
+-- Events make up a command, commands the lines, and lines a text.
+use Rattle.std.proofs.Common.{◌≡◌, ℕ, ◌+◌, ◌-◌, ◌^◌, min, List, [], ◌∷◌, ◌++◌, Option, Some, None, Result, Ok, Err, refl, sym, ap, subst, ◌∙◌, append_assoc}
 use Rattle.std.proofs.lemmas.List.{append-nil}
+use Rattle.std.proofs.lemmas.List.Concat.{flat_map-append}
 use Rattle.sync_steps.specs.declared.steps.event.Event.{Event}
 use Rattle.sync_steps.specs.declared.steps.event.Object.{Object}
 use Rattle.sync_steps.specs.declared.steps.event.Word.TheVariants as words
@@ -8,49 +9,127 @@ use Rattle.sync_steps.specs.Integers.{u64_arithmetic}
 use Rattle.sync_steps.specs.Past.{word_in, failed_in}
 use Rattle.sync_steps.specs.Run.{after}
 use Rattle.sync_steps.specs.Standing.{Standing, StandsAt}
+use Rattle.sync_play.specs.declared.command.Command.{Command}
 use Rattle.sync_play.specs.declared.fault.LineFault.{LineFault}
 use Rattle.sync_play.specs.declared.fault.LineFault.TheVariants as faults
-use Rattle.sync_play.specs.declared.fault.Refusal.{Refusal}
-use Rattle.sync_play.specs.declared.opening.Opening.{Opening}
-use Rattle.sync_play.specs.declared.orders.Order.{Order}
-use Rattle.sync_play.specs.declared.orders.Task.{Task}
-use Rattle.sync_play.specs.declared.text.TextFault.{TextFault}
-use Rattle.sync_play.specs.Faults.{◌>>=◌, FaultAt}
-use Rattle.sync_play.specs.Lines.{lines_of}
-use Rattle.sync_play.specs.Words.{words_of}
-use Rattle.sync_play.specs.Orders.{order_of}
-use Rattle.sync_play.specs.Opening.{opening_of}
-use Rattle.sync_play.specs.Events.{line_events, party_events, task_events}
-use Rattle.sync_play.specs.Output.{output_after, output_of_lines, output_of}
-use Rattle.sync_play.specs.Pieces.{Advances, IsOutcome}
-use Rattle.sync_play.specs.Printed.{printed, counts_line, last_line}
-use Rattle.sync_play.specs.Text.{PlaysLines, IsFaultOf}
-use Rattle.sync_play.proofs.TaskLaws.{after_both, printed_both}
+use Rattle.sync_play.specs.declared.fault.TextFault.{TextFault}
+use Rattle.sync_play.specs.declared.fault.TextFault.TheVariants as texts
+use Rattle.sync_play.specs.declared.header.Header.{Header}
+use Rattle.sync_play.specs.Command.{command_of}
+use Rattle.sync_play.specs.Fault.{◌>>=◌, FaultAt, at_line, IsFaultOf}
+use Rattle.sync_play.specs.Header.{header_of}
+use Rattle.sync_play.specs.Lexer.{lines_of, words_of}
+use Rattle.sync_play.specs.Player.{command_events, IsTurn}
+use Rattle.sync_play.specs.Print.{printed, event_lines, counts_line, last_line}
+use Rattle.sync_play.specs.Text.{line_events, output_after, output_of_lines, output_of, Advances, IsOutcome, PlaysLines}
+use Rattle.sync_play.proofs.PlayerLaws.{with_front, with_none, with_fronts}
 
 abbrev Ev : Type 0
 Ev = Event ℕ
 
+-- A command.
+
+-- Some of the events that are meant were played and printed; the rest is still to come.
+pub record Halfway (o : Object ℕ) (parties : ℕ) (past : List Ev) (meant : Result (List Ev) LineFault) (rest : List Ev → Result (List Ev) LineFault) (old new : List ℕ) (machine : Standing ℕ) : Type 0 where
+  pub events : List Ev
+  pub so_far : meant ≡ with_front events (rest (after events past))
+  pub output : new ≡ old ++ printed events
+  pub stands : StandsAt u64_arithmetic o parties (after events past) machine
+
+pub begins_so : (o : Object ℕ) (parties : ℕ) (past : List Ev) (rest : List Ev → Result (List Ev) LineFault) (old : List ℕ) (machine : Standing ℕ) → StandsAt u64_arithmetic o parties past machine → Halfway o parties past (rest past) rest old old machine
+begins_so o parties past rest old machine stands = record { events = []; so_far = sym (with_none (rest past)); output = sym (append-nil old); stands = stands }
+
+pub after_both : (events more past : List Ev) → after (events ++ more) past ≡ after more (after events past)
+after_both [] more past = refl
+after_both (e ∷ events) more past = after_both events more (e ∷ past)
+
+pub printed_both : (events more : List Ev) (old mid new : List ℕ) → mid ≡ old ++ printed events → new ≡ mid ++ printed more → new ≡ old ++ printed (events ++ more)
+printed_both events more old mid new e f =
+    f ∙ ap (λ (l : List ℕ). l ++ printed more) e ∙ append_assoc old (printed events) (printed more) ∙ ap (λ (l : List ℕ). old ++ l) (sym (flat_map-append event_lines events more))
+
+pub goes_further : (o : Object ℕ) (parties : ℕ) (past : List Ev) (meant : Result (List Ev) LineFault) (rest rest' : List Ev → Result (List Ev) LineFault) (old mid new : List ℕ) (machine machine' : Standing ℕ)
+    → (h : Halfway o parties past meant rest old mid machine) → Halfway o parties (after h.events past) (rest (after h.events past)) rest' mid new machine' → Halfway o parties past meant rest' old new machine'
+goes_further o parties past meant rest rest' old mid new machine machine' h k =
+    let there = after_both h.events k.events past in
+    record {
+      events = h.events ++ k.events;
+      so_far = h.so_far ∙ ap (with_front h.events) k.so_far ∙ with_fronts h.events k.events (rest' (after k.events (after h.events past))) ∙ ap (λ (p : List Ev). with_front (h.events ++ k.events) (rest' p)) (sym there);
+      output = printed_both h.events k.events old mid new h.output k.output;
+      stands = rw there k.stands;
+    }
+
+pub ends_here : (o : Object ℕ) (parties : ℕ) (past : List Ev) (meant : Result (List Ev) LineFault) (rest : List Ev → Result (List Ev) LineFault) (old new : List ℕ) (machine : Standing ℕ)
+    → (h : Halfway o parties past meant rest old new machine) → rest (after h.events past) ≡ Ok [] → Advances o parties past meant old new machine
+ends_here o parties past meant rest old new machine h e =
+    record { events = h.events; are_meant = h.so_far ∙ ap (with_front h.events) e ∙ ap (λ (l : List Ev). Ok l) (append-nil h.events); output = h.output; stands = h.stands }
+
+pub fails_there : (o : Object ℕ) (parties : ℕ) (past : List Ev) (meant : Result (List Ev) LineFault) (rest : List Ev → Result (List Ev) LineFault) (old new : List ℕ) (machine : Standing ℕ) (fault : LineFault)
+    → (h : Halfway o parties past meant rest old new machine) → rest (after h.events past) ≡ Err fault → meant ≡ Err fault
+fails_there o parties past meant rest old new machine fault h e = h.so_far ∙ ap (with_front h.events) e
+
+-- a turn, whatever run stands at the machine
+abbrev Turns : Command → Command → Standing ℕ → Standing ℕ → Result (Option Ev) LineFault → Type 0
+Turns old new machine machine' told = (o : Object ℕ) (parties : ℕ) (past : List Ev) → StandsAt u64_arithmetic o parties past machine → IsTurn o parties past old new machine' told
+
+abbrev Rest : Object ℕ → ℕ → Command → List Ev → Result (List Ev) LineFault
+Rest o parties command past = command_events o parties past command
+
+printed_one : (e : Ev) → event_lines e ≡ printed (e ∷ [])
+printed_one e = sym (append-nil (event_lines e))
+
+pub command_goes_on : (o : Object ℕ) (parties : ℕ) (past : List Ev) (command old new : Command) (told : Option Ev) (e : Ev) (out mid out' : List ℕ) (machine machine' : Standing ℕ) → told ≡ Some e
+    → Halfway o parties past (Rest o parties command past) (Rest o parties old) out mid machine → Turns old new machine machine' (Ok told) → out' ≡ mid ++ event_lines e
+    → Halfway o parties past (Rest o parties command past) (Rest o parties new) out out' machine'
+command_goes_on o parties past command old new told e out mid out' machine machine' some h turns written =
+    let there = after h.events past in
+    let turn = subst (λ (x : Option Ev). IsTurn o parties there old new machine' (Ok x)) some (turns o parties there h.stands) in
+    goes_further o parties past (Rest o parties command past) (Rest o parties old) (Rest o parties new) out mid out' machine machine' h
+    (record { events = e ∷ []; so_far = turn.others; output = written ∙ ap (λ (l : List ℕ). mid ++ l) (printed_one e); stands = turn.stands })
+
+pub command_ends : (o : Object ℕ) (parties : ℕ) (past : List Ev) (number : ℕ) (command old new : Command) (told : Option Ev) (out mid : List ℕ) (machine machine' : Standing ℕ) → told ≡ None
+    → Halfway o parties past (Rest o parties command past) (Rest o parties old) out mid machine → Turns old new machine machine' (Ok told)
+    → Advances o parties past (at_line number (command_events o parties past command)) out mid machine'
+command_ends o parties past number command old new told out mid machine machine' none h turns =
+    let there = after h.events past in
+    let turn = subst (λ (x : Option Ev). IsTurn o parties there old new machine' (Ok x)) none (turns o parties there h.stands) in
+    record {
+      events = h.events;
+      are_meant = ap (at_line number) (h.so_far ∙ ap (with_front h.events) turn.0 ∙ ap (λ (l : List Ev). Ok l) (append-nil h.events));
+      output = h.output;
+      stands = turn.1;
+    }
+
+pub command_fails : (o : Object ℕ) (parties : ℕ) (past : List Ev) (number : ℕ) (command old new : Command) (fault : LineFault) (out mid : List ℕ) (machine machine' : Standing ℕ)
+    → Halfway o parties past (Rest o parties command past) (Rest o parties old) out mid machine → Turns old new machine machine' (Err fault)
+    → at_line number (command_events o parties past command) ≡ Err (record { line = number; fault = fault })
+command_fails o parties past number command old new fault out mid machine machine' h turns =
+    ap (at_line number) (h.so_far ∙ ap (with_front h.events) (turns o parties (after h.events past) h.stands))
+
 -- A line.
 
-pub line_is_empty : (o : Object ℕ) (parties : ℕ) (past : List Ev) (ws : List (List ℕ)) (old : List ℕ) (machine : Standing ℕ) → ws ≡ [] → StandsAt u64_arithmetic o parties past machine → Advances o parties past (line_events o parties past ws) old old machine
+pub parsed : (read : Result (Option Command) LineFault) (told known : Option Command) → Ok told ≡ read → told ≡ known → Ok known ≡ read
+parsed read told known e same = ap (λ (x : Option Command). Ok x) (sym same) ∙ e
+
+pub asks_none : (o : Object ℕ) (parties : ℕ) (past : List Ev) (ws : List (List ℕ)) → Ok None ≡ command_of o ws → line_events o parties past ws ≡ Ok []
 unfolding line_events
-line_is_empty o parties past ws old machine none stands = record { events = []; are_meant = rw none refl; output = sym (append-nil old); stands = stands }
+asks_none o parties past ws e = rw (← e) refl
 
-pub order_fails : (o : Object ℕ) (parties : ℕ) (past : List Ev) (ws : List (List ℕ)) (word : List ℕ) (rest : List (List ℕ)) (fault : LineFault) → ws ≡ word ∷ rest → Err fault ≡ order_of o (word ∷ rest) → line_events o parties past ws ≡ Err fault
+pub asks_command : (o : Object ℕ) (parties : ℕ) (past : List Ev) (ws : List (List ℕ)) (command : Command) → Ok (Some command) ≡ command_of o ws → line_events o parties past ws ≡ command_events o parties past command
 unfolding line_events
-order_fails o parties past ws word rest fault same e = rw (same, ← e) refl
+asks_command o parties past ws command e = rw (← e) refl
 
-pub order_is : (o : Object ℕ) (parties : ℕ) (past : List Ev) (ws : List (List ℕ)) (word : List ℕ) (rest : List (List ℕ)) (order : Order) → ws ≡ word ∷ rest → Ok order ≡ order_of o (word ∷ rest) → line_events o parties past ws ≡ party_events o parties past order.party order.task
+pub asks_wrongly : (o : Object ℕ) (parties : ℕ) (past : List Ev) (ws : List (List ℕ)) (fault : LineFault) → Err fault ≡ command_of o ws → line_events o parties past ws ≡ Err fault
 unfolding line_events
-order_is o parties past ws word rest order same e = rw (same, ← e) refl
+asks_wrongly o parties past ws fault e = rw (← e) refl
 
-pub no_party : (o : Object ℕ) (parties : ℕ) (past : List Ev) (party : ℕ) (task : Task) → party ≡ 0 → party_events o parties past party task ≡ Err faults.NoParty
-no_party o parties past zero task e = refl
-no_party o parties past (suc party) task e = absurd (omega arith)
+pub line_is_empty : (o : Object ℕ) (parties : ℕ) (past : List Ev) (number : ℕ) (ws : List (List ℕ)) (old : List ℕ) (machine : Standing ℕ) → Ok None ≡ command_of o ws → StandsAt u64_arithmetic o parties past machine
+    → Advances o parties past (at_line number (line_events o parties past ws)) old old machine
+line_is_empty o parties past number ws old machine none stands =
+    record { events = []; are_meant = ap (at_line number) (asks_none o parties past ws none); output = sym (append-nil old); stands = stands }
 
-pub party_from_one : (o : Object ℕ) (parties : ℕ) (past : List Ev) (party : ℕ) (task : Task) → party ≢ 0 → party_events o parties past party task ≡ task_events o parties past (party - 1) task
-party_from_one o parties past zero task h = absurd (h refl)
-party_from_one o parties past (suc party) task h = let e : suc party - 1 ≡ party = omega arith in rw e refl
+pub same_outcome : (o : Object ℕ) (parties : ℕ) (past : List Ev) (meant known : Result (List Ev) FaultAt) (old new : List ℕ) (machine : Standing ℕ) (result : Result (Unit {0}) TextFault) → meant ≡ known
+    → IsOutcome o parties past known old new machine result → IsOutcome o parties past meant old new machine result
+same_outcome o parties past meant known old new machine result e h = rw e h
 
 -- The lines of a text.
 
@@ -76,7 +155,7 @@ pub text_begins : (o : Object ℕ) (parties first : ℕ) (lines : List (List ℕ
 text_begins o parties first lines past old machine stands =
     record { events = []; so_far = with_no_text (output_after o parties first lines past); output = sym (append-nil old); stands = stands }
 
-line_then : (o : Object ℕ) (parties number : ℕ) (line : List ℕ) (rest : List (List ℕ)) (past : List Ev) (events : List Ev) → line_events o parties past (words_of line) ≡ Ok events
+pub line_then : (o : Object ℕ) (parties number : ℕ) (line : List ℕ) (rest : List (List ℕ)) (past : List Ev) (events : List Ev) → at_line number (line_events o parties past (words_of line)) ≡ Ok events
     → output_after o parties number (line ∷ rest) past ≡ with_text (printed events) (output_after o parties (number + 1) rest (after events past))
 unfolding output_after
 line_then o parties number line rest past events e = rw e refl
@@ -86,7 +165,7 @@ printed_text events more rest = with_texts (printed events) (printed more) rest 
 
 pub text_goes_on : (o : Object ℕ) (parties first : ℕ) (lines : List (List ℕ)) (past : List Ev) (number : ℕ) (rest : List (List ℕ)) (line : List ℕ) (rest' : List (List ℕ)) (old mid new : List ℕ) (machine machine' : Standing ℕ) → rest ≡ line ∷ rest'
     → HalfText o parties first lines past number rest old mid machine
-    → ((at : List Ev) → StandsAt u64_arithmetic o parties at machine → Advances o parties at (line_events o parties at (words_of line)) mid new machine')
+    → ((at : List Ev) → StandsAt u64_arithmetic o parties at machine → Advances o parties at (at_line number (line_events o parties at (words_of line))) mid new machine')
     → HalfText o parties first lines past (number + 1) rest' old new machine'
 text_goes_on o parties first lines past number rest line rest' old mid new machine machine' same h plays =
     let a = plays (after h.events past) h.stands in
@@ -100,20 +179,25 @@ text_goes_on o parties first lines past number rest line rest' old mid new machi
       stands = rw there a.stands;
     }
 
-line_fails : (o : Object ℕ) (parties number : ℕ) (line : List ℕ) (rest : List (List ℕ)) (past : List Ev) (fault : LineFault) → line_events o parties past (words_of line) ≡ Err fault
-    → output_after o parties number (line ∷ rest) past ≡ Err (record { line = number; fault = fault })
+pub line_fails : (o : Object ℕ) (parties number : ℕ) (line : List ℕ) (rest : List (List ℕ)) (past : List Ev) (fault : FaultAt) → at_line number (line_events o parties past (words_of line)) ≡ Err fault
+    → output_after o parties number (line ∷ rest) past ≡ Err fault
 unfolding output_after
 line_fails o parties number line rest past fault e = rw e refl
 
-pub text_fails : (o : Object ℕ) (parties first : ℕ) (lines : List (List ℕ)) (past : List Ev) (number : ℕ) (rest : List (List ℕ)) (line : List ℕ) (rest' : List (List ℕ)) (old mid : List ℕ) (machine : Standing ℕ) (fault told : LineFault) → fault ≡ told → rest ≡ line ∷ rest'
-    → HalfText o parties first lines past number rest old mid machine
-    → ((at : List Ev) → StandsAt u64_arithmetic o parties at machine → line_events o parties at (words_of line) ≡ Err fault)
-    → output_after o parties first lines past ≡ Err (record { line = number; fault = told })
-text_fails o parties first lines past number rest line rest' old mid machine fault told is_told same h fails =
-    h.so_far ∙ ap (with_text (printed h.events)) (ap (λ (l : List (List ℕ)). output_after o parties number l (after h.events past)) same ∙ line_fails o parties number line rest' (after h.events past) fault (fails (after h.events past) h.stands))
-    ∙ ap (λ (f : LineFault). Err (record { line = number; fault = f })) is_told
+text_fails_there : (o : Object ℕ) (parties first : ℕ) (lines : List (List ℕ)) (past : List Ev) (number : ℕ) (rest : List (List ℕ)) (line : List ℕ) (rest' : List (List ℕ)) (old mid : List ℕ) (machine : Standing ℕ) (fault : FaultAt) → rest ≡ line ∷ rest'
+    → (h : HalfText o parties first lines past number rest old mid machine) → at_line number (line_events o parties (after h.events past) (words_of line)) ≡ Err fault → output_after o parties first lines past ≡ Err fault
+text_fails_there o parties first lines past number rest line rest' old mid machine fault same h fails =
+    h.so_far ∙ ap (with_text (printed h.events)) (ap (λ (l : List (List ℕ)). output_after o parties number l (after h.events past)) same ∙ line_fails o parties number line rest' (after h.events past) fault fails)
 
-lines_end : (o : Object ℕ) (parties number : ℕ) (past : List Ev) → output_after o parties number [] past ≡ Ok (last_line o past)
+pub text_fails : (fault : TextFault) (o : Object ℕ) (parties first : ℕ) (lines : List (List ℕ)) (past : List Ev) (number : ℕ) (rest : List (List ℕ)) (line : List ℕ) (rest' : List (List ℕ)) (old mid : List ℕ) (machine : Standing ℕ) → rest ≡ line ∷ rest'
+    → HalfText o parties first lines past number rest old mid machine
+    → ((at : List Ev) → StandsAt u64_arithmetic o parties at machine → IsFaultOf fault (at_line number (line_events o parties at (words_of line))))
+    → IsFaultOf fault (output_after o parties first lines past)
+text_fails texts.Memory o parties first lines past number rest line rest' old mid machine same h fails = tt
+text_fails (texts.Line told fault) o parties first lines past number rest line rest' old mid machine same h fails =
+    text_fails_there o parties first lines past number rest line rest' old mid machine (record { line = told; fault = fault }) same h (fails (after h.events past) h.stands)
+
+pub lines_end : (o : Object ℕ) (parties number : ℕ) (past : List Ev) → output_after o parties number [] past ≡ Ok (last_line o past)
 unfolding output_after
 lines_end o parties number past = refl
 
@@ -133,21 +217,17 @@ pub text_is_empty : (text : List ℕ) → lines_of text ≡ [] → output_of tex
 unfolding output_of_lines
 text_is_empty text none = rw none refl
 
-pub opening_fails : (text line : List ℕ) (lines : List (List ℕ)) (fault : LineFault) → lines_of text ≡ line ∷ lines → Err fault ≡ opening_of (words_of line) → output_of text ≡ Err (record { line = 1; fault = fault })
+pub header_fails : (text line : List ℕ) (lines : List (List ℕ)) (fault : LineFault) → lines_of text ≡ line ∷ lines → Err fault ≡ header_of (words_of line) → output_of text ≡ Err (record { line = 1; fault = fault })
 unfolding output_of_lines
-opening_fails text line lines fault same e = rw (same, ← e) refl
+header_fails text line lines fault same e = rw (same, ← e) refl
 
-pub opening_is : (text line : List ℕ) (lines : List (List ℕ)) (opened : Opening) → lines_of text ≡ line ∷ lines → Ok opened ≡ opening_of (words_of line) → output_of text ≡ output_after opened.object opened.parties 2 lines []
+pub header_is : (text line : List ℕ) (lines : List (List ℕ)) (header : Header) → lines_of text ≡ line ∷ lines → Ok header ≡ header_of (words_of line) → output_of text ≡ output_after header.object header.parties 2 lines []
 unfolding output_of_lines
-opening_is text line lines opened same e = rw (same, ← e) refl
+header_is text line lines header same e = rw (same, ← e) refl
 
 pub last_is : (o : Object ℕ) (past : List Ev) (word failed : ℕ) → word ≡ word_in u64_arithmetic o past words.State → failed ≡ min (failed_in past) (2 ^ 64 - 1) → last_line o past ≡ counts_line word failed
 unfolding last_line
 last_is o past word failed e f = rw (e, f) refl
-
-pub same_outcome : (o : Object ℕ) (parties : ℕ) (past : List Ev) (meant known : Result (List Ev) LineFault) (old new : List ℕ) (machine : Standing ℕ) (result : Result (Unit {0}) Refusal) → meant ≡ known
-    → IsOutcome o parties past known old new machine result → IsOutcome o parties past meant old new machine result
-same_outcome o parties past meant known old new machine result e h = rw e h
 
 pub faults_so : (text : List ℕ) (o : Object ℕ) (parties : ℕ) (lines : List (List ℕ)) (fault : TextFault) → output_of text ≡ output_after o parties 2 lines [] → IsFaultOf fault (output_after o parties 2 lines []) → IsFaultOf fault (output_of text)
 faults_so text o parties lines fault e h = rw e h

@@ -1,4 +1,7 @@
+//! What is wrong with a text, and why it was not played.
 ghost use Rattle.std.specs.Prelude.{◌≡◌, Some};
+ghost use Rattle.sync_play.specs.declared.fault.TextFault.TheVariants as texts;
+ghost use Rattle.sync_play.specs.declared.fault.RunFault.TheVariants as runs;
 
 use std::alloc::AllocError;
 use std::fmt;
@@ -32,7 +35,7 @@ pub enum LineFault {
 }
 
 impl fmt::Display for LineFault {
-    ghost use Rattle.sync_play.specs.Faults.{fault_words};
+    ghost use Rattle.sync_play.specs.Fault.{fault_words};
 
     ghost output = { λ f. Some (fault_words f) };
 
@@ -54,7 +57,7 @@ impl fmt::Display for LineFault {
 }
 
 impl From<StepFault> for LineFault {
-    ghost use Rattle.sync_play.specs.Faults.{line_fault_of};
+    ghost use Rattle.sync_play.specs.Fault.{line_fault_of};
 
     ghost from_gives = { λ fault e. e ≡ line_fault_of fault };
 
@@ -72,31 +75,82 @@ impl From<StepFault> for LineFault {
     }
 }
 
-/// Why a line was not played.
+/// Why a text was not played.
 #[derive(Clone, Copy, Debug, PartialEq, Eq)]
-pub enum Refusal {
-    /// The line has a fault.
-    Fault(LineFault),
+pub enum TextFault {
+    /// The first line with a fault, counted from 1.
+    Line { line: u64, fault: LineFault },
     /// Memory ran out.
     Memory,
 }
 
-impl From<LineFault> for Refusal {
-    ghost use Rattle.sync_play.specs.declared.fault.Refusal.TheVariants as refusals;
+impl From<AllocError> for TextFault {
+    ghost from_gives = { λ _ e. e ≡ texts.Memory };
 
-    ghost from_gives = { λ fault e. e ≡ refusals.Fault fault };
-
-    fn from(fault: LineFault) -> Refusal {
-        Refusal::Fault(fault)
+    fn from(_error: AllocError) -> TextFault {
+        TextFault::Memory
     }
 }
 
-impl From<AllocError> for Refusal {
-    ghost use Rattle.sync_play.specs.declared.fault.Refusal.TheVariants as refusals;
+/// Why a run of the program ended early.
+#[derive(Clone, Copy, Debug, PartialEq, Eq)]
+pub enum RunFault {
+    /// The first line of the text with a fault, counted from 1. Nothing was written.
+    Text { line: u64, fault: LineFault },
+    /// The reader failed. Nothing was written.
+    Read,
+    /// The writer failed, or took no byte. A beginning of the output was written.
+    Write,
+    /// Memory ran out. Nothing was written.
+    Memory,
+}
 
-    ghost from_gives = { λ _ e. e ≡ refusals.Memory };
+impl RunFault {
+    ghost use Rattle.sync_play.specs.Fault.{status_of};
 
-    fn from(_error: AllocError) -> Refusal {
-        Refusal::Memory
+    /// The exit status: 2 for a fault of the text, else 1.
+    pub fn status(&self) -> u8
+        ensures { result ≡ status_of self.now }
+    {
+        match self {
+            RunFault::Text { .. } => 2,
+            RunFault::Read | RunFault::Write | RunFault::Memory => 1,
+        }
+    }
+}
+
+impl fmt::Display for RunFault {
+    ghost use Rattle.sync_play.specs.Fault.{run_fault_words};
+
+    ghost output = { λ f. Some (run_fault_words f) };
+
+    fn fmt<W: fmt::Write>(&self, f: &mut fmt::Formatter<W>) -> fmt::Result {
+        match self {
+            RunFault::Text { line, fault } => write!(f, "line {line}: {fault}"),
+            RunFault::Read => write!(f, "reading failed"),
+            RunFault::Write => write!(f, "writing failed"),
+            RunFault::Memory => write!(f, "no memory"),
+        }
+    }
+}
+
+impl From<TextFault> for RunFault {
+    ghost use Rattle.sync_play.specs.Fault.{run_fault_of};
+
+    ghost from_gives = { λ fault e. e ≡ run_fault_of fault };
+
+    fn from(fault: TextFault) -> RunFault {
+        match fault {
+            TextFault::Line { line, fault } => RunFault::Text { line, fault },
+            TextFault::Memory => RunFault::Memory,
+        }
+    }
+}
+
+impl From<AllocError> for RunFault {
+    ghost from_gives = { λ _ e. e ≡ runs.Memory };
+
+    fn from(_error: AllocError) -> RunFault {
+        RunFault::Memory
     }
 }

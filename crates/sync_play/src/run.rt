@@ -1,74 +1,60 @@
-//! Runs the program over a reader and a writer.
-ghost use Rattle.std.specs.Prelude.{◌≡◌, Some};
-ghost use Rattle.sync_play.specs.declared.run.RunFault.TheVariants as runs;
+//! Plays the text that a reader brings.
+ghost use Rattle.std.specs.Prelude.{◌≡◌, ◌≢◌, OnOk, IfOk, IfErr};
+ghost use Rattle.std.specs.Io.KnownBytes.{Appends};
+ghost use Rattle.sync_play.specs.Run.{HasRead, HasPlayed, HasBegun, TellsFault, EndsReading, Begins};
 
-mod play;
+use crate::fault::RunFault;
+use crate::text::play_text;
+use std::alloc::Global;
+use std::io::{Read, Write};
 
-use crate::fault::LineFault;
-use crate::text::TextFault;
-pub use play::run;
-use std::alloc::AllocError;
-use std::fmt;
+/// How many bytes are read at once.
+const CHUNK: usize = 4096;
 
-/// Why a run of the program ended early.
-#[derive(Clone, Copy, Debug, PartialEq, Eq)]
-pub enum RunFault {
-    /// The first line of the text with a fault, counted from 1. Nothing was written.
-    Text { line: u64, fault: LineFault },
-    /// The reader failed. Nothing was written.
-    Read,
-    /// The writer failed, or took no byte. A beginning of the output was written.
-    Write,
-    /// Memory ran out. Nothing was written.
-    Memory,
-}
-
-impl RunFault {
-    ghost use Rattle.sync_play.specs.RunFaults.{status_of};
-
-    /// The exit status: 2 for a fault of the text, else 1.
-    pub fn status(&self) -> u8
-        ensures { result ≡ status_of self.now }
-    {
-        match self {
-            RunFault::Text { .. } => 2,
-            RunFault::Read | RunFault::Write | RunFault::Memory => 1,
+/// Reads to the end. An error of any kind ends it, also an interruption.
+fn read_all<R: Read>(alloc: Global, reader: &mut R) -> Result<Vec<u8>, RunFault>
+    ensures ok { IfOk result (λ text. HasRead (R.remaining reader.old) (R.remaining reader.new) text.items) }
+    ensures err { IfErr result EndsReading }
+{
+    let mut text = Vec::new(alloc);
+    let mut buffer = [0u8; CHUNK];
+    loop {
+        match reader.read(&mut buffer) {
+            Ok(0) => return Ok(text),
+            Ok(count) => text.extend_from_slice(&buffer[..count])?,
+            Err(_) => return Err(RunFault::Read),
         }
     }
 }
 
-impl fmt::Display for RunFault {
-    ghost use Rattle.sync_play.specs.RunFaults.{run_fault_words};
-
-    ghost output = { λ f. Some (run_fault_words f) };
-
-    fn fmt<W: fmt::Write>(&self, f: &mut fmt::Formatter<W>) -> fmt::Result {
-        match self {
-            RunFault::Text { line, fault } => write!(f, "line {line}: {fault}"),
-            RunFault::Read => write!(f, "reading failed"),
-            RunFault::Write => write!(f, "writing failed"),
-            RunFault::Memory => write!(f, "no memory"),
+/// Writes all the bytes. An error of any kind ends it, and so does a write that takes none.
+fn write_all<W: Write>(writer: &mut W, bytes: &[u8]) -> Result<(), RunFault>
+    ensures ok { OnOk result (Appends (W.contents writer.old) (W.contents writer.new) bytes.now) }
+    ensures write { IfErr result (λ e. e ≡ RunFault.Write) }
+    ensures begun { Begins (W.contents writer.old) (W.contents writer.new) bytes.now }
+{
+    let mut rest = bytes;
+    while !rest.is_empty() {
+        match writer.write(rest) {
+            Ok(0) | Err(_) => return Err(RunFault::Write),
+            Ok(count) => rest = &rest[count..],
         }
     }
+    Ok(())
 }
 
-impl From<TextFault> for RunFault {
-    ghost use Rattle.sync_play.specs.RunFaults.{run_fault_of};
+/// Reads a schedule text to its end, plays it, and writes what it prints, and nothing else.
+pub fn run<R: Read, W: Write>(alloc: Global, reader: &mut R, writer: &mut W) -> Result<(), RunFault>
+    ensures ok { OnOk result (HasPlayed (R.remaining reader.old) (R.remaining reader.new)
+        (W.contents writer.old) (W.contents writer.new)) }
+    ensures text { IfErr result (λ e. TellsFault e (R.remaining reader.old) (R.remaining reader.new)) }
 
-    ghost from_gives = { λ fault e. e ≡ run_fault_of fault };
-
-    fn from(fault: TextFault) -> RunFault {
-        match fault {
-            TextFault::Line { line, fault } => RunFault::Text { line, fault },
-            TextFault::Memory => RunFault::Memory,
-        }
-    }
-}
-
-impl From<AllocError> for RunFault {
-    ghost from_gives = { λ _ e. e ≡ runs.Memory };
-
-    fn from(_error: AllocError) -> RunFault {
-        RunFault::Memory
-    }
+    // After a text's fault, a failed read and want of memory the writer is as it was.
+    ensures unwritten { IfErr result (λ e. e ≢ RunFault.Write → writer.new ≡ writer.old) }
+    ensures begun { IfErr result (λ e. e ≡ RunFault.Write → HasBegun (R.remaining reader.old) (R.remaining reader.new)
+        (W.contents writer.old) (W.contents writer.new)) }
+{
+    let text = read_all(alloc, reader)?;
+    let output = play_text(alloc, &text)?;
+    write_all(writer, &output)
 }

@@ -1,10 +1,13 @@
 //! Each text is played by `run`, from a slice to a vector.
 
 mod faults;
+mod long;
 mod permits;
+mod player;
 mod plays;
 mod streams;
 
+use crate::fault::RunFault;
 use crate::run::run;
 use std::alloc::{AllocError, Global};
 
@@ -15,11 +18,17 @@ fn played(alloc: Global, text: &[u8]) -> Result<String, AllocError> {
     match run(alloc, &mut reader, &mut written) {
         Ok(()) => shown(alloc, &written),
         Err(fault) => {
-            let status = fault.status();
+            let told = shown_fault(alloc, fault)?;
             let left = written.len();
-            format!(in alloc; "{fault}, status {status}, {left} written")
+            format!(in alloc; "{told}, {left} written")
         }
     }
+}
+
+/// A fault's line and the exit status.
+fn shown_fault(alloc: Global, fault: RunFault) -> Result<String, AllocError> {
+    let status = fault.status();
+    format!(in alloc; "{fault}, status {status}")
 }
 
 /// The lines of an output, parted by ` / `, as the texts of the tests are written.

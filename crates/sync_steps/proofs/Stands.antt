@@ -1,5 +1,5 @@
 -- A turn leads from where a run stands to where it stands with one more event.
-use Rattle.std.proofs.Common.{◌≡◌, ◌≢◌, ℕ, zero, suc, ◌<◌, refl, sym, ◌∙◌, ap, subst, List, [], ◌∷◌, length, false, Option, Some, None, Result, Ok, Err, IfOk, IfErr, is_ok, ◌⊎◌, inl, inr, slice_get, slice_set, get_or, arith}
+use Rattle.std.proofs.Common.{◌≡◌, ◌≢◌, ℕ, zero, suc, ◌<◌, refl, sym, ◌∙◌, ap, subst, List, [], ◌∷◌, length, false, is_some, Option, Some, None, Result, Ok, Err, IfOk, IfErr, ◌⊎◌, inl, inr, slice_get, slice_set, get_or, arith}
 use Rattle.std.proofs.lemmas.Option.{slice_get-get_or}
 use std.Path.{fun_ext}
 use Rattle.std.specs.Option.{ForSome}
@@ -10,6 +10,7 @@ use Rattle.std.proofs.lemmas.List.{length-replicate}
 use Rattle.std.specs.Prelude.{replicate}
 use Rattle.steps_events.specs.declared.event.Event.{Event}
 use Rattle.steps_events.specs.declared.event.Input.{Input}
+use Rattle.steps_events.specs.declared.event.Input.TheVariants as inputs
 use Rattle.steps_events.specs.declared.event.Object.{Object}
 use Rattle.steps_events.specs.declared.event.StepFault.{StepFault}
 use Rattle.steps_events.specs.declared.event.Word.{Word}
@@ -25,9 +26,9 @@ use Rattle.sync_steps.specs.declared.steps.place.Turn.{Turn}
 use Rattle.sync_steps.specs.Objects.{table_of, has_word, IsObject}
 use Rattle.sync_steps.specs.Runs.{word_in, fault_of, IsNext}
 use Rattle.sync_steps.specs.Machine.{Configuration, StandsAt, Steps, RefusesStep, KeepsHeadline}
-use Rattle.sync_steps.specs.Machine.Applies.{Applies}
+use Rattle.sync_steps.specs.Machine.Applies.{Applies, HasTurned, HasRefused}
 use Rattle.sync_steps.specs.Machine.Places.{IsParty, DoesCall, opening_at}
-use Rattle.sync_steps.specs.Machine.Turns.{turn_at}
+use Rattle.sync_steps.specs.Machine.Turns.{turn_at, go_at, stepped}
 use Rattle.sync_steps.proofs.Headlines.{headline, absent_word}
 use Rattle.sync_steps.proofs.Places.{opening_is}
 use Rattle.sync_steps.proofs.Turns.{Turns, TurnsOr, turns_at}
@@ -180,38 +181,57 @@ stands_first {T} z o parties idle m fits object failed opens doing hold parties_
       each = λ p below. subst (λ (xs : List (Party T)). ForSome (slice_get xs p) (λ party. IsParty z o party None None)) (sym parties_are) (idle_at z o idle parties p doing hold);
     }
 
--- the turn, or the fault, of a party of the machine at an input
-abbrev pub IsTurnOf : {T : Type 0} → ℕ → Party T → Input T → Result (Turn T) StepFault → Configuration T → Type 0
-IsTurnOf party found input turn m = (party < length m.parties) × (slice_get m.parties party ≡ Some found) × (turn ≡ turn_at m.object found (word_at m.words) input)
+-- What the machine's calls promise, from what its parties did.
 
--- as the code comes by it: the party is read from the list, and the input is known
-pub is_turn_of :
-    {T : Type 0} (party : ℕ) (found : Party T) (input known : Input T) (turn : Result (Turn T) StepFault) (m : Configuration T) →
-    party < length m.parties → found ≡ get_or m.parties party found → turn ≡ turn_at m.object found (word_at m.words) known → input ≡ known → IsTurnOf party found input turn m
-is_turn_of party found input known turn m within there is same =
-    (within, slice_get-get_or m.parties party found within ∙ ap Some (sym there), is ∙ ap (turn_at m.object found (word_at m.words)) (sym same))
+turned_steps :
+    {T : Type 0} (z : Arithmetic T) (party : ℕ) (input known : Input T) (old new : Configuration T) (made : Event T) →
+    party < length old.parties → InputValues z input → input ≡ known → HasTurned party known old new made → Steps z old party input made new
+turned_steps {T} z party input known old new made within values same turned o parties past at =
+    let is : turn_at old.object turned.found (word_at old.words) input ≡ Ok turned.turn = ap (turn_at old.object turned.found (word_at old.words)) same ∙ turned.is in
+    let both = stands_after_turn z o parties past old new party turned.found input turned.turn within turned.there values is turned.applied at in
+    subst (λ (e : Event T). IsNext z o parties past party input e × StandsAt z o parties (e ∷ past) new) (sym turned.made_is) both
 
--- where the turn was made, the machine has stepped
-pub finishes :
-    {T : Type 0} (z : Arithmetic T) (party : ℕ) (found : Party T) (input : Input T) (turn : Result (Turn T) StepFault) (old new : Configuration T) (result : Result (Event T) StepFault) →
-    InputValues z input → IsTurnOf party found input turn old → IfOk result (λ made. IfOk turn (λ t. (made ≡ event party t.act t.then) × Applies party t old new)) → is_ok result ≡ is_ok turn →
-    IfOk result (λ made. Steps z old party input made new)
-finishes {T} z party found input (Ok turn) old new (Ok made) values of made_is same = λ o parties past at.
-    let both = stands_after_turn z o parties past old new party found input turn of.0 of.1 values (sym of.2) made_is.1 at in
-    subst (λ (e : Event T). IsNext z o parties past party input e × StandsAt z o parties (e ∷ past) new) (sym made_is.0) both
-finishes z party found input (Err fault) old new (Ok made) values of made_is same = absurd cc
-finishes z party found input turn old new (Err fault) values of made_is same = tt
+steps_headline : {T : Type 0} (z : Arithmetic T) (party : ℕ) (input : Input T) (old new : Configuration T) (made : Event T) → Steps z old party input made new → KeepsHeadline z old made
+steps_headline z party input old new made steps o parties past at = headline z o parties (made ∷ past) (steps o parties past at).1.run
 
--- and the headline holds after the event
-pub finishes_headline :
+refused_step :
+    {T : Type 0} (z : Arithmetic T) (party : ℕ) (input known : Input T) (old : Configuration T) (fault : StepFault) →
+    party < length old.parties → input ≡ known → HasRefused party known old fault → RefusesStep z old party input fault
+refused_step {T} z party input known old fault within same refused o parties past at =
+    refused_there z o parties past old party refused.found input fault within refused.there (ap (turn_at old.object refused.found (word_at old.words)) same ∙ refused.is) at
+
+-- of what a call answers
+
+pub turns_step :
+    {T : Type 0} (z : Arithmetic T) (party : ℕ) (input known : Input T) (old new : Configuration T) (result : Result (Event T) StepFault) →
+    party < length old.parties → InputValues z input → input ≡ known → IfOk result (HasTurned party known old new) → IfOk result (λ made. Steps z old party input made new)
+turns_step z party input known old new (Ok made) within values same turned = turned_steps z party input known old new made within values same turned
+turns_step z party input known old new (Err fault) within values same turned = tt
+
+pub turns_headline :
     {T : Type 0} (z : Arithmetic T) (party : ℕ) (input : Input T) (old new : Configuration T) (result : Result (Event T) StepFault) →
     IfOk result (λ made. Steps z old party input made new) → IfOk result (KeepsHeadline z old)
-finishes_headline z party input old new (Ok made) steps = λ o parties past at. headline z o parties (made ∷ past) (steps o parties past at).1.run
-finishes_headline z party input old new (Err fault) steps = tt
+turns_headline z party input old new (Ok made) steps = steps_headline z party input old new made steps
+turns_headline z party input old new (Err fault) steps = tt
 
--- where it was refused, the fault is the input's
-pub finishes_fault :
-    {T : Type 0} (z : Arithmetic T) (party : ℕ) (found : Party T) (input : Input T) (turn : Result (Turn T) StepFault) (old : Configuration T) (result : Result (Event T) StepFault) →
-    IsTurnOf party found input turn old → IfErr result (λ fault. turn ≡ Err fault) → IfErr result (RefusesStep z old party input)
-finishes_fault z party found input turn old (Ok made) of refused = tt
-finishes_fault z party found input turn old (Err fault) of refused = λ o parties past at. refused_there z o parties past old party found input fault of.0 of.1 (sym of.2 ∙ refused) at
+pub turns_fault :
+    {T : Type 0} (z : Arithmetic T) (party : ℕ) (input known : Input T) (old : Configuration T) (result : Result (Event T) StepFault) →
+    party < length old.parties → input ≡ known → IfErr result (HasRefused party known old) → IfErr result (RefusesStep z old party input)
+turns_fault z party input known old (Ok made) within same refused = tt
+turns_fault z party input known old (Err fault) within same refused = refused_step z party input known old fault within same refused
+
+-- a call that goes on by itself has the step at its place as its turn
+pub has_stepped :
+    {T : Type 0} (party : ℕ) (found : Party T) (doing : Doing T) (turn : Turn T) (old new : Configuration T) (made : Event T) →
+    party < length old.parties → found ≡ get_or old.parties party found → found.doing ≡ Some doing → is_some doing.stands ≡ false → turn ≡ stepped old.object doing found.hold (word_at old.words) →
+    made ≡ event party turn.act turn.then → Applies party turn old new → HasTurned party inputs.Go old new made
+has_stepped {T} party found doing turn old new made within there does free is made_is applied =
+    let goes : go_at old.object (Some doing) found.hold (word_at old.words) ≡ Ok turn = rw free (ap Ok (sym is)) in
+    record {
+      found = found;
+      there = slice_get-get_or old.parties party found within ∙ ap Some (sym there);
+      turn = turn;
+      is = ap (λ (d : Option (Doing T)). go_at old.object d found.hold (word_at old.words)) does ∙ goes;
+      made_is = made_is;
+      applied = applied;
+    }

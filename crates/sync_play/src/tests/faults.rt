@@ -2,7 +2,7 @@ use super::{played, text};
 use std::test::Fail;
 
 /// Texts, their lines parted by ` / `, with the fault of each.
-const FAULTS: [(&str, &str); 38] = [
+const FAULTS: [(&str, &str); 44] = [
     ("mutex 1 / 1 go", "line 2: idle"),
     ("mutex 1 / 1 run", "line 2: idle"),
     ("mutex 1 / 1 lock / 1 lock", "line 3: busy"),
@@ -34,6 +34,22 @@ const FAULTS: [(&str, &str); 38] = [
         "line 5: waiting",
     ),
     ("mutex 1 / 1 try_lock / 1 go 2", "line 3: idle"),
+    // As many steps as a line may ask for, once and twice in its reach.
+    (
+        "mutex 2 / 1 lock / 1 run / 2 lock / 2 go 100000",
+        "line 5: waiting",
+    ),
+    (
+        "mutex 2 / 1 lock / 1 run / 2 lock / 2 go 5000 / 2 go 100000",
+        "line 6: waiting",
+    ),
+    (
+        "mutex 2 / 1 lock / 1 run / 2 lock / 2 go 10001 / 2 go 100000 / 2 go 100000",
+        "line 6: waiting",
+    ),
+    ("mutex 1 / 1 go 100000", "line 2: idle"),
+    ("mutex 64 / 65 lock", "line 2: no party"),
+    ("mutex 1 / 1 go x y", "line 2: bad line"),
     ("mutex", "line 1: bad line"),
     ("mutex 1 1", "line 1: bad line"),
     ("mutex 65", "line 1: bad number"),

@@ -37,7 +37,7 @@ fn a_waiter_asks_again(rt: HostRuntime) -> Result<(), Fail> {
 }
 
 /// Texts of one form each, with what they print.
-const FORMS: [(&str, &str); 8] = [
+const FORMS: [(&str, &str); 9] = [
     // A call may be under way at the end.
     (
         "mutex 2\n1 try_lock\n1 run\n2 lock\n2 go 3\n",
@@ -67,6 +67,11 @@ const FORMS: [(&str, &str); 8] = [
     (
         "mutex 064\n01 try_lock\n0000000000000000000000001 go 00001\n",
         "1 success / word 1 failed 0 / ",
+    ),
+    // As many parties as there may be.
+    (
+        "mutex 64\n64 lock\n64 run\n63 try_lock\n63 run\n64 unlock\n64 go 2\n",
+        "64 success / 63 interrupted / 64 wakes one / 64 done / word 0 failed 1 / ",
     ),
     // A failed `try_lock` changes nothing.
     (

@@ -9,9 +9,9 @@ const OUTPUT: &[u8] = b"1 success\nword 1 failed 0\n";
 
 /// A reader that fails after some bytes.
 #[derive(Drop)]
-struct Fails<'a> {
-    before: &'a [u8],
-    kind: ErrorKind,
+pub struct Fails<'a> {
+    pub before: &'a [u8],
+    pub kind: ErrorKind,
 }
 
 impl Read for Fails<'_> {
@@ -23,13 +23,27 @@ impl Read for Fails<'_> {
     }
 }
 
+/// A reader that gives so many bytes at once.
+#[derive(Drop)]
+pub struct Gives<'a> {
+    pub left: &'a [u8],
+    pub at_once: usize,
+}
+
+impl Read for Gives<'_> {
+    fn read(&mut self, buf: &mut [u8]) -> io::Result<usize> {
+        let count = buf.len().min(self.at_once);
+        self.left.read(&mut buf[..count])
+    }
+}
+
 /// A writer that takes so many bytes at once, and fails once it holds `limit`.
 #[derive(Drop)]
-struct Takes {
-    held: Vec<u8>,
-    at_once: usize,
-    limit: usize,
-    kind: ErrorKind,
+pub struct Takes {
+    pub held: Vec<u8>,
+    pub at_once: usize,
+    pub limit: usize,
+    pub kind: ErrorKind,
 }
 
 impl Write for Takes {

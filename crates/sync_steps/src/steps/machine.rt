@@ -1,9 +1,10 @@
-ghost use Rattle.std.specs.Prelude.{◌≡◌, ◌<◌, true, [], length, IfOk, IfErr, OnErr, is_ok};
+ghost use Rattle.std.specs.Prelude.{◌≡◌, ◌<◌, true, [], length, IfOk, IfErr, OnErr};
+ghost use Rattle.steps_events.specs.declared.event.Input.TheVariants as inputs;
 ghost use Rattle.steps_events.specs.declared.event.Word.TheVariants as words;
 ghost use Rattle.steps_events.specs.Past.{event};
 ghost use Rattle.sync_steps.specs.Objects.{is_served, IsObject};
 ghost use Rattle.sync_steps.specs.Machine.{StandsAt, Tells, IsNoneWithout, TellsFailed, Steps, RefusesStep, KeepsHeadline};
-ghost use Rattle.sync_steps.specs.Machine.Applies.{Applies};
+ghost use Rattle.sync_steps.specs.Machine.Applies.{Applies, HasTurned, HasRefused};
 ghost use Rattle.sync_steps.specs.Machine.Places.{opening_at};
 ghost use Rattle.steps_events.specs.declared.event.Word.{Word as AnyWord};
 ghost use Rattle.steps_events.specs.Arithmetic.{Arithmetic};
@@ -13,8 +14,9 @@ use super::place::{Party, Turn};
 use super::turn;
 use std::alloc::{AllocError, Global};
 use std::marker::Model;
+use steps_events::WaitAction;
 use steps_events::atomic::internal::AtomicInteger;
-use steps_events::event::{Event, Input, Object, StepFault};
+use steps_events::event::{Call, Event, Input, Object, StepFault};
 use steps_events::words::{Words, failed_after};
 
 /// One object and its parties, numbered from 0, each with at most one call under way and at most one hold.
@@ -121,53 +123,82 @@ impl<T: AtomicInteger> Machine<T> {
         }
         turn::read_values(&input);
         match input {
-            Input::Begin(call) => {
-                let turn = turn::begin(&self.object, &self.parties[party], call);
-                self.finish(party, turn)
-            }
-            Input::Go => {
-                let turn = turn::go(&self.object, &self.parties[party], &self.words);
-                self.finish(party, turn)
-            }
-            Input::Answer(action) => {
-                let turn = turn::answer(&self.parties[party], action);
-                self.finish(party, turn)
-            }
-            Input::Choose(choice) => {
-                let turn = turn::choose(&self.parties[party], choice);
-                self.finish(party, turn)
-            }
+            Input::Begin(call) => self.begin(party, call),
+            Input::Go => self.go(party),
+            Input::Answer(action) => self.answer(party, action),
+            Input::Choose(choice) => self.choose(party, choice),
         }
     }
 }
 
 impl<T: Copy> Machine<T> {
-    /// Makes the turn of a party, where it has one.
+    /// A party begins a call.
     #[inline(always)]
-    fn finish(
-        &mut self,
-        party: usize,
-        turn: Result<Turn<T>, StepFault>,
-    ) -> Result<Event<T>, StepFault>
+    fn begin(&mut self, party: usize, call: Call<T>) -> Result<Event<T>, StepFault>
         requires { party < length self.old.parties }
-        ensures ok { IfOk result (λ made. IfOk turn (λ turn.
-            (made ≡ event party turn.act turn.then) × Applies party turn self.old self.new)) }
-        ensures err { IfErr result (λ fault. turn ≡ Err fault) }
-        ensures is_ok { is_ok result ≡ is_ok turn }
-        ensures unchanged { OnErr result (self.new ≡ self.old) }
+        ensures ok { IfOk result (HasTurned party (inputs.Begin call) self.old self.new) }
+        ensures fault { IfErr result (HasRefused party (inputs.Begin call) self.old) }
+        ensures err { OnErr result (self.new ≡ self.old) }
     {
-        match turn {
-            Ok(turn) => Ok(self.apply(party, turn)),
+        match turn::begin(&self.object, &self.parties[party], call) {
+            Ok(turn) => Ok(self.apply(party, &turn)),
+            Err(fault) => Err(fault),
+        }
+    }
+
+    /// A party makes the next step of its call. Of all inputs it is the one that comes by the million.
+    #[inline(always)]
+    fn go(&mut self, party: usize) -> Result<Event<T>, StepFault>
+        requires { party < length self.old.parties }
+        ensures ok { IfOk result (HasTurned party inputs.Go self.old self.new) }
+        ensures fault { IfErr result (HasRefused party inputs.Go self.old) }
+        ensures err { OnErr result (self.new ≡ self.old) }
+    {
+        let was = &self.parties[party];
+        let Some(doing) = &was.doing else {
+            return Err(StepFault::Idle);
+        };
+        if doing.stands.is_some() {
+            return Err(StepFault::WaitingForAnswer);
+        }
+        let turn = turn::step(&self.object, doing, was.hold, &self.words);
+        Ok(self.apply(party, &turn))
+    }
+
+    /// The wait closure of a party answers.
+    #[inline(always)]
+    fn answer(&mut self, party: usize, action: WaitAction) -> Result<Event<T>, StepFault>
+        requires { party < length self.old.parties }
+        ensures ok { IfOk result (HasTurned party (inputs.Answer action) self.old self.new) }
+        ensures fault { IfErr result (HasRefused party (inputs.Answer action) self.old) }
+        ensures err { OnErr result (self.new ≡ self.old) }
+    {
+        match turn::answer(&self.parties[party], action) {
+            Ok(turn) => Ok(self.apply(party, &turn)),
+            Err(fault) => Err(fault),
+        }
+    }
+
+    /// The choice closure of a party answers.
+    #[inline(always)]
+    fn choose(&mut self, party: usize, choice: Option<T>) -> Result<Event<T>, StepFault>
+        requires { party < length self.old.parties }
+        ensures ok { IfOk result (HasTurned party (inputs.Choose choice) self.old self.new) }
+        ensures fault { IfErr result (HasRefused party (inputs.Choose choice) self.old) }
+        ensures err { OnErr result (self.new ≡ self.old) }
+    {
+        match turn::choose(&self.parties[party], choice) {
+            Ok(turn) => Ok(self.apply(party, &turn)),
             Err(fault) => Err(fault),
         }
     }
 
     /// Makes the turn of a party.
     #[inline(always)]
-    fn apply(&mut self, party: usize, turn: Turn<T>) -> Event<T>
+    fn apply(&mut self, party: usize, turn: &Turn<T>) -> Event<T>
         requires { party < length self.old.parties }
-        ensures event { result ≡ event party turn.act turn.then }
-        ensures applied { Applies party turn self.old self.new }
+        ensures event { result ≡ event party turn.now.act turn.now.then }
+        ensures applied { Applies party turn.now self.old self.new }
     {
         self.words.apply(&turn.act);
         self.failed = failed_after(self.failed, &turn.act);

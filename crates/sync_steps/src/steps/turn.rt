@@ -3,7 +3,7 @@ ghost use Rattle.std.specs.Prelude.{◌≡◌};
 ghost use Rattle.steps_events.specs.WordsAt.{word_at};
 ghost use Rattle.steps_events.specs.Arithmetic.{IsValue};
 ghost use Rattle.steps_events.specs.Moves.{is_locking, CallValues, InputValues};
-ghost use Rattle.sync_steps.specs.Machine.Turns.{new_hold, doing_after, begin_turn, go_turn, answer_turn, choose_turn};
+ghost use Rattle.sync_steps.specs.Machine.Turns.{new_hold, doing_after, begin_turn, stepped, answer_turn, choose_turn};
 
 use super::place::{Closure, Doing, Party, Place, Turn, grant, needs_hold};
 use steps_events::WaitAction;
@@ -118,31 +118,26 @@ pub(crate) fn begin<T: Copy>(
     })
 }
 
-/// A party makes its next step.
+/// The step at the place of a call.
 #[inline(always)]
-pub(crate) fn go<T: Copy>(
+pub(crate) fn step<T: Copy>(
     object: &Object<T>,
-    party: &Party<T>,
+    doing: &Doing<T>,
+    hold: Option<HoldKind>,
     words: &Words,
-) -> Result<Turn<T>, StepFault>
-    ensures { result ≡ go_turn object.now party.now (word_at words.now) }
+) -> Turn<T>
+    ensures { result ≡ stepped object.now doing.now hold (word_at words.now) }
 {
-    let Some(doing) = &party.doing else {
-        return Err(StepFault::Idle);
-    };
-    if doing.stands.is_some() {
-        return Err(StepFault::WaitingForAnswer);
-    }
-    let act = words.carry_out(doing.place.intent(party.hold));
+    let act = words.carry_out(doing.place.intent(hold));
     let after = doing.place.after(act.told());
-    Ok(Turn {
-        act,
+    Turn {
         then: after.outcome(),
         party: Party {
             doing: doing_after(doing.call, &after),
-            hold: hold_after(object, &doing.call, &act, party.hold),
+            hold: hold_after(object, &doing.call, &act, hold),
         },
-    })
+        act,
+    }
 }
 
 /// The wait closure of a party answers.

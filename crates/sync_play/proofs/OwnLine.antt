@@ -1,0 +1,179 @@
+-- A text whose `run` would borrow its end from a later line has another output.
+use Rattle.std.proofs.Common.{◌≡◌, ℕ, true, List, [], ◌∷◌, length, Some, Result, Ok, Err, refl, sym, ap, ◌∙◌, arith}
+use Rattle.std.proofs.lemmas.Fmt.{decimal_digit}
+use Rattle.std.specs.Prelude.{codes}
+use Rattle.sync_steps.specs.declared.steps.event.Act.{Act}
+use Rattle.sync_steps.specs.declared.steps.event.Act.TheVariants as acts
+use Rattle.sync_steps.specs.declared.steps.event.Answer.TheVariants as answers
+use Rattle.sync_steps.specs.declared.steps.event.Call.TheVariants as calls
+use Rattle.sync_steps.specs.declared.steps.event.Event.{Event}
+use Rattle.sync_steps.specs.declared.steps.event.Input.{Input}
+use Rattle.sync_steps.specs.declared.steps.event.Input.TheVariants as inputs
+use Rattle.sync_steps.specs.declared.steps.event.Object.TheVariants as objects
+use Rattle.sync_steps.specs.declared.steps.event.Then.{Then}
+use Rattle.sync_steps.specs.declared.steps.event.Then.TheVariants as thens
+use Rattle.sync_steps.specs.declared.steps.event.Wake.TheVariants as wakes
+use Rattle.sync_steps.specs.declared.steps.event.Word.TheVariants as words
+use Rattle.sync_steps.specs.Integers.{u64_arithmetic}
+use Rattle.sync_steps.specs.Run.{IsRun}
+use Rattle.sync_play.specs.declared.command.Task.TheVariants as tasks
+use Rattle.sync_play.specs.Player.{steps_of}
+use Rattle.sync_play.specs.Fault.{FaultAt}
+use Rattle.sync_play.specs.Header.{header_of}
+use Rattle.sync_play.specs.Command.{command_of, task_of}
+use Rattle.sync_play.specs.Print.{last_line}
+use Rattle.sync_play.specs.Law.{LinesAsk, IsRunOfText, EndsInItsLine}
+use Rattle.sync_play.proofs.RunsAreOutputs.{runs_are_outputs}
+
+abbrev Ev : Type 0
+Ev = Event ℕ
+
+abbrev text : List ℕ
+text = codes "mutex 2\n1 try_lock\n1 go\n1 unlock\n1 run\n2 lock\n2 go\n"
+
+abbrev event : ℕ → Act ℕ → Then ℕ → Ev
+event party act stand = record { party = party; act = act; «then» = stand }
+
+-- the events of the text's run
+abbrev taken : Ev
+taken = event 0 (acts.Exchange words.State 0 1 0 true) (thens.Answers answers.Success)
+
+abbrev released : Ev
+released = event 0 (acts.Store words.State 0) thens.GoesOn
+
+abbrev woken : Ev
+woken = event 0 (acts.Woke wakes.One) (thens.Answers answers.Done)
+
+abbrev taken_again : Ev
+taken_again = event 1 (acts.Exchange words.State 0 1 0 true) (thens.Answers answers.Success)
+
+abbrev begun : ℕ → Act ℕ → Ev
+begun party act = event party act thens.GoesOn
+
+-- the inputs and the events from each line on
+abbrev inputs_5 : List (ℕ × Input ℕ)
+inputs_5 = (1, inputs.Go) ∷ []
+
+abbrev events_5 : List Ev
+events_5 = taken_again ∷ []
+
+abbrev inputs_4 : List (ℕ × Input ℕ)
+inputs_4 = (1, inputs.Begin calls.Lock) ∷ inputs_5
+
+abbrev events_4 : List Ev
+events_4 = begun 1 (acts.Begun calls.Lock) ∷ events_5
+
+abbrev inputs_3 : List (ℕ × Input ℕ)
+inputs_3 = (0, inputs.Go) ∷ (0, inputs.Go) ∷ inputs_4
+
+abbrev events_3 : List Ev
+events_3 = released ∷ woken ∷ events_4
+
+abbrev inputs_2 : List (ℕ × Input ℕ)
+inputs_2 = (0, inputs.Begin calls.Unlock) ∷ inputs_3
+
+abbrev events_2 : List Ev
+events_2 = begun 0 (acts.Begun calls.Unlock) ∷ events_3
+
+abbrev inputs_1 : List (ℕ × Input ℕ)
+inputs_1 = (0, inputs.Go) ∷ inputs_2
+
+abbrev events_1 : List Ev
+events_1 = taken ∷ events_2
+
+abbrev inputs_0 : List (ℕ × Input ℕ)
+inputs_0 = (0, inputs.Begin calls.TryLock) ∷ inputs_1
+
+abbrev events_0 : List Ev
+events_0 = begun 0 (acts.Begun calls.TryLock) ∷ events_1
+
+is_run : IsRun u64_arithmetic objects.Mutex 2 [] inputs_0 events_0
+is_run = (record { allowed = refl; values = tt; party_is = refl; moved = refl }, (record { allowed = refl; values = tt; party_is = refl; moved = refl }, (record { allowed = refl; values = tt; party_is = refl; moved = refl }, (record { allowed = refl; values = tt; party_is = refl; moved = refl }, (record { allowed = refl; values = tt; party_is = refl; moved = refl }, (record { allowed = refl; values = tt; party_is = refl; moved = refl }, (record { allowed = refl; values = tt; party_is = refl; moved = refl }, tt)))))))
+
+abbrev lines : List (List ℕ)
+lines = codes "1 try_lock" ∷ codes "1 go" ∷ codes "1 unlock" ∷ codes "1 run" ∷ codes "2 lock" ∷ codes "2 go" ∷ []
+
+asks : LinesAsk objects.Mutex lines inputs_0 events_0
+unfolding command_of task_of steps_of
+asks = (
+  (0, inputs.Begin calls.TryLock) ∷ [],
+  inputs_1,
+  begun 0 (acts.Begun calls.TryLock) ∷ [],
+  events_1,
+  refl,
+  refl,
+  refl,
+  (Some (record { party = 0; task = tasks.Give (inputs.Begin calls.TryLock) }), refl, refl),
+  (
+    (0, inputs.Go) ∷ [],
+    inputs_2,
+    taken ∷ [],
+    events_2,
+    refl,
+    refl,
+    refl,
+    (Some (record { party = 0; task = tasks.Go 1 }), refl, refl),
+    (
+      (0, inputs.Begin calls.Unlock) ∷ [],
+      inputs_3,
+      begun 0 (acts.Begun calls.Unlock) ∷ [],
+      events_3,
+      refl,
+      refl,
+      refl,
+      (Some (record { party = 0; task = tasks.Give (inputs.Begin calls.Unlock) }), refl, refl),
+      (
+        (0, inputs.Go) ∷ (0, inputs.Go) ∷ [],
+        inputs_4,
+        released ∷ woken ∷ [],
+        events_4,
+        refl,
+        refl,
+        refl,
+        (Some (record { party = 0; task = tasks.Run 100000 }), refl, (2, omega arith, refl, (refl, refl))),
+        (
+          (1, inputs.Begin calls.Lock) ∷ [],
+          inputs_5,
+          begun 1 (acts.Begun calls.Lock) ∷ [],
+          events_5,
+          refl,
+          refl,
+          refl,
+          (Some (record { party = 1; task = tasks.Give (inputs.Begin calls.Lock) }), refl, refl),
+          (
+            (1, inputs.Go) ∷ [],
+            [],
+            taken_again ∷ [],
+            [],
+            refl,
+            refl,
+            refl,
+            (Some (record { party = 1; task = tasks.Go 1 }), refl, refl),
+            refl,
+          ),
+        ),
+      ),
+    ),
+  ),
+)
+
+abbrev output : List ℕ
+output = codes "1 success\n1 wakes one\n1 done\n2 success\nword 1 failed 0\n"
+
+is_run_of_text : IsRunOfText text output
+unfolding header_of last_line
+is_run_of_text =
+    record { first = codes "mutex 2"; lines = lines; text_is = refl; header = record { object = objects.Mutex; parties = 2 }; names = refl; schedule = inputs_0; events = events_0; asks = asks; run = is_run; bytes_are = rw (decimal_digit 0 (omega arith), decimal_digit 1 (omega arith), decimal_digit 2 (omega arith)) refl }
+
+abbrev output_length : Result (List ℕ) FaultAt → ℕ
+output_length (Ok bytes) = length bytes
+output_length (Err fault) = 0
+
+differ : ◌≡◌ {A = Result (List ℕ) FaultAt} (Ok output) (Ok (codes "1 success\n2 success\nword 1 failed 0\n")) → ⊥
+differ e = let same : output_length (Ok output) ≡ output_length (Ok (codes "1 success\n2 success\nword 1 failed 0\n")) = ap output_length e in absurd (omega arith)
+
+pub ends_in_its_line : EndsInItsLine
+ends_in_its_line other =
+    let meant = runs_are_outputs text output is_run_of_text in
+    let told = runs_are_outputs text (codes "1 success\n2 success\nword 1 failed 0\n") other in
+    differ (sym meant ∙ told)

@@ -1,7 +1,0 @@
-use Rattle.std.proofs.Common.{◌≡◌, ◌<◌, ◌^◌, drop}
-use Rattle.sync_play.specs.Cuts.{fitting}
-use Rattle.sync_play.specs.Numbers.{number_of, number_from}
-use Rattle.sync_play.proofs.numbers.number.Given as goal
-
-abbrev pub invariant-loop-byte : goal.invariant-loop-byte
-invariant-loop-byte l = (fitting (number_from l.number (drop l.byte-index l.word)) ≡ fitting (number_of l.word)) × (l.number < 2 ^ 64)

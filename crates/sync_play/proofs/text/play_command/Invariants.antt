@@ -1,0 +1,17 @@
+use Rattle.std.proofs.Common.{ℕ, List}
+use Rattle.std.specs.Prelude.{string_bytes}
+use Rattle.sync_steps.specs.declared.steps.event.Event.{Event}
+use Rattle.sync_steps.specs.declared.steps.event.Object.{Object}
+use Rattle.sync_steps.specs.Integers.{u64_arithmetic}
+use Rattle.sync_steps.specs.Standing.{StandsAt}
+use Rattle.sync_play.specs.Player.{command_events, steps_left}
+use Rattle.sync_play.proofs.TextLaws.{Halfway}
+use Rattle.sync_play.proofs.text.play_command.Given as goal
+
+abbrev pub invariant-loop-event : goal.invariant-loop-event
+invariant-loop-event l =
+    (o : Object ℕ) (parties : ℕ) (past : List (Event ℕ)) → StandsAt u64_arithmetic o parties past l.initial.machine →
+    Halfway o parties past (command_events o parties past l.fn.command) (λ there. command_events o parties there l.left) (string_bytes l.initial.out) (string_bytes l.out) l.machine
+
+abbrev pub decreases-loop-event : goal.decreases-loop-event
+decreases-loop-event l = steps_left l.left.task

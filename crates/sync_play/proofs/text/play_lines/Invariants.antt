@@ -1,0 +1,16 @@
+use Rattle.std.proofs.Common.{◌+◌, ◌≤◌, ℕ, List, length}
+use Rattle.std.specs.Prelude.{string_bytes}
+use Rattle.sync_steps.specs.declared.steps.event.Event.{Event}
+use Rattle.sync_steps.specs.Integers.{u64_arithmetic}
+use Rattle.sync_steps.specs.Standing.{StandsAt}
+use Rattle.sync_play.specs.Lexer.{lines_of}
+use Rattle.sync_play.proofs.TextLaws.{HalfText}
+use Rattle.sync_play.proofs.text.play_lines.Given as goal
+
+abbrev pub invariant-loop-line : goal.invariant-loop-line
+invariant-loop-line l =
+    (l.number + length l.rest ≤ length l.lines + 1) × ((parties : ℕ) (past : List (Event ℕ)) → StandsAt u64_arithmetic l.object parties past l.initial.machine →
+    HalfText l.object parties 2 (lines_of l.lines) past (l.number + 1) (lines_of l.rest) (string_bytes l.initial.out) (string_bytes l.out) l.machine)
+
+abbrev pub decreases-loop-line : goal.decreases-loop-line
+decreases-loop-line l = length l.rest

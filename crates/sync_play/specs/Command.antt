@@ -1,0 +1,99 @@
+-- What a line after the first asks, and of whom.
+use Rattle.std.specs.Prelude.{ℕ, zero, suc, ◌-◌, ◌^◌, if◌then◌else◌, List, [], ◌∷◌, ◌++◌, Option, Some, None, Result, Ok, Err, codes}
+use Rattle.std.specs.Str.{bytes_eq}
+use Rattle.sync_steps.specs.declared.WaitAction.TheVariants as actions
+use Rattle.sync_steps.specs.declared.steps.event.Call.{Call}
+use Rattle.sync_steps.specs.declared.steps.event.Call.TheVariants as calls
+use Rattle.sync_steps.specs.declared.steps.event.Input.TheVariants as inputs
+use Rattle.sync_steps.specs.declared.steps.event.Object.{Object}
+use Rattle.sync_steps.specs.declared.steps.event.Object.TheVariants as objects
+use Rattle.sync_play.specs.declared.command.Command.{Command}
+use Rattle.sync_play.specs.declared.command.Form.{Form}
+use Rattle.sync_play.specs.declared.command.Form.TheVariants as forms
+use Rattle.sync_play.specs.declared.command.Task.{Task}
+use Rattle.sync_play.specs.declared.command.Task.TheVariants as tasks
+use Rattle.sync_play.specs.declared.fault.LineFault.{LineFault}
+use Rattle.sync_play.specs.declared.fault.LineFault.TheVariants as faults
+use Rattle.sync_play.specs.Fault.{◌>>=◌}
+use Rattle.sync_play.specs.Lexer.{number_within, nothing, only_number}
+
+-- The tables: each verb, and what it asks.
+
+abbrev pub begins : Call ℕ → Form
+begins call = forms.Alone (tasks.Give (inputs.Begin call))
+
+-- what every object knows
+abbrev pub verbs : List (List ℕ × Form)
+verbs =
+    (codes "go", forms.Steps)
+    ∷ (codes "run", forms.Alone (tasks.Run 100000))
+    ∷ (codes "wait", forms.Alone (tasks.Give (inputs.Answer actions.Continue)))
+    ∷ (codes "abort", forms.Alone (tasks.Give (inputs.Answer actions.Abort)))
+    ∷ (codes "some", forms.Choice)
+    ∷ (codes "none", forms.Alone (tasks.Give (inputs.Choose None)))
+    ∷ []
+
+abbrev pub mutex_calls : List (List ℕ × Form)
+mutex_calls =
+    (codes "lock", begins calls.Lock)
+    ∷ (codes "try_lock", begins calls.TryLock)
+    ∷ (codes "unlock", begins calls.Unlock)
+    ∷ []
+
+-- a call that is named `wait` is written `start_wait`, since `wait` is the closure's answer
+abbrev pub semaphore_calls : List (List ℕ × Form)
+semaphore_calls =
+    (codes "value", begins calls.Value)
+    ∷ (codes "post", forms.Permits)
+    ∷ (codes "start_wait", begins calls.Wait)
+    ∷ (codes "try_wait", begins calls.TryWait)
+    ∷ []
+
+abbrev pub calls_of : Object ℕ → List (List ℕ × Form)
+calls_of objects.Mutex = mutex_calls
+calls_of (objects.Semaphore initial) = semaphore_calls
+calls_of o = []
+
+-- the first row of this name
+abbrev pub find : List ℕ → List (List ℕ × Form) → Option Form
+find name [] = None
+find name (row ∷ rows) = if bytes_eq name row.0 then Some row.1 else find name rows
+
+-- The numbers that follow.
+
+-- `go` makes one step, or as many as it says
+abbrev pub steps_asked : List (List ℕ) → Result Task LineFault
+steps_asked [] = Ok (tasks.Go 1)
+steps_asked (word ∷ words) = only_number 1 100000 (word ∷ words) >>= λ n. Ok (tasks.Go n)
+
+abbrev pub task_by : Form → List (List ℕ) → Result Task LineFault
+task_by (forms.Alone task) words = nothing words >>= λ _. Ok task
+task_by forms.Steps words = steps_asked words
+task_by forms.Choice words = only_number 0 (2 ^ 64 - 1) words >>= λ n. Ok (tasks.Give (inputs.Choose (Some n)))
+task_by forms.Permits words = only_number 0 (2 ^ 64 - 1) words >>= λ n. Ok (tasks.Give (inputs.Begin (calls.Post n)))
+
+-- what a verb asks with the words after it; an unknown verb is a bad line
+abbrev pub task_if : Option Form → List (List ℕ) → Result Task LineFault
+task_if None words = Err faults.BadLine
+task_if (Some form) words = task_by form words
+
+unfoldable pub task_of : Object ℕ → List ℕ → List (List ℕ) → Result Task LineFault
+task_of o verb words = task_if (find verb (verbs ++ calls_of o)) words
+
+-- The line.
+
+-- in a text the parties are counted from 1
+abbrev pub party_of : ℕ → Result ℕ LineFault
+party_of zero = Err faults.NoParty
+party_of (suc party) = Ok party
+
+-- The party and what it is asked. An unknown verb or a wrong count of words comes before a bad number, and a line without words asks
+-- nothing.
+unfoldable pub command_of : Object ℕ → List (List ℕ) → Result (Option Command) LineFault
+command_of o [] = Ok None
+command_of o (party ∷ []) = Err faults.BadLine
+command_of o (party ∷ verb ∷ words) = do
+  task ← task_of o verb words
+  number ← number_within 0 (2 ^ 64 - 1) party
+  from_zero ← party_of number
+  Ok (Some (record { party = from_zero; task = task }))

@@ -1,0 +1,101 @@
+-- The lines of a text, the words of a line, and the numbers that words write.
+use Rattle.std.specs.Prelude.{ℕ, ◌+◌, ◌*◌, ◌-◌, ◌^◌, Bool, false, ◌&&◌, ◌||◌, ◌==◌, nat_le, nat_lt, if◌then◌else◌, List, [], ◌∷◌, Option, Some, None, Result, Ok, Err}
+use Rattle.std.specs.Char.{is_ascii_digit}
+use Rattle.sync_play.specs.declared.fault.LineFault.{LineFault}
+use Rattle.sync_play.specs.declared.fault.LineFault.TheVariants as faults
+use denote.Ref.{Bor}
+
+-- Lines.
+
+-- the byte in front of the first line
+abbrev pub onto_line : ℕ → List (List ℕ) → List (List ℕ)
+onto_line byte [] = (byte ∷ []) ∷ []
+onto_line byte (line ∷ lines) = (byte ∷ line) ∷ lines
+
+abbrev pub starts_with_feed : List ℕ → Bool
+starts_with_feed [] = false
+starts_with_feed (byte ∷ bytes) = byte == 10
+
+-- A line ends with a line feed, with a carriage return and a line feed, or with the end of the text.
+-- A carriage return before any other byte is a byte like others, and nothing stands after the last line feed.
+abbrev pub lines_of : List ℕ → List (List ℕ)
+lines_of [] = []
+lines_of (byte ∷ bytes) =
+    if byte == 10
+    then [] ∷ lines_of bytes
+    else (if (byte == 13 && starts_with_feed bytes) then lines_of bytes else onto_line byte (lines_of bytes))
+
+-- the first line, and the lines of the text after it
+abbrev pub lines_from : Option (Bor (List ℕ) × Bor (List ℕ)) → List (List ℕ)
+lines_from None = []
+lines_from (Some cut) = cut.0.now ∷ lines_of cut.1.now
+
+-- the line without the carriage return at its end, where it has one
+abbrev pub cut_line : List ℕ → List ℕ
+cut_line [] = []
+cut_line (byte ∷ []) = if byte == 13 then [] else byte ∷ []
+cut_line (byte ∷ next ∷ bytes) = byte ∷ cut_line (next ∷ bytes)
+
+-- Words.
+
+-- a space or a tab
+abbrev pub is_blank : ℕ → Bool
+is_blank byte = byte == 32 || byte == 9
+
+-- the byte in front of the first word
+abbrev pub onto_word : ℕ → List (List ℕ) → List (List ℕ)
+onto_word byte [] = (byte ∷ []) ∷ []
+onto_word byte (word ∷ words) = (byte ∷ word) ∷ words
+
+-- a byte that is no blank, before bytes with these words: it is a word of its own where a blank or the end follows
+abbrev pub before_bytes : ℕ → List ℕ → List (List ℕ) → List (List ℕ)
+before_bytes byte [] words = (byte ∷ []) ∷ words
+before_bytes byte (next ∷ bytes) words = if is_blank next then (byte ∷ []) ∷ words else onto_word byte words
+
+-- words are parted by blanks, which may also stand before the first and after the last
+abbrev pub words_of : List ℕ → List (List ℕ)
+words_of [] = []
+words_of (byte ∷ bytes) = if is_blank byte then words_of bytes else before_bytes byte bytes (words_of bytes)
+
+-- the first word, and the words of the line after it
+abbrev pub words_from : Option (Bor (List ℕ) × Bor (List ℕ)) → List (List ℕ)
+words_from None = []
+words_from (Some cut) = cut.0.now ∷ words_of cut.1.now
+
+-- Numbers.
+
+-- the number that these decimal digits go on with after n
+abbrev pub number_from : ℕ → List ℕ → Option ℕ
+number_from n [] = Some n
+number_from n (byte ∷ bytes) = if is_ascii_digit byte then number_from (n * 10 + (byte - 48)) bytes else None
+
+-- one or more decimal digits, without a sign; leading zeros are allowed
+abbrev pub number_of : List ℕ → Option ℕ
+number_of [] = None
+number_of (byte ∷ bytes) = number_from 0 (byte ∷ bytes)
+
+abbrev pub in_range : ℕ → ℕ → Option ℕ → Result ℕ LineFault
+in_range low high None = Err faults.BadNumber
+in_range low high (Some n) = if (nat_le low n && nat_le n high) then Ok n else Err faults.BadNumber
+
+-- the number of a word, in a range
+abbrev pub number_within : ℕ → ℕ → List ℕ → Result ℕ LineFault
+number_within low high word = in_range low high (number_of word)
+
+-- a number that fits 64 bits
+abbrev pub fitting : Option ℕ → Option ℕ
+fitting None = None
+fitting (Some n) = if nat_lt n (2 ^ 64) then Some n else None
+
+-- What is left of a line.
+
+-- no word
+abbrev pub nothing : List (List ℕ) → Result (Unit {0}) LineFault
+nothing [] = Ok tt
+nothing (word ∷ words) = Err faults.BadLine
+
+-- one word, and it is a number in a range
+abbrev pub only_number : ℕ → ℕ → List (List ℕ) → Result ℕ LineFault
+only_number low high [] = Err faults.BadLine
+only_number low high (word ∷ []) = number_within low high word
+only_number low high (word ∷ other ∷ words) = Err faults.BadLine

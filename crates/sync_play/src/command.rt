@@ -1,0 +1,189 @@
+//! What a line after the first asks, and of whom.
+ghost use Rattle.std.specs.Prelude.{◌≡◌, List};
+ghost use Rattle.sync_play.specs.Lexer.{words_of};
+ghost use Rattle.sync_play.specs.Command as meaning;
+
+use crate::fault::LineFault;
+use crate::lexer::{is, next_word, nothing, number_within, only_number};
+use sync_steps::WaitAction;
+use sync_steps::steps::{Call, Input, Object};
+
+/// How many steps a line makes at most.
+pub const STEP_LIMIT: u64 = 100000;
+
+/// What is asked of a party, or what is left of it.
+#[derive(Clone, Copy, Debug, PartialEq, Eq)]
+pub enum Task {
+    /// One input.
+    Give(Input<u64>),
+    /// So many steps.
+    Go(u64),
+    /// Steps until the call has answered or stands at a closure, and at most so many.
+    Run(u64),
+}
+
+/// A party, counted from 0, and what is asked of it.
+#[derive(Clone, Copy, Debug, PartialEq, Eq)]
+pub struct Command {
+    pub party: usize,
+    pub task: Task,
+}
+
+/// What a verb asks, and the numbers that follow it.
+#[derive(Clone, Copy, Debug, PartialEq, Eq)]
+enum Form {
+    /// This task; no number follows.
+    Alone(Task),
+    /// Steps: one, or as many as the number says that may follow.
+    Steps,
+    /// An answer of the choice closure, with its value.
+    Choice,
+    /// A post, with how many permits.
+    Permits,
+}
+
+/// A call that no number follows.
+fn begins(call: Call<u64>) -> Form
+    ensures { result ≡ meaning.begins call }
+{
+    Form::Alone(Task::Give(Input::Begin(call)))
+}
+
+/// The verbs that every object knows.
+fn verb(name: &[u8]) -> Option<Form>
+    ensures { result ≡ meaning.find name.now meaning.verbs }
+{
+    if is(name, b"go") {
+        Some(Form::Steps)
+    } else if is(name, b"run") {
+        Some(Form::Alone(Task::Run(STEP_LIMIT)))
+    } else if is(name, b"wait") {
+        Some(Form::Alone(Task::Give(Input::Answer(WaitAction::Continue))))
+    } else if is(name, b"abort") {
+        Some(Form::Alone(Task::Give(Input::Answer(WaitAction::Abort))))
+    } else if is(name, b"some") {
+        Some(Form::Choice)
+    } else if is(name, b"none") {
+        Some(Form::Alone(Task::Give(Input::Choose(None))))
+    } else {
+        None
+    }
+}
+
+fn mutex_call(name: &[u8]) -> Option<Form>
+    ensures { result ≡ meaning.find name.now meaning.mutex_calls }
+{
+    if is(name, b"lock") {
+        Some(begins(Call::Lock))
+    } else if is(name, b"try_lock") {
+        Some(begins(Call::TryLock))
+    } else if is(name, b"unlock") {
+        Some(begins(Call::Unlock))
+    } else {
+        None
+    }
+}
+
+/// A call that is named `wait` is written `start_wait`, since `wait` is the closure's answer.
+fn semaphore_call(name: &[u8]) -> Option<Form>
+    ensures { result ≡ meaning.find name.now meaning.semaphore_calls }
+{
+    if is(name, b"value") {
+        Some(begins(Call::Value))
+    } else if is(name, b"post") {
+        Some(Form::Permits)
+    } else if is(name, b"start_wait") {
+        Some(begins(Call::Wait))
+    } else if is(name, b"try_wait") {
+        Some(begins(Call::TryWait))
+    } else {
+        None
+    }
+}
+
+/// The calls of an object.
+fn named_call(object: Object<u64>, name: &[u8]) -> Option<Form>
+    ensures { result ≡ meaning.find name.now (meaning.calls_of object) }
+{
+    match object {
+        Object::Mutex => mutex_call(name),
+        Object::Semaphore(_) => semaphore_call(name),
+        _ => None,
+    }
+}
+
+/// As many steps as the number says, or one where none follows.
+fn steps(rest: &[u8]) -> Result<Task, LineFault>
+    ensures { result ≡ meaning.steps_asked (words_of rest.now) }
+{
+    match next_word(rest) {
+        None => Ok(Task::Go(1)),
+        Some(_) => Ok(Task::Go(only_number(1, STEP_LIMIT, rest)?)),
+    }
+}
+
+/// The task that a verb asks with the words after it.
+fn with_numbers(form: Form, rest: &[u8]) -> Result<Task, LineFault>
+    ensures { result ≡ meaning.task_by form (words_of rest.now) }
+{
+    match form {
+        Form::Alone(task) => {
+            nothing(rest)?;
+            Ok(task)
+        }
+        Form::Steps => steps(rest),
+        Form::Choice => {
+            let value = only_number(0, u64::MAX, rest)?;
+            Ok(Task::Give(Input::Choose(Some(value))))
+        }
+        Form::Permits => {
+            let permits = only_number(0, u64::MAX, rest)?;
+            Ok(Task::Give(Input::Begin(Call::Post(permits))))
+        }
+    }
+}
+
+/// What the words of a verb and after it ask of the object.
+fn task_of(object: Object<u64>, name: &[u8], rest: &[u8]) -> Result<Task, LineFault>
+    ensures { result ≡ meaning.task_of object name.now (words_of rest.now) }
+{
+    if let Some(form) = verb(name) {
+        return with_numbers(form, rest);
+    }
+    match named_call(object, name) {
+        Some(form) => with_numbers(form, rest),
+        None => Err(LineFault::BadLine),
+    }
+}
+
+/// The party of this number; in a text the parties are counted from 1.
+fn party(number: u64) -> Result<usize, LineFault>
+    ensures { result ≡ meaning.party_of number }
+{
+    match number {
+        0 => Err(LineFault::NoParty),
+        _ => Ok((number - 1) as usize),
+    }
+}
+
+impl Command {
+    /// Reads a line after the first: `<party> <verb>`, and the numbers that the verb wants. `None` where the line has no word.
+    ///
+    /// An unknown verb and another count of words are `BadLine`, then a number that is none or out of its range is
+    /// `BadNumber`, and then party 0 is `NoParty`. A party that the object has not is refused when the command is played.
+    #[tactic(auto, unfolding(crate::specs::Command::command_of))]
+    pub fn parse(object: Object<u64>, line: &[u8]) -> Result<Option<Command>, LineFault>
+        ensures { result ≡ meaning.command_of object (words_of line.now) }
+    {
+        let Some((number, rest)) = next_word(line) else {
+            return Ok(None);
+        };
+        let Some((name, rest)) = next_word(rest) else {
+            return Err(LineFault::BadLine);
+        };
+        let task = task_of(object, name, rest)?;
+        let number = number_within(0, u64::MAX, number)?;
+        let party = party(number)?;
+        Ok(Some(Command { party, task }))
+    }
+}

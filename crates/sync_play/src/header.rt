@@ -1,0 +1,78 @@
+//! What the first line names.
+ghost use Rattle.std.specs.Prelude.{◌≡◌, ◌≤◌, true, List, IfOk};
+ghost use Rattle.sync_steps.specs.Run.{is_served};
+ghost use Rattle.sync_play.specs.Lexer.{words_of};
+ghost use Rattle.sync_play.specs.Header as meaning;
+
+use crate::fault::LineFault;
+use crate::lexer::{is, next_word, number_within, only_number};
+use sync_steps::steps::Object;
+
+/// How many parties an object has at most.
+pub const MOST_PARTIES: u64 = 64;
+
+/// An object, and how many parties use it.
+#[derive(Clone, Copy, Debug, PartialEq, Eq)]
+pub struct Header {
+    pub object: Object<u64>,
+    pub parties: usize,
+}
+
+/// The parties of an object that is opened without a value.
+fn parties(rest: &[u8]) -> Result<usize, LineFault>
+    ensures { result ≡ meaning.parties_of (words_of rest.now) }
+{
+    let parties = only_number(1, MOST_PARTIES, rest)?;
+    Ok(parties as usize)
+}
+
+/// The parties of an object that is opened with a value, and the value.
+fn parties_and_value(greatest: u64, rest: &[u8]) -> Result<(usize, u64), LineFault>
+    ensures { result ≡ meaning.parties_and_value greatest (words_of rest.now) }
+{
+    let Some((parties, rest)) = next_word(rest) else {
+        return Err(LineFault::BadLine);
+    };
+    let Some((value, rest)) = next_word(rest) else {
+        return Err(LineFault::BadLine);
+    };
+    match next_word(rest) {
+        None => {
+            let parties = number_within(1, MOST_PARTIES, parties)?;
+            let value = number_within(0, greatest, value)?;
+            Ok((parties as usize, value))
+        }
+        Some(_) => Err(LineFault::BadLine),
+    }
+}
+
+impl Header {
+    /// Reads the first line: `<object> <parties>`, and a value where the object is opened with one.
+    ///
+    /// Another first word is `NoObject`, another count of words `BadLine`, and then a number that is none or out of its range
+    /// `BadNumber`. There may be 1 to 64 parties.
+    #[tactic(auto, unfolding(crate::specs::Header::header_of))]
+    pub fn parse(line: &[u8]) -> Result<Header, LineFault>
+        ensures value { result ≡ meaning.header_of (words_of line.now) }
+        ensures served { IfOk result (λ header. is_served header.object ≡ true) }
+    {
+        let Some((name, rest)) = next_word(line) else {
+            return Err(LineFault::NoObject);
+        };
+        if is(name, b"mutex") {
+            let parties = parties(rest)?;
+            Ok(Header {
+                object: Object::Mutex,
+                parties,
+            })
+        } else if is(name, b"semaphore") {
+            let (parties, initial) = parties_and_value(u64::MAX, rest)?;
+            Ok(Header {
+                object: Object::Semaphore(initial),
+                parties,
+            })
+        } else {
+            Err(LineFault::NoObject)
+        }
+    }
+}

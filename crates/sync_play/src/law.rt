@@ -1,0 +1,22 @@
+//! Laws of the definitions of a text. Each function says one of them, and does nothing.
+ghost use Rattle.sync_play.specs.Law.{OutputsAreRuns, RunsAreOutputs, FaultsAreRefusals, RefusalsAreFaults, EndsInItsLine};
+
+/// A text has this output where it is what the events of a run of all the text's inputs print, and then the last line, and
+/// nowhere else.
+pub fn outputs_are_runs()
+    ensures outputs { OutputsAreRuns }
+    ensures runs { RunsAreOutputs }
+{}
+
+/// A text has this fault where the lines before the fault's line form a run, and that line asks something that is refused with
+/// this word, and nowhere else.
+pub fn faults_are_refusals()
+    ensures faults { FaultsAreRefusals }
+    ensures refusals { RefusalsAreFaults }
+{}
+
+/// A `run` ends in its own line, and borrows no end from a later one: a run of all the text's inputs whose `run` is cut short, and
+/// whose later `go` makes two steps, is none of the text.
+pub fn a_run_ends_in_its_line()
+    ensures { EndsInItsLine }
+{}

@@ -1,0 +1,74 @@
+//! Plays a command event by event.
+ghost use Rattle.std.specs.Prelude.{◌≡◌, ◌<◌, ℕ, List, IfOk, OnErr, IfSome};
+ghost use Rattle.sync_steps.specs.Integers.{u64_arithmetic};
+ghost use Rattle.sync_steps.specs.Moves.{goes_on};
+ghost use Rattle.sync_steps.specs.Standing.{StandsAt};
+ghost use Rattle.sync_steps.specs.declared.steps.event.Event.{Event as AnEvent};
+ghost use Rattle.sync_steps.specs.declared.steps.event.Object.{Object as AnObject};
+ghost use Rattle.sync_play.specs.Player as meaning;
+
+use crate::command::{Command, Task};
+use crate::fault::LineFault;
+use sync_steps::steps::{Event, Input, Machine, Then};
+
+/// Whether a call goes on by itself.
+fn goes_on(then: &Then<u64>) -> bool
+    ensures { result ≡ goes_on then.now }
+{
+    match then {
+        Then::GoesOn => true,
+        Then::Waits(_) | Then::Chooses(_) | Then::Answers(_) => false,
+    }
+}
+
+impl Task {
+    /// The next input. `None` once all is done.
+    fn next(&self) -> Result<Option<Input<u64>>, LineFault>
+        ensures { result ≡ meaning.next_input self.now }
+    {
+        match self {
+            Task::Give(input) => Ok(Some(*input)),
+            Task::Go(0) => Ok(None),
+            Task::Run(0) => Err(LineFault::StepLimit),
+            Task::Go(_) | Task::Run(_) => Ok(Some(Input::Go)),
+        }
+    }
+
+    /// What is left after the event of the next input, which left the call so.
+    fn after(self, then: &Then<u64>) -> Task
+        requires { 0 < meaning.steps_left self }
+        ensures { result ≡ meaning.left_after (goes_on then.now) self }
+    {
+        match self {
+            Task::Give(_) => Task::Go(0),
+            Task::Go(count) => Task::Go(count - 1),
+            Task::Run(limit) => if goes_on(then) {
+                Task::Run(limit - 1)
+            } else {
+                Task::Go(0)
+            },
+        }
+    }
+}
+
+/// The next event of a command, and `left` is then what is left of it. `None` once all of it is done.
+///
+/// After a fault the machine and `left` are as they were. It takes no memory.
+pub fn next_event(
+    machine: &mut Machine<u64>,
+    left: &mut Command,
+) -> Result<Option<Event<u64>>, LineFault>
+    ensures turn { (o : AnObject ℕ) (parties : ℕ) (past : List (AnEvent ℕ)) → StandsAt u64_arithmetic o parties past machine.old →
+        meaning.IsTurn o parties past left.old left.new machine.new result }
+    ensures party { left.new.party ≡ left.old.party }
+    ensures machine_kept { OnErr result (machine.new ≡ machine.old) }
+    ensures left_kept { OnErr result (left.new ≡ left.old) }
+    ensures shorter { IfOk result (λ event. IfSome event (λ _. meaning.steps_left left.new.task < meaning.steps_left left.old.task)) }
+{
+    let Some(input) = left.task.next()? else {
+        return Ok(None);
+    };
+    let event = machine.step(left.party, input)?;
+    left.task = left.task.after(&event.then);
+    Ok(Some(event))
+}

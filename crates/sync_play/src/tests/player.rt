@@ -1,0 +1,54 @@
+use crate::command::Command;
+use crate::fault::LineFault;
+use crate::header::Header;
+use crate::player::next_event;
+use crate::print::{print_event, print_last};
+use std::test::Fail;
+use sync_steps::steps::{Machine, Object};
+
+#[test]
+fn a_header_is_read(rt: HostRuntime) -> Result<(), Fail> {
+    let header = Header::parse(b"semaphore 64 5").ok().ok_or("it is one")?;
+    assert!(rt; header.object == Object::Semaphore(5));
+    assert_eq!(rt; header.parties, 64);
+    Ok(())
+}
+
+/// Plays the commands of a mutex of two parties one event at a time, and prints each.
+#[test]
+fn events_one_at_a_time(rt: HostRuntime) -> Result<(), Fail> {
+    let mut machine = Machine::new(rt.alloc(), Object::Mutex, 2)?;
+    let mut out = String::new(rt.alloc());
+    let lines: [&[u8]; 4] = [b"1 lock", b"1 go", b"1 unlock", b"1 run"];
+    for (line, want) in lines.iter().zip([1, 1, 1, 2]) {
+        let command = Command::parse(Object::Mutex, line);
+        let mut left = command.ok().flatten().ok_or("it asks something")?;
+        for _ in 0..want {
+            let event = next_event(&mut machine, &mut left)
+                .ok()
+                .flatten()
+                .ok_or("it goes on")?;
+            assert_eq!(rt; event.party, 0);
+            print_event(&mut out, &event)?;
+        }
+        assert!(rt; next_event(&mut machine, &mut left) == Ok(None));
+    }
+    print_last(&mut out, machine.word(), machine.failed())?;
+    assert_eq!(rt;
+        out.as_str(),
+        "1 success\n1 wakes one\n1 done\nword 0 failed 0\n"
+    );
+    Ok(())
+}
+
+#[test]
+fn a_refused_command_keeps_its_machine(rt: HostRuntime) -> Result<(), Fail> {
+    let mut machine = Machine::new(rt.alloc(), Object::Semaphore(3), 1)?;
+    let command = Command::parse(Object::Semaphore(3), b" 1 run");
+    let mut left = command.ok().flatten().ok_or("it asks something")?;
+    let asked = left;
+    assert!(rt; next_event(&mut machine, &mut left) == Err(LineFault::Idle));
+    assert!(rt; left == asked);
+    assert_eq!(rt; machine.word(), 3);
+    Ok(())
+}
