@@ -5,8 +5,8 @@ use Rattle.std.specs.Fn.{Shared, FnReturns, FnReturnsAt}
 use mathlib.Core.Option as maybe
 use Rattle.sync_steps.specs.declared.WaitAction.{WaitAction}
 use Rattle.sync_steps.specs.declared.WaitAction.TheVariants as actions
-use Rattle.iceoryx2_pal_concurrency_sync.specs.declared.wait.WaitResult.{WaitResult}
-use Rattle.iceoryx2_pal_concurrency_sync.specs.declared.wait.WaitResult.TheVariants.{Success, Interrupted}
+use Rattle.passes.specs.declared.wait.WaitResult.{WaitResult}
+use Rattle.passes.specs.declared.wait.WaitResult.TheVariants.{Success, Interrupted}
 
 module _ {H : Type 0} where
   -- P holds of what was got

@@ -1,10 +1,10 @@
--- Sums over the views of all passes, and the parts of the whole under each kind of step.
+-- The parts of all passes, and what they weigh, under each kind of step.
 use Rattle.std.proofs.Common.{◌≡◌, ℕ, zero, suc, ◌+◌, ◌-◌, ◌*◌, ◌^◌, ◌<◌, ◌≤◌, List, [], ◌∷◌, ◌++◌, set, sym, refl, ap, ◌∙◌, subst, arith, pow-add, pow_pos, mul-pos, zero-mul}
 use Rattle.std.proofs.Math.Nat.{eq_of_mul-eq-mul_left, eq_of_mul-eq-mul_right}
 use mathlib.Core.Option.{some, some-injective, some-ne-none}
 use lib.ListN.{get_elem?}
-use Rattle.iceoryx2_pal_concurrency_sync.specs.declared.part.Part.{Part}
-use Rattle.iceoryx2_pal_concurrency_sync.specs.Parts.{whole, nothing, half, together, IsWhole, IsAgain, IsSamePart, weight, total, Each, IsShared}
+use Rattle.passes.specs.declared.part.Part.{Part}
+use Rattle.passes.specs.Parts.{whole, nothing, half, together, IsWhole, IsAgain, IsSamePart, weight, AddUp, total, Each, IsShared}
 
 module _ {V : Type 0} where
   -- sums
@@ -36,14 +36,6 @@ module _ {V : Type 0} where
   within_total f (x ∷ xs) zero v at = let is : f x ≡ f v = ap f (some-injective x v at) in omega arith
   within_total f (x ∷ xs) (suc id) v at = let rest = within_total f xs id v at in omega arith
 
-  -- nor are two together
-  pub two_within : (f : V → ℕ) (views : List V) (i j : ℕ) (v w : V) → get_elem? views i ≡ some v → get_elem? views j ≡ some w → ¬ (i ≡ j) → f v + f w ≤ total f views
-  two_within f [] i j v w here there apart = absurd (some-ne-none v (sym here))
-  two_within f (x ∷ xs) zero zero v w here there apart = absurd (apart refl)
-  two_within f (x ∷ xs) zero (suc j) v w here there apart = let is : f x ≡ f v = ap f (some-injective x v here) in let r = within_total f xs j w there in omega arith
-  two_within f (x ∷ xs) (suc i) zero v w here there apart = let is : f x ≡ f w = ap f (some-injective x w there) in let r = within_total f xs i v here in omega arith
-  two_within f (x ∷ xs) (suc i) (suc j) v w here there apart = let r = two_within f xs i j v w here there (λ e. apart (ap suc e)) in omega arith
-
   -- facts of each
 
   pub each_set : (P : V → Type 0) (views : List V) (id : ℕ) (w : V) → Each P views → P w → Each P (set views id w)
@@ -63,19 +55,6 @@ module _ {V : Type 0} where
   pub each_so : (P Q : V → Type 0) (views : List V) → ((v : V) → P v → Q v) → Each P views → Each Q views
   each_so P Q [] so all = tt
   each_so P Q (x ∷ xs) so all = (so x all.0, each_so P Q xs so all.1)
-
-  -- a sum that is 0, and one to which a single pass adds
-
-  none_adds : (g f : V → ℕ) (views : List V) → Each (λ v. g v ≡ 0 → f v ≡ 0) views → total g views ≡ 0 → total f views ≡ 0
-  none_adds g f [] so none = refl
-  none_adds g f (x ∷ xs) so none = let here = so.0 (omega arith) in let rest = none_adds g f xs so.1 (omega arith) in omega arith
-
-  one_adds : (g f : V → ℕ) (views : List V) (id : ℕ) (v : V) → get_elem? views id ≡ some v → Each (λ u. g u ≡ 0 → f u ≡ 0) views → total g views ≡ g v → total f views ≡ f v
-  one_adds g f [] id v at so one = absurd (some-ne-none v (sym at))
-  one_adds g f (x ∷ xs) zero v at so one = let is = some-injective x v at in let same : g x ≡ g v = ap g is in let same' : f x ≡ f v = ap f is in
-      let rest = none_adds g f xs so.1 (omega arith) in omega arith
-  one_adds g f (x ∷ xs) (suc id) v at so one = let some_there = within_total g xs id v at in let here = so.0 (omega arith) in
-      let rest = one_adds g f xs id v at so.1 (omega arith) in omega arith
 
 -- weights
 
@@ -100,11 +79,23 @@ both_weigh m n d e j deep = let k : ℕ = j - (d + e) in let a = at_depth m d j 
 weight_together : (p q : Part) (j : ℕ) → p.depth + q.depth ≤ j → weight j (together p q) ≡ weight j p + weight j q
 weight_together p q = both_weigh p.share q.share p.depth q.depth
 
-weight_nothing : (p : Part) (j : ℕ) → weight j p ≡ 0 → p.share ≡ 0
+pub weight_nothing : (p : Part) (j : ℕ) → weight j p ≡ 0 → p.share ≡ 0
 weight_nothing p j none = let n : ℕ = 2 ^ (j - p.depth) in eq_of_mul-eq-mul_right n (pow_pos (j - p.depth)) p.share 0 (none ∙ sym (zero-mul n))
 
-weight_whole : (p : Part) (j : ℕ) → p.depth ≤ j → IsWhole p → weight j p ≡ 2 ^ j
+-- a part is the whole exactly where it weighs as much
+pub weight_whole : (p : Part) (j : ℕ) → p.depth ≤ j → IsWhole p → weight j p ≡ 2 ^ j
 weight_whole p j deep is = let k : ℕ = j - p.depth in ap (λ (n : ℕ). n * 2 ^ k) is ∙ sym (pow-add 2 p.depth k) ∙ ap (λ (n : ℕ). 2 ^ n) (omega arith)
+
+pub whole_weighs : (p : Part) (j : ℕ) → p.depth ≤ j → weight j p ≡ 2 ^ j → IsWhole p
+whole_weighs p j deep full = let k : ℕ = j - p.depth in let n : ℕ = 2 ^ k in
+    eq_of_mul-eq-mul_right n (pow_pos k) p.share (2 ^ p.depth) (full ∙ ap (λ (m : ℕ). 2 ^ m) (omega arith) ∙ pow-add 2 p.depth k)
+
+-- what `split` and `join` do to the weights
+pub splits_weight : (p : Part) → AddUp p (half p) (half p)
+splits_weight p = record { weighs = λ j deep first second. weight_half p j first }
+
+pub joins_weight : (p q : Part) → AddUp (together p q) p q
+joins_weight p q = record { weighs = λ j deep first second. sym (weight_together p q j deep) }
 
 -- two parts m and n of depths i and j, each as much as half of q at depth d, are together as much as q
 halves_are : (m i n j q d : ℕ) → m * 2 ^ (d + 1) ≡ q * 2 ^ i → n * 2 ^ (d + 1) ≡ q * 2 ^ j → (m * 2 ^ j + n * 2 ^ i) * 2 ^ d ≡ q * 2 ^ (i + j)
@@ -175,10 +166,7 @@ module _ {V : Type 0} {part_of : V → Part} {IsBlank : V → Type 0} where
       joined_alive : (p q : Part) → 0 < p.share → (together p q).share ≡ 0 → ⊥
       joined_alive p q alive empty = let some_share : 0 < p.share * 2 ^ q.depth = mul-pos alive (pow_pos q.depth) in absurd (omega arith)
 
-  -- to what is 0 of each blank pass, a whole pass adds all
-  pub alone : (f : V → ℕ) (views : List V) (id : ℕ) (v : V) → get_elem? views id ≡ some v → IsWhole (part_of v) → ((u : V) → IsBlank u → f u ≡ 0)
-      → IsShared part_of IsBlank views → total f views ≡ f v
-  alone f views id v at is none s = let j : ℕ = s.finest in let deep = each_at (λ u. (part_of u).depth ≤ j) views id v at s.within in
-      one_adds (λ u. weight j (part_of u)) f views id v at
-      (each_so (λ u. (part_of u).share ≡ 0 → IsBlank u) (λ u. weight j (part_of u) ≡ 0 → f u ≡ 0) views (λ u blank light. none u (blank (weight_nothing (part_of u) j light))) s.blank)
-      (s.one_whole j (omega arith) ∙ sym (weight_whole (part_of v) j deep is))
+  -- a whole pass weighs as much as all together
+  pub whole_of_all : (views : List V) (id : ℕ) (v : V) → get_elem? views id ≡ some v → IsWhole (part_of v) → (s : IsShared part_of IsBlank views) → total (λ u. weight s.finest (part_of u)) views ≡ weight s.finest (part_of v)
+  whole_of_all views id v at is s = let j : ℕ = s.finest in let deep = each_at (λ u. (part_of u).depth ≤ j) views id v at s.within in
+      s.one_whole j (omega arith) ∙ sym (weight_whole (part_of v) j deep is)

@@ -1,6 +1,6 @@
 -- Which part of the whole a pass is, and what all passes of one object are together.
 use Rattle.std.specs.Prelude.{◌≡◌, ℕ, ◌+◌, ◌-◌, ◌*◌, ◌^◌, ◌≤◌, List, [], ◌∷◌}
-use Rattle.iceoryx2_pal_concurrency_sync.specs.declared.part.Part.{Part}
+use Rattle.passes.specs.declared.part.Part.{Part}
 
 abbrev pub part : ℕ → ℕ → Part
 part share depth = record { share = share; depth = depth }
@@ -37,6 +37,10 @@ pub record IsAgain (p q : Part) : Type 0 where
 -- how many of 2 ^ j equal parts it is, for each j from its depth on
 abbrev pub weight : ℕ → Part → ℕ
 weight j p = p.share * 2 ^ (j - p.depth)
+
+-- two parts weigh together what p does
+pub record AddUp (p one other : Part) : Type 0 where
+  pub weighs : (j : ℕ) → p.depth ≤ j → one.depth ≤ j → other.depth ≤ j → weight j one + weight j other ≡ weight j p
 
 module _ {V : Type 0} where
   -- f of each, added up

@@ -14,6 +14,9 @@ pub struct Sights {
     pub count: u64,
     /// What it was the last time.
     pub last: u64,
-    /// Whether the last exchange failed although the word was the one seen before it: another party wrote in between.
+    /// Whether the pass has written nothing since it saw the word last, so that any change is another party's.
+    pub fresh: bool,
+    /// Whether the last sight was an exchange that failed although the word was fresh and the one seen before: another party wrote
+    /// in between.
     pub missed: bool,
 }

@@ -1,0 +1,4 @@
+pub mod Parts
+pub mod Sums
+pub mod Steps
+pub mod Attempts
