@@ -2,3 +2,4 @@ pub mod Parts
 pub mod Sums
 pub mod Steps
 pub mod Attempts
+pub mod Updates

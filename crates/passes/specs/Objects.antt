@@ -1,13 +1,17 @@
 -- What contracts see of an object's words.
 use Rattle.std.specs.Prelude.{◌≡◌, ℕ, List, slice_index}
 use mathlib.Core.Option as maybe
+use Rattle.atomic_table.specs.Seated.{TableId}
 use Rattle.passes.specs.declared.pass.Pass.{Pass}
 use Rattle.passes.specs.declared.words.Words.{Words}
 use Rattle.passes.specs.Passes.{object_of}
 
 module _ {K T A : Type 0} where
+  abbrev pub id_of : Words K T A → TableId
+  id_of w = w.table.shared.table_id
+
   abbrev pub IsPassOf : Words K T A → Pass T → Type 0
-  IsPassOf w p = object_of p ≡ w.table.shared.table_id
+  IsPassOf w p = object_of p ≡ id_of w
 
   -- the key that the rule reads
   abbrev pub key_of : Words K T A → K

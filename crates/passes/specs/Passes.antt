@@ -6,7 +6,7 @@ use Rattle.passes.specs.declared.part.Part.{Part}
 use Rattle.passes.specs.declared.part.Sights.{Sights}
 use Rattle.passes.specs.declared.view.View.{View}
 use Rattle.passes.specs.declared.pass.Pass.{Pass}
-use Rattle.passes.specs.Sights.{HasLooked}
+use Rattle.passes.specs.Sights.{HasLooked, HasOnlyRead, HasWritten}
 use Rattle.passes.specs.Views.{looked, missed, wrote}
 
 module _ {T : Type 0} where
@@ -48,20 +48,21 @@ module _ {T : Type 0} where
   HasDone f p q = IsSamePass p q × (view q ≡ wrote (view p) (f (tally_of p)))
 
   -- nothing was counted, and nothing changed but what was seen
-  pub record HasStayed (p q : Pass T) : Type 0 where
+  pub record HasOnlySeen (p q : Pass T) : Type 0 where
     pub same : IsSamePass p q
     pub tally : tally_of q ≡ tally_of p
     pub part : part_of q ≡ part_of p
-    pub saw : (sights_of p).count ≤ (sights_of q).count
+    pub saw : HasOnlyRead (sights_of p) (sights_of q)
 
-  -- the tally moved so, and nothing else changed but what was seen on the way
-  pub record HasMoved (Moves : Part → T → T → Type 0) (p q : Pass T) : Type 0 where
+  -- A write moved the tally so, and nothing else changed but what was seen on the way. `Moves` is told the part, the tally before and
+  -- after, and the value seen last.
+  pub record HasMoved (Moves : Part → T → T → ℕ → Type 0) (p q : Pass T) : Type 0 where
     pub same : IsSamePass p q
-    pub tally : Moves (part_of p) (tally_of p) (tally_of q)
+    pub tally : Moves (part_of p) (tally_of p) (tally_of q) (sights_of q).last
     pub part : part_of q ≡ part_of p
-    pub saw : (sights_of p).count ≤ (sights_of q).count
+    pub saw : HasWritten (sights_of p) (sights_of q)
 
   -- Nothing was counted. At least n more sights were counted, and the last of them is of a value that refuses.
   pub record WasRefused (IsRefusing : ℕ → Type 0) (n : ℕ) (p q : Pass T) : Type 0 where
-    pub stayed : HasStayed p q
+    pub stayed : HasOnlySeen p q
     pub looked : HasLooked IsRefusing n (sights_of p) (sights_of q)

@@ -16,8 +16,8 @@ pub trait Attempt<T> {
     // The object at which it is made.
     ghost object: { Self → TableId };
 
-    // What it does to the tally of a pass where it is not refused. It may depend on which part the pass is.
-    ghost moves: { Part → T → T → Type 0 };
+    // What it does to a pass where it is not refused: of its part, its tally before and after, and the value seen last.
+    ghost moves: { Part → T → T → ℕ → Type 0 };
 
     // The values of the word at which it is refused.
     ghost refuses: { ℕ → Type 0 };
@@ -33,7 +33,7 @@ pub trait Attempt<T> {
 }
 
 /// Further tries, as many as a call makes by itself, until one is not refused.
-#[tactic(auto, using(crate::proofs::Attempts::stayed_and_moved))]
+#[tactic(auto, using(crate::proofs::Attempts::moved_later, crate::proofs::Attempts::seen_twice))]
 pub fn spin<T, M: Attempt<T>, R: Wait>(rt: &R, by: &M, pass: &mut Pass<T>) -> bool
     requires own { object_of pass.old ≡ M.object by.now }
     ensures told { MatchBool result (HasMoved M.moves pass.old pass.new) (WasRefused M.refuses 10000 pass.old pass.new) }
@@ -50,7 +50,7 @@ pub fn spin<T, M: Attempt<T>, R: Wait>(rt: &R, by: &M, pass: &mut Pass<T>) -> bo
 
 /// The wait closure before each further try, until one is not refused, or is refused after the closure answered `Abort`. The closure
 /// is called with the word, and with the value at which a try is refused.
-#[tactic(auto, using(crate::proofs::Attempts::stayed_and_moved))]
+#[tactic(auto, using(crate::proofs::Attempts::moved_later, crate::proofs::Attempts::seen_twice))]
 pub fn ask<T, M: Attempt<T>, X, R: Wait, W: Fn(&X, &u64) -> WaitAction>(
     rt: &R,
     by: &M,

@@ -1,6 +1,7 @@
 //! The running mutex.
 ghost use Rattle.std.specs.Prelude.{◌≡◌};
-ghost use Rattle.iceoryx2_pal_concurrency_sync.specs.MutexShown.{IsAlone, IsPassOf, IsSamePass, view};
+ghost use Rattle.passes.specs.Passes.{IsSamePass, part_of};
+ghost use Rattle.iceoryx2_pal_concurrency_sync.specs.MutexShown.{IsMutexPass, IsAlone, HasStayed, holds_of};
 
 use crate::strategy::mutex::{Mutex, MutexPass};
 use crate::tests::signal::Signal;
@@ -14,10 +15,9 @@ use std::thread::Threads;
 
 /// Locks and unlocks, with closures that yield and answer `Continue`: that is never interrupted.
 fn lock_and_unlock<R: Wait>(rt: &R, mutex: &Mutex, pass: &mut MutexPass)
-    requires own { IsPassOf mutex.now pass.old }
-    ensures same { IsSamePass pass.old pass.new }
-    ensures part { (view pass.new).part ≡ (view pass.old).part }
-    ensures off { (view pass.new).holds ≡ 0 }
+    requires own { IsMutexPass mutex.now pass.old }
+    requires off { holds_of pass.old ≡ 0 }
+    ensures stayed { HasStayed pass.old pass.new }
 {
     let locked = Mutex::lock(pass, mutex, rt, |_, _| {
         thread::yield_now();
@@ -32,11 +32,11 @@ fn lock_and_unlock<R: Wait>(rt: &R, mutex: &Mutex, pass: &mut MutexPass)
 }
 
 fn lock_and_unlock_often<R: Wait>(rt: &R, mutex: &Mutex, mut pass: MutexPass) -> MutexPass
-    requires own { IsPassOf mutex.now pass }
-    requires off { (view pass).holds ≡ 0 }
-    ensures own { IsPassOf mutex.now result }
-    ensures part { (view result).part ≡ (view pass).part }
-    ensures off { (view result).holds ≡ 0 }
+    requires own { IsMutexPass mutex.now pass }
+    requires off { holds_of pass ≡ 0 }
+    ensures own { IsMutexPass mutex.now result }
+    ensures part { part_of result ≡ part_of pass }
+    ensures off { holds_of result ≡ 0 }
 {
     for _ in 0..100u64 {
         lock_and_unlock(rt, mutex, &mut pass);
@@ -50,9 +50,9 @@ fn lock_in_two_threads<R: Threads + Wait + Sync>(
     mutex: &Mutex,
     pass: MutexPass,
 ) -> MutexPass
-    requires own { IsPassOf mutex.now pass }
+    requires own { IsMutexPass mutex.now pass }
     requires alone { IsAlone pass }
-    ensures own { IsPassOf mutex.now result }
+    ensures own { IsMutexPass mutex.now result }
     ensures alone { IsAlone result }
 {
     let Ok((one, two)) = pass.split(mutex) else {
@@ -61,12 +61,12 @@ fn lock_in_two_threads<R: Threads + Wait + Sync>(
     let (one, two) = thread::join(
         rt,
         || -> MutexPass
-            requires { IsPassOf mutex.now one × ((view one).holds ≡ 0) }
-            ensures { IsPassOf mutex.entry.now result × ((view result).part ≡ (view one).part) × ((view result).holds ≡ 0) }
+            requires { IsMutexPass mutex.now one × (holds_of one ≡ 0) }
+            ensures { IsMutexPass mutex.entry.now result × (part_of result ≡ part_of one) × (holds_of result ≡ 0) }
         { lock_and_unlock_often(rt, mutex, one) },
         || -> MutexPass
-            requires { IsPassOf mutex.now two × ((view two).holds ≡ 0) }
-            ensures { IsPassOf mutex.entry.now result × ((view result).part ≡ (view two).part) × ((view result).holds ≡ 0) }
+            requires { IsMutexPass mutex.now two × (holds_of two ≡ 0) }
+            ensures { IsMutexPass mutex.entry.now result × (part_of result ≡ part_of two) × (holds_of result ≡ 0) }
         { lock_and_unlock_often(rt, mutex, two) },
     );
     let Ok(mut pass) = MutexPass::join(one, two, mutex) else {
@@ -90,7 +90,7 @@ fn two_threads_lock_in_turn(rt: HostRuntime) -> Result<(), Fail> {
 
 /// Whether `try_lock` is refused now.
 fn is_refused(mutex: &Mutex, pass: &mut MutexPass) -> bool
-    requires { IsPassOf mutex.now pass.old }
+    requires { IsMutexPass mutex.now pass.old }
     ensures { IsSamePass pass.old pass.new }
 {
     match Mutex::try_lock(pass, mutex) {
@@ -108,7 +108,7 @@ fn refused_while_held(
     one: &mut MutexPass,
     two: &mut MutexPass,
 ) -> Option<(bool, bool)>
-    requires { IsPassOf mutex.now one.old × IsPassOf mutex.now two.old }
+    requires { IsMutexPass mutex.now one.old × IsMutexPass mutex.now two.old }
 {
     match Mutex::try_lock(one, mutex) {
         WaitResult::Success(hold) => {
@@ -135,7 +135,7 @@ fn one_holder_at_a_time(rt: HostRuntime) -> Result<(), Fail> {
 
 /// What a `lock` did whose wait closure answers `Abort` at once: whether it was interrupted, how often it asked, and with what.
 fn lock_and_abort<R: Wait>(rt: &R, mutex: &Mutex, pass: &mut MutexPass) -> (bool, u64, u64)
-    requires { IsPassOf mutex.now pass.old }
+    requires { IsMutexPass mutex.now pass.old }
     ensures { IsSamePass pass.old pass.new }
 {
     let calls = AtomicU64::new(0);
@@ -163,7 +163,7 @@ fn abort_while_held<R: Wait>(
     one: &mut MutexPass,
     two: &mut MutexPass,
 ) -> Option<(bool, u64, u64)>
-    requires { IsPassOf mutex.now one.old × IsPassOf mutex.now two.old }
+    requires { IsMutexPass mutex.now one.old × IsMutexPass mutex.now two.old }
     ensures { IsSamePass one.old one.new × IsSamePass two.old two.new }
 {
     match Mutex::try_lock(one, mutex) {
@@ -192,7 +192,7 @@ fn a_waiter_aborts(rt: HostRuntime) -> Result<(), Fail> {
 
 /// How often `unlock` calls its wake closure, and the word that the closure sees.
 fn unlock_counted(mutex: &Mutex, pass: &mut MutexPass) -> Option<(u64, u64)>
-    requires { IsPassOf mutex.now pass.old }
+    requires { IsMutexPass mutex.now pass.old }
 {
     let calls = AtomicU64::new(0);
     let word = AtomicU64::new(9);
@@ -223,7 +223,7 @@ fn unlock_when_asked(
     asked: &Signal,
     unlocked: &Signal,
 ) -> bool
-    requires { IsPassOf mutex.now pass.old }
+    requires { IsMutexPass mutex.now pass.old }
 {
     match Mutex::try_lock(pass, mutex) {
         WaitResult::Success(hold) => {
@@ -246,7 +246,7 @@ fn lock_after_unlock<R: Wait>(
     asked: &Signal,
     unlocked: &Signal,
 ) -> bool
-    requires { IsPassOf mutex.now pass.old }
+    requires { IsMutexPass mutex.now pass.old }
 {
     let was_locked = locked.awaited();
     let answer = Mutex::lock(pass, mutex, rt, |_, _| {
@@ -287,9 +287,9 @@ fn two_calls_meet_and_success_after_abort(rt: HostRuntime) -> Result<(), Fail> {
 
 /// Parts a pass of which nothing is known but that it is whole, in three, and joins them again: that one is granted.
 fn part_and_join(mutex: &Mutex, pass: MutexPass) -> MutexPass
-    requires own { IsPassOf mutex.now pass }
+    requires own { IsMutexPass mutex.now pass }
     requires alone { IsAlone pass }
-    ensures own { IsPassOf mutex.now result }
+    ensures own { IsMutexPass mutex.now result }
     ensures alone { IsAlone result }
 {
     let Ok((one, other)) = pass.split(mutex) else {
