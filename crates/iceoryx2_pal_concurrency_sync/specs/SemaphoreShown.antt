@@ -1,9 +1,9 @@
 -- What contracts see of a semaphore and its pass, and what a call changes in a pass.
-use Rattle.std.specs.Prelude.{◌≡◌, ℕ, ◌+◌, ◌<◌}
+use Rattle.std.specs.Prelude.{◌≡◌, ℕ, ◌+◌, ◌<◌, ◌≤◌}
 use Rattle.passes.specs.declared.part.Part.{Part}
 use Rattle.passes.specs.declared.pass.Pass.{Pass}
 use Rattle.passes.specs.Parts.{IsWhole}
-use Rattle.passes.specs.Passes.{tally_of, HasMoved}
+use Rattle.passes.specs.Passes.{IsSamePass, part_of, sights_of, tally_of, HasMoved}
 use Rattle.passes.specs.Objects.{IsPassOf}
 use Rattle.iceoryx2_pal_concurrency_sync.specs.declared.strategy.semaphore.Permits.{Permits}
 use Rattle.iceoryx2_pal_concurrency_sync.specs.declared.strategy.semaphore.Semaphore.{Semaphore}
@@ -38,3 +38,11 @@ pub record Takes (part : Part) (t u : Permits) (last : ℕ) : Type 0 where
 -- one permit was taken, and nothing else changed but what was seen on the way
 abbrev pub HasTaken : Pass Permits → Pass Permits → Type 0
 HasTaken = HasMoved Takes
+
+-- one permit was taken and posted again, and nothing else changed but what was seen on the way
+pub record HasLent (p q : Pass Permits) : Type 0 where
+  pub same : IsSamePass p q
+  pub taken : taken_of q ≡ taken_of p + 1
+  pub given : given_of q ≡ given_of p + 1
+  pub part : part_of q ≡ part_of p
+  pub saw : (sights_of p).count ≤ (sights_of q).count

@@ -6,8 +6,6 @@
 #![tactic(auto)]
 
 pub mod strategy;
-
-
 #[cfg(test)]
 mod tests;
 mod wait;

@@ -95,14 +95,14 @@ impl Deed<(), Holds> for Release {
 
 impl<A: Allocator> Mutex<A> {
     ghost use Rattle.std.specs.Borrow.{sem};
-    ghost use Rattle.std.specs.Prelude.{true, false, MatchBool};
+    ghost use Rattle.std.specs.Prelude.{true, false, ◌+◌, MatchBool};
     ghost use Rattle.passes.specs.Answers.{IfSuccess, IfInterrupted, IsSuccess, RestsIfInterrupted, MayAnswerAbort, HasWoken};
     ghost use Rattle.passes.specs.Passes.{view, WasRefused};
     ghost use Rattle.passes.specs.Views.{first_view};
     ghost use Rattle.passes.specs.contracts.pass.Pass.{the_row};
     ghost use Rattle.iceoryx2_pal_concurrency_sync.specs.contracts.strategy.mutex.Holds as holds_row;
     ghost use Rattle.iceoryx2_pal_concurrency_sync.specs.MutexRule.{no_holds};
-    ghost use Rattle.iceoryx2_pal_concurrency_sync.specs.MutexShown.{IsMutexPass, IsAlone, IsLocked, holds_of, pass_of, borrow_of, HasLocked, HasSeenLocked, HasUnlocked, HasEntered};
+    ghost use Rattle.iceoryx2_pal_concurrency_sync.specs.MutexShown.{IsMutexPass, IsAlone, IsLocked, holds_of, grants_of, pass_of, borrow_of, HasLocked, HasSeenLocked, HasUnlocked, HasEntered, HasStayed};
 
     /// A mutex that is free, and the pass that is whole. `Err` where there was no memory; then nothing was made.
     pub fn new(alloc: A) -> Result<(Mutex<A>, MutexPass), AllocError>
@@ -171,6 +171,42 @@ impl<A: Allocator> Mutex<A> {
         } else {
             WaitResult::Interrupted
         }
+    }
+
+    /// Locks the mutex as `lock` does, calls `act`, and unlocks as `unlock` does. `Interrupted` where `lock` is; then `act` was not
+    /// called. It borrows nothing, so it serves a method of a struct that owns the mutex and its pass.
+    #[inline(always)]
+    pub fn with_lock<
+        T,
+        R: Wait,
+        W: Fn(&WaitWord, &u64) -> WaitAction,
+        K: Fn(&WaitWord),
+        F: FnOnce() -> T,
+    >(
+        &self,
+        rt: &R,
+        pass: &mut MutexPass,
+        wait: W,
+        wake_one: K,
+        act: F,
+    ) -> WaitResult<T>
+        requires own { IsMutexPass self.now pass.old }
+        requires may { W.IsAlwaysCallable wait × K.IsAlwaysCallable wake_one × F.IsAlwaysCallable act }
+        ensures stayed { HasStayed pass.old pass.new }
+        ensures granted { IfSuccess result (λ _. grants_of pass.new ≡ grants_of pass.old + 1) }
+        ensures refused { IfInterrupted result (WasRefused IsLocked 10002 pass.old pass.new) }
+        ensures exact { IsAlone pass.old → IsSuccess result }
+        ensures acted { IfSuccess result (λ x. F.post act x) }
+        ensures aborted { IfInterrupted result (MayAnswerAbort W.Fn wait IsLocked) }
+        ensures woke { IfSuccess result (λ _. HasWoken K.Fn wake_one) }
+    {
+        if !self.enter(pass, rt, &wait) {
+            return WaitResult::Interrupted;
+        }
+        let given = act();
+        self.release(pass);
+        wake(&wake_one, &self.word());
+        WaitResult::Success(given)
     }
 
     /// What `lock` does, and whether the hold is on.

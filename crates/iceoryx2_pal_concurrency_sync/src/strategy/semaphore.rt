@@ -99,7 +99,7 @@ impl<A: Allocator> Semaphore<A> {
     ghost use Rattle.passes.specs.Views.{first_view};
     ghost use Rattle.passes.specs.Passes.{view, part_of, sights_of, HasSeen, HasMissed, HasDone, WasRefused};
     ghost use Rattle.iceoryx2_pal_concurrency_sync.specs.SemaphoreRule.{first_permits, took, gave};
-    ghost use Rattle.iceoryx2_pal_concurrency_sync.specs.SemaphoreShown.{IsSemPass, given_of, taken_of, worth_of, IsEmpty, HasTaken};
+    ghost use Rattle.iceoryx2_pal_concurrency_sync.specs.SemaphoreShown.{IsSemPass, given_of, taken_of, worth_of, IsEmpty, HasTaken, HasLent};
 
     /// A semaphore of this value, and the pass that is whole. `Err` where there was no memory; then nothing was made.
     pub fn new(alloc: A, initial: u64) -> Result<(Semaphore<A>, SemPass), AllocError>
@@ -171,6 +171,42 @@ impl<A: Allocator> Semaphore<A> {
         ensures none { IsWhole (part_of pass.old) → IfSuccess result (λ _. 0 < worth_of pass.old) }
     {
         success_if(self.take(rt, pass))
+    }
+
+    /// Takes a permit as `wait` does, calls `act`, and posts the permit again. `Interrupted` where `wait` is; then `act` was not called.
+    #[inline(always)]
+    pub fn with_permit<
+        T,
+        R: Wait,
+        W: Fn(&WaitWord, &u64) -> WaitAction,
+        K: Fn(&WaitWord),
+        F: FnOnce() -> T,
+    >(
+        &self,
+        rt: &R,
+        pass: &mut SemPass,
+        wait: W,
+        wakeup: K,
+        act: F,
+    ) -> WaitResult<T>
+        requires own { IsSemPass self.now pass.old }
+        requires may { W.IsAlwaysCallable wait × K.IsAlwaysCallable wakeup × F.IsAlwaysCallable act }
+        ensures lent { IfSuccess result (λ _. HasLent pass.old pass.new) }
+        ensures refused { IfInterrupted result (WasRefused IsEmpty 10002 pass.old pass.new) }
+        ensures some { IsWhole (part_of pass.old) → 0 < worth_of pass.old → IsSuccess result }
+        ensures none { IsWhole (part_of pass.old) → IfSuccess result (λ _. 0 < worth_of pass.old) }
+        ensures acted { IfSuccess result (λ x. F.post act x) }
+        ensures aborted { IfInterrupted result (MayAnswerAbort W.Fn wait IsEmpty) }
+        ensures woke { IfSuccess result (λ _. HasWoken K.Fn wakeup) }
+    {
+        match self.wait(rt, pass, wait) {
+            WaitResult::Success(()) => {
+                let given = act();
+                self.post(pass, wakeup, 1);
+                WaitResult::Success(given)
+            }
+            WaitResult::Interrupted => WaitResult::Interrupted,
+        }
     }
 
     /// Ends the semaphore, and answers its value. With the whole pass that is the initial value and all that was posted, less what

@@ -25,7 +25,7 @@ fn take_three_and_post_one<R: Wait>(
     requires new { view pass.old ≡ first_view (first_permits 2) }
     ensures same { IsSamePass pass.old pass.new }
     ensures tally { (given_of pass.new ≡ 2 + 1) × (taken_of pass.new ≡ 2) }
-    ensures whole { IsWhole part_of pass.new }
+    ensures whole { IsWhole (part_of pass.new) }
 {
     let answers = (
         semaphore.try_wait(rt, pass),
@@ -103,6 +103,53 @@ fn a_waiter_aborts(rt: HostRuntime) -> Result<(), Fail> {
         (WaitResult::Interrupted, 1, 0)
     );
     assert_eq!(rt; semaphore.close(pass), 0);
+    Ok(())
+}
+
+/// Posts 1 once the other thread's call is over, or asks again.
+fn post_when_over(semaphore: &Semaphore, pass: &mut SemPass, over: &Signal) -> bool
+    requires { IsSemPass semaphore.now pass.old }
+{
+    let was_over = over.awaited();
+    semaphore.post(pass, |_| (), 1);
+    was_over
+}
+
+/// Waits with a closure that answers `Abort` at once, and says so should it be asked again.
+fn wait_until_over<R: Wait>(
+    rt: &R,
+    semaphore: &Semaphore,
+    pass: &mut SemPass,
+    over: &Signal,
+) -> (WaitResult<()>, u64)
+    requires { IsSemPass semaphore.now pass.old }
+{
+    let calls = AtomicU64::new(0);
+    let answer = semaphore.wait(rt, pass, |_, _| {
+        if calls.fetch_add(1, Ordering::SeqCst) > 0 {
+            over.give();
+        }
+        WaitAction::Abort
+    });
+    over.give();
+    (answer, calls.load(Ordering::SeqCst))
+}
+
+/// A call that went on after `Abort` would take what the other thread then posts.
+#[test]
+fn an_abort_is_obeyed(rt: HostRuntime) -> Result<(), Fail> {
+    let (semaphore, pass) = Semaphore::new(rt.alloc(), 0)?;
+    let Ok((mut one, mut two)) = pass.split(&semaphore) else {
+        unreachable!()
+    };
+    let over = Signal::new();
+    let (was_over, answer) = thread::join(
+        &rt,
+        || post_when_over(&semaphore, &mut one, &over),
+        || wait_until_over(&rt, &semaphore, &mut two, &over),
+    );
+    assert!(rt; was_over);
+    assert_eq!(rt; answer, (WaitResult::Interrupted, 1));
     Ok(())
 }
 
@@ -224,5 +271,27 @@ fn post_and_take<R: Threads + Wait + Sync>(rt: &R, semaphore: Semaphore, pass: S
 fn two_threads_post_and_take(rt: HostRuntime) -> Result<(), Fail> {
     let (semaphore, pass) = Semaphore::new(rt.alloc(), 2)?;
     assert_eq!(rt; post_and_take(&rt, semaphore, pass), 1);
+    Ok(())
+}
+
+/// Acts under a permit of a new semaphore of 1, and answers what the action gave.
+fn act_under_a_permit<R: Wait>(rt: &R, semaphore: &Semaphore, pass: &mut SemPass) -> u64
+    requires own { IsSemPass semaphore.now pass.old }
+    requires new { view pass.old ≡ first_view (first_permits 1) }
+    ensures { result ≡ 7 }
+    ensures tally { (given_of pass.new ≡ 2) × (taken_of pass.new ≡ 1) }
+{
+    let answer = semaphore.with_permit(rt, pass, |_, _| WaitAction::Continue, |_| (), || 7);
+    match answer {
+        WaitResult::Success(seven) => seven,
+        WaitResult::Interrupted => unreachable!(),
+    }
+}
+
+#[test]
+fn a_permit_is_given_back(rt: HostRuntime) -> Result<(), Fail> {
+    let (semaphore, mut pass) = Semaphore::new(rt.alloc(), 1)?;
+    assert_eq!(rt; act_under_a_permit(&rt, &semaphore, &mut pass), 7);
+    assert_eq!(rt; semaphore.close(pass), 1);
     Ok(())
 }
