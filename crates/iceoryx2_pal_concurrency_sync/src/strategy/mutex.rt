@@ -151,8 +151,7 @@ impl<A: Allocator> Mutex<A> {
         ensures woke { HasWoken W.Fn wake_one }
     {
         let MutexHold { pass } = hold;
-        self.release(pass);
-        wake(&wake_one, &self.word());
+        self.leave(pass, &wake_one);
         pass
     }
 
@@ -204,8 +203,7 @@ impl<A: Allocator> Mutex<A> {
             return WaitResult::Interrupted;
         }
         let given = act();
-        self.release(pass);
-        wake(&wake_one, &self.word());
+        self.leave(pass, &wake_one);
         WaitResult::Success(given)
     }
 
@@ -226,6 +224,19 @@ impl<A: Allocator> Mutex<A> {
         self.exchange(pass)
             || spin(rt, self, pass)
             || ask(rt, self, pass, &self.word(), 1, wait)
+    }
+
+    /// What `unlock` does, by the pass that has the hold.
+    #[inline(always)]
+    fn leave<W: Fn(&WaitWord)>(&self, pass: &mut MutexPass, wake_one: &W)
+        requires own { IsMutexPass self.now pass.old }
+        requires on { holds_of pass.old ≡ 1 }
+        requires may { W.IsAlwaysCallable wake_one.now }
+        ensures released { HasUnlocked pass.old pass.new }
+        ensures woke { HasWoken W.Fn wake_one.now }
+    {
+        self.release(pass);
+        wake(wake_one, &self.word());
     }
 
     /// One exchange of 0 for 1, and whether it was done.

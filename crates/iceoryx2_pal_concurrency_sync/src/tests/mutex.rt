@@ -440,7 +440,7 @@ struct Counted {
 impl Counted {
     /// What stood before.
     fn enter<R: Wait>(&mut self, rt: &R) -> u64
-        ensures { result ≡ self.old.entered }
+        ensures before { result ≡ self.old.entered }
         ensures grants { grants_of self.new.pass ≡ grants_of self.old.pass + 1 }
     {
         let entered = self.entered;

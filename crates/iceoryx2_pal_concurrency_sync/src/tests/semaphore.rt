@@ -278,7 +278,8 @@ fn two_threads_post_and_take(rt: HostRuntime) -> Result<(), Fail> {
 fn act_under_a_permit<R: Wait>(rt: &R, semaphore: &Semaphore, pass: &mut SemPass) -> u64
     requires own { IsSemPass semaphore.now pass.old }
     requires new { view pass.old ≡ first_view (first_permits 1) }
-    ensures { result ≡ 7 }
+    ensures seven { result ≡ 7 }
+    ensures same { IsSamePass pass.old pass.new }
     ensures tally { (given_of pass.new ≡ 2) × (taken_of pass.new ≡ 1) }
 {
     let answer = semaphore.with_permit(rt, pass, |_, _| WaitAction::Continue, |_| (), || 7);
