@@ -1,5 +1,5 @@
 -- What becomes of a pass over several tries.
-use Rattle.std.proofs.Common.{◌≡◌, ℕ, ap, ◌∙◌, subst, arith}
+use Rattle.std.proofs.Common.{ℕ, ap, ◌∙◌, subst, arith}
 use Rattle.passes.specs.declared.part.Part.{Part}
 use Rattle.passes.specs.declared.part.Sights.{Sights}
 use Rattle.passes.specs.declared.pass.Pass.{Pass}

@@ -4,6 +4,7 @@ use mathlib.Core.Option as maybe
 use Rattle.atomic_table.specs.Seated.{TableId}
 use Rattle.passes.specs.declared.pass.Pass.{Pass}
 use Rattle.passes.specs.declared.words.Words.{Words}
+use Rattle.passes.specs.declared.words.Word.{Word}
 use Rattle.passes.specs.Passes.{object_of}
 
 module _ {K T A : Type 0} where
@@ -20,6 +21,10 @@ module _ {K T A : Type 0} where
   -- how many words there are
   abbrev pub count_of : Words K T A → ℕ
   count_of w = w.table.shared.table_id.words
+
+  -- the word at this index
+  abbrev pub IsWordOf : Words K T A → ℕ → Word K T → Type 0
+  IsWordOf w i word = (word.shared.now.table_id ≡ id_of w) × (word.index ≡ i)
 
 -- the rule holds at the end, and the word was this
 pub record HasClosed {S T : Type 0} (agrees : List ℕ → List (maybe.Option S) → T → Type 0) (tally : T) (i found : ℕ) : Type 0 where

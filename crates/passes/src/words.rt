@@ -21,8 +21,8 @@ pub struct Words<K, T: Rule<(), K>, A: Allocator = Global> {
 /// One of the words, which can be loaded, and no more.
 #[derive(Drop)]
 pub struct Word<'t, K, T: Rule<(), K>> {
-    shared: &'t Shared<(), View<T>, K, SumRule<T>>,
-    index: usize,
+    pub(crate) shared: &'t Shared<(), View<T>, K, SumRule<T>>,
+    pub(crate) index: usize,
     ghost inside: { index < shared.now.table_id.words },
 }
 
@@ -43,7 +43,7 @@ impl<K, T: Rule<(), K>, A: Allocator> Words<K, T, A> {
     ghost use Rattle.passes.specs.Views.{first_view, Updates};
     ghost use Rattle.passes.specs.Passes.{view, part_of, tally_of, IsSamePass};
     ghost use Rattle.passes.specs.Parts.{IsWhole};
-    ghost use Rattle.passes.specs.Objects.{IsPassOf, key_of, count_of, HasClosed};
+    ghost use Rattle.passes.specs.Objects.{IsPassOf, IsWordOf, key_of, count_of, HasClosed};
 
     /// Words under this key, and the pass that is whole. `Err` where there was no memory; then nothing was made.
     pub fn new(alloc: A, words: &[u64], key: &K) -> Result<(Words<K, T, A>, Pass<T>), AllocError>
@@ -62,6 +62,7 @@ impl<K, T: Rule<(), K>, A: Allocator> Words<K, T, A> {
     #[inline(always)]
     pub fn word(&self, index: usize) -> Word<'_, K, T>
         requires inside { index < count_of self.now }
+        ensures which { IsWordOf self.now index result }
     {
         Word {
             shared: &self.table.shared,
