@@ -39,10 +39,10 @@ pub record Takes (part : Part) (t u : Permits) (last : ℕ) : Type 0 where
 abbrev pub HasTaken : Pass Permits → Pass Permits → Type 0
 HasTaken = HasMoved Takes
 
--- one permit was taken and posted again, and nothing else changed but what was seen on the way
-pub record HasLent (p q : Pass Permits) : Type 0 where
+-- So much was given and taken, and nothing else changed but what was seen on the way. A helper, a loop and a closure carry this one fact.
+pub record HasCounted (more less : ℕ) (p q : Pass Permits) : Type 0 where
   pub same : IsSamePass p q
-  pub taken : taken_of q ≡ taken_of p + 1
-  pub given : given_of q ≡ given_of p + 1
+  pub given : given_of q ≡ given_of p + more
+  pub taken : taken_of q ≡ taken_of p + less
   pub part : part_of q ≡ part_of p
   pub saw : (sights_of p).count ≤ (sights_of q).count

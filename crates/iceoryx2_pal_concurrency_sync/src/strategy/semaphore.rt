@@ -99,7 +99,7 @@ impl<A: Allocator> Semaphore<A> {
     ghost use Rattle.passes.specs.Views.{first_view};
     ghost use Rattle.passes.specs.Passes.{view, part_of, sights_of, HasSeen, HasMissed, HasDone, WasRefused};
     ghost use Rattle.iceoryx2_pal_concurrency_sync.specs.SemaphoreRule.{first_permits, took, gave};
-    ghost use Rattle.iceoryx2_pal_concurrency_sync.specs.SemaphoreShown.{IsSemPass, given_of, taken_of, worth_of, IsEmpty, HasTaken, HasLent};
+    ghost use Rattle.iceoryx2_pal_concurrency_sync.specs.SemaphoreShown.{IsSemPass, given_of, taken_of, worth_of, IsEmpty, HasTaken, HasCounted};
 
     /// A semaphore of this value, and the pass that is whole. `Err` where there was no memory; then nothing was made.
     pub fn new(alloc: A, initial: u64) -> Result<(Semaphore<A>, SemPass), AllocError>
@@ -191,7 +191,7 @@ impl<A: Allocator> Semaphore<A> {
     ) -> WaitResult<T>
         requires own { IsSemPass self.now pass.old }
         requires may { W.IsAlwaysCallable wait × K.IsAlwaysCallable wakeup × F.IsAlwaysCallable act }
-        ensures lent { IfSuccess result (λ _. HasLent pass.old pass.new) }
+        ensures lent { IfSuccess result (λ _. HasCounted 1 1 pass.old pass.new) }
         ensures refused { IfInterrupted result (WasRefused IsEmpty 10002 pass.old pass.new) }
         ensures some { IsWhole (part_of pass.old) → 0 < worth_of pass.old → IsSuccess result }
         ensures none { IsWhole (part_of pass.old) → IfSuccess result (λ _. 0 < worth_of pass.old) }

@@ -1,6 +1,6 @@
 //! The running mutex.
 ghost use Rattle.std.specs.Prelude.{◌≡◌, ◌+◌};
-ghost use Rattle.passes.specs.Passes.{IsSamePass, part_of};
+ghost use Rattle.passes.specs.Passes.{IsSamePass};
 ghost use Rattle.iceoryx2_pal_concurrency_sync.specs.MutexShown.{IsMutexPass, IsAlone, HasStayed, holds_of, grants_of};
 
 use crate::strategy::mutex::{Mutex, MutexPass};
@@ -34,9 +34,7 @@ fn lock_and_unlock<R: Wait>(rt: &R, mutex: &Mutex, pass: &mut MutexPass)
 fn lock_and_unlock_often<R: Wait>(rt: &R, mutex: &Mutex, mut pass: MutexPass) -> MutexPass
     requires own { IsMutexPass mutex.now pass }
     requires off { holds_of pass ≡ 0 }
-    ensures own { IsMutexPass mutex.now result }
-    ensures part { part_of result ≡ part_of pass }
-    ensures off { holds_of result ≡ 0 }
+    ensures stayed { HasStayed pass result }
 {
     for _ in 0..100u64 {
         lock_and_unlock(rt, mutex, &mut pass);
@@ -62,11 +60,11 @@ fn lock_in_two_threads<R: Threads + Wait + Sync>(
         rt,
         || -> MutexPass
             requires { IsMutexPass mutex.now one × (holds_of one ≡ 0) }
-            ensures { IsMutexPass mutex.entry.now result × (part_of result ≡ part_of one) × (holds_of result ≡ 0) }
+            ensures { HasStayed one result }
         { lock_and_unlock_often(rt, mutex, one) },
         || -> MutexPass
             requires { IsMutexPass mutex.now two × (holds_of two ≡ 0) }
-            ensures { IsMutexPass mutex.entry.now result × (part_of result ≡ part_of two) × (holds_of result ≡ 0) }
+            ensures { HasStayed two result }
         { lock_and_unlock_often(rt, mutex, two) },
     );
     let Ok(mut pass) = MutexPass::join(one, two, mutex) else {

@@ -4,7 +4,7 @@ ghost use Rattle.passes.specs.Parts.{IsWhole};
 ghost use Rattle.passes.specs.Passes.{IsSamePass, part_of, view};
 ghost use Rattle.passes.specs.Views.{first_view};
 ghost use Rattle.iceoryx2_pal_concurrency_sync.specs.SemaphoreRule.{first_permits};
-ghost use Rattle.iceoryx2_pal_concurrency_sync.specs.SemaphoreShown.{IsSemPass, given_of, taken_of};
+ghost use Rattle.iceoryx2_pal_concurrency_sync.specs.SemaphoreShown.{IsSemPass, HasCounted, given_of, taken_of};
 
 use crate::strategy::semaphore::{SemPass, Semaphore};
 use crate::tests::signal::Signal;
@@ -210,9 +210,7 @@ fn success_after_abort(rt: HostRuntime) -> Result<(), Fail> {
 /// Posts 1 so many times.
 fn post_often(semaphore: &Semaphore, mut pass: SemPass, times: u64) -> SemPass
     requires own { IsSemPass semaphore.now pass }
-    ensures own { IsSemPass semaphore.now result }
-    ensures part { part_of result ≡ part_of pass }
-    ensures tally { (given_of result ≡ given_of pass + times) × (taken_of result ≡ taken_of pass) }
+    ensures posted { HasCounted times 0 pass result }
 {
     for _ in 0..times {
         semaphore.post(&mut pass, |_| (), 1);
@@ -223,9 +221,7 @@ fn post_often(semaphore: &Semaphore, mut pass: SemPass, times: u64) -> SemPass
 /// Takes so many permits, with a closure that yields and answers `Continue`: that is never interrupted.
 fn take_often<R: Wait>(rt: &R, semaphore: &Semaphore, mut pass: SemPass, times: u64) -> SemPass
     requires own { IsSemPass semaphore.now pass }
-    ensures own { IsSemPass semaphore.now result }
-    ensures part { part_of result ≡ part_of pass }
-    ensures tally { (given_of result ≡ given_of pass) × (taken_of result ≡ taken_of pass + times) }
+    ensures taken { HasCounted 0 times pass result }
 {
     for _ in 0..times {
         let answer = semaphore.wait(rt, &mut pass, |_, _| {
@@ -254,11 +250,11 @@ fn post_and_take<R: Threads + Wait + Sync>(rt: &R, semaphore: Semaphore, pass: S
         rt,
         || -> SemPass
             requires { IsSemPass shared.now one }
-            ensures { IsSemPass shared.entry.now result × (part_of result ≡ part_of one) × (given_of result ≡ given_of one + 100) × (taken_of result ≡ taken_of one) }
+            ensures { HasCounted 100 0 one result }
         { post_often(shared, one, 100) },
         || -> SemPass
             requires { IsSemPass shared.now two }
-            ensures { IsSemPass shared.entry.now result × (part_of result ≡ part_of two) × (given_of result ≡ given_of two) × (taken_of result ≡ taken_of two + 101) }
+            ensures { HasCounted 0 101 two result }
         { take_often(rt, shared, two, 101) },
     );
     let Ok(pass) = SemPass::join(one, two, &semaphore) else {

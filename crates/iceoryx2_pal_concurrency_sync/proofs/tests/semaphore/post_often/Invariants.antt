@@ -1,8 +1,5 @@
-use Rattle.std.proofs.Common.{◌≡◌, ◌+◌}
-use Rattle.passes.specs.Passes.{IsSamePass, part_of}
-use Rattle.iceoryx2_pal_concurrency_sync.specs.SemaphoreShown.{given_of, taken_of}
+use Rattle.iceoryx2_pal_concurrency_sync.specs.SemaphoreShown.{HasCounted}
 use Rattle.iceoryx2_pal_concurrency_sync.proofs.tests.semaphore.post_often.Given as goal
 
 abbrev pub invariant-loop : goal.invariant-loop
-invariant-loop l =
-    IsSamePass l.fn.pass l.pass × (part_of l.pass ≡ part_of l.fn.pass) × (given_of l.pass ≡ given_of l.fn.pass + l.counter) × (taken_of l.pass ≡ taken_of l.fn.pass)
+invariant-loop l = HasCounted l.counter 0 l.fn.pass l.pass
