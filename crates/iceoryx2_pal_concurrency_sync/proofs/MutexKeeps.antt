@@ -1,15 +1,12 @@
 -- Each step of a mutex keeps its rule.
-use Rattle.std.proofs.Common.{◌≡◌, ◌≢◌, ℕ, ◌+◌, ◌≤◌, eqb, List, [], ◌∷◌, get_or, set, sym, refl, ap, ◌∙◌, subst, arith, length-set, get_or-set_same}
+use Rattle.std.proofs.Common.{◌≡◌, ℕ, ◌≤◌, eqb, List, set, refl, ap, ◌∙◌, arith, length-set, get_or-set_same}
 use mathlib.Core.Logic.{dite}
-use mathlib.Core.Option as maybe
-use mathlib.Core.Option.{some}
 use native.Mathlib.Decide.{ℕ_discrete}
 use prog.Atomic.{either}
 use Rattle.passes.specs.declared.view.View.{View}
-use Rattle.passes.specs.Parts.{IsWhole}
 use Rattle.passes.specs.Views.{Updates}
 use Rattle.passes.proofs.Sums.{sum_of_two}
-use Rattle.passes.proofs.Updates.{Goes, Stays, by_exchange}
+use Rattle.passes.proofs.Updates.{by_exchange}
 use Rattle.iceoryx2_pal_concurrency_sync.specs.declared.strategy.mutex.Holds.{Holds}
 use Rattle.iceoryx2_pal_concurrency_sync.specs.MutexRule.{no_holds, both_holds, IsHeld, MutexAgrees, granted, released, locked, unlocked, saw_locked, Exchanged, Stored, OneHolder}
 use Rattle.iceoryx2_pal_concurrency_sync.specs.MutexTally.{holds_add_up}
@@ -34,15 +31,17 @@ exchanges v new is_1 = by_exchange no_holds both_holds MutexAgrees v 0 0 new (Ex
     ))
 
 pub stores : (v : View Holds) → v.tally.holds ≡ 1 → Updates no_holds both_holds MutexAgrees v 0 (λ _. 0) (λ _. Stored v)
-stores v on = record { may = λ words homes rest is alone fits. let word = is.word in let one = is.one in (
-  unlocked v,
-  refl,
-  held_again words 0 (both_holds v.tally rest) (both_holds (released v.tally) rest) is (omega arith) (omega arith),
-  record { off = refl },
-) }
+stores v on = record {
+  may = λ words homes rest is alone fits. let word = is.word in let one = is.one in (
+    unlocked v,
+    refl,
+    held_again words 0 (both_holds v.tally rest) (both_holds (released v.tally) rest) is (omega arith) (omega arith),
+    record { off = refl },
+  );
+}
 
 -- two holds would be more than one
 pub one_holder : OneHolder
 one_holder s r i j v w here there on also = dite (ℕ_discrete i j) (λ same. same)
     (λ apart. let two = sum_of_two no_holds both_holds (λ _. no_holds) holds_add_up s.views i j v w here there apart in
-      let sum = ap (λ (t : Holds). t.holds) two.1 in let one = r.agree.one in absurd (omega arith))
+    let sum = ap (λ (t : Holds). t.holds) two.1 in let one = r.agree.one in absurd (omega arith))

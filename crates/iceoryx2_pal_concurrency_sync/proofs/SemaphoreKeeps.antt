@@ -1,8 +1,7 @@
 -- Each step of a semaphore keeps its rule.
-use Rattle.std.proofs.Common.{◌≡◌, ◌≢◌, ℕ, ◌+◌, ◌-◌, ◌%◌, ◌^◌, ◌<◌, ◌≤◌, eqb, List, get_or, set, sym, refl, ap, ◌∙◌, arith, length-set, get_or-set_same}
+use Rattle.std.proofs.Common.{◌≡◌, ℕ, ◌+◌, ◌-◌, ◌%◌, ◌^◌, ◌<◌, ◌≤◌, eqb, List, get_or, set, refl, ap, ◌∙◌, arith, length-set, get_or-set_same}
 use prog.Atomic.{either}
 use Rattle.passes.specs.declared.view.View.{View}
-use Rattle.passes.specs.Parts.{IsWhole}
 use Rattle.passes.specs.Views.{looked, missed, wrote, Updates}
 use Rattle.passes.proofs.Updates.{by_look, by_exchange}
 use Rattle.iceoryx2_pal_concurrency_sync.specs.declared.strategy.semaphore.Permits.{Permits}
@@ -19,6 +18,7 @@ word_alone words t rest is blank = let g = ap (λ (u : Permits). u.given) blank 
   where
     given_alone : rest.given ≡ 0 → t.given + rest.given ≡ t.given
     given_alone g = omega arith
+
     taken_alone : rest.taken ≡ 0 → t.taken + rest.taken ≡ t.taken
     taken_alone k = omega arith
 
@@ -50,9 +50,11 @@ exchanges v old new more less = by_exchange no_permits both_permits SemaphoreAgr
     ))
 
 pub adds : (v : View Permits) (more : ℕ) → Updates no_permits both_permits SemaphoreAgrees v 0 (λ x. (x + more) % 2 ^ 64) (λ _. Added more v)
-adds v more = record { may = λ words homes rest is alone fits. let x : ℕ = get_or words 0 0 in let word = is.word in let enough = is.enough in (
-  wrote v (gave more v.tally),
-  refl,
-  left_again words ((x + more) % 2 ^ 64) (both_permits v.tally rest) (both_permits (gave more v.tally) rest) is (omega arith) (omega arith),
-  record { given = refl },
-) }
+adds v more = record {
+  may = λ words homes rest is alone fits. let x : ℕ = get_or words 0 0 in let word = is.word in let enough = is.enough in (
+    wrote v (gave more v.tally),
+    refl,
+    left_again words ((x + more) % 2 ^ 64) (both_permits v.tally rest) (both_permits (gave more v.tally) rest) is (omega arith) (omega arith),
+    record { given = refl },
+  );
+}

@@ -1,7 +1,6 @@
 -- What the passes of a mutex count adds up.
 use Rattle.std.proofs.Common.{ℕ, ◌+◌, ◌≡◌, arith}
 use Rattle.passes.specs.Tallies.{IsTally}
-use Rattle.iceoryx2_pal_concurrency_sync.specs.declared.strategy.mutex.Holds.{Holds}
 use Rattle.iceoryx2_pal_concurrency_sync.specs.MutexRule.{holds, no_holds, both_holds}
 
 same_holds : (a b c d : ℕ) → a ≡ b → c ≡ d → holds a c ≡ holds b d

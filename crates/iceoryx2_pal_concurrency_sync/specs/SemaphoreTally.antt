@@ -1,7 +1,6 @@
 -- What the passes of a semaphore count adds up.
 use Rattle.std.proofs.Common.{ℕ, ◌+◌, ◌≡◌, arith}
 use Rattle.passes.specs.Tallies.{IsTally}
-use Rattle.iceoryx2_pal_concurrency_sync.specs.declared.strategy.semaphore.Permits.{Permits}
 use Rattle.iceoryx2_pal_concurrency_sync.specs.SemaphoreRule.{permits, no_permits, both_permits}
 
 same_permits : (a b c d : ℕ) → a ≡ b → c ≡ d → permits a c ≡ permits b d

@@ -27,27 +27,31 @@ module _ {S T : Type 0} (none : T) (add : T → T → T) (agrees : List ℕ → 
   pub by_look : (tells : ℕ → View T → Type 0)
       → ((words : List ℕ) (homes : List (maybe.Option S)) (rest : T) → agrees words homes (add v.tally rest) → (IsWhole v.part → rest ≡ none) → get_or words i 0 < 2 ^ 64 → Stays tells words homes rest)
       → Updates none add agrees v i (λ n. n) tells
-  by_look tells look = record { may = λ words homes rest is alone fits. let u = look words homes rest is alone fits in
-      (u.0, u.1, subst (λ (ws : List ℕ). agrees ws homes (add u.0.tally rest)) (sym (set_as_it_was words i)) u.2, u.3) }
+  by_look tells look = record {
+    may = λ words homes rest is alone fits. let u = look words homes rest is alone fits in
+        (u.0, u.1, subst (λ (ws : List ℕ). agrees ws homes (add u.0.tally rest)) (sym (set_as_it_was words i)) u.2, u.3);
+  }
 
   -- an exchange finds the value that it is from, or another
   pub by_exchange : (old new : ℕ) (tells : ℕ → View T → Type 0)
       → ((words : List ℕ) (homes : List (maybe.Option S)) (rest : T) → agrees words homes (add v.tally rest) → (IsWhole v.part → rest ≡ none) → get_or words i 0 < 2 ^ 64
-          → get_or words i 0 ≡ old → Goes tells words homes rest new)
+      → get_or words i 0 ≡ old → Goes tells words homes rest new)
       → ((words : List ℕ) (homes : List (maybe.Option S)) (rest : T) → agrees words homes (add v.tally rest) → (IsWhole v.part → rest ≡ none) → get_or words i 0 < 2 ^ 64
-          → get_or words i 0 ≢ old → Stays tells words homes rest)
+      → get_or words i 0 ≢ old → Stays tells words homes rest)
       → Updates none add agrees v i (λ n. either (eqb n old) new n) tells
-  by_exchange old new tells done failed = record { may = λ words homes rest is alone fits. let x : ℕ = get_or words i 0 in dite (ℕ_discrete x old)
-      (λ hit. let u = done words homes rest is alone fits hit in (
-        u.0,
-        u.1,
-        exchanged x old new (λ n. agrees (set words i n) homes (add u.0.tally rest)) (λ _. u.2) (λ miss. absurd (miss hit)),
-        u.3,
-      ))
-      (λ miss. let u = failed words homes rest is alone fits miss in (
-        u.0,
-        u.1,
-        exchanged x old new (λ n. agrees (set words i n) homes (add u.0.tally rest)) (λ hit. absurd (miss hit))
-          (λ _. subst (λ (ws : List ℕ). agrees ws homes (add u.0.tally rest)) (sym (set_as_it_was words i)) u.2),
-        u.3,
-      )) }
+  by_exchange old new tells done failed = record {
+    may = λ words homes rest is alone fits. let x : ℕ = get_or words i 0 in dite (ℕ_discrete x old)
+        (λ hit. let u = done words homes rest is alone fits hit in (
+          u.0,
+          u.1,
+          exchanged x old new (λ n. agrees (set words i n) homes (add u.0.tally rest)) (λ _. u.2) (λ miss. absurd (miss hit)),
+          u.3,
+        ))
+        (λ miss. let u = failed words homes rest is alone fits miss in (
+          u.0,
+          u.1,
+          exchanged x old new (λ n. agrees (set words i n) homes (add u.0.tally rest)) (λ hit. absurd (miss hit))
+              (λ _. subst (λ (ws : List ℕ). agrees ws homes (add u.0.tally rest)) (sym (set_as_it_was words i)) u.2),
+          u.3,
+        ));
+  }

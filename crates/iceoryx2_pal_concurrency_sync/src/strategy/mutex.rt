@@ -181,14 +181,7 @@ impl<A: Allocator> Mutex<A> {
         W: Fn(&WaitWord, &u64) -> WaitAction,
         K: Fn(&WaitWord),
         F: FnOnce() -> T,
-    >(
-        &self,
-        rt: &R,
-        pass: &mut MutexPass,
-        wait: W,
-        wake_one: K,
-        act: F,
-    ) -> WaitResult<T>
+    >(&self, rt: &R, pass: &mut MutexPass, wait: W, wake_one: K, act: F) -> WaitResult<T>
         requires own { IsMutexPass self.now pass.old }
         requires may { W.IsAlwaysCallable wait × K.IsAlwaysCallable wake_one × F.IsAlwaysCallable act }
         ensures stayed { HasStayed pass.old pass.new }
@@ -221,9 +214,7 @@ impl<A: Allocator> Mutex<A> {
         ensures exact { IsAlone pass.old → result ≡ true }
         ensures aborted { result ≡ false → MayAnswerAbort W.Fn wait.now IsLocked }
     {
-        self.exchange(pass)
-            || spin(rt, self, pass)
-            || ask(rt, self, pass, &self.word(), 1, wait)
+        self.exchange(pass) || spin(rt, self, pass) || ask(rt, self, pass, &self.word(), 1, wait)
     }
 
     /// What `unlock` does, by the pass that has the hold.

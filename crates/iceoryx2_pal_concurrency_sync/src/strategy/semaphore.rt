@@ -181,14 +181,7 @@ impl<A: Allocator> Semaphore<A> {
         W: Fn(&WaitWord, &u64) -> WaitAction,
         K: Fn(&WaitWord),
         F: FnOnce() -> T,
-    >(
-        &self,
-        rt: &R,
-        pass: &mut SemPass,
-        wait: W,
-        wakeup: K,
-        act: F,
-    ) -> WaitResult<T>
+    >(&self, rt: &R, pass: &mut SemPass, wait: W, wakeup: K, act: F) -> WaitResult<T>
         requires own { IsSemPass self.now pass.old }
         requires may { W.IsAlwaysCallable wait × K.IsAlwaysCallable wakeup × F.IsAlwaysCallable act }
         ensures lent { IfSuccess result (λ _. HasCounted 1 1 pass.old pass.new) }
@@ -229,8 +222,7 @@ impl<A: Allocator> Semaphore<A> {
         ensures failed { result ≢ seen → HasMissed seen result pass.old pass.new }
         ensures exact { IsWhole (part_of pass.old) → result ≡ worth_of pass.old }
     {
-        self.words
-            .compare_exchange::<Take>(pass, 0, seen, rest)
+        self.words.compare_exchange::<Take>(pass, 0, seen, rest)
     }
 
     /// An add of so many permits.

@@ -21,13 +21,7 @@ struct Side {
 
 /// Takes a place from one semaphore so many times, and gives it to the other. Between the two a producer would fill the place, and a
 /// consumer empty it.
-fn pass_on<R: Wait>(
-    rt: &R,
-    from: &Semaphore,
-    to: &Semaphore,
-    mut side: Side,
-    times: u64,
-) -> Side
+fn pass_on<R: Wait>(rt: &R, from: &Semaphore, to: &Semaphore, mut side: Side, times: u64) -> Side
     requires own { IsSemPass from.now side.taking × IsSemPass to.now side.giving }
     ensures took { HasCounted 0 times side.taking result.taking }
     ensures gave { HasCounted times 0 side.giving result.giving }

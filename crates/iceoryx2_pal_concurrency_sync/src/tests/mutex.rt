@@ -133,11 +133,7 @@ fn one_holder_at_a_time(rt: HostRuntime) -> Result<(), Fail> {
 
 /// What a `lock` did whose wait closure answers `Abort` at once: whether it was interrupted, how often it asked, with what, and what
 /// the closure saw of the word.
-fn lock_and_abort<R: Wait>(
-    rt: &R,
-    mutex: &Mutex,
-    pass: &mut MutexPass,
-) -> (bool, u64, u64, u64)
+fn lock_and_abort<R: Wait>(rt: &R, mutex: &Mutex, pass: &mut MutexPass) -> (bool, u64, u64, u64)
     requires { IsMutexPass mutex.now pass.old }
     ensures { IsSamePass pass.old pass.new }
 {

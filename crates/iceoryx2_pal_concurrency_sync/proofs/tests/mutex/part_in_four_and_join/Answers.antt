@@ -32,9 +32,14 @@ returns-clause-alone c =
       omega (
         arith,
         c.requires.alone.1,
-        holds_in _ _ parts.views.0, holds_in _ _ parts.views.1,
-        holds_in _ _ lefts.views.0, holds_in _ _ lefts.views.1,
-        holds_in _ _ rights.views.0, holds_in _ _ rights.views.1,
-        holds_in _ _ first.views, holds_in _ _ second.views, holds_in _ _ third.views,
+        holds_in _ _ parts.views.0,
+        holds_in _ _ parts.views.1,
+        holds_in _ _ lefts.views.0,
+        holds_in _ _ lefts.views.1,
+        holds_in _ _ rights.views.0,
+        holds_in _ _ rights.views.1,
+        holds_in _ _ first.views,
+        holds_in _ _ second.views,
+        holds_in _ _ third.views,
       ),
     )
