@@ -3,11 +3,12 @@ use Rattle.std.specs.Prelude.{◌≡◌, ℕ, ◌+◌, ◌<◌, ◌≤◌}
 use Rattle.passes.specs.declared.part.Part.{Part}
 use Rattle.passes.specs.declared.pass.Pass.{Pass}
 use Rattle.passes.specs.Parts.{IsWhole}
-use Rattle.passes.specs.Passes.{IsSamePass, part_of, sights_of, tally_of, HasMoved}
+use Rattle.passes.specs.Passes.{IsSamePass, view, part_of, sights_of, tally_of, HasMoved}
+use Rattle.passes.specs.Views.{looked, wrote}
 use Rattle.passes.specs.Objects.{IsPassOf}
 use Rattle.iceoryx2_pal_concurrency_sync.specs.declared.strategy.semaphore.Permits.{Permits}
 use Rattle.iceoryx2_pal_concurrency_sync.specs.declared.strategy.semaphore.Semaphore.{Semaphore}
-use Rattle.iceoryx2_pal_concurrency_sync.specs.SemaphoreRule.{value_of}
+use Rattle.iceoryx2_pal_concurrency_sync.specs.SemaphoreRule.{value_of, took}
 
 abbrev pub IsSemPass : {A : Type 0} → Semaphore A → Pass Permits → Type 0
 IsSemPass s p = IsPassOf s.words p
@@ -38,6 +39,10 @@ pub record Takes (part : Part) (t u : Permits) (last : ℕ) : Type 0 where
 -- one permit was taken, and nothing else changed but what was seen on the way
 abbrev pub HasTaken : Pass Permits → Pass Permits → Type 0
 HasTaken = HasMoved Takes
+
+-- one look saw what the pass's tally came to, one permit was taken from it, and nothing else changed
+abbrev pub HasTakenAtOnce : Pass Permits → Pass Permits → Type 0
+HasTakenAtOnce p q = IsSamePass p q × (view q ≡ wrote (looked (view p) (worth_of p)) (took (tally_of p)))
 
 -- So much was given and taken, and nothing else changed but what was seen on the way. A helper, a loop and a closure carry this one fact.
 pub record HasCounted (more less : ℕ) (p q : Pass Permits) : Type 0 where

@@ -3,3 +3,4 @@ pub mod Sums
 pub mod Steps
 pub mod Attempts
 pub mod Updates
+pub mod Counters

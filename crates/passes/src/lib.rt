@@ -11,6 +11,8 @@ mod part;
 mod pass;
 mod rule;
 mod tally;
+#[cfg(test)]
+mod tests;
 mod view;
 mod wait;
 mod words;

@@ -99,7 +99,7 @@ impl<A: Allocator> Semaphore<A> {
     ghost use Rattle.passes.specs.Views.{first_view};
     ghost use Rattle.passes.specs.Passes.{view, part_of, sights_of, HasSeen, HasMissed, HasDone, WasRefused};
     ghost use Rattle.iceoryx2_pal_concurrency_sync.specs.SemaphoreRule.{first_permits, took, gave};
-    ghost use Rattle.iceoryx2_pal_concurrency_sync.specs.SemaphoreShown.{IsSemPass, given_of, taken_of, worth_of, IsEmpty, HasTaken, HasCounted};
+    ghost use Rattle.iceoryx2_pal_concurrency_sync.specs.SemaphoreShown.{IsSemPass, given_of, taken_of, worth_of, IsEmpty, HasTaken, HasTakenAtOnce, HasCounted};
 
     /// A semaphore of this value, and the pass that is whole. `Err` where there was no memory; then nothing was made.
     pub fn new(alloc: A, initial: u64) -> Result<(Semaphore<A>, SemPass), AllocError>
@@ -166,7 +166,8 @@ impl<A: Allocator> Semaphore<A> {
         ensures took { IfSuccess result (λ _. HasTaken pass.old pass.new) }
         ensures refused { IfInterrupted result (WasRefused IsEmpty 1 pass.old pass.new) }
         ensures looks { LooksOnceOrMisses (sights_of pass.old) (sights_of pass.new) }
-        ensures once { IsWhole (part_of pass.old) → (sights_of pass.new).count ≡ (sights_of pass.old).count + 1 }
+        ensures once { IsWhole (part_of pass.old) → IfInterrupted result (HasSeen 0 pass.old pass.new) }
+        ensures took_once { IsWhole (part_of pass.old) → IfSuccess result (λ _. HasTakenAtOnce pass.old pass.new) }
         ensures some { IsWhole (part_of pass.old) → 0 < worth_of pass.old → IsSuccess result }
         ensures none { IsWhole (part_of pass.old) → IfSuccess result (λ _. 0 < worth_of pass.old) }
     {
@@ -241,7 +242,7 @@ impl<A: Allocator> Semaphore<A> {
         requires own { IsSemPass self.now pass.old }
         ensures takes { MatchBool result (HasTaken pass.old pass.new) (WasRefused IsEmpty 1 pass.old pass.new) }
         ensures looks { LooksOnceOrMisses (sights_of pass.old) (sights_of pass.new) }
-        ensures once { IsWhole (part_of pass.old) → (sights_of pass.new).count ≡ (sights_of pass.old).count + 1 }
+        ensures once { IsWhole (part_of pass.old) → MatchBool result (HasTakenAtOnce pass.old pass.new) (HasSeen 0 pass.old pass.new) }
         ensures exact { IsWhole (part_of pass.old) → MatchBool result (0 < worth_of pass.old) (worth_of pass.old ≡ 0) }
     {
         let mut seen = self.value(pass);

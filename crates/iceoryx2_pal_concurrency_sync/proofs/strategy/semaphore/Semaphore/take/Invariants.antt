@@ -1,7 +1,8 @@
-use Rattle.std.proofs.Common.{◌≡◌, ◌+◌, true}
+use Rattle.std.proofs.Common.{◌≡◌, true}
 use Rattle.passes.specs.Parts.{IsWhole}
 use Rattle.passes.specs.Sights.{HasLooked, LooksOnceOrMisses}
-use Rattle.passes.specs.Passes.{part_of, sights_of, HasOnlySeen}
+use Rattle.passes.specs.Passes.{view, part_of, sights_of, HasOnlySeen}
+use Rattle.passes.specs.Views.{looked}
 use Rattle.iceoryx2_pal_concurrency_sync.specs.SemaphoreShown.{worth_of}
 use Rattle.iceoryx2_pal_concurrency_sync.proofs.strategy.semaphore.Semaphore.take.Given as goal
 
@@ -9,9 +10,9 @@ use Rattle.iceoryx2_pal_concurrency_sync.proofs.strategy.semaphore.Semaphore.tak
 abbrev pub invariant-loop : goal.invariant-loop
 invariant-loop g l = record {
   stayed : HasOnlySeen l.fn.pass l.pass;
-  looked : HasLooked (λ n. n ≡ l.seen) 1 (sights_of l.fn.pass) (sights_of l.pass);
+  last : HasLooked (λ n. n ≡ l.seen) 1 (sights_of l.fn.pass) (sights_of l.pass);
   fresh : (sights_of l.pass).fresh ≡ true;
   looks : LooksOnceOrMisses (sights_of l.fn.pass) (sights_of l.pass);
-  once : IsWhole (part_of l.fn.pass) → (sights_of l.pass).count ≡ (sights_of l.fn.pass).count + 1;
+  once : IsWhole (part_of l.fn.pass) → view l.pass ≡ looked (view l.fn.pass) l.seen;
   exact : IsWhole (part_of l.fn.pass) → l.seen ≡ worth_of l.fn.pass;
 }
