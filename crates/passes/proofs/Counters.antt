@@ -20,17 +20,21 @@ looks v = by_look 0 (λ a b. a + b) CounterAgrees v 0 (Looked v) (λ words homes
     all_alone rest blank = omega arith
 
 pub adds : (v : View ℕ) (more : ℕ) → Updates 0 (λ a b. a + b) CounterAgrees v 0 (λ x. (x + more) % 2 ^ 64) (λ _. AddedTo more v)
-adds v more = record { may = λ words homes rest is alone fits. let x : ℕ = get_or words 0 0 in let word = is.word in (
-  wrote v (v.tally + more),
-  refl,
-  count_again words ((x + more) % 2 ^ 64) (v.tally + rest) (v.tally + more + rest) is (omega arith),
-  record { added = refl },
-) }
+adds v more = record {
+  may = λ words homes rest is alone fits. let x : ℕ = get_or words 0 0 in let word = is.word in (
+    wrote v (v.tally + more),
+    refl,
+    count_again words ((x + more) % 2 ^ 64) (v.tally + rest) (v.tally + more + rest) is (omega arith),
+    record { added = refl },
+  );
+}
 
 pub subtracts : (v : View ℕ) (less : ℕ) → less < 2 ^ 64 → less ≤ v.tally → Updates 0 (λ a b. a + b) CounterAgrees v 0 (λ x. (x + (2 ^ 64 - less)) % 2 ^ 64) (λ _. TookFrom less v)
-subtracts v less fits_less enough = record { may = λ words homes rest is alone fits. let x : ℕ = get_or words 0 0 in let word = is.word in (
-  wrote v (v.tally - less),
-  refl,
-  count_again words ((x + (2 ^ 64 - less)) % 2 ^ 64) (v.tally + rest) (v.tally - less + rest) is (omega arith),
-  record { took = omega arith; part = refl },
-) }
+subtracts v less fits_less enough = record {
+  may = λ words homes rest is alone fits. let x : ℕ = get_or words 0 0 in let word = is.word in (
+    wrote v (v.tally - less),
+    refl,
+    count_again words ((x + (2 ^ 64 - less)) % 2 ^ 64) (v.tally + rest) (v.tally - less + rest) is (omega arith),
+    record { took = omega arith; part = refl },
+  );
+}

@@ -1,5 +1,5 @@
 -- Where a text has an output, it is what a run of the text's inputs prints.
-use Rattle.std.proofs.Common.{◌≡◌, ℕ, zero, suc, ◌+◌, ◌-◌, ◌%◌, ◌^◌, ◌≤◌, Bool, true, false, ◌&&◌, cond, leb, List, [], ◌∷◌, ◌++◌, Option, Some, None, Result, Ok, Err, refl, sym, ap, subst, ◌∙◌, append_assoc, arith}
+use Rattle.std.proofs.Common.{◌≡◌, ◌<◌, ℕ, zero, suc, ◌+◌, ◌-◌, ◌%◌, ◌^◌, ◌≤◌, Bool, true, false, ◌&&◌, cond, leb, List, [], ◌∷◌, ◌++◌, Option, Some, None, Result, Ok, Err, refl, sym, ap, subst, ◌∙◌, append_assoc, arith}
 use Rattle.std.proofs.lemmas.Bool.{leb-true}
 use Rattle.std.proofs.lemmas.List.Concat.{flat_map-append}
 use Rattle.steps_events.specs.declared.event.Call.TheVariants as calls
@@ -13,7 +13,10 @@ use Rattle.steps_events.specs.Integers.{u64_arithmetic}
 use Rattle.steps_events.specs.Moves.{Move}
 use Rattle.steps_events.specs.Sights.{goes_on}
 use Rattle.steps_events.specs.Moves.{InputValues}
-use Rattle.sync_steps.specs.Runs.{fault_of, move_of, IsNext}
+use Rattle.steps_events.specs.Past.{call_of, hold_of}
+use Rattle.steps_events.proofs.Steps.{form_of_move}
+use Rattle.sync_steps.specs.Objects.{table_of}
+use Rattle.sync_steps.specs.Runs.{word_in, fault_of, move_of, IsNext}
 use Rattle.steps_events.specs.Runs.{after}
 use Rattle.sync_steps.specs.Runs.{IsRun}
 use Rattle.std.specs.Str.{bytes_eq}
@@ -71,7 +74,13 @@ pub next_is : (o : Object ℕ) (parties : ℕ) (past : List Ev) (party : ℕ) (i
 unfolding event_of
 next_is o parties past party input e values h =
     let a = allowed_by party (fault_of u64_arithmetic o parties past party input) (move_of u64_arithmetic o past party input) e h in
-    record { allowed = a.allowed; values = values; party_is = a.party_is; moved = a.moved }
+    record {
+      allowed = a.allowed;
+      values = values;
+      party_is = a.party_is;
+      form = form_of_move (table_of u64_arithmetic o) (call_of party past) (hold_of (table_of u64_arithmetic o) party past) (word_in u64_arithmetic o past) input _ a.moved;
+      moved = a.moved;
+    }
 
 -- The inputs of a line bring values of the type.
 
@@ -146,7 +155,9 @@ form_makes forms.Choice words h t e =
     subst HasValues (ok_is (tasks.Give (inputs.Choose (Some b.0))) t b.2) value
 form_makes forms.Permits words h t e =
     let b = bind_ok (only_number 0 (2 ^ 64 - 1) words) (λ n. Ok (tasks.Give (inputs.Begin (calls.Post n)))) t e in
-    subst HasValues (ok_is (tasks.Give (inputs.Begin (calls.Post b.0))) t b.2) tt
+    let least = only_small 0 (2 ^ 64 - 1) b.0 words b.1 in
+    let below : b.0 < 2 ^ 64 = omega arith in
+    subst HasValues (ok_is (tasks.Give (inputs.Begin (calls.Post b.0))) t b.2) below
 
 asked_makes : (asked : Option Form) (words : List (List ℕ)) → ((form : Form) → asked ≡ Some form → FormValues form) → MakesValues (task_if asked words)
 asked_makes None words h t e = absurd cc

@@ -88,7 +88,7 @@ abbrev events_0 : List Ev
 events_0 = begun 0 (acts.Begun calls.TryLock) ∷ events_1
 
 is_run : IsRun u64_arithmetic objects.Mutex 2 [] inputs_0 events_0
-is_run = (record { allowed = refl; values = tt; party_is = refl; moved = refl }, (record { allowed = refl; values = tt; party_is = refl; moved = refl }, (record { allowed = refl; values = tt; party_is = refl; moved = refl }, (record { allowed = refl; values = tt; party_is = refl; moved = refl }, (record { allowed = refl; values = tt; party_is = refl; moved = refl }, (record { allowed = refl; values = tt; party_is = refl; moved = refl }, (record { allowed = refl; values = tt; party_is = refl; moved = refl }, tt)))))))
+is_run = (record { allowed = refl; values = tt; party_is = refl; form = refl; moved = refl }, (record { allowed = refl; values = tt; party_is = refl; form = refl; moved = refl }, (record { allowed = refl; values = tt; party_is = refl; form = refl; moved = refl }, (record { allowed = refl; values = tt; party_is = refl; form = refl; moved = refl }, (record { allowed = refl; values = tt; party_is = refl; form = refl; moved = refl }, (record { allowed = refl; values = tt; party_is = refl; form = refl; moved = refl }, (record { allowed = refl; values = tt; party_is = refl; form = refl; moved = refl }, tt)))))))
 
 abbrev lines : List (List ℕ)
 lines = codes "1 try_lock" ∷ codes "1 go" ∷ codes "1 unlock" ∷ codes "1 run" ∷ codes "2 lock" ∷ codes "2 go" ∷ []
