@@ -1,7 +1,6 @@
-pub mod Parts
-pub mod Sights
-pub mod Answers
 pub mod MutexRule
+pub mod MutexTally
 pub mod MutexShown
 pub mod SemaphoreRule
+pub mod SemaphoreTally
 pub mod SemaphoreShown

@@ -5,11 +5,11 @@
 //! wait, and its promises hold if it returns; every other call returns where its closures do.
 #![tactic(auto)]
 
-pub mod part;
 pub mod strategy;
 #[cfg(test)]
 mod tests;
 mod wait;
 
+pub use passes::WaitResult;
 pub use sync_steps::{SPIN_REPETITIONS, WaitAction, atomic, steps};
-pub use wait::{WaitResult, WaitWord};
+pub use wait::WaitWord;

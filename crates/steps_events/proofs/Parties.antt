@@ -20,7 +20,7 @@ use Rattle.steps_events.specs.Arithmetic.{Arithmetic}
 use Rattle.steps_events.specs.Rows.{carried_out, value_told, outcome_of, place_after}
 use Rattle.steps_events.specs.Tables.{Table}
 use Rattle.steps_events.specs.Past.{PendingCall, call_of, call_after, call_going_on, hold_of, hold_after, word_in, latest_outcome, event}
-use Rattle.steps_events.specs.Moves.{Move, stage_of, next_stage, step_at, move_of, fault_at, fault_of, hold_fault, begin_fault, go_fault, answer_fault, choose_fault, IsNext}
+use Rattle.steps_events.specs.Moves.{Move, stage_of, next_stage, step_at, step_of, move_of, fault_at, fault_of, hold_fault, begin_fault, go_fault, answer_fault, choose_fault, IsNext}
 use Rattle.steps_events.specs.Runs.{IsPast}
 use Rattle.steps_events.proofs.Holds.{call_of_same, call_of_other, hold_of_same, hold_of_other}
 use Rattle.steps_events.proofs.Steps.{by_move, carried_goes_on, carried_stage}
@@ -36,7 +36,7 @@ fault_at_none {T} t parties past party input allowed = by_test (nat_lt party par
     by_test false fault is = absurd cc
 
 -- an event of a party keeps what holds of each party, if it keeps it of its own
-one_more :
+pub one_more :
     {T P : Type 0} (t : Table T P) (R : Option (PendingCall T) → Option HoldKind → Type 0) (past : List (Event T)) (e : Event T) → ((q : ℕ) → R (call_of q past) (hold_of t q past)) →
     R (call_after e.then e (call_of e.party past)) (hold_after t e.act (call_of e.party past) (hold_of t e.party past)) → (party : ℕ) → R (call_of party (e ∷ past)) (hold_of t party (e ∷ past))
 one_more {T} t R past e before own party = by_party (eqb_tells e.party party)
@@ -193,3 +193,41 @@ pub at_place :
 at_place {T} z t parties At kept past run party c place called stage =
     let here : IsAtPlace t At (Some c) (hold_of t party past) = subst (λ (k : Option (PendingCall T)). IsAtPlace t At k (hold_of t party past)) called (each_call z t parties At kept past run party) in
     subst (λ p. At p c (hold_of t party past)) (some_same here.0 place (sym here.1 ∙ stage)) here.2
+
+-- Of a run, whatever is kept: each call under way is at a place, so an input that is not refused gives an event.
+
+abbrev pub Anywhere : {T P : Type 0} → P → PendingCall T → Option HoldKind → Type 0
+Anywhere place c hold = Unit {0}
+
+pub anywhere_kept : {T P : Type 0} (t : Table T P) → IsKept t Anywhere
+anywhere_kept t =
+    record {
+      begins = λ call place hold is allowed. tt;
+      steps = λ place c hold memory number next at free is. tt;
+      answers = λ place c hold action number at waits. tt;
+      chooses = λ place c hold choice number at stands. tt;
+    }
+
+-- each call under way is at a place
+abbrev pub HavePlaces : {T P : Type 0} → Table T P → List (Event T) → Type 0
+HavePlaces t past = (party : ℕ) → IsAtPlace t Anywhere (call_of party past) (hold_of t party past)
+
+pub next_has_places :
+    {T P : Type 0} (z : Arithmetic T) (t : Table T P) (parties : ℕ) (past : List (Event T)) (party : ℕ) (input : Input T) (e : Event T) →
+    HavePlaces t past → IsNext z t parties past party input e → HavePlaces t (e ∷ past)
+next_has_places z t parties past party input e have next =
+    let own = subst (λ p. IsNext z t parties past p input e) (sym next.party_is) next in
+    one_more t (IsAtPlace t Anywhere) past e have
+    (moved_at t Anywhere (anywhere_kept t) (call_of e.party past) (hold_of t e.party past) (word_in t past) input e.party _ (fault_at_none t parties past e.party input own.allowed) own.moved (have e.party))
+
+pub gives_event :
+    {T P : Type 0} (t : Table T P) (parties : ℕ) (past : List (Event T)) (party : ℕ) (input : Input T) → HavePlaces t past → fault_of t parties past party input ≡ None →
+    move_of t (call_of party past) (hold_of t party past) (word_in t past) input ≡ None → ⊥
+gives_event {T} {P} t parties past party input have allowed none = by_input (call_of party past) (hold_of t party past) (have party) input (fault_at_none t parties past party input allowed) none
+  where
+    by_input : (pending : Option (PendingCall T)) (hold : Option HoldKind) → IsAtPlace t Anywhere pending hold → (i : Input T) → fault_at t pending hold i ≡ None → move_of t pending hold (word_in t past) i ≡ None → ⊥
+    by_input pending hold at (inputs.Begin call) free no_move = absurd cc
+    by_input pending hold at (inputs.Answer action) free no_move = absurd cc
+    by_input pending hold at (inputs.Choose choice) free no_move = absurd cc
+    by_input None hold at inputs.Go free no_move = absurd cc
+    by_input (Some c) hold at inputs.Go free no_move = let no : step_of t (Some at.0) hold (word_in t past) ≡ None = subst (λ (s : Option P). step_of t s hold (word_in t past) ≡ None) at.1 no_move in absurd cc

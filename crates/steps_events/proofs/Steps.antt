@@ -1,5 +1,5 @@
 -- What an event is, at any table: by its input, with the form of its input, and telling what the memory holds.
-use Rattle.std.proofs.Common.{◌≡◌, refl, ◌∙◌, subst, ℕ, Bool, true, false, cond, ◌&&◌, List, [], ◌∷◌, Option, Some, None}
+use Rattle.std.proofs.Common.{◌≡◌, refl, sym, ◌∙◌, subst, ℕ, Bool, true, false, cond, ◌&&◌, List, [], ◌∷◌, Option, Some, None}
 use Rattle.std.specs.Prelude.{not}
 use Rattle.steps_events.specs.declared.WaitAction.{WaitAction}
 use Rattle.steps_events.specs.declared.event.Word.{Word}
@@ -16,7 +16,7 @@ use Rattle.steps_events.specs.Arithmetic.{Arithmetic}
 use Rattle.steps_events.specs.Rows.{carried_out, value_told, place_after}
 use Rattle.steps_events.specs.Tables.{Table}
 use Rattle.steps_events.specs.Past.{PendingCall, same_word, word_after, call_of, call_going_on, hold_of, word_in}
-use Rattle.steps_events.specs.Moves.{Move, stage_of, stage_after, step_at, step_of, move_of, is_step}
+use Rattle.steps_events.specs.Moves.{HasForm, Move, stage_of, stage_after, step_at, step_of, move_of, is_step}
 use Rattle.steps_events.specs.Runs.{IsPast}
 use Rattle.steps_events.specs.Laws.{IsTold, TellsMemory, is_apart, Lacks}
 
@@ -144,3 +144,15 @@ lacked_word {T} z t parties word lacks (e ∷ past) run =
     (λ c place _ same at. apart_keeps word (t.intent place (hold_of t e.party past)) (word_in t past) (word_in t past word) (lacks place (hold_of t e.party past)))
     run.0.1.moved
     ∙ lacked_word z t parties word lacks past run.1
+
+-- Form: an event has the form of its input.
+pub form_of_move :
+    {T P : Type 0} (t : Table T P) (pending : Option (PendingCall T)) (hold : Option HoldKind) (memory : Word → ℕ) (input : Input T) (m : Move T) →
+    move_of t pending hold memory input ≡ Some m → HasForm input m.act
+form_of_move {T} t pending hold memory input m is =
+    by_move t pending hold memory (λ (k : Option (PendingCall T)) (x : Move T). HasForm input x.act) input m
+    (λ call same. subst (λ (i : Input T). HasForm i (acts.Begun call)) (sym same) refl)
+    (λ action same. subst (λ (i : Input T). HasForm i (acts.Answered action)) (sym same) refl)
+    (λ choice same. subst (λ (i : Input T). HasForm i (acts.Chosen choice)) (sym same) refl)
+    (λ c place same _ at. subst (λ (i : Input T). HasForm i (step_at t place hold memory).act) (sym same) (carried_is_step (t.intent place hold) memory))
+    is

@@ -1,7 +1,7 @@
 -- A name is found in the first of two tables that has it.
 use Rattle.std.proofs.Common.{◌≡◌, ℕ, Bool, true, false, cond, List, [], ◌∷◌, ◌++◌, Option, Some, None, refl, sym, ap, ◌∙◌}
 use Rattle.std.specs.Str.{bytes_eq}
-use Rattle.sync_steps.specs.declared.steps.event.Object.{Object}
+use Rattle.steps_events.specs.declared.event.Object.{Object}
 use Rattle.sync_play.specs.declared.command.Form.{Form}
 use Rattle.sync_play.specs.Command.{find, verbs, calls_of, task_if, task_of}
 

@@ -1,15 +1,17 @@
 -- A text's fault is that of its first refused line, and every refused line is told.
 use Rattle.std.proofs.Common.{◌≡◌, ℕ, zero, suc, ◌+◌, Bool, true, false, cond, List, [], ◌∷◌, ◌++◌, length, Option, Some, None, Result, Ok, Err, ◌⊎◌, inl, inr, refl, sym, ap, subst, ◌∙◌, arith}
-use Rattle.sync_steps.specs.declared.steps.event.Event.{Event}
-use Rattle.sync_steps.specs.declared.steps.event.Input.{Input}
-use Rattle.sync_steps.specs.declared.steps.event.Input.TheVariants as inputs
-use Rattle.sync_steps.specs.declared.steps.event.Object.{Object}
-use Rattle.sync_steps.specs.declared.steps.event.StepFault.{StepFault}
-use Rattle.sync_steps.specs.Integers.{u64_arithmetic}
-use Rattle.sync_steps.specs.Moves.{Move, goes_on}
-use Rattle.sync_steps.specs.Next.{fault_of, moved_of, IsNext, InputValues}
-use Rattle.sync_steps.specs.Past.{call_of, holds_of, hold_among, word_in}
-use Rattle.sync_steps.specs.Run.{IsRun, after}
+use Rattle.steps_events.specs.declared.event.Event.{Event}
+use Rattle.steps_events.specs.declared.event.Input.{Input}
+use Rattle.steps_events.specs.declared.event.Input.TheVariants as inputs
+use Rattle.steps_events.specs.declared.event.Object.{Object}
+use Rattle.steps_events.specs.declared.event.StepFault.{StepFault}
+use Rattle.steps_events.specs.Integers.{u64_arithmetic}
+use Rattle.steps_events.specs.Moves.{Move}
+use Rattle.steps_events.specs.Sights.{goes_on}
+use Rattle.steps_events.specs.Moves.{InputValues}
+use Rattle.sync_steps.specs.Runs.{fault_of, move_of, IsNext}
+use Rattle.steps_events.specs.Runs.{after}
+use Rattle.sync_steps.specs.Runs.{IsRun}
 use Rattle.sync_play.specs.declared.fault.LineFault.{LineFault}
 use Rattle.sync_play.specs.declared.fault.LineFault.TheVariants as faults
 use Rattle.sync_play.specs.declared.header.Header.{Header}
@@ -50,7 +52,7 @@ inner (Ok x) f fault e = absurd cc
 
 record InputRefused (o : Object ℕ) (parties : ℕ) (past : List Ev) (party : ℕ) (input : Input ℕ) (fault : LineFault) : Type 0 where
   refusal : StepFault
-  refused : fault_of o parties past party input ≡ Some refusal
+  refused : fault_of u64_arithmetic o parties past party input ≡ Some refusal
   word : fault ≡ line_fault_of refusal
 
 refused_by : (party : ℕ) (refused : Option StepFault) (move : Option (Move ℕ)) (fault : LineFault) → (refused ≡ None → move ≡ None → ⊥)
@@ -62,8 +64,8 @@ refused_by party None None fault moves e = absurd (moves refl refl)
 input_refused : (o : Object ℕ) (parties : ℕ) (past : List Ev) (party : ℕ) (input : Input ℕ) (fault : LineFault) → AreHad o past → event_of o parties past party input ≡ Err fault → InputRefused o parties past party input fault
 unfolding event_of
 input_refused o parties past party input fault had e =
-    let r = refused_by party (fault_of o parties past party input)
-    (moved_of u64_arithmetic o (call_of party past) (hold_among party (holds_of o past)) (word_in u64_arithmetic o past) input) fault
+    let r = refused_by party (fault_of u64_arithmetic o parties past party input)
+    (move_of u64_arithmetic o past party input) fault
     (λ allowed none. allowed_moves o parties past party input had allowed none) e in
     record { refusal = r.0; refused = r.1; word = r.2 }
 
@@ -244,12 +246,12 @@ no_steps_are party [] others turn e = cc
 no_steps_are party (t ∷ before) others turn e = cc
 
 run_stops : (o : Object ℕ) (parties : ℕ) (past : List Ev) (party limit : ℕ) (before others : List (ℕ × Input ℕ)) (turn : ℕ × Input ℕ) (events : List Ev) (refusal : StepFault) → GoOn events → steps_of limit party ≡ before ++ (turn ∷ others)
-    → IsRun u64_arithmetic o parties past before events → fault_of o parties (after events past) turn.0 turn.1 ≡ Some refusal → run_of o parties limit past party ≡ Err (line_fault_of refusal)
+    → IsRun u64_arithmetic o parties past before events → fault_of u64_arithmetic o parties (after events past) turn.0 turn.1 ≡ Some refusal → run_of o parties limit past party ≡ Err (line_fault_of refusal)
 unfolding run_of
 run_stops o parties past party zero before others turn events refusal on same run refused = absurd (no_steps_are party before others turn same)
 run_stops o parties past party (suc limit) [] others turn [] refusal on same run refused =
     let first = stepped party limit turn others same in
-    let known : fault_of o parties past party inputs.Go ≡ Some refusal = subst (λ (t : ℕ × Input ℕ). fault_of o parties past t.0 t.1 ≡ Some refusal) (sym first.0) refused in
+    let known : fault_of u64_arithmetic o parties past party inputs.Go ≡ Some refusal = subst (λ (t : ℕ × Input ℕ). fault_of u64_arithmetic o parties past t.0 t.1 ≡ Some refusal) (sym first.0) refused in
     rw (event_refused o parties past party inputs.Go refusal known) refl
 run_stops o parties past party (suc limit) [] others turn (e ∷ events) refusal on same run refused = absurd run
 run_stops o parties past party (suc limit) (t ∷ before) others turn [] refusal on same run refused = absurd run

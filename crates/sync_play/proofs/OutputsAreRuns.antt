@@ -1,19 +1,24 @@
 -- Where a text has an output, it is what a run of the text's inputs prints.
-use Rattle.std.proofs.Common.{◌≡◌, ℕ, zero, suc, ◌+◌, ◌-◌, ◌%◌, ◌^◌, ◌≤◌, Bool, true, false, ◌&&◌, cond, leb, List, [], ◌∷◌, ◌++◌, Option, Some, None, Result, Ok, Err, refl, sym, ap, subst, ◌∙◌, append_assoc, arith}
+use Rattle.std.proofs.Common.{◌≡◌, ◌<◌, ℕ, zero, suc, ◌+◌, ◌-◌, ◌%◌, ◌^◌, ◌≤◌, Bool, true, false, ◌&&◌, cond, leb, List, [], ◌∷◌, ◌++◌, Option, Some, None, Result, Ok, Err, refl, sym, ap, subst, ◌∙◌, append_assoc, arith}
 use Rattle.std.proofs.lemmas.Bool.{leb-true}
 use Rattle.std.proofs.lemmas.List.Concat.{flat_map-append}
-use Rattle.sync_steps.specs.declared.steps.event.Call.TheVariants as calls
-use Rattle.sync_steps.specs.declared.steps.event.Event.{Event}
-use Rattle.sync_steps.specs.declared.steps.event.Input.{Input}
-use Rattle.sync_steps.specs.declared.steps.event.Input.TheVariants as inputs
-use Rattle.sync_steps.specs.declared.steps.event.Object.{Object}
-use Rattle.sync_steps.specs.declared.steps.event.Object.TheVariants as objects
-use Rattle.sync_steps.specs.declared.steps.event.StepFault.{StepFault}
-use Rattle.sync_steps.specs.Integers.{u64_arithmetic}
-use Rattle.sync_steps.specs.Moves.{Move, goes_on}
-use Rattle.sync_steps.specs.Next.{fault_of, moved_of, IsNext, InputValues}
-use Rattle.sync_steps.specs.Past.{call_of, holds_of, hold_among, word_in}
-use Rattle.sync_steps.specs.Run.{IsRun, after}
+use Rattle.steps_events.specs.declared.event.Call.TheVariants as calls
+use Rattle.steps_events.specs.declared.event.Event.{Event}
+use Rattle.steps_events.specs.declared.event.Input.{Input}
+use Rattle.steps_events.specs.declared.event.Input.TheVariants as inputs
+use Rattle.steps_events.specs.declared.event.Object.{Object}
+use Rattle.steps_events.specs.declared.event.Object.TheVariants as objects
+use Rattle.steps_events.specs.declared.event.StepFault.{StepFault}
+use Rattle.steps_events.specs.Integers.{u64_arithmetic}
+use Rattle.steps_events.specs.Moves.{Move}
+use Rattle.steps_events.specs.Sights.{goes_on}
+use Rattle.steps_events.specs.Moves.{InputValues}
+use Rattle.steps_events.specs.Past.{call_of, hold_of}
+use Rattle.steps_events.proofs.Steps.{form_of_move}
+use Rattle.sync_steps.specs.Objects.{table_of}
+use Rattle.sync_steps.specs.Runs.{word_in, fault_of, move_of, IsNext}
+use Rattle.steps_events.specs.Runs.{after}
+use Rattle.sync_steps.specs.Runs.{IsRun}
 use Rattle.std.specs.Str.{bytes_eq}
 use Rattle.sync_play.specs.declared.command.Form.{Form}
 use Rattle.sync_play.specs.declared.command.Form.TheVariants as forms
@@ -56,20 +61,26 @@ ok_at_line n (Err fault) x e = absurd cc
 record IsAllowed (party : ℕ) (fault : Option StepFault) (move : Option (Move ℕ)) (e : Ev) : Type 0 where
   allowed : fault ≡ None
   party_is : e.party ≡ party
-  moved : move ≡ Some (record { act = e.act; stand = e.then })
+  moved : move ≡ Some (record { act = e.act; outcome = e.then })
 
 allowed_by : (party : ℕ) (fault : Option StepFault) (move : Option (Move ℕ)) (e : Ev) → unless_refused fault (event_by party move) ≡ Ok e → IsAllowed party fault move e
 allowed_by party (Some fault) move e h = absurd cc
 allowed_by party None None e h = absurd cc
 allowed_by party None (Some m) e h =
-    let made : Ev = record { party = party; act = m.act; «then» = m.stand } in
+    let made : Ev = record { party = party; act = m.act; «then» = m.outcome } in
     subst (λ (x : Ev). IsAllowed party None (Some m) x) (same_ok {E = LineFault} made e h) (record { allowed = refl; party_is = refl; moved = refl })
 
 pub next_is : (o : Object ℕ) (parties : ℕ) (past : List Ev) (party : ℕ) (input : Input ℕ) (e : Ev) → InputValues u64_arithmetic input → event_of o parties past party input ≡ Ok e → IsNext u64_arithmetic o parties past party input e
 unfolding event_of
 next_is o parties past party input e values h =
-    let a = allowed_by party (fault_of o parties past party input) (moved_of u64_arithmetic o (call_of party past) (hold_among party (holds_of o past)) (word_in u64_arithmetic o past) input) e h in
-    record { allowed = a.allowed; values = values; party_is = a.party_is; moved = a.moved }
+    let a = allowed_by party (fault_of u64_arithmetic o parties past party input) (move_of u64_arithmetic o past party input) e h in
+    record {
+      allowed = a.allowed;
+      values = values;
+      party_is = a.party_is;
+      form = form_of_move (table_of u64_arithmetic o) (call_of party past) (hold_of (table_of u64_arithmetic o) party past) (word_in u64_arithmetic o past) input _ a.moved;
+      moved = a.moved;
+    }
 
 -- The inputs of a line bring values of the type.
 
@@ -144,7 +155,9 @@ form_makes forms.Choice words h t e =
     subst HasValues (ok_is (tasks.Give (inputs.Choose (Some b.0))) t b.2) value
 form_makes forms.Permits words h t e =
     let b = bind_ok (only_number 0 (2 ^ 64 - 1) words) (λ n. Ok (tasks.Give (inputs.Begin (calls.Post n)))) t e in
-    subst HasValues (ok_is (tasks.Give (inputs.Begin (calls.Post b.0))) t b.2) tt
+    let least = only_small 0 (2 ^ 64 - 1) b.0 words b.1 in
+    let below : b.0 < 2 ^ 64 = omega arith in
+    subst HasValues (ok_is (tasks.Give (inputs.Begin (calls.Post b.0))) t b.2) below
 
 asked_makes : (asked : Option Form) (words : List (List ℕ)) → ((form : Form) → asked ≡ Some form → FormValues form) → MakesValues (task_if asked words)
 asked_makes None words h t e = absurd cc

@@ -2,20 +2,20 @@
 use Rattle.std.proofs.Common.{◌≡◌, ℕ, true, List, [], ◌∷◌, length, Some, Result, Ok, Err, refl, sym, ap, ◌∙◌, arith}
 use Rattle.std.proofs.lemmas.Fmt.{decimal_digit}
 use Rattle.std.specs.Prelude.{codes}
-use Rattle.sync_steps.specs.declared.steps.event.Act.{Act}
-use Rattle.sync_steps.specs.declared.steps.event.Act.TheVariants as acts
-use Rattle.sync_steps.specs.declared.steps.event.Answer.TheVariants as answers
-use Rattle.sync_steps.specs.declared.steps.event.Call.TheVariants as calls
-use Rattle.sync_steps.specs.declared.steps.event.Event.{Event}
-use Rattle.sync_steps.specs.declared.steps.event.Input.{Input}
-use Rattle.sync_steps.specs.declared.steps.event.Input.TheVariants as inputs
-use Rattle.sync_steps.specs.declared.steps.event.Object.TheVariants as objects
-use Rattle.sync_steps.specs.declared.steps.event.Then.{Then}
-use Rattle.sync_steps.specs.declared.steps.event.Then.TheVariants as thens
-use Rattle.sync_steps.specs.declared.steps.event.Wake.TheVariants as wakes
-use Rattle.sync_steps.specs.declared.steps.event.Word.TheVariants as words
-use Rattle.sync_steps.specs.Integers.{u64_arithmetic}
-use Rattle.sync_steps.specs.Run.{IsRun}
+use Rattle.steps_events.specs.declared.event.Act.{Act}
+use Rattle.steps_events.specs.declared.event.Act.TheVariants as acts
+use Rattle.steps_events.specs.declared.event.Answer.TheVariants as answers
+use Rattle.steps_events.specs.declared.event.Call.TheVariants as calls
+use Rattle.steps_events.specs.declared.event.Event.{Event}
+use Rattle.steps_events.specs.declared.event.Input.{Input}
+use Rattle.steps_events.specs.declared.event.Input.TheVariants as inputs
+use Rattle.steps_events.specs.declared.event.Object.TheVariants as objects
+use Rattle.steps_events.specs.declared.event.Then.{Then}
+use Rattle.steps_events.specs.declared.event.Then.TheVariants as thens
+use Rattle.steps_events.specs.declared.event.Wake.TheVariants as wakes
+use Rattle.steps_events.specs.declared.event.Word.TheVariants as words
+use Rattle.steps_events.specs.Integers.{u64_arithmetic}
+use Rattle.sync_steps.specs.Runs.{IsRun}
 use Rattle.sync_play.specs.declared.command.Task.TheVariants as tasks
 use Rattle.sync_play.specs.Player.{steps_of}
 use Rattle.sync_play.specs.Fault.{FaultAt}
@@ -88,7 +88,7 @@ abbrev events_0 : List Ev
 events_0 = begun 0 (acts.Begun calls.TryLock) ∷ events_1
 
 is_run : IsRun u64_arithmetic objects.Mutex 2 [] inputs_0 events_0
-is_run = (record { allowed = refl; values = tt; party_is = refl; moved = refl }, (record { allowed = refl; values = tt; party_is = refl; moved = refl }, (record { allowed = refl; values = tt; party_is = refl; moved = refl }, (record { allowed = refl; values = tt; party_is = refl; moved = refl }, (record { allowed = refl; values = tt; party_is = refl; moved = refl }, (record { allowed = refl; values = tt; party_is = refl; moved = refl }, (record { allowed = refl; values = tt; party_is = refl; moved = refl }, tt)))))))
+is_run = (record { allowed = refl; values = tt; party_is = refl; form = refl; moved = refl }, (record { allowed = refl; values = tt; party_is = refl; form = refl; moved = refl }, (record { allowed = refl; values = tt; party_is = refl; form = refl; moved = refl }, (record { allowed = refl; values = tt; party_is = refl; form = refl; moved = refl }, (record { allowed = refl; values = tt; party_is = refl; form = refl; moved = refl }, (record { allowed = refl; values = tt; party_is = refl; form = refl; moved = refl }, (record { allowed = refl; values = tt; party_is = refl; form = refl; moved = refl }, tt)))))))
 
 abbrev lines : List (List ℕ)
 lines = codes "1 try_lock" ∷ codes "1 go" ∷ codes "1 unlock" ∷ codes "1 run" ∷ codes "2 lock" ∷ codes "2 go" ∷ []

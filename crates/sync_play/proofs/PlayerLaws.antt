@@ -1,16 +1,17 @@
 -- Each event that the player tells is the first that its command gives.
 use Rattle.std.proofs.Common.{◌≡◌, ℕ, zero, suc, ◌-◌, ◌<◌, Bool, true, false, cond, List, [], ◌∷◌, ◌++◌, length, Option, Some, None, Result, Ok, Err, refl, sym, ap, subst, ◌∙◌, append_assoc, arith}
-use Rattle.sync_steps.specs.declared.steps.event.Event.{Event}
-use Rattle.sync_steps.specs.declared.steps.event.Input.{Input}
-use Rattle.sync_steps.specs.declared.steps.event.Input.TheVariants as inputs
-use Rattle.sync_steps.specs.declared.steps.event.Object.{Object}
-use Rattle.sync_steps.specs.declared.steps.event.StepFault.{StepFault}
-use Rattle.sync_steps.specs.Integers.{u64_arithmetic}
-use Rattle.sync_steps.specs.Moves.{goes_on}
-use Rattle.sync_steps.specs.Next.{fault_of, IsNext}
-use Rattle.sync_steps.specs.Run.{IsRun, after}
-use Rattle.sync_steps.specs.Standing.{Standing, StandsAt}
-use Rattle.sync_steps.specs.Stepped.{Steps, RefusesStep}
+use Rattle.steps_events.specs.declared.event.Event.{Event}
+use Rattle.steps_events.specs.declared.event.Input.{Input}
+use Rattle.steps_events.specs.declared.event.Input.TheVariants as inputs
+use Rattle.steps_events.specs.declared.event.Object.{Object}
+use Rattle.steps_events.specs.declared.event.StepFault.{StepFault}
+use Rattle.steps_events.specs.Integers.{u64_arithmetic}
+use Rattle.steps_events.specs.Sights.{goes_on}
+use Rattle.sync_steps.specs.Runs.{fault_of, IsNext}
+use Rattle.steps_events.specs.Runs.{after}
+use Rattle.sync_steps.specs.Runs.{IsRun}
+use Rattle.sync_steps.specs.Machine.{Configuration, StandsAt}
+use Rattle.sync_steps.specs.Machine.{Steps, RefusesStep}
 use Rattle.sync_play.specs.declared.command.Command.{Command}
 use Rattle.sync_play.specs.declared.command.Task.{Task}
 use Rattle.sync_play.specs.declared.command.Task.TheVariants as tasks
@@ -45,7 +46,7 @@ unfolding event_of
 event_is o parties past party input e n =
     rw (n.allowed, n.moved) (ap (λ (p : ℕ). Ok (record { party = p; act = e.act; «then» = e.then })) (sym n.party_is))
 
-pub event_refused : (o : Object ℕ) (parties : ℕ) (past : List Ev) (party : ℕ) (input : Input ℕ) (fault : StepFault) → fault_of o parties past party input ≡ Some fault → event_of o parties past party input ≡ Err (line_fault_of fault)
+pub event_refused : (o : Object ℕ) (parties : ℕ) (past : List Ev) (party : ℕ) (input : Input ℕ) (fault : StepFault) → fault_of u64_arithmetic o parties past party input ≡ Some fault → event_of o parties past party input ≡ Err (line_fault_of fault)
 unfolding event_of
 event_refused o parties past party input fault e = rw e refl
 
@@ -98,7 +99,7 @@ events_then o parties past (turn ∷ schedule) more events h =
 
 -- The first refused input is the fault.
 pub run_refused : (o : Object ℕ) (parties : ℕ) (past : List Ev) (schedule more : List (ℕ × Input ℕ)) (turn : ℕ × Input ℕ) (events : List Ev) (fault : StepFault) → IsRun u64_arithmetic o parties past schedule events
-    → fault_of o parties (after events past) turn.0 turn.1 ≡ Some fault → events_of o parties past (schedule ++ (turn ∷ more)) ≡ Err (line_fault_of fault)
+    → fault_of u64_arithmetic o parties (after events past) turn.0 turn.1 ≡ Some fault → events_of o parties past (schedule ++ (turn ∷ more)) ≡ Err (line_fault_of fault)
 unfolding events_of
 run_refused o parties past schedule more turn events fault run refused =
     events_then o parties past schedule (turn ∷ more) events (run_is o parties past schedule events run) ∙ rw (event_refused o parties (after events past) turn.0 turn.1 fault refused) refl
@@ -185,14 +186,14 @@ task_refused o parties past party (tasks.Run (suc limit)) input fault next is =
 pub next_is : (read : Result (Option (Input ℕ)) LineFault) (told known : Option (Input ℕ)) → Ok told ≡ read → told ≡ known → read ≡ Ok known
 next_is read told known e same = sym e ∙ ap (λ (x : Option (Input ℕ)). Ok x) same
 
-pub turn_made : (o : Object ℕ) (parties : ℕ) (past : List Ev) (old new : Command) (input : Input ℕ) (e : Ev) (machine machine' : Standing ℕ) → next_input old.task ≡ Ok (Some input) → new.party ≡ old.party → new.task ≡ left_after (goes_on e.then) old.task
+pub turn_made : (o : Object ℕ) (parties : ℕ) (past : List Ev) (old new : Command) (input : Input ℕ) (e : Ev) (machine machine' : Configuration ℕ) → next_input old.task ≡ Ok (Some input) → new.party ≡ old.party → new.task ≡ left_after (goes_on e.then) old.task
     → StandsAt u64_arithmetic o parties past machine → Steps u64_arithmetic machine old.party input e machine' → IsTurn o parties past old new machine' (Ok (Some e))
 turn_made o parties past old new input e machine machine' next party left stands steps =
     let s = steps o parties past stands in
     let is = event_is o parties past old.party input e s.0 in
     record { input = input; asked = next; event = is; others = rw (party, left) (task_turn o parties past old.party old.task input e next is); stands = s.1 }
 
-pub turn_refused : (o : Object ℕ) (parties : ℕ) (past : List Ev) (old : Command) (input : Input ℕ) (fault : StepFault) (machine : Standing ℕ) → next_input old.task ≡ Ok (Some input)
+pub turn_refused : (o : Object ℕ) (parties : ℕ) (past : List Ev) (old : Command) (input : Input ℕ) (fault : StepFault) (machine : Configuration ℕ) → next_input old.task ≡ Ok (Some input)
     → StandsAt u64_arithmetic o parties past machine → RefusesStep u64_arithmetic machine old.party input fault → command_events o parties past old ≡ Err (line_fault_of fault)
 turn_refused o parties past old input fault machine next stands refuses =
     task_refused o parties past old.party old.task input (line_fault_of fault) next (event_refused o parties past old.party input fault (refuses o parties past stands))

@@ -1,12 +1,13 @@
 -- What a run of a text's inputs prints is the text's output.
 use Rattle.std.proofs.Common.{◌≡◌, ℕ, zero, suc, ◌+◌, ◌≤◌, List, [], ◌∷◌, ◌++◌, length, Option, Some, None, Ok, refl, sym, ap, subst, ◌∙◌, append_assoc, arith}
 use Rattle.std.proofs.lemmas.List.Concat.{flat_map-append}
-use Rattle.sync_steps.specs.declared.steps.event.Event.{Event}
-use Rattle.sync_steps.specs.declared.steps.event.Input.{Input}
-use Rattle.sync_steps.specs.declared.steps.event.Input.TheVariants as inputs
-use Rattle.sync_steps.specs.declared.steps.event.Object.{Object}
-use Rattle.sync_steps.specs.Integers.{u64_arithmetic}
-use Rattle.sync_steps.specs.Run.{IsRun, after}
+use Rattle.steps_events.specs.declared.event.Event.{Event}
+use Rattle.steps_events.specs.declared.event.Input.{Input}
+use Rattle.steps_events.specs.declared.event.Input.TheVariants as inputs
+use Rattle.steps_events.specs.declared.event.Object.{Object}
+use Rattle.steps_events.specs.Integers.{u64_arithmetic}
+use Rattle.steps_events.specs.Runs.{after}
+use Rattle.sync_steps.specs.Runs.{IsRun}
 use Rattle.sync_play.specs.declared.command.Command.{Command}
 use Rattle.sync_play.specs.declared.command.Task.{Task}
 use Rattle.sync_play.specs.declared.command.Task.TheVariants as tasks

@@ -1,8 +1,8 @@
 -- What is wrong with a text, how a step that may fail goes on, and what became of a run of the program.
 use Rattle.std.specs.Prelude.{◌≡◌, ℕ, List, ◌++◌, Result, Ok, Err, codes}
 use Rattle.std.specs.Fmt.{decimal}
-use Rattle.sync_steps.specs.declared.steps.event.StepFault.{StepFault}
-use Rattle.sync_steps.specs.declared.steps.event.StepFault.TheVariants as steps
+use Rattle.steps_events.specs.declared.event.StepFault.{StepFault}
+use Rattle.steps_events.specs.declared.event.StepFault.TheVariants as steps
 use Rattle.sync_play.specs.declared.fault.LineFault.{LineFault}
 use Rattle.sync_play.specs.declared.fault.LineFault.TheVariants as faults
 use Rattle.sync_play.specs.declared.fault.RunFault.{RunFault}

@@ -1,7 +1,7 @@
 -- What the first line names: the object and its parties.
 use Rattle.std.specs.Prelude.{ℕ, ◌-◌, ◌^◌, if◌then◌else◌, List, [], ◌∷◌, Result, Ok, Err, codes}
 use Rattle.std.specs.Str.{bytes_eq}
-use Rattle.sync_steps.specs.declared.steps.event.Object.TheVariants as objects
+use Rattle.steps_events.specs.declared.event.Object.TheVariants as objects
 use Rattle.sync_play.specs.declared.fault.LineFault.{LineFault}
 use Rattle.sync_play.specs.declared.fault.LineFault.TheVariants as faults
 use Rattle.sync_play.specs.declared.header.Header.{Header}

@@ -1,13 +1,14 @@
 -- A text as a run: its inputs, line by line, and their events.
 use Rattle.std.specs.Prelude.{◌≡◌, ℕ, ◌+◌, ◌≤◌, true, false, List, [], ◌∷◌, ◌++◌, length, Option, Some, None, Ok, Err, ◌⊎◌, codes}
-use Rattle.sync_steps.specs.declared.steps.event.Event.{Event}
-use Rattle.sync_steps.specs.declared.steps.event.Input.{Input}
-use Rattle.sync_steps.specs.declared.steps.event.Object.{Object}
-use Rattle.sync_steps.specs.declared.steps.event.StepFault.{StepFault}
-use Rattle.sync_steps.specs.Integers.{u64_arithmetic}
-use Rattle.sync_steps.specs.Moves.{goes_on}
-use Rattle.sync_steps.specs.Next.{fault_of}
-use Rattle.sync_steps.specs.Run.{IsRun, after}
+use Rattle.steps_events.specs.declared.event.Event.{Event}
+use Rattle.steps_events.specs.declared.event.Input.{Input}
+use Rattle.steps_events.specs.declared.event.Object.{Object}
+use Rattle.steps_events.specs.declared.event.StepFault.{StepFault}
+use Rattle.steps_events.specs.Integers.{u64_arithmetic}
+use Rattle.steps_events.specs.Sights.{goes_on}
+use Rattle.sync_steps.specs.Runs.{fault_of}
+use Rattle.steps_events.specs.Runs.{after}
+use Rattle.sync_steps.specs.Runs.{IsRun}
 use Rattle.sync_play.specs.declared.fault.LineFault.{LineFault}
 use Rattle.sync_play.specs.declared.fault.LineFault.TheVariants as faults
 use Rattle.sync_play.specs.declared.command.Command.{Command}
@@ -75,7 +76,7 @@ pub record IsRefusedAt (o : Object ℕ) (parties : ℕ) (past : List (Event ℕ)
   pub schedule_is : schedule ≡ before ++ (turn ∷ others)
   pub run : IsRun u64_arithmetic o parties past before events
   pub refusal : StepFault
-  pub refused : fault_of o parties (after events past) turn.0 turn.1 ≡ Some refusal
+  pub refused : fault_of u64_arithmetic o parties (after events past) turn.0 turn.1 ≡ Some refusal
   pub word : fault ≡ line_fault_of refusal
 
 -- no event answered its call or stands at a closure

@@ -1,15 +1,15 @@
 -- The events that a command gives after the events so far, or the first fault.
 use Rattle.std.specs.Prelude.{◌≡◌, ℕ, zero, suc, ◌-◌, Bool, if◌then◌else◌, List, [], ◌∷◌, Option, Some, None, Result, Ok, Err}
-use Rattle.sync_steps.specs.declared.steps.event.Event.{Event}
-use Rattle.sync_steps.specs.declared.steps.event.Input.{Input}
-use Rattle.sync_steps.specs.declared.steps.event.Input.TheVariants as inputs
-use Rattle.sync_steps.specs.declared.steps.event.Object.{Object}
-use Rattle.sync_steps.specs.declared.steps.event.StepFault.{StepFault}
-use Rattle.sync_steps.specs.Integers.{u64_arithmetic}
-use Rattle.sync_steps.specs.Moves.{Move, goes_on}
-use Rattle.sync_steps.specs.Next.{fault_of, moved_of}
-use Rattle.sync_steps.specs.Past.{call_of, holds_of, hold_among, word_in}
-use Rattle.sync_steps.specs.Standing.{Standing, StandsAt}
+use Rattle.steps_events.specs.declared.event.Event.{Event}
+use Rattle.steps_events.specs.declared.event.Input.{Input}
+use Rattle.steps_events.specs.declared.event.Input.TheVariants as inputs
+use Rattle.steps_events.specs.declared.event.Object.{Object}
+use Rattle.steps_events.specs.declared.event.StepFault.{StepFault}
+use Rattle.steps_events.specs.Integers.{u64_arithmetic}
+use Rattle.steps_events.specs.Moves.{Move}
+use Rattle.steps_events.specs.Sights.{goes_on}
+use Rattle.sync_steps.specs.Runs.{fault_of, move_of}
+use Rattle.sync_steps.specs.Machine.{Configuration, StandsAt}
 use Rattle.sync_play.specs.declared.command.Command.{Command}
 use Rattle.sync_play.specs.declared.command.Task.{Task}
 use Rattle.sync_play.specs.declared.command.Task.TheVariants as tasks
@@ -18,7 +18,7 @@ use Rattle.sync_play.specs.declared.fault.LineFault.TheVariants as faults
 use Rattle.sync_play.specs.Fault.{◌>>=◌, line_fault_of}
 
 abbrev pub event_by : ℕ → Option (Move ℕ) → Result (Event ℕ) LineFault
-event_by party (Some move) = Ok (record { party = party; act = move.act; «then» = move.stand })
+event_by party (Some move) = Ok (record { party = party; act = move.act; «then» = move.outcome })
 event_by party None = Err faults.Idle
 
 abbrev pub unless_refused : Option StepFault → Result (Event ℕ) LineFault → Result (Event ℕ) LineFault
@@ -28,8 +28,8 @@ unless_refused (Some fault) event = Err (line_fault_of fault)
 -- the event that an input gives, or why it is refused
 unfoldable pub event_of : Object ℕ → ℕ → List (Event ℕ) → ℕ → Input ℕ → Result (Event ℕ) LineFault
 event_of o parties past party input =
-    unless_refused (fault_of o parties past party input)
-    (event_by party (moved_of u64_arithmetic o (call_of party past) (hold_among party (holds_of o past)) (word_in u64_arithmetic o past) input))
+    unless_refused (fault_of u64_arithmetic o parties past party input)
+    (event_by party (move_of u64_arithmetic o past party input))
 
 -- the events of a schedule
 unfoldable pub events_of : Object ℕ → ℕ → List (Event ℕ) → List (ℕ × Input ℕ) → Result (List (Event ℕ)) LineFault
@@ -83,7 +83,7 @@ left_after going (tasks.Go n) = tasks.Go (n - 1)
 left_after going (tasks.Run limit) = if going then tasks.Run (limit - 1) else tasks.Go 0
 
 -- the event is the one that the next input of the command gives, what is left gives the others, and the run with it stands at the machine
-pub record MakesTurn (o : Object ℕ) (parties : ℕ) (past : List (Event ℕ)) (old new : Command) (machine : Standing ℕ) (e : Event ℕ) : Type 0 where
+pub record MakesTurn (o : Object ℕ) (parties : ℕ) (past : List (Event ℕ)) (old new : Command) (machine : Configuration ℕ) (e : Event ℕ) : Type 0 where
   pub input : Input ℕ
   pub asked : next_input old.task ≡ Ok (Some input)
   pub event : event_of o parties past old.party input ≡ Ok e
@@ -91,7 +91,7 @@ pub record MakesTurn (o : Object ℕ) (parties : ℕ) (past : List (Event ℕ)) 
   pub stands : StandsAt u64_arithmetic o parties (e ∷ past) machine
 
 -- What the player tells of a command after the past, and what it leaves of it: all was done, or the next event, or the fault of the command.
-abbrev pub IsTurn : Object ℕ → ℕ → List (Event ℕ) → Command → Command → Standing ℕ → Result (Option (Event ℕ)) LineFault → Type 0
+abbrev pub IsTurn : Object ℕ → ℕ → List (Event ℕ) → Command → Command → Configuration ℕ → Result (Option (Event ℕ)) LineFault → Type 0
 IsTurn o parties past old new machine (Ok None) = (command_events o parties past old ≡ Ok []) × StandsAt u64_arithmetic o parties past machine
 IsTurn o parties past old new machine (Ok (Some e)) = MakesTurn o parties past old new machine e
 IsTurn o parties past old new machine (Err fault) = command_events o parties past old ≡ Err fault

@@ -2,18 +2,19 @@
 use Rattle.std.specs.Prelude.{ℕ, ◌+◌, ◌-◌, ◌^◌, min, true, false, List, [], ◌++◌, codes}
 use Rattle.std.specs.Fmt.{decimal}
 use Rattle.std.specs.List.{flat_map}
-use Rattle.sync_steps.specs.declared.steps.event.Word.TheVariants as words
-use Rattle.sync_steps.specs.declared.steps.event.Wake.TheVariants as wakes
-use Rattle.sync_steps.specs.declared.steps.event.Act.{Act}
-use Rattle.sync_steps.specs.declared.steps.event.Act.TheVariants as acts
-use Rattle.sync_steps.specs.declared.steps.event.Answer.{Answer}
-use Rattle.sync_steps.specs.declared.steps.event.Answer.TheVariants as answers
-use Rattle.sync_steps.specs.declared.steps.event.Then.{Then}
-use Rattle.sync_steps.specs.declared.steps.event.Then.TheVariants as thens
-use Rattle.sync_steps.specs.declared.steps.event.Event.{Event}
-use Rattle.sync_steps.specs.declared.steps.event.Object.{Object}
-use Rattle.sync_steps.specs.Integers.{u64_arithmetic}
-use Rattle.sync_steps.specs.Past.{word_in, failed_in}
+use Rattle.steps_events.specs.declared.event.Word.TheVariants as words
+use Rattle.steps_events.specs.declared.event.Wake.TheVariants as wakes
+use Rattle.steps_events.specs.declared.event.Act.{Act}
+use Rattle.steps_events.specs.declared.event.Act.TheVariants as acts
+use Rattle.steps_events.specs.declared.event.Answer.{Answer}
+use Rattle.steps_events.specs.declared.event.Answer.TheVariants as answers
+use Rattle.steps_events.specs.declared.event.Then.{Then}
+use Rattle.steps_events.specs.declared.event.Then.TheVariants as thens
+use Rattle.steps_events.specs.declared.event.Event.{Event}
+use Rattle.steps_events.specs.declared.event.Object.{Object}
+use Rattle.steps_events.specs.Integers.{u64_arithmetic}
+use Rattle.steps_events.specs.Past.{failures_in}
+use Rattle.sync_steps.specs.Runs.{word_in}
 
 -- a line of a party, whose number is counted from 1
 abbrev pub party_line : ℕ → List ℕ → List ℕ
@@ -57,4 +58,4 @@ counts_line word failed = codes "word " ++ (decimal word ++ (codes " failed " ++
 
 -- what the run has left
 unfoldable pub last_line : Object ℕ → List (Event ℕ) → List ℕ
-last_line o past = counts_line (word_in u64_arithmetic o past words.State) (min (failed_in past) (2 ^ 64 - 1))
+last_line o past = counts_line (word_in u64_arithmetic o past words.State) (min (failures_in past) (2 ^ 64 - 1))

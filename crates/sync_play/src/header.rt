@@ -1,6 +1,6 @@
 //! What the first line names.
 ghost use Rattle.std.specs.Prelude.{◌≡◌, ◌≤◌, true, List, IfOk};
-ghost use Rattle.sync_steps.specs.Run.{is_served};
+ghost use Rattle.sync_steps.specs.Objects.{is_served};
 ghost use Rattle.sync_play.specs.Lexer.{words_of};
 ghost use Rattle.sync_play.specs.Header as meaning;
 

@@ -1,10 +1,10 @@
 //! Plays a command event by event.
 ghost use Rattle.std.specs.Prelude.{◌≡◌, ◌<◌, ℕ, List, IfOk, OnErr, IfSome};
-ghost use Rattle.sync_steps.specs.Integers.{u64_arithmetic};
-ghost use Rattle.sync_steps.specs.Moves.{goes_on};
-ghost use Rattle.sync_steps.specs.Standing.{StandsAt};
-ghost use Rattle.sync_steps.specs.declared.steps.event.Event.{Event as AnEvent};
-ghost use Rattle.sync_steps.specs.declared.steps.event.Object.{Object as AnObject};
+ghost use Rattle.steps_events.specs.Integers.{u64_arithmetic};
+ghost use Rattle.steps_events.specs.Sights.{goes_on};
+ghost use Rattle.sync_steps.specs.Machine.{StandsAt};
+ghost use Rattle.steps_events.specs.declared.event.Event.{Event as AnEvent};
+ghost use Rattle.steps_events.specs.declared.event.Object.{Object as AnObject};
 ghost use Rattle.sync_play.specs.Player as meaning;
 
 use crate::command::{Command, Task};

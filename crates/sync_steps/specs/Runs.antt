@@ -9,6 +9,7 @@ use Rattle.steps_events.specs.Arithmetic.{Arithmetic}
 use Rattle.steps_events.specs.Past as pasts
 use Rattle.steps_events.specs.Past.{Hold}
 use Rattle.steps_events.specs.Moves as moves
+use Rattle.steps_events.specs.Moves.{Move}
 use Rattle.steps_events.specs.Runs as runs
 use Rattle.sync_steps.specs.Objects.{table_of, IsObject}
 
@@ -23,6 +24,10 @@ holds_of z o past = pasts.holds_of (table_of z o) past
 -- the fault of an input after the events, if it has one
 abbrev pub fault_of : {T : Type 0} → Arithmetic T → Object T → ℕ → List (Event T) → ℕ → Input T → Option StepFault
 fault_of z o parties past party input = moves.fault_of (table_of z o) parties past party input
+
+-- what the party does at the input after the events, and how its call goes on, if it does anything
+abbrev pub move_of : {T : Type 0} → Arithmetic T → Object T → List (Event T) → ℕ → Input T → Option (Move T)
+move_of z o past party input = moves.move_of (table_of z o) (pasts.call_of party past) (pasts.hold_of (table_of z o) party past) (word_in z o past) input
 
 -- after these events this event is the one that the input gives
 abbrev pub IsNext : {T : Type 0} → Arithmetic T → Object T → ℕ → List (Event T) → ℕ → Input T → Event T → Type 0

@@ -1,94 +1,116 @@
 //! A lock with one holder at most. Its word is 0 where it is free and 1 where it is locked.
 //!
 //! It does what `strategy::mutex` of the Rust crate does, but that a lock answers a hold, and that only a hold can be unlocked.
-//! Calls that answer a hold take the pass first, since the hold borrows it.
-ghost use Rattle.std.specs.Prelude.{◌≡◌, ◌<◌, [], IfOk};
+//! Calls that answer a hold take the pass first, since the hold borrows it. A mutex guards no data: a hold says that no other pass
+//! has one, and nothing of what other threads do.
+ghost use Rattle.std.specs.Prelude.{◌≡◌, IfOk};
+ghost use Rattle.passes.specs.Objects.{count_of};
+ghost use Rattle.passes.specs.Passes.{tally_of};
 ghost use Rattle.iceoryx2_pal_concurrency_sync.specs.MutexRule.{OneHolder};
 
-use crate::part::{Part, Sights};
-use crate::wait::{AnyWord, WaitResult, WaitWord, Word, may_give_up, wake};
-use crate::{SPIN_REPETITIONS, WaitAction};
-use atomic_table::{Join, Play, Seat, Split, Table, TableRule};
+use crate::wait::{AnyWord, WaitWord};
+use crate::{WaitAction, WaitResult};
+use passes::{Attempt, Deed, Pass, Rule, Tally, Words, ask, spin, wake};
 use std::alloc::{AllocError, Allocator, Global};
-use std::hint::spin_loop;
+use std::ops::Deref;
 use std::sync::Wait;
 use sync_steps::steps::mutex::granted;
 
-/// What a pass of a mutex knows. No value of it is made.
-pub struct MutexView {
-    pub part: Part,
-    pub sights: Sights,
+/// What a pass of a mutex counts. No value of it is made.
+pub struct Holds {
     /// How many of the pass's holds stand: 0 or 1.
     pub holds: u64,
+    /// How often a lock was granted to it.
+    pub grants: u64,
+}
+
+impl Tally for Holds {
+    ghost use Rattle.iceoryx2_pal_concurrency_sync.specs.MutexRule.{no_holds, both_holds};
+    ghost use Rattle.iceoryx2_pal_concurrency_sync.specs.MutexTally.{holds_add_up};
+
+    ghost none = { no_holds };
+
+    ghost add = { both_holds };
+
+    ghost core = { λ _. no_holds };
+
+    ghost adds_up = { holds_add_up };
 }
 
 /// The mutex's word is the number of holds of all passes, at most 1.
-pub struct MutexRule;
+impl Rule<(), ()> for Holds {
+    ghost use Rattle.iceoryx2_pal_concurrency_sync.specs.MutexRule.{no_holds, MutexAgrees};
 
-impl TableRule<(), MutexView, ()> for MutexRule {
-    ghost use Rattle.iceoryx2_pal_concurrency_sync.specs.MutexRule.{Held, first_view};
+    ghost first = { λ _. no_holds };
 
-    ghost holds = { λ _. Held };
-
-    ghost first = { λ _. first_view };
+    ghost agrees = { λ _. MutexAgrees };
 }
 
 /// A lock with one holder at most.
 #[derive(Drop)]
 pub struct Mutex<A: Allocator = Global> {
-    table: Table<(), MutexView, (), MutexRule, A>,
-    ghost one_word: { table.shared.table_id.words ≡ 1 },
+    words: Words<(), Holds, A>,
+    ghost one_word: { count_of words ≡ 1 },
 }
 
-/// The right to call a mutex, and what its owner did and saw there. It has no bytes, and may go to another thread. A pass that is
-/// dropped takes its part with it, so that no other is ever whole again.
-#[derive(Drop)]
-pub struct MutexPass {
-    seat: Seat<(), MutexView>,
-    ghost no_slot: { seat.me.1 ≡ [] },
-    ghost alive: { 0 < seat.me.0.part.share },
+/// The words of a mutex, at which its passes are split and joined.
+impl<A: Allocator> Deref for Mutex<A> {
+    type Target = Words<(), Holds, A>;
+
+    #[inline(always)]
+    fn deref(&self) -> &Words<(), Holds, A>
+        ensures { result.now ≡ self.now.words }
+    {
+        &self.words
+    }
 }
+
+/// The right to call a mutex, and what its owner did and saw there.
+pub type MutexPass = Pass<Holds>;
 
 /// The mutex is locked by this pass, which is lent to the hold. A hold must be spent, by `Mutex::unlock` at the mutex that it came
 /// from.
 pub struct MutexHold<'p> {
     pass: &'p mut MutexPass,
-    ghost on: { pass.now.seat.me.0.holds ≡ 1 },
+    ghost on: { (tally_of pass.now).holds ≡ 1 },
 }
 
 /// An exchange of 0 for 1.
 struct Exchange;
 
-impl Play<(), MutexView> for Exchange {
+impl Deed<(), Holds> for Exchange {
     ghost use Rattle.iceoryx2_pal_concurrency_sync.specs.MutexRule.{Exchanged};
 
-    ghost then = { Exchanged };
+    ghost tells = { λ _ _ _. Exchanged };
 }
 
 /// A store of 0.
 struct Release;
 
-impl Play<(), MutexView> for Release {
+impl Deed<(), Holds> for Release {
     ghost use Rattle.iceoryx2_pal_concurrency_sync.specs.MutexRule.{Stored};
 
-    ghost then = { Stored };
+    ghost tells = { λ _ _ _ before _ after. Stored before after };
 }
 
 impl<A: Allocator> Mutex<A> {
-    ghost use Rattle.iceoryx2_pal_concurrency_sync.specs.Answers.{IfSuccess, IfInterrupted, IsSuccess, RestsIfInterrupted, MayAnswerAbort, HasWoken};
-    ghost use Rattle.iceoryx2_pal_concurrency_sync.specs.MutexRule.{first_view};
-    ghost use Rattle.iceoryx2_pal_concurrency_sync.specs.MutexShown.{IsPassOf, IsAlone, IsLocked, view, pass_of, borrow_of, HasLocked, HasSeenLocked, HasUnlocked, HasEntered, WasRefused};
-    ghost use Rattle.iceoryx2_pal_concurrency_sync.specs.contracts.strategy.mutex.MutexPass.{the_row};
     ghost use Rattle.std.specs.Borrow.{sem};
-    ghost use Rattle.std.specs.Prelude.{true, false, MatchBool};
+    ghost use Rattle.std.specs.Prelude.{true, false, ◌+◌, MatchBool};
+    ghost use Rattle.passes.specs.Answers.{IfSuccess, IfInterrupted, IsSuccess, RestsIfInterrupted, MayAnswerAbort, HasWoken};
+    ghost use Rattle.passes.specs.Passes.{view, WasRefused};
+    ghost use Rattle.passes.specs.Views.{first_view};
+    ghost use Rattle.passes.specs.contracts.pass.Pass.{the_row};
+    ghost use Rattle.iceoryx2_pal_concurrency_sync.specs.contracts.strategy.mutex.Holds as holds_row;
+    ghost use Rattle.iceoryx2_pal_concurrency_sync.specs.MutexRule.{no_holds};
+    ghost use Rattle.iceoryx2_pal_concurrency_sync.specs.MutexShown.{IsMutexPass, IsAlone, IsLocked, holds_of, grants_of, pass_of, borrow_of, HasLocked, HasSeenLocked, HasUnlocked, HasEntered, HasStayed};
 
     /// A mutex that is free, and the pass that is whole. `Err` where there was no memory; then nothing was made.
     pub fn new(alloc: A) -> Result<(Mutex<A>, MutexPass), AllocError>
-        ensures own { IfOk result (λ made. IsPassOf made.0 made.1) }
-        ensures first { IfOk result (λ made. view made.1 ≡ first_view) }
+        ensures own { IfOk result (λ made. IsMutexPass made.0 made.1) }
+        ensures first { IfOk result (λ made. view made.1 ≡ first_view no_holds) }
     {
-        let (table, seat) = Table::of_words(alloc, &[0], &())?;
-        Ok((Mutex { table }, MutexPass { seat }))
+        let (words, pass) = Words::new(alloc, &[0], &())?;
+        Ok((Mutex { words }, pass))
     }
 
     /// Locks the mutex: one exchange of 0 for 1, up to 10000 more, and then the wait closure before each further one. `Interrupted`
@@ -100,15 +122,15 @@ impl<A: Allocator> Mutex<A> {
         rt: &R,
         wait: W,
     ) -> WaitResult<MutexHold<'p>>
-        requires own { IsPassOf this.now pass.old }
+        requires own { IsMutexPass this.now pass.old }
         requires may { W.IsAlwaysCallable wait }
-        ensures* refused { sem 𝓛 (RestsIfInterrupted the_row pass.entry borrow_of result (WasRefused 10002 pass.old)) }
+        ensures* refused { sem 𝓛 (RestsIfInterrupted (the_row holds_row.the_row) pass.entry borrow_of result (WasRefused IsLocked 10002 pass.old)) }
         ensures same_borrow { IfSuccess result (λ hold. borrow_of hold ≡ pass.entry.ghost_name) }
         ensures granted { IfSuccess result (λ hold. HasEntered pass.old (pass_of hold)) }
         ensures exact { IsAlone pass.old → IsSuccess result }
         ensures aborted { IfInterrupted result (MayAnswerAbort W.Fn wait IsLocked) }
     {
-        if this.exchange(pass) || this.spin(pass) || this.ask(rt, pass, &wait) {
+        if this.enter(pass, rt, &wait) {
             WaitResult::Success(MutexHold { pass })
         } else {
             WaitResult::Interrupted
@@ -122,15 +144,14 @@ impl<A: Allocator> Mutex<A> {
         hold: MutexHold<'p>,
         wake_one: W,
     ) -> &'p mut MutexPass
-        requires own { IsPassOf self.now (pass_of hold) }
+        requires own { IsMutexPass self.now (pass_of hold) }
         requires may { W.IsAlwaysCallable wake_one }
         ensures same_borrow { result.ghost_name ≡ borrow_of hold.entry }
         ensures released { HasUnlocked (pass_of hold.entry) result.now }
         ensures woke { HasWoken W.Fn wake_one }
     {
         let MutexHold { pass } = hold;
-        self.release(pass);
-        wake(&wake_one, self.word());
+        self.leave(pass, &wake_one);
         pass
     }
 
@@ -138,8 +159,8 @@ impl<A: Allocator> Mutex<A> {
     /// nothing.
     #[inline(always)]
     pub fn try_lock<'p>(pass: &'p mut MutexPass, this: &Self) -> WaitResult<MutexHold<'p>>
-        requires own { IsPassOf this.now pass.old }
-        ensures* refused { sem 𝓛 (RestsIfInterrupted the_row pass.entry borrow_of result (HasSeenLocked pass.old)) }
+        requires own { IsMutexPass this.now pass.old }
+        ensures* refused { sem 𝓛 (RestsIfInterrupted (the_row holds_row.the_row) pass.entry borrow_of result (HasSeenLocked pass.old)) }
         ensures same_borrow { IfSuccess result (λ hold. borrow_of hold ≡ pass.entry.ghost_name) }
         ensures granted { IfSuccess result (λ hold. HasLocked pass.old (pass_of hold)) }
         ensures exact { IsAlone pass.old → IsSuccess result }
@@ -151,77 +172,113 @@ impl<A: Allocator> Mutex<A> {
         }
     }
 
+    /// Locks the mutex as `lock` does, calls `act`, and unlocks as `unlock` does. `Interrupted` where `lock` is; then `act` was not
+    /// called. It borrows nothing, so it serves a method of a struct that owns the mutex and its pass.
+    #[inline(always)]
+    pub fn with_lock<
+        T,
+        R: Wait,
+        W: Fn(&WaitWord, &u64) -> WaitAction,
+        K: Fn(&WaitWord),
+        F: FnOnce() -> T,
+    >(&self, rt: &R, pass: &mut MutexPass, wait: W, wake_one: K, act: F) -> WaitResult<T>
+        requires own { IsMutexPass self.now pass.old }
+        requires may { W.IsAlwaysCallable wait × K.IsAlwaysCallable wake_one × F.IsAlwaysCallable act }
+        ensures stayed { HasStayed pass.old pass.new }
+        ensures granted { IfSuccess result (λ _. grants_of pass.new ≡ grants_of pass.old + 1) }
+        ensures refused { IfInterrupted result (WasRefused IsLocked 10002 pass.old pass.new) }
+        ensures exact { IsAlone pass.old → IsSuccess result }
+        ensures acted { IfSuccess result (λ x. F.post act x) }
+        ensures aborted { IfInterrupted result (MayAnswerAbort W.Fn wait IsLocked) }
+        ensures woke { IfSuccess result (λ _. HasWoken K.Fn wake_one) }
+    {
+        if !self.enter(pass, rt, &wait) {
+            return WaitResult::Interrupted;
+        }
+        let given = act();
+        self.leave(pass, &wake_one);
+        WaitResult::Success(given)
+    }
+
+    /// What `lock` does, and whether the hold is on.
+    #[inline(always)]
+    fn enter<R: Wait, W: Fn(&WaitWord, &u64) -> WaitAction>(
+        &self,
+        pass: &mut MutexPass,
+        rt: &R,
+        wait: &W,
+    ) -> bool
+        requires own { IsMutexPass self.now pass.old }
+        requires may { W.IsAlwaysCallable wait.now }
+        ensures entered { MatchBool result (HasEntered pass.old pass.new) (WasRefused IsLocked 10002 pass.old pass.new) }
+        ensures exact { IsAlone pass.old → result ≡ true }
+        ensures aborted { result ≡ false → MayAnswerAbort W.Fn wait.now IsLocked }
+    {
+        self.exchange(pass) || spin(rt, self, pass) || ask(rt, self, pass, &self.word(), 1, wait)
+    }
+
+    /// What `unlock` does, by the pass that has the hold.
+    #[inline(always)]
+    fn leave<W: Fn(&WaitWord)>(&self, pass: &mut MutexPass, wake_one: &W)
+        requires own { IsMutexPass self.now pass.old }
+        requires on { holds_of pass.old ≡ 1 }
+        requires may { W.IsAlwaysCallable wake_one.now }
+        ensures released { HasUnlocked pass.old pass.new }
+        ensures woke { HasWoken W.Fn wake_one.now }
+    {
+        self.release(pass);
+        wake(wake_one, &self.word());
+    }
+
     /// One exchange of 0 for 1, and whether it was done.
     #[tactic(auto, using(crate::proofs::MutexKeeps::exchanges))]
     #[inline(always)]
     fn exchange(&self, pass: &mut MutexPass) -> bool
-        requires own { IsPassOf self.now pass.old }
+        requires own { IsMutexPass self.now pass.old }
         ensures locked { MatchBool result (HasLocked pass.old pass.new) (HasSeenLocked pass.old pass.new) }
         ensures exact { IsAlone pass.old → result ≡ true }
     {
-        let shared = &self.table.shared;
-        shared.compare_exchange::<Exchange>(&mut pass.seat, 0, 0, locked()) == 0
-    }
-
-    /// Further exchanges, as many as a call makes by itself, until one is done.
-    fn spin(&self, pass: &mut MutexPass) -> bool
-        requires own { IsPassOf self.now pass.old }
-        ensures locked { MatchBool result (HasEntered pass.old pass.new) (WasRefused 10000 pass.old pass.new) }
-    {
-        for _ in 0..SPIN_REPETITIONS {
-            spin_loop();
-            if self.exchange(pass) {
-                return true;
-            }
-        }
-        false
-    }
-
-    /// The wait closure before each further exchange, until one is done, or fails after the closure answered `Abort`.
-    fn ask<R: Wait, W: Fn(&WaitWord, &u64) -> WaitAction>(
-        &self,
-        rt: &R,
-        pass: &mut MutexPass,
-        wait: &W,
-    ) -> bool
-        requires own { IsPassOf self.now pass.old }
-        requires may { W.IsAlwaysCallable wait.now }
-        ensures locked { MatchBool result (HasEntered pass.old pass.new) (WasRefused 1 pass.old pass.new) }
-        ensures aborted { result ≡ false → MayAnswerAbort W.Fn wait.now IsLocked }
-    {
-        for _ in rt.forever() {
-            let last_try = may_give_up(wait, self.word(), 1);
-            if self.exchange(pass) {
-                return true;
-            }
-            if last_try {
-                return false;
-            }
-        }
-        unreachable!()
+        self.words
+            .compare_exchange::<Exchange>(pass, 0, 0, locked())
+            == 0
     }
 
     /// A store of 0, by the pass that has the hold.
-    #[tactic(auto, using(crate::proofs::MutexKeeps::releases))]
+    #[tactic(auto, using(crate::proofs::MutexKeeps::stores))]
     #[inline(always)]
     fn release(&self, pass: &mut MutexPass)
-        requires own { IsPassOf self.now pass.old }
-        requires on { (view pass.old).holds ≡ 1 }
+        requires own { IsMutexPass self.now pass.old }
+        requires on { holds_of pass.old ≡ 1 }
         ensures released { HasUnlocked pass.old pass.new }
     {
-        let shared = &self.table.shared;
-        shared.store::<Release>(&mut pass.seat, 0, 0);
+        self.words.store::<Release>(pass, 0, 0);
     }
 
     /// The mutex's word, as closures see it.
     #[inline(always)]
     fn word(&self) -> WaitWord<'_> {
         WaitWord {
-            word: AnyWord::Mutex(Word {
-                shared: &self.table.shared,
-                index: 0,
-            }),
+            word: AnyWord::Mutex(self.words.word(0)),
         }
+    }
+}
+
+/// An exchange of `lock`.
+impl<A: Allocator> Attempt<Holds> for Mutex<A> {
+    ghost use Rattle.passes.specs.Objects.{id_of};
+    ghost use Rattle.iceoryx2_pal_concurrency_sync.specs.MutexShown.{IsLocked, Enters};
+
+    ghost object = { λ m. id_of m.words };
+
+    ghost moves = { Enters };
+
+    ghost refuses = { IsLocked };
+
+    ghost looks_once = { λ _. Unit {0} };
+
+    #[inline(always)]
+    fn attempt<R: Wait>(&self, _rt: &R, pass: &mut MutexPass) -> bool {
+        self.exchange(pass)
     }
 }
 
@@ -233,65 +290,6 @@ fn locked() -> u64
     match granted(0) {
         Some(word) => word,
         None => unreachable!(),
-    }
-}
-
-/// How a pass is parted.
-struct Cut;
-
-impl Split<MutexView> for Cut {
-    ghost use Rattle.iceoryx2_pal_concurrency_sync.specs.MutexRule.{left_view, right_view};
-
-    ghost left = { left_view };
-
-    ghost right = { right_view };
-}
-
-impl Join<MutexView> for Cut {
-    ghost use Rattle.iceoryx2_pal_concurrency_sync.specs.MutexRule.{joined_view, spent_view};
-
-    ghost both = { joined_view };
-
-    ghost spent = { spent_view };
-}
-
-impl MutexPass {
-    ghost use Rattle.iceoryx2_pal_concurrency_sync.specs.declared.part.Part.{Part};
-    ghost use Rattle.iceoryx2_pal_concurrency_sync.specs.MutexRule.{left_view, right_view, joined_view};
-    ghost use Rattle.iceoryx2_pal_concurrency_sync.specs.MutexShown.{IsPassOf, view};
-    ghost use Rattle.iceoryx2_pal_concurrency_sync.specs.Parts.{half, IsAgain, IsSamePart};
-    ghost use Rattle.std.specs.Prelude.{true, is_ok};
-
-    /// Two passes of the same mutex. What they counted adds up to what this one had counted, and both know what it knew. `Err`,
-    /// which never comes today, would hand the pass back.
-    pub fn split<A: Allocator>(self, of: &Mutex<A>) -> Result<(MutexPass, MutexPass), MutexPass>
-        requires own { IsPassOf of.now self }
-        ensures never_refused { is_ok result ≡ true }
-        ensures own { IfOk result (λ parts. IsPassOf of.now parts.0 × IsPassOf of.now parts.1) }
-        ensures views { IfOk result (λ parts. (view parts.0 ≡ left_view (view self)) × (view parts.1 ≡ right_view (view self))) }
-    {
-        let MutexPass { mut seat } = self;
-        let other = of.table.shared.split_seat::<Cut>(&mut seat);
-        Ok((MutexPass { seat }, MutexPass { seat: other }))
-    }
-
-    /// One pass from two of the same mutex, which counted and knows what both did. `Err`, which never comes today, would hand both
-    /// back.
-    pub fn join<A: Allocator>(
-        a: MutexPass,
-        b: MutexPass,
-        of: &Mutex<A>,
-    ) -> Result<MutexPass, (MutexPass, MutexPass)>
-        requires own { IsPassOf of.now a × IsPassOf of.now b }
-        ensures never_refused { is_ok result ≡ true }
-        ensures own { IfOk result (IsPassOf of.now) }
-        ensures views { IfOk result (λ both. view both ≡ joined_view (view a) (view b)) }
-        ensures again { (p : Part) → IsSamePart (view a).part (half p) → IsSamePart (view b).part (half p) → IfOk result (λ both. IsAgain p (view both).part) }
-    {
-        let MutexPass { mut seat } = a;
-        let MutexPass { seat: other } = b;
-        of.table.shared.join_seat::<Cut>(&mut seat, other);
-        Ok(MutexPass { seat })
     }
 }
 

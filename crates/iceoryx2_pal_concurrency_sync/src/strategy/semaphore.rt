@@ -1,122 +1,137 @@
 //! A counting semaphore. Its word is the number of permits that are there to take.
 //!
 //! It does what `strategy::semaphore` of the Rust crate does, and `close` gives its value back.
-ghost use Rattle.std.specs.Prelude.{◌≡◌, ◌<◌, ◌≤◌, [], IfOk};
+ghost use Rattle.std.specs.Prelude.{◌≡◌, ◌<◌, ◌≤◌, IfOk};
+ghost use Rattle.passes.specs.Objects.{count_of};
 
-use crate::part::{Part, Sights};
-use crate::wait::{AnyWord, WaitResult, WaitWord, Word, may_give_up, success_if, wake};
-use crate::{SPIN_REPETITIONS, WaitAction};
-use atomic_table::{Join, Play, Seat, Split, Table, TableRule};
+use crate::wait::{AnyWord, WaitWord};
+use crate::{WaitAction, WaitResult};
+use passes::{Attempt, Deed, Pass, Rule, Tally, Words, ask, spin, success_if, wake};
 use std::alloc::{AllocError, Allocator, Global};
-use std::hint::spin_loop;
+use std::ops::Deref;
 use std::sync::Wait;
 use sync_steps::steps::semaphore::taken;
 
-/// What a pass of a semaphore knows. No value of it is made, and its numbers have no limit.
-pub struct SemView {
-    pub part: Part,
-    pub sights: Sights,
+/// What a pass of a semaphore counts. No value of it is made, and its numbers have no limit.
+pub struct Permits {
     /// The initial value, if this pass was made with the semaphore, and all that its owner posted.
     pub given: u64,
     /// How many permits its owner took.
     pub taken: u64,
 }
 
+impl Tally for Permits {
+    ghost use Rattle.iceoryx2_pal_concurrency_sync.specs.SemaphoreRule.{no_permits, both_permits};
+    ghost use Rattle.iceoryx2_pal_concurrency_sync.specs.SemaphoreTally.{permits_add_up};
+
+    ghost none = { no_permits };
+
+    ghost add = { both_permits };
+
+    ghost core = { λ _. no_permits };
+
+    ghost adds_up = { permits_add_up };
+}
+
 /// The semaphore's word is what was given less what was taken, and no more was taken than given. The key is the initial value.
-pub struct SemRule;
+impl Rule<(), u64> for Permits {
+    ghost use Rattle.iceoryx2_pal_concurrency_sync.specs.SemaphoreRule.{first_permits, SemaphoreAgrees};
 
-impl TableRule<(), SemView, u64> for SemRule {
-    ghost use Rattle.iceoryx2_pal_concurrency_sync.specs.SemaphoreRule.{Permits, first_view};
+    ghost first = { first_permits };
 
-    ghost holds = { λ _. Permits };
-
-    ghost first = { first_view };
+    ghost agrees = { λ _. SemaphoreAgrees };
 }
 
 /// A counting semaphore.
 #[derive(Drop)]
 pub struct Semaphore<A: Allocator = Global> {
-    table: Table<(), SemView, u64, SemRule, A>,
-    ghost one_word: { table.shared.table_id.words ≡ 1 },
-    ghost no_slot: { table.shared.table_id.slots ≡ 0 },
+    words: Words<u64, Permits, A>,
+    ghost one_word: { count_of words ≡ 1 },
 }
 
-/// The right to call a semaphore, and what its owner did and saw there. It has no bytes, and may go to another thread. A pass that
-/// is dropped takes its part with it, so that no other is ever whole again.
-#[derive(Drop)]
-pub struct SemPass {
-    seat: Seat<(), SemView>,
-    ghost no_slot: { seat.me.1 ≡ [] },
-    ghost alive: { 0 < seat.me.0.part.share },
+/// The words of a semaphore, at which its passes are split and joined.
+impl<A: Allocator> Deref for Semaphore<A> {
+    type Target = Words<u64, Permits, A>;
+
+    #[inline(always)]
+    fn deref(&self) -> &Words<u64, Permits, A>
+        ensures { result.now ≡ self.now.words }
+    {
+        &self.words
+    }
 }
+
+/// The right to call a semaphore, and what its owner did and saw there.
+pub type SemPass = Pass<Permits>;
 
 /// A load.
 struct Look;
 
-impl Play<(), SemView> for Look {
+impl Deed<u64, Permits> for Look {
     ghost use Rattle.iceoryx2_pal_concurrency_sync.specs.SemaphoreRule.{Loaded};
 
-    ghost then = { Loaded };
+    ghost tells = { λ _ _ _. Loaded };
 }
 
 /// An exchange of a value for one less.
 struct Take;
 
-impl Play<(), SemView> for Take {
+impl Deed<u64, Permits> for Take {
     ghost use Rattle.iceoryx2_pal_concurrency_sync.specs.SemaphoreRule.{Exchanged};
 
-    ghost then = { Exchanged };
+    ghost tells = { λ _ from _. Exchanged from };
 }
 
 /// An add.
 struct Give;
 
-impl Play<(), SemView> for Give {
+impl Deed<u64, Permits> for Give {
     ghost use Rattle.iceoryx2_pal_concurrency_sync.specs.SemaphoreRule.{Added};
 
-    ghost then = { Added };
+    ghost tells = { λ _ more _ before _. Added more before };
 }
 
 impl<A: Allocator> Semaphore<A> {
-    ghost use Rattle.iceoryx2_pal_concurrency_sync.specs.Answers.{IfSuccess, IfInterrupted, IsSuccess, MayAnswerAbort, HasWoken};
-    ghost use Rattle.iceoryx2_pal_concurrency_sync.specs.SemaphoreShown.{IsPassOf, IsSamePass, view, IsEmpty, HasTaken, WasRefused};
-    ghost use Rattle.iceoryx2_pal_concurrency_sync.specs.SemaphoreRule.{first_view, value_of, looked, missed, took, gave};
-    ghost use Rattle.iceoryx2_pal_concurrency_sync.specs.Parts.{IsWhole};
-    ghost use Rattle.std.specs.Prelude.{true, false, ◌-◌, ◌≢◌, MatchBool};
+    ghost use Rattle.std.specs.Prelude.{true, false, ◌+◌, ◌-◌, ◌≢◌, MatchBool};
+    ghost use Rattle.passes.specs.Answers.{IfSuccess, IfInterrupted, IsSuccess, MayAnswerAbort, HasWoken};
+    ghost use Rattle.passes.specs.Parts.{IsWhole};
+    ghost use Rattle.passes.specs.Sights.{LooksOnceOrMisses};
+    ghost use Rattle.passes.specs.Views.{first_view};
+    ghost use Rattle.passes.specs.Passes.{view, part_of, sights_of, HasSeen, HasMissed, HasDone, WasRefused};
+    ghost use Rattle.iceoryx2_pal_concurrency_sync.specs.SemaphoreRule.{first_permits, took, gave};
+    ghost use Rattle.iceoryx2_pal_concurrency_sync.specs.SemaphoreShown.{IsSemPass, given_of, taken_of, worth_of, IsEmpty, HasTaken, HasTakenAtOnce, HasCounted};
 
     /// A semaphore of this value, and the pass that is whole. `Err` where there was no memory; then nothing was made.
     pub fn new(alloc: A, initial: u64) -> Result<(Semaphore<A>, SemPass), AllocError>
-        ensures own { IfOk result (λ made. IsPassOf made.0 made.1) }
-        ensures first { IfOk result (λ made. view made.1 ≡ first_view initial) }
+        ensures own { IfOk result (λ made. IsSemPass made.0 made.1) }
+        ensures first { IfOk result (λ made. view made.1 ≡ first_view (first_permits initial)) }
     {
-        let (table, seat) = Table::of_words(alloc, &[initial], &initial)?;
-        Ok((Semaphore { table }, SemPass { seat }))
+        let (words, pass) = Words::new(alloc, &[initial], &initial)?;
+        Ok((Semaphore { words }, pass))
     }
 
     /// How many permits are there to take. Another party may post or take right after.
     #[tactic(auto, using(crate::proofs::SemaphoreKeeps::loads))]
     #[inline(always)]
     pub fn value(&self, pass: &mut SemPass) -> u64
-        requires own { IsPassOf self.now pass.old }
-        ensures same { IsSamePass pass.old pass.new }
-        ensures saw { view pass.new ≡ looked (view pass.old) result }
-        ensures exact { IsWhole (view pass.old).part → result ≡ value_of (view pass.old) }
-        ensures enough { IsWhole (view pass.old).part → (view pass.old).taken ≤ (view pass.old).given }
+        requires own { IsSemPass self.now pass.old }
+        ensures saw { HasSeen result pass.old pass.new }
+        ensures exact { IsWhole (part_of pass.old) → result ≡ worth_of pass.old }
+        ensures enough { IsWhole (part_of pass.old) → taken_of pass.old ≤ given_of pass.old }
     {
-        self.table.shared.load::<Look>(&mut pass.seat, 0)
+        self.words.load::<Look>(pass, 0)
     }
 
     /// Adds so many permits, wrapping at 2^64, and then calls the wake closure once, also for 0.
     #[inline(always)]
     pub fn post<W: Fn(&WaitWord)>(&self, pass: &mut SemPass, wakeup: W, value: u64)
-        requires own { IsPassOf self.now pass.old }
+        requires own { IsSemPass self.now pass.old }
         requires may { W.IsAlwaysCallable wakeup }
-        ensures same { IsSamePass pass.old pass.new }
-        ensures given { view pass.new ≡ gave (view pass.old) value }
+        ensures given { HasDone (gave value) pass.old pass.new }
         ensures woke { HasWoken W.Fn wakeup }
     {
         self.add(pass, value);
-        wake(&wakeup, self.word());
+        wake(&wakeup, &self.word());
     }
 
     /// Takes a permit: looks, up to 10000 times more where it sees none, and then calls the wait closure before each further look.
@@ -128,78 +143,107 @@ impl<A: Allocator> Semaphore<A> {
         pass: &mut SemPass,
         wait: W,
     ) -> WaitResult<()>
-        requires own { IsPassOf self.now pass.old }
+        requires own { IsSemPass self.now pass.old }
         requires may { W.IsAlwaysCallable wait }
         ensures took { IfSuccess result (λ _. HasTaken pass.old pass.new) }
-        ensures refused { IfInterrupted result (WasRefused 10002 pass.old pass.new) }
-        ensures some { IsWhole (view pass.old).part → 0 < value_of (view pass.old) → IsSuccess result }
-        ensures none { IsWhole (view pass.old).part → IfSuccess result (λ _. 0 < value_of (view pass.old)) }
+        ensures refused { IfInterrupted result (WasRefused IsEmpty 10002 pass.old pass.new) }
+        ensures some { IsWhole (part_of pass.old) → 0 < worth_of pass.old → IsSuccess result }
+        ensures none { IsWhole (part_of pass.old) → IfSuccess result (λ _. 0 < worth_of pass.old) }
         ensures aborted { IfInterrupted result (MayAnswerAbort W.Fn wait IsEmpty) }
     {
-        success_if(self.take(rt, pass) || self.spin(rt, pass) || self.ask(rt, pass, &wait))
+        success_if(
+            self.take(rt, pass)
+                || spin(rt, self, pass)
+                || ask(rt, self, pass, &self.word(), 0, &wait),
+        )
     }
 
     /// Takes a permit where there is one, and tries again where another party's write came between its look and its exchange.
     /// `Interrupted` at a look that gave 0; then nothing was taken.
     #[inline(always)]
     pub fn try_wait<R: Wait>(&self, rt: &R, pass: &mut SemPass) -> WaitResult<()>
-        requires own { IsPassOf self.now pass.old }
+        requires own { IsSemPass self.now pass.old }
         ensures took { IfSuccess result (λ _. HasTaken pass.old pass.new) }
-        ensures refused { IfInterrupted result (WasRefused 1 pass.old pass.new) }
-        ensures some { IsWhole (view pass.old).part → 0 < value_of (view pass.old) → IsSuccess result }
-        ensures none { IsWhole (view pass.old).part → IfSuccess result (λ _. 0 < value_of (view pass.old)) }
+        ensures refused { IfInterrupted result (WasRefused IsEmpty 1 pass.old pass.new) }
+        ensures looks { LooksOnceOrMisses (sights_of pass.old) (sights_of pass.new) }
+        ensures once { IsWhole (part_of pass.old) → IfInterrupted result (HasSeen 0 pass.old pass.new) }
+        ensures took_once { IsWhole (part_of pass.old) → IfSuccess result (λ _. HasTakenAtOnce pass.old pass.new) }
+        ensures some { IsWhole (part_of pass.old) → 0 < worth_of pass.old → IsSuccess result }
+        ensures none { IsWhole (part_of pass.old) → IfSuccess result (λ _. 0 < worth_of pass.old) }
     {
         success_if(self.take(rt, pass))
+    }
+
+    /// Takes a permit as `wait` does, calls `act`, and posts the permit again. `Interrupted` where `wait` is; then `act` was not called.
+    #[inline(always)]
+    pub fn with_permit<
+        T,
+        R: Wait,
+        W: Fn(&WaitWord, &u64) -> WaitAction,
+        K: Fn(&WaitWord),
+        F: FnOnce() -> T,
+    >(&self, rt: &R, pass: &mut SemPass, wait: W, wakeup: K, act: F) -> WaitResult<T>
+        requires own { IsSemPass self.now pass.old }
+        requires may { W.IsAlwaysCallable wait × K.IsAlwaysCallable wakeup × F.IsAlwaysCallable act }
+        ensures lent { IfSuccess result (λ _. HasCounted 1 1 pass.old pass.new) }
+        ensures refused { IfInterrupted result (WasRefused IsEmpty 10002 pass.old pass.new) }
+        ensures some { IsWhole (part_of pass.old) → 0 < worth_of pass.old → IsSuccess result }
+        ensures none { IsWhole (part_of pass.old) → IfSuccess result (λ _. 0 < worth_of pass.old) }
+        ensures acted { IfSuccess result (λ x. F.post act x) }
+        ensures aborted { IfInterrupted result (MayAnswerAbort W.Fn wait IsEmpty) }
+        ensures woke { IfSuccess result (λ _. HasWoken K.Fn wakeup) }
+    {
+        match self.wait(rt, pass, wait) {
+            WaitResult::Success(()) => {
+                let given = act();
+                self.post(pass, wakeup, 1);
+                WaitResult::Success(given)
+            }
+            WaitResult::Interrupted => WaitResult::Interrupted,
+        }
     }
 
     /// Ends the semaphore, and answers its value. With the whole pass that is the initial value and all that was posted, less what
     /// was taken, modulo 2^64.
     pub fn close(self, pass: SemPass) -> u64
-        requires own { IsPassOf self pass }
-        ensures exact { IsWhole (view pass).part → result ≡ value_of (view pass) }
-        ensures enough { IsWhole (view pass).part → (view pass).taken ≤ (view pass).given }
+        requires own { IsSemPass self pass }
+        ensures exact { IsWhole (part_of pass) → result ≡ worth_of pass }
+        ensures enough { IsWhole (part_of pass) → taken_of pass ≤ given_of pass }
     {
-        let Semaphore { table } = self;
-        let SemPass { seat } = pass;
-        let closed = table.close_with(seat);
-        let word = closed.word(0);
-        closed.free();
-        word
+        let Semaphore { words } = self;
+        words.close(pass, 0)
     }
 
     /// An exchange of the value seen for one less, and the value that it found.
-    #[tactic(auto, using(crate::proofs::SemaphoreKeeps::exchanges))]
     #[inline(always)]
     fn exchange(&self, pass: &mut SemPass, seen: u64, rest: u64) -> u64
-        requires own { IsPassOf self.now pass.old }
+        requires own { IsSemPass self.now pass.old }
         requires less { (0 < seen) × (rest ≡ seen - 1) }
-        ensures same { IsSamePass pass.old pass.new }
-        ensures done { result ≡ seen → view pass.new ≡ took (view pass.old) }
-        ensures failed { result ≢ seen → view pass.new ≡ missed (view pass.old) seen result }
-        ensures exact { IsWhole (view pass.old).part → result ≡ value_of (view pass.old) }
+        ensures done { result ≡ seen → HasDone took pass.old pass.new }
+        ensures failed { result ≢ seen → HasMissed seen result pass.old pass.new }
+        ensures exact { IsWhole (part_of pass.old) → result ≡ worth_of pass.old }
     {
-        let shared = &self.table.shared;
-        shared.compare_exchange::<Take>(&mut pass.seat, 0, seen, rest)
+        self.words.compare_exchange::<Take>(pass, 0, seen, rest)
     }
 
     /// An add of so many permits.
     #[tactic(auto, using(crate::proofs::SemaphoreKeeps::adds))]
     #[inline(always)]
     fn add(&self, pass: &mut SemPass, value: u64)
-        requires own { IsPassOf self.now pass.old }
-        ensures same { IsSamePass pass.old pass.new }
-        ensures given { view pass.new ≡ gave (view pass.old) value }
+        requires own { IsSemPass self.now pass.old }
+        ensures given { HasDone (gave value) pass.old pass.new }
     {
-        let shared = &self.table.shared;
-        shared.fetch_add::<Give>(&mut pass.seat, 0, value);
+        self.words.fetch_add::<Give>(pass, 0, value);
     }
 
     /// Looks, and takes a permit while there is one. False at a look that gave 0.
     #[inline(always)]
     fn take<R: Wait>(&self, rt: &R, pass: &mut SemPass) -> bool
-        requires own { IsPassOf self.now pass.old }
-        ensures takes { MatchBool result (HasTaken pass.old pass.new) (WasRefused 1 pass.old pass.new) }
-        ensures exact { IsWhole (view pass.old).part → MatchBool result (0 < value_of (view pass.old)) (value_of (view pass.old) ≡ 0) }
+        requires own { IsSemPass self.now pass.old }
+        ensures takes { MatchBool result (HasTaken pass.old pass.new) (WasRefused IsEmpty 1 pass.old pass.new) }
+        ensures looks { LooksOnceOrMisses (sights_of pass.old) (sights_of pass.new) }
+        ensures once { IsWhole (part_of pass.old) → MatchBool result (HasTakenAtOnce pass.old pass.new) (HasSeen 0 pass.old pass.new) }
+        ensures exact { IsWhole (part_of pass.old) → MatchBool result (0 < worth_of pass.old) (worth_of pass.old ≡ 0) }
     {
         let mut seen = self.value(pass);
         for _ in rt.forever() {
@@ -215,113 +259,31 @@ impl<A: Allocator> Semaphore<A> {
         unreachable!()
     }
 
-    /// Looks again, as often as a call does by itself, until a permit is taken.
-    fn spin<R: Wait>(&self, rt: &R, pass: &mut SemPass) -> bool
-        requires own { IsPassOf self.now pass.old }
-        ensures takes { MatchBool result (HasTaken pass.old pass.new) (WasRefused 10000 pass.old pass.new) }
-        ensures none { IsWhole (view pass.old).part → value_of (view pass.old) ≡ 0 → result ≡ false }
-    {
-        for _ in 0..SPIN_REPETITIONS {
-            spin_loop();
-            if self.take(rt, pass) {
-                return true;
-            }
-        }
-        false
-    }
-
-    /// The wait closure before each further look, until a permit is taken, or none is there after the closure answered `Abort`.
-    fn ask<R: Wait, W: Fn(&WaitWord, &u64) -> WaitAction>(
-        &self,
-        rt: &R,
-        pass: &mut SemPass,
-        wait: &W,
-    ) -> bool
-        requires own { IsPassOf self.now pass.old }
-        requires may { W.IsAlwaysCallable wait.now }
-        ensures takes { MatchBool result (HasTaken pass.old pass.new) (WasRefused 1 pass.old pass.new) }
-        ensures aborted { result ≡ false → MayAnswerAbort W.Fn wait.now IsEmpty }
-        ensures none { IsWhole (view pass.old).part → value_of (view pass.old) ≡ 0 → result ≡ false }
-    {
-        for _ in rt.forever() {
-            let last_try = may_give_up(wait, self.word(), 0);
-            if self.take(rt, pass) {
-                return true;
-            }
-            if last_try {
-                return false;
-            }
-        }
-        unreachable!()
-    }
-
     /// The semaphore's word, as closures see it.
     #[inline(always)]
     fn word(&self) -> WaitWord<'_> {
         WaitWord {
-            word: AnyWord::Semaphore(Word {
-                shared: &self.table.shared,
-                index: 0,
-            }),
+            word: AnyWord::Semaphore(self.words.word(0)),
         }
     }
 }
 
-/// How a pass is parted.
-struct Cut;
+/// A look of `wait`, and its exchanges.
+impl<A: Allocator> Attempt<Permits> for Semaphore<A> {
+    ghost use Rattle.passes.specs.Parts.{IsWhole};
+    ghost use Rattle.passes.specs.Objects.{id_of};
+    ghost use Rattle.iceoryx2_pal_concurrency_sync.specs.SemaphoreShown.{IsEmpty, Takes};
 
-impl Split<SemView> for Cut {
-    ghost use Rattle.iceoryx2_pal_concurrency_sync.specs.SemaphoreRule.{left_view, right_view};
+    ghost object = { λ s. id_of s.words };
 
-    ghost left = { left_view };
+    ghost moves = { Takes };
 
-    ghost right = { right_view };
-}
+    ghost refuses = { IsEmpty };
 
-impl Join<SemView> for Cut {
-    ghost use Rattle.iceoryx2_pal_concurrency_sync.specs.SemaphoreRule.{joined_view, spent_view};
+    ghost looks_once = { IsWhole };
 
-    ghost both = { joined_view };
-
-    ghost spent = { spent_view };
-}
-
-impl SemPass {
-    ghost use Rattle.iceoryx2_pal_concurrency_sync.specs.declared.part.Part.{Part};
-    ghost use Rattle.iceoryx2_pal_concurrency_sync.specs.SemaphoreRule.{left_view, right_view, joined_view};
-    ghost use Rattle.iceoryx2_pal_concurrency_sync.specs.SemaphoreShown.{IsPassOf, view};
-    ghost use Rattle.iceoryx2_pal_concurrency_sync.specs.Parts.{half, IsAgain, IsSamePart};
-    ghost use Rattle.std.specs.Prelude.{true, is_ok};
-
-    /// Two passes of the same semaphore. What they counted adds up to what this one had counted, and both know what it knew. `Err`,
-    /// which never comes today, would hand the pass back.
-    pub fn split<A: Allocator>(self, of: &Semaphore<A>) -> Result<(SemPass, SemPass), SemPass>
-        requires own { IsPassOf of.now self }
-        ensures never_refused { is_ok result ≡ true }
-        ensures own { IfOk result (λ parts. IsPassOf of.now parts.0 × IsPassOf of.now parts.1) }
-        ensures views { IfOk result (λ parts. (view parts.0 ≡ left_view (view self)) × (view parts.1 ≡ right_view (view self))) }
-    {
-        let SemPass { mut seat } = self;
-        let other = of.table.shared.split_seat::<Cut>(&mut seat);
-        Ok((SemPass { seat }, SemPass { seat: other }))
-    }
-
-    /// One pass from two of the same semaphore, which counted and knows what both did. `Err`, which never comes today, would hand both
-    /// back.
-    pub fn join<A: Allocator>(
-        a: SemPass,
-        b: SemPass,
-        of: &Semaphore<A>,
-    ) -> Result<SemPass, (SemPass, SemPass)>
-        requires own { IsPassOf of.now a × IsPassOf of.now b }
-        ensures never_refused { is_ok result ≡ true }
-        ensures own { IfOk result (IsPassOf of.now) }
-        ensures views { IfOk result (λ both. view both ≡ joined_view (view a) (view b)) }
-        ensures again { (p : Part) → IsSamePart (view a).part (half p) → IsSamePart (view b).part (half p) → IfOk result (λ both. IsAgain p (view both).part) }
-    {
-        let SemPass { mut seat } = a;
-        let SemPass { seat: other } = b;
-        of.table.shared.join_seat::<Cut>(&mut seat, other);
-        Ok(SemPass { seat })
+    #[inline(always)]
+    fn attempt<R: Wait>(&self, rt: &R, pass: &mut SemPass) -> bool {
+        self.take(rt, pass)
     }
 }

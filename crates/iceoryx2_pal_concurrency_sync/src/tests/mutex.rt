@@ -1,6 +1,7 @@
 //! The running mutex.
-ghost use Rattle.std.specs.Prelude.{◌≡◌};
-ghost use Rattle.iceoryx2_pal_concurrency_sync.specs.MutexShown.{IsAlone, IsPassOf, IsSamePass, view};
+ghost use Rattle.std.specs.Prelude.{◌≡◌, ◌+◌};
+ghost use Rattle.passes.specs.Passes.{IsSamePass};
+ghost use Rattle.iceoryx2_pal_concurrency_sync.specs.MutexShown.{IsMutexPass, IsAlone, HasStayed, holds_of, grants_of};
 
 use crate::strategy::mutex::{Mutex, MutexPass};
 use crate::tests::signal::Signal;
@@ -14,10 +15,9 @@ use std::thread::Threads;
 
 /// Locks and unlocks, with closures that yield and answer `Continue`: that is never interrupted.
 fn lock_and_unlock<R: Wait>(rt: &R, mutex: &Mutex, pass: &mut MutexPass)
-    requires own { IsPassOf mutex.now pass.old }
-    ensures same { IsSamePass pass.old pass.new }
-    ensures part { (view pass.new).part ≡ (view pass.old).part }
-    ensures off { (view pass.new).holds ≡ 0 }
+    requires own { IsMutexPass mutex.now pass.old }
+    requires off { holds_of pass.old ≡ 0 }
+    ensures stayed { HasStayed pass.old pass.new }
 {
     let locked = Mutex::lock(pass, mutex, rt, |_, _| {
         thread::yield_now();
@@ -32,11 +32,9 @@ fn lock_and_unlock<R: Wait>(rt: &R, mutex: &Mutex, pass: &mut MutexPass)
 }
 
 fn lock_and_unlock_often<R: Wait>(rt: &R, mutex: &Mutex, mut pass: MutexPass) -> MutexPass
-    requires own { IsPassOf mutex.now pass }
-    requires off { (view pass).holds ≡ 0 }
-    ensures own { IsPassOf mutex.now result }
-    ensures part { (view result).part ≡ (view pass).part }
-    ensures off { (view result).holds ≡ 0 }
+    requires own { IsMutexPass mutex.now pass }
+    requires off { holds_of pass ≡ 0 }
+    ensures stayed { HasStayed pass result }
 {
     for _ in 0..100u64 {
         lock_and_unlock(rt, mutex, &mut pass);
@@ -50,9 +48,9 @@ fn lock_in_two_threads<R: Threads + Wait + Sync>(
     mutex: &Mutex,
     pass: MutexPass,
 ) -> MutexPass
-    requires own { IsPassOf mutex.now pass }
+    requires own { IsMutexPass mutex.now pass }
     requires alone { IsAlone pass }
-    ensures own { IsPassOf mutex.now result }
+    ensures own { IsMutexPass mutex.now result }
     ensures alone { IsAlone result }
 {
     let Ok((one, two)) = pass.split(mutex) else {
@@ -61,12 +59,12 @@ fn lock_in_two_threads<R: Threads + Wait + Sync>(
     let (one, two) = thread::join(
         rt,
         || -> MutexPass
-            requires { IsPassOf mutex.now one × ((view one).holds ≡ 0) }
-            ensures { IsPassOf mutex.entry.now result × ((view result).part ≡ (view one).part) × ((view result).holds ≡ 0) }
+            requires { IsMutexPass mutex.now one × (holds_of one ≡ 0) }
+            ensures { HasStayed one result }
         { lock_and_unlock_often(rt, mutex, one) },
         || -> MutexPass
-            requires { IsPassOf mutex.now two × ((view two).holds ≡ 0) }
-            ensures { IsPassOf mutex.entry.now result × ((view result).part ≡ (view two).part) × ((view result).holds ≡ 0) }
+            requires { IsMutexPass mutex.now two × (holds_of two ≡ 0) }
+            ensures { HasStayed two result }
         { lock_and_unlock_often(rt, mutex, two) },
     );
     let Ok(mut pass) = MutexPass::join(one, two, mutex) else {
@@ -90,7 +88,7 @@ fn two_threads_lock_in_turn(rt: HostRuntime) -> Result<(), Fail> {
 
 /// Whether `try_lock` is refused now.
 fn is_refused(mutex: &Mutex, pass: &mut MutexPass) -> bool
-    requires { IsPassOf mutex.now pass.old }
+    requires { IsMutexPass mutex.now pass.old }
     ensures { IsSamePass pass.old pass.new }
 {
     match Mutex::try_lock(pass, mutex) {
@@ -108,7 +106,7 @@ fn refused_while_held(
     one: &mut MutexPass,
     two: &mut MutexPass,
 ) -> Option<(bool, bool)>
-    requires { IsPassOf mutex.now one.old × IsPassOf mutex.now two.old }
+    requires { IsMutexPass mutex.now one.old × IsMutexPass mutex.now two.old }
 {
     match Mutex::try_lock(one, mutex) {
         WaitResult::Success(hold) => {
@@ -133,16 +131,19 @@ fn one_holder_at_a_time(rt: HostRuntime) -> Result<(), Fail> {
     Ok(())
 }
 
-/// What a `lock` did whose wait closure answers `Abort` at once: whether it was interrupted, how often it asked, and with what.
-fn lock_and_abort<R: Wait>(rt: &R, mutex: &Mutex, pass: &mut MutexPass) -> (bool, u64, u64)
-    requires { IsPassOf mutex.now pass.old }
+/// What a `lock` did whose wait closure answers `Abort` at once: whether it was interrupted, how often it asked, with what, and what
+/// the closure saw of the word.
+fn lock_and_abort<R: Wait>(rt: &R, mutex: &Mutex, pass: &mut MutexPass) -> (bool, u64, u64, u64)
+    requires { IsMutexPass mutex.now pass.old }
     ensures { IsSamePass pass.old pass.new }
 {
     let calls = AtomicU64::new(0);
     let got = AtomicU64::new(0);
-    let locked = Mutex::lock(pass, mutex, rt, |_, seen| {
+    let saw = AtomicU64::new(0);
+    let locked = Mutex::lock(pass, mutex, rt, |word, seen| {
         calls.fetch_add(1, Ordering::SeqCst);
         got.store(*seen, Ordering::SeqCst);
+        saw.store(word.load(), Ordering::SeqCst);
         WaitAction::Abort
     });
     let interrupted = match locked {
@@ -153,7 +154,8 @@ fn lock_and_abort<R: Wait>(rt: &R, mutex: &Mutex, pass: &mut MutexPass) -> (bool
         WaitResult::Interrupted => true,
     };
     let calls = calls.load(Ordering::SeqCst);
-    (interrupted, calls, got.load(Ordering::SeqCst))
+    let got = got.load(Ordering::SeqCst);
+    (interrupted, calls, got, saw.load(Ordering::SeqCst))
 }
 
 /// The same while `one` has the hold.
@@ -162,8 +164,8 @@ fn abort_while_held<R: Wait>(
     mutex: &Mutex,
     one: &mut MutexPass,
     two: &mut MutexPass,
-) -> Option<(bool, u64, u64)>
-    requires { IsPassOf mutex.now one.old × IsPassOf mutex.now two.old }
+) -> Option<(bool, u64, u64, u64)>
+    requires { IsMutexPass mutex.now one.old × IsMutexPass mutex.now two.old }
     ensures { IsSamePass one.old one.new × IsSamePass two.old two.new }
 {
     match Mutex::try_lock(one, mutex) {
@@ -184,15 +186,77 @@ fn a_waiter_aborts(rt: HostRuntime) -> Result<(), Fail> {
     };
     assert_eq!(rt;
         abort_while_held(&rt, &mutex, &mut one, &mut two),
-        Some((true, 1, 1))
+        Some((true, 1, 1, 1))
     );
-    assert_eq!(rt; lock_and_abort(&rt, &mutex, &mut two), (false, 0, 0));
+    assert_eq!(rt; lock_and_abort(&rt, &mutex, &mut two), (false, 0, 0, 0));
+    Ok(())
+}
+
+/// Holds the mutex until the other thread's call is over, or asks again.
+fn hold_until_over(mutex: &Mutex, pass: &mut MutexPass, locked: &Signal, over: &Signal) -> bool
+    requires { IsMutexPass mutex.now pass.old }
+{
+    match Mutex::try_lock(pass, mutex) {
+        WaitResult::Success(hold) => {
+            locked.give();
+            let was_over = over.awaited();
+            mutex.unlock(hold, |_| ());
+            was_over
+        }
+        WaitResult::Interrupted => false,
+    }
+}
+
+/// Locks with a closure that answers `Abort` at once, and says so should it be asked again. How often it was asked, if the call gave
+/// up.
+fn lock_until_over<R: Wait>(
+    rt: &R,
+    mutex: &Mutex,
+    pass: &mut MutexPass,
+    locked: &Signal,
+    over: &Signal,
+) -> Option<u64>
+    requires { IsMutexPass mutex.now pass.old }
+{
+    let calls = AtomicU64::new(0);
+    locked.awaited();
+    let answer = Mutex::lock(pass, mutex, rt, |_, _| {
+        if calls.fetch_add(1, Ordering::SeqCst) > 0 {
+            over.give();
+        }
+        WaitAction::Abort
+    });
+    over.give();
+    match answer {
+        WaitResult::Success(hold) => {
+            mutex.unlock(hold, |_| ());
+            None
+        }
+        WaitResult::Interrupted => Some(calls.load(Ordering::SeqCst)),
+    }
+}
+
+/// A call that went on after `Abort` would lock the mutex once the other thread lets it go.
+#[test]
+fn an_abort_is_obeyed(rt: HostRuntime) -> Result<(), Fail> {
+    let (mutex, pass) = Mutex::new(rt.alloc())?;
+    let Ok((mut one, mut two)) = pass.split(&mutex) else {
+        unreachable!()
+    };
+    let (locked, over) = (Signal::new(), Signal::new());
+    let (was_over, asked) = thread::join(
+        &rt,
+        || hold_until_over(&mutex, &mut one, &locked, &over),
+        || lock_until_over(&rt, &mutex, &mut two, &locked, &over),
+    );
+    assert!(rt; was_over);
+    assert_eq!(rt; asked, Some(1));
     Ok(())
 }
 
 /// How often `unlock` calls its wake closure, and the word that the closure sees.
 fn unlock_counted(mutex: &Mutex, pass: &mut MutexPass) -> Option<(u64, u64)>
-    requires { IsPassOf mutex.now pass.old }
+    requires { IsMutexPass mutex.now pass.old }
 {
     let calls = AtomicU64::new(0);
     let word = AtomicU64::new(9);
@@ -223,7 +287,7 @@ fn unlock_when_asked(
     asked: &Signal,
     unlocked: &Signal,
 ) -> bool
-    requires { IsPassOf mutex.now pass.old }
+    requires { IsMutexPass mutex.now pass.old }
 {
     match Mutex::try_lock(pass, mutex) {
         WaitResult::Success(hold) => {
@@ -246,7 +310,7 @@ fn lock_after_unlock<R: Wait>(
     asked: &Signal,
     unlocked: &Signal,
 ) -> bool
-    requires { IsPassOf mutex.now pass.old }
+    requires { IsMutexPass mutex.now pass.old }
 {
     let was_locked = locked.awaited();
     let answer = Mutex::lock(pass, mutex, rt, |_, _| {
@@ -287,9 +351,9 @@ fn two_calls_meet_and_success_after_abort(rt: HostRuntime) -> Result<(), Fail> {
 
 /// Parts a pass of which nothing is known but that it is whole, in three, and joins them again: that one is granted.
 fn part_and_join(mutex: &Mutex, pass: MutexPass) -> MutexPass
-    requires own { IsPassOf mutex.now pass }
+    requires own { IsMutexPass mutex.now pass }
     requires alone { IsAlone pass }
-    ensures own { IsPassOf mutex.now result }
+    ensures own { IsMutexPass mutex.now result }
     ensures alone { IsAlone result }
 {
     let Ok((one, other)) = pass.split(mutex) else {
@@ -318,5 +382,86 @@ fn parts_are_the_whole_again(rt: HostRuntime) -> Result<(), Fail> {
     let (mutex, pass) = Mutex::new(rt.alloc())?;
     let mut pass = part_and_join(&mutex, pass);
     assert!(rt; !is_refused(&mutex, &mut pass));
+    Ok(())
+}
+
+/// Parts a pass of which nothing is known but that it is whole, in four, and joins them from left to right: the whole is there again.
+fn part_in_four_and_join(mutex: &Mutex, pass: MutexPass) -> MutexPass
+    requires own { IsMutexPass mutex.now pass }
+    requires alone { IsAlone pass }
+    ensures own { IsMutexPass mutex.now result }
+    ensures alone { IsAlone result }
+{
+    let Ok((left, right)) = pass.split(mutex) else {
+        unreachable!()
+    };
+    let Ok((one, two)) = left.split(mutex) else {
+        unreachable!()
+    };
+    let Ok((three, four)) = right.split(mutex) else {
+        unreachable!()
+    };
+    let Ok(pass) = MutexPass::join(one, two, mutex) else {
+        unreachable!()
+    };
+    let Ok(pass) = MutexPass::join(pass, three, mutex) else {
+        unreachable!()
+    };
+    let Ok(pass) = MutexPass::join(pass, four, mutex) else {
+        unreachable!()
+    };
+    pass
+}
+
+#[test]
+fn four_parts_are_the_whole_from_left_to_right(rt: HostRuntime) -> Result<(), Fail> {
+    let (mutex, pass) = Mutex::new(rt.alloc())?;
+    let mut pass = part_in_four_and_join(&mutex, pass);
+    assert!(rt; !is_refused(&mutex, &mut pass));
+    Ok(())
+}
+
+/// A struct that owns a mutex and its pass, and how often it was entered.
+#[derive(Drop)]
+struct Counted {
+    mutex: Mutex,
+    pass: MutexPass,
+    entered: u64,
+    ghost own: { IsMutexPass mutex pass },
+    ghost alone: { IsAlone pass },
+}
+
+impl Counted {
+    /// What stood before.
+    fn enter<R: Wait>(&mut self, rt: &R) -> u64
+        ensures before { result ≡ self.old.entered }
+        ensures grants { grants_of self.new.pass ≡ grants_of self.old.pass + 1 }
+    {
+        let entered = self.entered;
+        let answer = self.mutex.with_lock(
+            rt,
+            &mut self.pass,
+            |_, _| WaitAction::Continue,
+            |_| (),
+            move || entered,
+        );
+        self.entered = entered.wrapping_add(1);
+        match answer {
+            WaitResult::Success(before) => before,
+            WaitResult::Interrupted => unreachable!(),
+        }
+    }
+}
+
+#[test]
+fn locks_within_a_method(rt: HostRuntime) -> Result<(), Fail> {
+    let (mutex, pass) = Mutex::new(rt.alloc())?;
+    let mut counted = Counted {
+        mutex,
+        pass,
+        entered: 0,
+    };
+    assert_eq!(rt; counted.enter(&rt), 0);
+    assert_eq!(rt; counted.enter(&rt), 1);
     Ok(())
 }

@@ -1,8 +1,10 @@
 //! The running semaphore.
 ghost use Rattle.std.specs.Prelude.{◌≡◌, ◌+◌};
-ghost use Rattle.iceoryx2_pal_concurrency_sync.specs.Parts.{IsWhole};
-ghost use Rattle.iceoryx2_pal_concurrency_sync.specs.SemaphoreRule.{first_view};
-ghost use Rattle.iceoryx2_pal_concurrency_sync.specs.SemaphoreShown.{IsPassOf, IsSamePass, view};
+ghost use Rattle.passes.specs.Parts.{IsWhole};
+ghost use Rattle.passes.specs.Passes.{IsSamePass, part_of, view};
+ghost use Rattle.passes.specs.Views.{first_view};
+ghost use Rattle.iceoryx2_pal_concurrency_sync.specs.SemaphoreRule.{first_permits};
+ghost use Rattle.iceoryx2_pal_concurrency_sync.specs.SemaphoreShown.{IsSemPass, HasCounted, given_of, taken_of};
 
 use crate::strategy::semaphore::{SemPass, Semaphore};
 use crate::tests::signal::Signal;
@@ -19,11 +21,11 @@ fn take_three_and_post_one<R: Wait>(
     semaphore: &Semaphore,
     pass: &mut SemPass,
 ) -> (WaitResult<()>, WaitResult<()>, WaitResult<()>)
-    requires own { IsPassOf semaphore.now pass.old }
-    requires new { view pass.old ≡ first_view 2 }
+    requires own { IsSemPass semaphore.now pass.old }
+    requires new { view pass.old ≡ first_view (first_permits 2) }
     ensures same { IsSamePass pass.old pass.new }
-    ensures tally { ((view pass.new).given ≡ 2 + 1) × ((view pass.new).taken ≡ 2) }
-    ensures whole { IsWhole (view pass.new).part }
+    ensures tally { (given_of pass.new ≡ 2 + 1) × (taken_of pass.new ≡ 2) }
+    ensures whole { IsWhole (part_of pass.new) }
 {
     let answers = (
         semaphore.try_wait(rt, pass),
@@ -48,7 +50,7 @@ fn two_of_three_take(rt: HostRuntime) -> Result<(), Fail> {
 
 /// How often `post` calls its wake closure, and the value that the closure sees.
 fn post_counted(semaphore: &Semaphore, pass: &mut SemPass, value: u64) -> (u64, u64)
-    requires { IsPassOf semaphore.now pass.old }
+    requires { IsSemPass semaphore.now pass.old }
     ensures { IsSamePass pass.old pass.new }
 {
     let calls = AtomicU64::new(0);
@@ -75,7 +77,7 @@ fn wait_and_abort<R: Wait>(
     semaphore: &Semaphore,
     pass: &mut SemPass,
 ) -> (WaitResult<()>, u64, u64)
-    requires { IsPassOf semaphore.now pass.old }
+    requires { IsSemPass semaphore.now pass.old }
     ensures { IsSamePass pass.old pass.new }
 {
     let calls = AtomicU64::new(0);
@@ -104,6 +106,53 @@ fn a_waiter_aborts(rt: HostRuntime) -> Result<(), Fail> {
     Ok(())
 }
 
+/// Posts 1 once the other thread's call is over, or asks again.
+fn post_when_over(semaphore: &Semaphore, pass: &mut SemPass, over: &Signal) -> bool
+    requires { IsSemPass semaphore.now pass.old }
+{
+    let was_over = over.awaited();
+    semaphore.post(pass, |_| (), 1);
+    was_over
+}
+
+/// Waits with a closure that answers `Abort` at once, and says so should it be asked again.
+fn wait_until_over<R: Wait>(
+    rt: &R,
+    semaphore: &Semaphore,
+    pass: &mut SemPass,
+    over: &Signal,
+) -> (WaitResult<()>, u64)
+    requires { IsSemPass semaphore.now pass.old }
+{
+    let calls = AtomicU64::new(0);
+    let answer = semaphore.wait(rt, pass, |_, _| {
+        if calls.fetch_add(1, Ordering::SeqCst) > 0 {
+            over.give();
+        }
+        WaitAction::Abort
+    });
+    over.give();
+    (answer, calls.load(Ordering::SeqCst))
+}
+
+/// A call that went on after `Abort` would take what the other thread then posts.
+#[test]
+fn an_abort_is_obeyed(rt: HostRuntime) -> Result<(), Fail> {
+    let (semaphore, pass) = Semaphore::new(rt.alloc(), 0)?;
+    let Ok((mut one, mut two)) = pass.split(&semaphore) else {
+        unreachable!()
+    };
+    let over = Signal::new();
+    let (was_over, answer) = thread::join(
+        &rt,
+        || post_when_over(&semaphore, &mut one, &over),
+        || wait_until_over(&rt, &semaphore, &mut two, &over),
+    );
+    assert!(rt; was_over);
+    assert_eq!(rt; answer, (WaitResult::Interrupted, 1));
+    Ok(())
+}
+
 /// Posts 1 once the other thread asks for it, and tells it.
 fn post_when_asked(
     semaphore: &Semaphore,
@@ -111,7 +160,7 @@ fn post_when_asked(
     asked: &Signal,
     posted: &Signal,
 ) -> bool
-    requires { IsPassOf semaphore.now pass.old }
+    requires { IsSemPass semaphore.now pass.old }
 {
     if !asked.awaited() {
         return false;
@@ -129,7 +178,7 @@ fn wait_until_posted<R: Wait>(
     asked: &Signal,
     posted: &Signal,
 ) -> WaitResult<()>
-    requires { IsPassOf semaphore.now pass.old }
+    requires { IsSemPass semaphore.now pass.old }
 {
     semaphore.wait(rt, pass, |_, _| {
         asked.give();
@@ -160,10 +209,8 @@ fn success_after_abort(rt: HostRuntime) -> Result<(), Fail> {
 
 /// Posts 1 so many times.
 fn post_often(semaphore: &Semaphore, mut pass: SemPass, times: u64) -> SemPass
-    requires own { IsPassOf semaphore.now pass }
-    ensures own { IsPassOf semaphore.now result }
-    ensures part { (view result).part ≡ (view pass).part }
-    ensures tally { ((view result).given ≡ (view pass).given + times) × ((view result).taken ≡ (view pass).taken) }
+    requires own { IsSemPass semaphore.now pass }
+    ensures posted { HasCounted times 0 pass result }
 {
     for _ in 0..times {
         semaphore.post(&mut pass, |_| (), 1);
@@ -173,10 +220,8 @@ fn post_often(semaphore: &Semaphore, mut pass: SemPass, times: u64) -> SemPass
 
 /// Takes so many permits, with a closure that yields and answers `Continue`: that is never interrupted.
 fn take_often<R: Wait>(rt: &R, semaphore: &Semaphore, mut pass: SemPass, times: u64) -> SemPass
-    requires own { IsPassOf semaphore.now pass }
-    ensures own { IsPassOf semaphore.now result }
-    ensures part { (view result).part ≡ (view pass).part }
-    ensures tally { ((view result).given ≡ (view pass).given) × ((view result).taken ≡ (view pass).taken + times) }
+    requires own { IsSemPass semaphore.now pass }
+    ensures taken { HasCounted 0 times pass result }
 {
     for _ in 0..times {
         let answer = semaphore.wait(rt, &mut pass, |_, _| {
@@ -193,8 +238,8 @@ fn take_often<R: Wait>(rt: &R, semaphore: &Semaphore, mut pass: SemPass, times: 
 
 /// One thread posts 100 permits to a new semaphore of 2, and another takes 101 of the 102.
 fn post_and_take<R: Threads + Wait + Sync>(rt: &R, semaphore: Semaphore, pass: SemPass) -> u64
-    requires own { IsPassOf semaphore pass }
-    requires new { view pass ≡ first_view 2 }
+    requires own { IsSemPass semaphore pass }
+    requires new { view pass ≡ first_view (first_permits 2) }
     ensures { result ≡ 1 }
 {
     let Ok((one, two)) = pass.split(&semaphore) else {
@@ -204,12 +249,12 @@ fn post_and_take<R: Threads + Wait + Sync>(rt: &R, semaphore: Semaphore, pass: S
     let (one, two) = thread::join(
         rt,
         || -> SemPass
-            requires { IsPassOf shared.now one }
-            ensures { IsPassOf shared.entry.now result × ((view result).part ≡ (view one).part) × ((view result).given ≡ (view one).given + 100) × ((view result).taken ≡ (view one).taken) }
+            requires { IsSemPass shared.now one }
+            ensures { HasCounted 100 0 one result }
         { post_often(shared, one, 100) },
         || -> SemPass
-            requires { IsPassOf shared.now two }
-            ensures { IsPassOf shared.entry.now result × ((view result).part ≡ (view two).part) × ((view result).given ≡ (view two).given) × ((view result).taken ≡ (view two).taken + 101) }
+            requires { IsSemPass shared.now two }
+            ensures { HasCounted 0 101 two result }
         { take_often(rt, shared, two, 101) },
     );
     let Ok(pass) = SemPass::join(one, two, &semaphore) else {
@@ -222,5 +267,28 @@ fn post_and_take<R: Threads + Wait + Sync>(rt: &R, semaphore: Semaphore, pass: S
 fn two_threads_post_and_take(rt: HostRuntime) -> Result<(), Fail> {
     let (semaphore, pass) = Semaphore::new(rt.alloc(), 2)?;
     assert_eq!(rt; post_and_take(&rt, semaphore, pass), 1);
+    Ok(())
+}
+
+/// Acts under a permit of a new semaphore of 1, and answers what the action gave.
+fn act_under_a_permit<R: Wait>(rt: &R, semaphore: &Semaphore, pass: &mut SemPass) -> u64
+    requires own { IsSemPass semaphore.now pass.old }
+    requires new { view pass.old ≡ first_view (first_permits 1) }
+    ensures seven { result ≡ 7 }
+    ensures same { IsSamePass pass.old pass.new }
+    ensures tally { (given_of pass.new ≡ 2) × (taken_of pass.new ≡ 1) }
+{
+    let answer = semaphore.with_permit(rt, pass, |_, _| WaitAction::Continue, |_| (), || 7);
+    match answer {
+        WaitResult::Success(seven) => seven,
+        WaitResult::Interrupted => unreachable!(),
+    }
+}
+
+#[test]
+fn a_permit_is_given_back(rt: HostRuntime) -> Result<(), Fail> {
+    let (semaphore, mut pass) = Semaphore::new(rt.alloc(), 1)?;
+    assert_eq!(rt; act_under_a_permit(&rt, &semaphore, &mut pass), 7);
+    assert_eq!(rt; semaphore.close(pass), 1);
     Ok(())
 }

@@ -1,5 +1,5 @@
 //! The lines of the mutex.
-ghost use Rattle.iceoryx2_pal_concurrency_sync.specs.MutexShown.{IsPassOf, IsSamePass};
+ghost use Rattle.iceoryx2_pal_concurrency_sync.specs.MutexShown.{IsMutexPass, HasStayed};
 
 use crate::lines::{Operation, successes};
 use iceoryx2_pal_concurrency_sync::strategy::mutex::{Mutex, MutexPass};
@@ -18,7 +18,7 @@ struct Lock<'r, R: Wait> {
     rt: &'r R,
     mutex: Mutex,
     pass: MutexPass,
-    ghost own: { IsPassOf mutex pass },
+    ghost own: { IsMutexPass mutex pass },
 }
 
 impl<R: Wait> Operation for Lock<'_, R> {
@@ -30,8 +30,8 @@ impl<R: Wait> Operation for Lock<'_, R> {
 
 #[inline(always)]
 fn lock_once<R: Wait>(rt: &R, mutex: &Mutex, pass: &mut MutexPass) -> bool
-    requires { IsPassOf mutex.now pass.old }
-    ensures { IsSamePass pass.old pass.new }
+    requires { IsMutexPass mutex.now pass.old }
+    ensures { HasStayed pass.old pass.new }
 {
     match Mutex::lock(pass, mutex, rt, |_, _| WaitAction::Continue) {
         WaitResult::Success(hold) => {
@@ -52,7 +52,7 @@ pub fn try_lock_unlock(alloc: Global) -> Result<u32, AllocError> {
 struct TryLock {
     mutex: Mutex,
     pass: MutexPass,
-    ghost own: { IsPassOf mutex pass },
+    ghost own: { IsMutexPass mutex pass },
 }
 
 impl Operation for TryLock {
@@ -64,8 +64,8 @@ impl Operation for TryLock {
 
 #[inline(always)]
 fn try_lock_once(mutex: &Mutex, pass: &mut MutexPass) -> bool
-    requires { IsPassOf mutex.now pass.old }
-    ensures { IsSamePass pass.old pass.new }
+    requires { IsMutexPass mutex.now pass.old }
+    ensures { HasStayed pass.old pass.new }
 {
     match Mutex::try_lock(pass, mutex) {
         WaitResult::Success(hold) => {

@@ -1,5 +1,5 @@
 //! The lines of the semaphore.
-ghost use Rattle.iceoryx2_pal_concurrency_sync.specs.SemaphoreShown.{IsPassOf};
+ghost use Rattle.iceoryx2_pal_concurrency_sync.specs.SemaphoreShown.{IsSemPass};
 
 use crate::lines::{Operation, successes};
 use iceoryx2_pal_concurrency_sync::WaitResult;
@@ -22,7 +22,7 @@ struct TakeAndPost<'r, R: Wait> {
     rt: &'r R,
     semaphore: Semaphore,
     pass: SemPass,
-    ghost own: { IsPassOf semaphore pass },
+    ghost own: { IsSemPass semaphore pass },
 }
 
 impl<R: Wait> Operation for TakeAndPost<'_, R> {
@@ -44,7 +44,7 @@ pub fn value(alloc: Global) -> Result<u32, AllocError> {
 struct ReadValue {
     semaphore: Semaphore,
     pass: SemPass,
-    ghost own: { IsPassOf semaphore pass },
+    ghost own: { IsSemPass semaphore pass },
 }
 
 impl Operation for ReadValue {

@@ -1,9 +1,9 @@
 use Rattle.std.proofs.Common.{ℕ, List}
 use Rattle.std.specs.Prelude.{string_bytes}
-use Rattle.sync_steps.specs.declared.steps.event.Event.{Event}
-use Rattle.sync_steps.specs.declared.steps.event.Object.{Object}
-use Rattle.sync_steps.specs.Integers.{u64_arithmetic}
-use Rattle.sync_steps.specs.Standing.{StandsAt}
+use Rattle.steps_events.specs.declared.event.Event.{Event}
+use Rattle.steps_events.specs.declared.event.Object.{Object}
+use Rattle.steps_events.specs.Integers.{u64_arithmetic}
+use Rattle.sync_steps.specs.Machine.{StandsAt}
 use Rattle.sync_play.specs.Player.{command_events, steps_left}
 use Rattle.sync_play.proofs.TextLaws.{Halfway}
 use Rattle.sync_play.proofs.text.play_command.Given as goal

@@ -1,8 +1,8 @@
 use Rattle.std.proofs.Common.{◌+◌, ◌≤◌, ℕ, List, length}
 use Rattle.std.specs.Prelude.{string_bytes}
-use Rattle.sync_steps.specs.declared.steps.event.Event.{Event}
-use Rattle.sync_steps.specs.Integers.{u64_arithmetic}
-use Rattle.sync_steps.specs.Standing.{StandsAt}
+use Rattle.steps_events.specs.declared.event.Event.{Event}
+use Rattle.steps_events.specs.Integers.{u64_arithmetic}
+use Rattle.sync_steps.specs.Machine.{StandsAt}
 use Rattle.sync_play.specs.Lexer.{lines_of}
 use Rattle.sync_play.proofs.TextLaws.{HalfText}
 use Rattle.sync_play.proofs.text.play_lines.Given as goal

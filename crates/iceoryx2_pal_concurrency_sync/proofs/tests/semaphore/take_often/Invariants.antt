@@ -1,7 +1,5 @@
-use Rattle.std.proofs.Common.{◌≡◌, ◌+◌}
-use Rattle.iceoryx2_pal_concurrency_sync.specs.SemaphoreShown.{IsSamePass, view}
+use Rattle.iceoryx2_pal_concurrency_sync.specs.SemaphoreShown.{HasCounted}
 use Rattle.iceoryx2_pal_concurrency_sync.proofs.tests.semaphore.take_often.Given as goal
 
 abbrev pub invariant-loop : goal.invariant-loop
-invariant-loop g l =
-    IsSamePass l.fn.pass l.pass × ((view l.pass).part ≡ (view l.fn.pass).part) × ((view l.pass).given ≡ (view l.fn.pass).given) × ((view l.pass).taken ≡ (view l.fn.pass).taken + l.counter)
+invariant-loop g l = HasCounted 0 l.counter l.fn.pass l.pass

@@ -1,12 +1,18 @@
-use Rattle.std.proofs.Common.{◌≡◌}
-use Rattle.iceoryx2_pal_concurrency_sync.specs.Parts.{IsWhole}
-use Rattle.iceoryx2_pal_concurrency_sync.specs.Sights.{HasLooked}
-use Rattle.iceoryx2_pal_concurrency_sync.specs.SemaphoreRule.{value_of}
-use Rattle.iceoryx2_pal_concurrency_sync.specs.SemaphoreShown.{view, HasStayed}
+use Rattle.std.proofs.Common.{◌≡◌, true}
+use Rattle.passes.specs.Parts.{IsWhole}
+use Rattle.passes.specs.Sights.{HasLooked, LooksOnceOrMisses}
+use Rattle.passes.specs.Passes.{view, part_of, sights_of, HasOnlySeen}
+use Rattle.passes.specs.Views.{looked}
+use Rattle.iceoryx2_pal_concurrency_sync.specs.SemaphoreShown.{worth_of}
 use Rattle.iceoryx2_pal_concurrency_sync.proofs.strategy.semaphore.Semaphore.take.Given as goal
 
--- the value seen is the last one that was seen
+-- the value seen is the last one that was seen, by the first look or by an exchange that missed
 abbrev pub invariant-loop : goal.invariant-loop
-invariant-loop g l =
-    HasStayed l.fn.pass l.pass × HasLooked (λ n. n ≡ l.seen) 1 (view l.fn.pass).sights (view l.pass).sights
-    × (IsWhole (view l.fn.pass).part → l.seen ≡ value_of (view l.fn.pass))
+invariant-loop g l = record {
+  stayed : HasOnlySeen l.fn.pass l.pass;
+  last : HasLooked (λ n. n ≡ l.seen) 1 (sights_of l.fn.pass) (sights_of l.pass);
+  fresh : (sights_of l.pass).fresh ≡ true;
+  looks : LooksOnceOrMisses (sights_of l.fn.pass) (sights_of l.pass);
+  once : IsWhole (part_of l.fn.pass) → view l.pass ≡ looked (view l.fn.pass) l.seen;
+  exact : IsWhole (part_of l.fn.pass) → l.seen ≡ worth_of l.fn.pass;
+}

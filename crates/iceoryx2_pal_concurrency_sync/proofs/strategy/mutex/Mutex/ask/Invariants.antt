@@ -1,5 +1,0 @@
-use Rattle.iceoryx2_pal_concurrency_sync.specs.MutexShown.{HasStayed}
-use Rattle.iceoryx2_pal_concurrency_sync.proofs.strategy.mutex.Mutex.ask.Given as goal
-
-abbrev pub invariant-loop : goal.invariant-loop
-invariant-loop g l = HasStayed l.fn.pass l.pass

@@ -1,0 +1,6 @@
+pub mod Parts
+pub mod Sums
+pub mod Steps
+pub mod Attempts
+pub mod Updates
+pub mod Counters

@@ -1,0 +1,8 @@
+pub mod Parts
+pub mod Sights
+pub mod Tallies
+pub mod Views
+pub mod Answers
+pub mod Counters
+pub mod Passes
+pub mod Objects

@@ -1,0 +1,28 @@
+//! What the running types share: passes that count, the rule over what they count, and the loop that tries again.
+//!
+//! The terms are those of a resource algebra. What a pass counts and knows is its *tally*; the tallies of all passes of an object add
+//! up, and the object's *rule* says what their sum says of its words. A step on a word is a frame-preserving update: its caller shows
+//! that the rule holds again, whatever the other passes have counted, and learns from it.
+#![tactic(auto)]
+
+mod attempt;
+mod deed;
+mod part;
+mod pass;
+mod rule;
+mod tally;
+#[cfg(test)]
+mod tests;
+mod view;
+mod wait;
+mod words;
+
+pub use attempt::{Attempt, ask, spin};
+pub use deed::Deed;
+pub use part::{Part, Sights};
+pub use pass::Pass;
+pub use rule::{Rule, SumRule};
+pub use tally::Tally;
+pub use view::View;
+pub use wait::{WaitResult, may_give_up, success_if, wake};
+pub use words::{Word, Words};
