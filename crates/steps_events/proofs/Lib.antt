@@ -2,3 +2,4 @@ pub mod Holds
 pub mod Steps
 pub mod Parties
 pub mod Locks
+pub mod Spins

@@ -1,10 +1,8 @@
 -- A mutex keeps its law at every front of every run.
-use Rattle.std.proofs.Common.{◌≡◌, ℕ, ◌+◌, ◌≤◌, ◌==◌, refl, sym, ◌∙◌, ap, subst, Bool, true, false, ◌&&◌, cond, is_some, List, [], ◌∷◌, Option, Some, None, ◌↔◌, arith}
+use Rattle.std.proofs.Common.{◌≡◌, ℕ, ◌+◌, ◌==◌, refl, sym, ◌∙◌, ap, subst, Bool, true, false, cond, is_some, List, [], ◌∷◌, Option, Some, None, ◌↔◌, arith}
 use Rattle.std.specs.Prelude.{MatchBool, MatchOption, nat_lt, not}
 use Rattle.std.proofs.lemmas.Bool.{eqb-true, eqb-false}
-use Rattle.std.proofs.lemmas.Bool.Decides.{nat_tests}
 use Rattle.steps_events.specs.declared.WaitAction.{WaitAction}
-use Rattle.steps_events.specs.declared.WaitAction.TheVariants as actions
 use Rattle.steps_events.specs.declared.event.Word.{Word}
 use Rattle.steps_events.specs.declared.event.Word.TheVariants as words
 use Rattle.steps_events.specs.declared.event.Call.{Call}
@@ -13,21 +11,21 @@ use Rattle.steps_events.specs.declared.event.Act.{Act}
 use Rattle.steps_events.specs.declared.event.Act.TheVariants as acts
 use Rattle.steps_events.specs.declared.event.Answer.TheVariants as answers
 use Rattle.steps_events.specs.declared.event.Event.{Event}
-use Rattle.steps_events.specs.declared.event.Then.{Then}
 use Rattle.steps_events.specs.declared.event.Then.TheVariants as thens
 use Rattle.steps_events.specs.declared.hold.HoldKind.{HoldKind}
 use Rattle.steps_events.specs.declared.patience.Patience.{Patience}
 use Rattle.steps_events.specs.declared.row.After.{After}
 use Rattle.steps_events.specs.declared.row.After.TheVariants as afters
 use Rattle.steps_events.specs.Arithmetic.{Arithmetic}
-use Rattle.steps_events.specs.Rows.{carried_out, value_told, outcome_of, place_after, within, is_continue}
+use Rattle.steps_events.specs.Rows.{carried_out, value_told, outcome_of, place_after, within}
 use Rattle.steps_events.specs.Past.{same_word, PendingCall, call_of, holds_of, hold_of, word_in, latest_outcome, event, is_failure, failures_in}
 use Rattle.steps_events.specs.Moves.{Move, step_at, hold_fault, answer_fault}
 use Rattle.steps_events.specs.Runs.{IsPast}
-use Rattle.steps_events.specs.Sights.{is_sight, keeps_asking, HasAborted, spins_in, stands_at_wait, stands_in, exchanges_in}
+use Rattle.steps_events.specs.Sights.{is_sight, HasAborted, spins_in, stands_at_wait, stands_in, exchanges_in}
 use Rattle.steps_events.specs.Laws.{Lacks, is_refusal}
 use Rattle.steps_events.proofs.Holds.{eqb_same}
 use Rattle.steps_events.proofs.Steps.{by_move, tells_memory}
+use Rattle.steps_events.proofs.Spins.{HasSpun, spins_left, spins_spent, answered_keep, waits_by}
 use Rattle.steps_events.proofs.Parties.{IsKept, at_place}
 use Rattle.steps_events.proofs.Locks.{IsLock, IsLockIntent, IsFreeOrHeld, lock_word, lock_exclusive, locked_at, free_exactly}
 use Rattle.steps_mutex.specs.declared.MutexPlace.{MutexPlace}
@@ -37,12 +35,9 @@ use Rattle.steps_mutex.specs.Law.{MutexCause, HasTried, KeepsMutex}
 
 -- What is kept of a call at its place.
 
--- the own events of a `Lock`: the place counts its spins and knows whether it keeps on asking
-pub record HasSpun {T : Type 0} (patience : Patience) (own : List (Event T)) : Type 0 where
-  pub spun : spins_in is_failure own ≡ patience.spins
-  pub keeps : keeps_asking own ≡ patience.keep
-  pub within_limit : patience.spins ≤ 10000
-  -- each exchange failed, and after each it spun or stood
+-- the own events of a `Lock`: each exchange failed, and after each it spun or stood
+pub record HasTriedSo {T : Type 0} (patience : Patience) (own : List (Event T)) : Type 0 where
+  pub so : HasSpun is_failure patience own
   pub tried : exchanges_in own ≡ patience.spins + stands_in own
   pub failed : failures_in own ≡ exchanges_in own
   -- it stands and gives up only after all its spins
@@ -51,7 +46,7 @@ pub record HasSpun {T : Type 0} (patience : Patience) (own : List (Event T)) : T
 
 abbrev pub AtMutex : {T : Type 0} → MutexPlace → PendingCall T → Option HoldKind → Type 0
 AtMutex places.TryLock c hold = c.call ≡ calls.TryLock
-AtMutex (places.Lock patience) c hold = (c.call ≡ calls.Lock) × HasSpun patience c.own
+AtMutex (places.Lock patience) c hold = (c.call ≡ calls.Lock) × HasTriedSo patience c.own
 AtMutex places.Release c hold = (c.call ≡ calls.Unlock) × (is_some hold ≡ true)
 AtMutex places.Wake c hold = c.call ≡ calls.Unlock
 
@@ -66,7 +61,7 @@ begins_at {T} calls.TryLock place hold is allowed =
 begins_at {T} calls.Lock place hold is allowed =
     let made : places.Lock (record { spins = 0; keep = true }) ≡ place = cc in
     subst (λ p. AtMutex {T = T} p (record { call = calls.Lock; own = [] }) hold) made
-    (refl, record { spun = refl; keeps = refl; within_limit = omega arith; tried = refl; failed = refl; stands = λ waits. absurd cc; gives_up = λ gave. absurd cc })
+    (refl, record { so = record { spun = refl; keeps = refl; within_limit = omega arith }; tried = refl; failed = refl; stands = λ waits. absurd cc; gives_up = λ gave. absurd cc })
 begins_at {T} calls.Unlock place None is allowed = absurd cc
 begins_at {T} calls.Unlock place (Some kind) is allowed =
     let made : places.Release ≡ place = cc in
@@ -85,14 +80,8 @@ lock_after patience free keep spins =
     cond free (afters.Ends answers.Success)
     (within places.Lock (cond keep (cond spins (afters.At (record { spins = patience.spins + 1; keep = patience.keep })) (afters.Waits patience 1)) (afters.Ends answers.Interrupted)))
 
-spins_left : (n : ℕ) → nat_lt n 10000 ≡ true → n + 1 ≤ 10000
-spins_left n left = grind (arith, nat_tests)
-
-spins_spent : (n : ℕ) → n ≤ 10000 → nat_lt n 10000 ≡ false → n ≡ 10000
-spins_spent n below left = grind (arith, nat_tests)
-
 lock_steps :
-    {T : Type 0} (patience : Patience) (c : PendingCall T) (hold : Option HoldKind) (w number : ℕ) (next : MutexPlace) (free keep left : Bool) → c.call ≡ calls.Lock → HasSpun patience c.own →
+    {T : Type 0} (patience : Patience) (c : PendingCall T) (hold : Option HoldKind) (w number : ℕ) (next : MutexPlace) (free keep left : Bool) → c.call ≡ calls.Lock → HasTriedSo patience c.own →
     patience.keep ≡ keep → nat_lt patience.spins 10000 ≡ left → place_after {T = T} (lock_after patience free keep left) ≡ Some next →
     AtMutex next (record { call = c.call; own = event number (acts.Exchange words.State 0 1 w free) (outcome_of {T = T} (lock_after patience free keep left)) ∷ c.own }) hold
 lock_steps patience c hold w number next true keep left lock spun keeps spins is = absurd cc
@@ -104,9 +93,7 @@ lock_steps {T} patience c hold w number next false true true lock spun keeps spi
     subst (λ p. AtMutex {T = T} p (record { call = c.call; own = e ∷ c.own }) hold) made (
       lock,
       record {
-        spun = omega (arith, spun.spun);
-        keeps = spun.keeps;
-        within_limit = spins_left patience.spins spins;
+        so = record { spun = omega (arith, spun.so.spun); keeps = spun.so.keeps; within_limit = spins_left patience.spins spins };
         tried = omega (arith, spun.tried);
         failed = omega (arith, spun.failed);
         stands = λ waits. absurd cc;
@@ -119,12 +106,10 @@ lock_steps {T} patience c hold w number next false true false lock spun keeps sp
     subst (λ p. AtMutex {T = T} p (record { call = c.call; own = e ∷ c.own }) hold) made (
       lock,
       record {
-        spun = omega (arith, spun.spun);
-        keeps = spun.keeps;
-        within_limit = spun.within_limit;
+        so = record { spun = omega (arith, spun.so.spun); keeps = spun.so.keeps; within_limit = spun.so.within_limit };
         tried = omega (arith, spun.tried);
         failed = omega (arith, spun.failed);
-        stands = λ waits. spins_spent patience.spins spun.within_limit spins;
+        stands = λ waits. spins_spent patience.spins spun.so.within_limit spins;
         gives_up = λ gave. let no : true ≡ false = sym keeps ∙ gave in absurd cc;
       },
     )
@@ -143,16 +128,6 @@ steps_at places.Wake c hold left memory number next at is = absurd cc
 
 -- Where an answer leads.
 
-answered_keep : {T : Type 0} (keep : Bool) (action : WaitAction) (own : List (Event T)) (number : ℕ) → keeps_asking own ≡ keep → keeps_asking (event number (acts.Answered action) thens.GoesOn ∷ own) ≡ (keep && is_continue action)
-answered_keep true actions.Continue own number is = is
-answered_keep false actions.Continue own number is = is
-answered_keep true actions.Abort own number is = refl
-answered_keep false actions.Abort own number is = refl
-
-waits_by : {T : Type 0} (outcome : Then T) → answer_fault outcome ≡ None → stands_at_wait outcome ≡ true
-waits_by (thens.Waits seen) is = refl
-waits_by other is = absurd cc
-
 answers_at :
     {T : Type 0} (place : MutexPlace) (c : PendingCall T) (hold : Option HoldKind) (action : WaitAction) (number : ℕ) → AtMutex place c hold → answer_fault (latest_outcome c.own) ≡ None →
     AtMutex {T = T} (mutex_answered place action) (record { call = c.call; own = event number (acts.Answered action) thens.GoesOn ∷ c.own }) hold
@@ -160,9 +135,7 @@ answers_at places.TryLock c hold action number at waits = at
 answers_at (places.Lock patience) c hold action number at waits = (
   at.0,
   record {
-    spun = omega (arith, at.1.spun);
-    keeps = answered_keep patience.keep action c.own number at.1.keeps;
-    within_limit = at.1.within_limit;
+    so = record { spun = omega (arith, at.1.so.spun); keeps = answered_keep patience.keep action c.own number at.1.so.keeps; within_limit = at.1.so.within_limit };
     tried = omega (arith, at.1.tried);
     failed = omega (arith, at.1.failed);
     stands = λ stands. at.1.stands (waits_by (latest_outcome c.own) waits);
@@ -179,9 +152,7 @@ chooses_at places.TryLock c hold choice number at = at
 chooses_at (places.Lock patience) c hold choice number at = (
   at.0,
   record {
-    spun = omega (arith, at.1.spun);
-    keeps = at.1.keeps;
-    within_limit = at.1.within_limit;
+    so = record { spun = omega (arith, at.1.so.spun); keeps = at.1.so.keeps; within_limit = at.1.so.within_limit };
     tried = omega (arith, at.1.tried);
     failed = omega (arith, at.1.failed);
     stands = λ stands. absurd cc;
@@ -252,17 +223,17 @@ try_lock_law {T} party past c w false is e law =
     }
 
 lock_law :
-    {T : Type 0} (party : ℕ) (past : List (Event T)) (c : PendingCall T) (patience : Patience) (w : ℕ) (free keep left : Bool) → call_of party past ≡ Some c → c.call ≡ calls.Lock → HasSpun patience c.own →
+    {T : Type 0} (party : ℕ) (past : List (Event T)) (c : PendingCall T) (patience : Patience) (w : ℕ) (free keep left : Bool) → call_of party past ≡ Some c → c.call ≡ calls.Lock → HasTriedSo patience c.own →
     (w == 0) ≡ free → patience.keep ≡ keep → nat_lt patience.spins 10000 ≡ left → IsFreeOrHeld w (holds_of mutex_table past) →
     EventLaw party past (Some c) (record { act = acts.Exchange words.State 0 1 w free; outcome = outcome_of {T = T} (lock_after patience free keep left) })
 lock_law {T} party past c patience w true keep left called is spun e keeps spins law = record { cause = tt; exact = another calls.Lock c.call _ (sym is) (λ same. absurd cc); asks = tt; tries = tt }
 lock_law {T} party past c patience w false true true called is spun e keeps spins law =
     record { cause = tt; exact = another calls.Lock c.call _ (sym is) (λ same. absurd cc); asks = tt; tries = tt }
 lock_law {T} party past c patience w false true false called is spun e keeps spins law =
-    record { cause = tt; exact = another calls.Lock c.call _ (sym is) (λ same. absurd cc); asks = spun.spun ∙ spins_spent patience.spins spun.within_limit spins; tries = tt }
+    record { cause = tt; exact = another calls.Lock c.call _ (sym is) (λ same. absurd cc); asks = spun.so.spun ∙ spins_spent patience.spins spun.so.within_limit spins; tries = tt }
 lock_law {T} party past c patience w false false left called is spun e keeps spins law =
     let refuses : Event T = event party (acts.Exchange words.State 0 1 w false) (thens.Answers answers.Interrupted) in
-    let aborted : HasAborted party past = rw called (spun.keeps ∙ keeps) in
+    let aborted : HasAborted party past = rw called (spun.so.keeps ∙ keeps) in
     record {
       cause = subst (λ (k : Call T). MutexCause k party (refuses ∷ past)) (sym is) (rw (eqb_same party) (aborted, locked_at mutex_table past w law (eqb-false w 0 e)));
       exact = another calls.Lock c.call _ (sym is) (λ same. absurd cc);

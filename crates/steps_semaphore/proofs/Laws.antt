@@ -1,10 +1,8 @@
 -- A semaphore keeps its law at every front of every run.
-use Rattle.std.proofs.Common.{◌≡◌, ◌≢◌, ℕ, ◌+◌, ◌-◌, ◌≤◌, ◌<◌, ◌%◌, ◌^◌, zero, ◌==◌, refl, sym, ◌∙◌, ap, subst, Bool, true, false, ◌&&◌, cond, List, [], ◌∷◌, Option, Some, None, inl, inr, arith}
+use Rattle.std.proofs.Common.{◌≡◌, ◌≢◌, ℕ, ◌+◌, ◌-◌, ◌<◌, ◌%◌, ◌^◌, zero, ◌==◌, refl, sym, ◌∙◌, ap, subst, Bool, true, false, cond, List, [], ◌∷◌, Option, Some, None, inl, inr, arith}
 use Rattle.std.specs.Prelude.{IfSome, MatchBool, MatchOption, nat_lt, not}
 use Rattle.std.proofs.lemmas.Bool.{eqb-true, eqb-false}
-use Rattle.std.proofs.lemmas.Bool.Decides.{nat_tests}
 use Rattle.steps_events.specs.declared.WaitAction.{WaitAction}
-use Rattle.steps_events.specs.declared.WaitAction.TheVariants as actions
 use Rattle.steps_events.specs.declared.event.Word.{Word}
 use Rattle.steps_events.specs.declared.event.Word.TheVariants as words
 use Rattle.steps_events.specs.declared.event.Call.{Call}
@@ -20,14 +18,15 @@ use Rattle.steps_events.specs.declared.patience.Patience.{Patience}
 use Rattle.steps_events.specs.declared.row.After.{After}
 use Rattle.steps_events.specs.declared.row.After.TheVariants as afters
 use Rattle.steps_events.specs.Arithmetic.{Arithmetic}
-use Rattle.steps_events.specs.Rows.{carried_out, value_told, outcome_of, place_after, within, is_continue}
+use Rattle.steps_events.specs.Rows.{carried_out, value_told, outcome_of, place_after, within}
 use Rattle.steps_events.specs.Past.{same_word, Hold, PendingCall, call_of, holds_of, hold_of, word_in, word_after, without, with_hold, is_release, hold_taken, latest_outcome, event}
 use Rattle.steps_events.specs.Moves.{Move, step_at, answer_fault}
 use Rattle.steps_events.specs.Runs.{IsPast}
-use Rattle.steps_events.specs.Sights.{sight_of, is_sight, keeps_asking, is_abort, HasAborted, spins_in, stands_at_wait}
+use Rattle.steps_events.specs.Sights.{sight_of, is_sight, is_abort, HasAborted, spins_in, stands_at_wait}
 use Rattle.steps_events.specs.Laws.{Lacks, is_refusal}
 use Rattle.steps_events.proofs.Holds.{eqb_same}
 use Rattle.steps_events.proofs.Steps.{by_move, tells_memory}
+use Rattle.steps_events.proofs.Spins.{HasSpun, spins_left, spins_spent, answered_keep}
 use Rattle.steps_events.proofs.Parties.{IsKept, at_place}
 use Rattle.steps_semaphore.specs.declared.SemaphorePlace.{SemaphorePlace}
 use Rattle.steps_semaphore.specs.declared.SemaphorePlace.TheVariants as places
@@ -38,20 +37,14 @@ use Rattle.steps_semaphore.proofs.Permits.{Effect, Tallies, tallies_first, talli
 
 -- What is kept of a call at its place.
 
--- the own events of a `Wait`: the place counts its spins and knows whether it keeps on asking
-pub record HasSpun {T : Type 0} (patience : Patience) (own : List (Event T)) : Type 0 where
-  pub spun : spins_in is_empty_look own ≡ patience.spins
-  pub keeps : keeps_asking own ≡ patience.keep
-  pub within_limit : patience.spins ≤ 10000
-
 abbrev pub AtSemaphore : {T : Type 0} → SemaphorePlace → PendingCall T → Option HoldKind → Type 0
 AtSemaphore places.Value c hold = c.call ≡ calls.Value
 AtSemaphore (places.Post n) c hold = c.call ≡ calls.Post n
 AtSemaphore places.Wake c hold = (n : ℕ) × (c.call ≡ calls.Post n)
 AtSemaphore places.TryLook c hold = c.call ≡ calls.TryWait
 AtSemaphore (places.TryTake seen to) c hold = (c.call ≡ calls.TryWait) × (seen ≡ to + 1)
-AtSemaphore (places.Look patience) c hold = (c.call ≡ calls.Wait) × HasSpun patience c.own
-AtSemaphore (places.Take seen to patience) c hold = (c.call ≡ calls.Wait) × HasSpun patience c.own × (seen ≡ to + 1) × (latest_outcome c.own ≡ thens.GoesOn)
+AtSemaphore (places.Look patience) c hold = (c.call ≡ calls.Wait) × HasSpun is_empty_look patience c.own
+AtSemaphore (places.Take seen to patience) c hold = (c.call ≡ calls.Wait) × HasSpun is_empty_look patience c.own × (seen ≡ to + 1) × (latest_outcome c.own ≡ thens.GoesOn)
 
 -- Where a call begins.
 
@@ -88,9 +81,6 @@ try_steps {T} c hold v e next false try sees is =
     let made : places.TryTake v (v - 1) ≡ next = cc in
     subst (λ p. AtSemaphore {T = T} p (record { call = c.call; own = e ∷ c.own }) hold) made (try, one_less v (eqb-false v 0 sees))
 
-spins_left : (n : ℕ) → nat_lt n 10000 ≡ true → n + 1 ≤ 10000
-spins_left n left = grind (arith, nat_tests)
-
 -- how `Wait` goes on after a look, by three tests: it saw 0, it keeps on asking, it has spins left
 abbrev wait_after : {T : Type 0} → Patience → ℕ → Bool → Bool → Bool → After T SemaphorePlace
 wait_after patience v gone keep left =
@@ -98,7 +88,7 @@ wait_after patience v gone keep left =
     (afters.At (places.Take v (v - 1) patience))
 
 wait_steps :
-    {T : Type 0} (patience : Patience) (c : PendingCall T) (hold : Option HoldKind) (act : Act T) (v number : ℕ) (next : SemaphorePlace) (gone keep left : Bool) → c.call ≡ calls.Wait → HasSpun patience c.own →
+    {T : Type 0} (patience : Patience) (c : PendingCall T) (hold : Option HoldKind) (act : Act T) (v number : ℕ) (next : SemaphorePlace) (gone keep left : Bool) → c.call ≡ calls.Wait → HasSpun is_empty_look patience c.own →
     is_abort act ≡ false → is_empty_look act ≡ gone → (v == 0) ≡ gone → nat_lt patience.spins 10000 ≡ left → place_after {T = T} (wait_after patience v gone keep left) ≡ Some next →
     AtSemaphore next (record { call = c.call; own = event number act (outcome_of {T = T} (wait_after patience v gone keep left)) ∷ c.own }) hold
 wait_steps patience c hold act v number next true false left wait spun quiet empty sees spins is = absurd cc
@@ -124,7 +114,7 @@ try_takes c hold v e next true try is = absurd cc
 try_takes c hold v e next false try is = try_steps c hold v e next (v == 0) try refl is
 
 wait_takes :
-    {T : Type 0} (patience : Patience) (c : PendingCall T) (hold : Option HoldKind) (v seen to number : ℕ) (next : SemaphorePlace) (done : Bool) → c.call ≡ calls.Wait → HasSpun patience c.own →
+    {T : Type 0} (patience : Patience) (c : PendingCall T) (hold : Option HoldKind) (v seen to number : ℕ) (next : SemaphorePlace) (done : Bool) → c.call ≡ calls.Wait → HasSpun is_empty_look patience c.own →
     place_after {T = T} (cond done (afters.Ends answers.Success) (wait_after patience v (v == 0) patience.keep (nat_lt patience.spins 10000))) ≡ Some next →
     AtSemaphore next
     (record { call = c.call; own = event number (acts.Exchange words.State seen to v done) (outcome_of {T = T} (cond done (afters.Ends answers.Success) (wait_after patience v (v == 0) patience.keep (nat_lt patience.spins 10000)))) ∷ c.own }) hold
@@ -148,12 +138,6 @@ steps_at initial (places.Look patience) c hold left memory number next at is =
 steps_at initial (places.Take seen to patience) c hold left memory number next at is = wait_takes patience c left (memory words.State) seen to number next (memory words.State == seen) at.0 at.1 is
 
 -- Where an answer leads.
-
-answered_keep : {T : Type 0} (keep : Bool) (action : WaitAction) (own : List (Event T)) (number : ℕ) → keeps_asking own ≡ keep → keeps_asking (event number (acts.Answered action) thens.GoesOn ∷ own) ≡ (keep && is_continue action)
-answered_keep true actions.Continue own number is = is
-answered_keep false actions.Continue own number is = is
-answered_keep true actions.Abort own number is = refl
-answered_keep false actions.Abort own number is = refl
 
 answers_at :
     {T : Type 0} (place : SemaphorePlace) (c : PendingCall T) (hold : Option HoldKind) (action : WaitAction) (number : ℕ) → AtSemaphore place c hold → answer_fault (latest_outcome c.own) ≡ None →
@@ -216,12 +200,9 @@ try_law {T} initial party past c w act true try law sight sees =
     }
 try_law initial party past c w act false try law sight sees = record { answered = tt; cause = tt; asks = tt }
 
-spins_spent : (n : ℕ) → n ≤ 10000 → nat_lt n 10000 ≡ false → n ≡ 10000
-spins_spent n below left = grind (arith, nat_tests)
-
 wait_law :
     {T : Type 0} (initial party : ℕ) (past : List (Event T)) (c : PendingCall T) (patience : Patience) (w : ℕ) (act : Act T) (gone keep left : Bool) → call_of party past ≡ Some c → c.call ≡ calls.Wait →
-    HasSpun patience c.own → w ≡ semaphore_value initial past → is_sight words.State act ≡ true → (w == 0) ≡ gone → patience.keep ≡ keep → nat_lt patience.spins 10000 ≡ left →
+    HasSpun is_empty_look patience c.own → w ≡ semaphore_value initial past → is_sight words.State act ≡ true → (w == 0) ≡ gone → patience.keep ≡ keep → nat_lt patience.spins 10000 ≡ left →
     LookLaw initial party past c w act (outcome_of {T = T} (wait_after patience w gone keep left))
 wait_law initial party past c patience w act true true true called wait spun law sight sees keeps spins = record { answered = tt; cause = tt; asks = tt }
 wait_law initial party past c patience w act true true false called wait spun law sight sees keeps spins =

@@ -1,5 +1,5 @@
 -- In a run each call under way has a next step, so an input that is not refused gives an event.
-use Rattle.std.proofs.Common.{◌≡◌, ℕ, List, [], ◌∷◌, Option, None}
+use Rattle.std.proofs.Common.{◌≡◌, ℕ, List, [], ◌∷◌, None}
 use Rattle.steps_events.specs.declared.event.Event.{Event}
 use Rattle.steps_events.specs.declared.event.Input.{Input}
 use Rattle.steps_events.specs.declared.event.Object.{Object}
