@@ -14,6 +14,9 @@ use steps_events::hold::HoldKind;
 use steps_events::patience::Patience;
 use steps_events::row::{After, Intent};
 
+#[cfg(test)]
+mod tests;
+
 /// The word after a lock, where the mutex is free.
 #[inline(always)]
 pub fn granted(word: u64) -> Option<u64>

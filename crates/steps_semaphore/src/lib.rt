@@ -13,6 +13,9 @@ use steps_events::event::{Answer, Call, Wake, Word};
 use steps_events::patience::Patience;
 use steps_events::row::{After, Intent};
 
+#[cfg(test)]
+mod tests;
+
 /// The word after `n` permits were posted; it wraps.
 #[inline(always)]
 pub fn posted(word: u64, n: u64) -> u64

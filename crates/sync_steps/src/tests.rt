@@ -1,50 +1,20 @@
 //! Each public call once, with ample memory. Every text of the schedule is tested in `sync_play`.
-use crate::WaitAction;
 use crate::atomic::internal::AtomicInteger;
 use crate::steps::{
-    Act, Answer, Call, Event, Input, Machine, Object, PlayFault, StepFault, Then, Word,
+    Act, Answer, Call, Event, Input, Machine, Object, PlayFault, StepFault, Then, Wake, Word,
     at_every_front, mutex, play, semaphore,
 };
+use crate::{SPIN_REPETITIONS, WaitAction};
+use std::alloc::{AllocError, Global};
 use std::test::Fail;
 
 #[test]
-fn words_at_the_ends_of_their_type(rt: HostRuntime) {
-    let ends = [
-        0,
-        1,
-        2,
-        3,
-        u64::MAX - 3,
-        u64::MAX - 2,
-        u64::MAX - 1,
-        u64::MAX,
-    ];
-    for word in ends {
-        let free = (word == 0).then_some(1);
-        assert_eq!(rt; mutex::granted(word), free, "at {word}");
-        let open = if word == 0 { None } else { Some(word - 1) };
-        assert_eq!(rt; semaphore::taken(word), open, "at {word}");
-    }
-    assert_eq!(rt; semaphore::posted(2, 3), 5);
-    assert_eq!(rt; semaphore::posted(u64::MAX, 1), 0);
-    assert_eq!(rt; semaphore::posted(u64::MAX, u64::MAX), u64::MAX - 1);
-}
-
-/// The same calls for any integer of the atomics.
-fn and_back<T: AtomicInteger>(value: T) -> T {
-    let (low, high) = value.to_words();
-    T::from_words(low, high)
-}
-
-#[test]
-fn integers_go_into_words_and_back(rt: HostRuntime) {
-    assert_eq!(rt; u64::NAME, "u64");
-    assert_eq!(rt; 7u64.to_words(), (7, 0));
+fn word_functions_at_their_paths(rt: HostRuntime) {
+    assert_eq!(rt; mutex::granted(0), Some(1));
+    assert_eq!(rt; semaphore::taken(u64::MAX), Some(u64::MAX - 1));
+    assert_eq!(rt; semaphore::posted(u64::MAX, 2), 1);
+    assert_eq!(rt; SPIN_REPETITIONS, 10000);
     assert_eq!(rt; u64::from_words(7, 9), 7);
-    assert_eq!(rt; and_back(u64::MAX), u64::MAX);
-    assert_eq!(rt; AtomicInteger::overflowing_add(u64::MAX, 1), (0, true));
-    assert_eq!(rt; AtomicInteger::overflowing_sub(5u64, 5), (0, false));
-    assert_eq!(rt; AtomicInteger::overflowing_sub(0u64, 1), (u64::MAX, true));
 }
 
 #[test]
@@ -110,5 +80,102 @@ fn an_empty_machine_and_the_law(rt: HostRuntime) -> Result<(), Fail> {
     let mut machine = Machine::<u64>::new(rt.alloc(), Object::Mutex, 0)?;
     assert_eq!(rt; machine.step(0, Input::Go), Err(StepFault::NoParty));
     at_every_front::<u64>();
+    Ok(())
+}
+
+#[test]
+fn the_last_of_a_thousand_parties_locks(rt: HostRuntime) -> Result<(), Fail> {
+    let mut machine = Machine::<u64>::new(rt.alloc(), Object::Mutex, 1000)?;
+    let schedule = [
+        (999, Input::Begin(Call::Lock)),
+        (999, Input::Go),
+        (0, Input::Begin(Call::TryLock)),
+        (0, Input::Go),
+    ];
+    let events = play(rt.alloc(), &mut machine, &schedule).map_err(|_| "refused")?;
+    assert_eq!(rt; events[1].party, 999);
+    assert_eq!(rt; events[1].then, Then::Answers(Answer::Success));
+    assert_eq!(rt; events[3].party, 0);
+    assert_eq!(rt; events[3].then, Then::Answers(Answer::Interrupted));
+    assert_eq!(rt;
+        machine.step(999, Input::Begin(Call::TryLock)),
+        Err(StepFault::Holding)
+    );
+    assert_eq!(rt; machine.step(1000, Input::Go), Err(StepFault::NoParty));
+    Ok(())
+}
+
+/// So many rounds of five inputs, in each of which the party locks a mutex and unlocks it.
+fn rounds(alloc: Global, count: usize) -> Result<Vec<(usize, Input<u64>)>, AllocError> {
+    let mut schedule = Vec::new(alloc);
+    for _ in 0..count {
+        schedule.push((0, Input::Begin(Call::TryLock)))?;
+        schedule.push((0, Input::Go))?;
+        schedule.push((0, Input::Begin(Call::Unlock)))?;
+        schedule.push((0, Input::Go))?;
+        schedule.push((0, Input::Go))?;
+    }
+    Ok(schedule)
+}
+
+#[test]
+fn long_schedules_are_played_in_one_call(rt: HostRuntime) -> Result<(), Fail> {
+    for count in [21, 20000] {
+        let mut machine = Machine::<u64>::new(rt.alloc(), Object::Mutex, 1)?;
+        let schedule = rounds(rt.alloc(), count)?;
+        let events = play(rt.alloc(), &mut machine, &schedule).map_err(|_| "refused")?;
+        assert_eq!(rt; events.len(), schedule.len());
+        assert_eq!(rt; Some(events.len()), count.checked_mul(5));
+        for round in events.chunks(5) {
+            match round {
+                [begun, locked, _, stored, woken] => {
+                    assert_eq!(rt; begun.act, Act::Begun(Call::TryLock));
+                    assert_eq!(rt; locked.then, Then::Answers(Answer::Success));
+                    let store = Act::Store {
+                        word: Word::State,
+                        put: 0,
+                    };
+                    assert_eq!(rt; stored.act, store);
+                    assert_eq!(rt; woken.act, Act::Woke(Wake::One));
+                    assert_eq!(rt; woken.then, Then::Answers(Answer::Done));
+                }
+                _ => return Err("not five events")?,
+            }
+        }
+        assert_eq!(rt; machine.word(), 0);
+        assert_eq!(rt; machine.failed(), 0);
+    }
+    Ok(())
+}
+
+#[test]
+fn a_lock_that_gives_up_after_two_stands(rt: HostRuntime) -> Result<(), Fail> {
+    let mut machine = Machine::<u64>::new(rt.alloc(), Object::Mutex, 2)?;
+    let begins = [
+        (0, Input::Begin(Call::TryLock)),
+        (0, Input::Go),
+        (1, Input::Begin(Call::Lock)),
+    ];
+    let begun = play(rt.alloc(), &mut machine, &begins).map_err(|_| "refused")?;
+    assert_eq!(rt; begun[1].then, Then::Answers(Answer::Success));
+
+    let spins = vec![in rt.alloc(); (1, Input::Go); 10000]?;
+    let spun = play(rt.alloc(), &mut machine, &spins).map_err(|_| "refused")?;
+    for event in &spun {
+        assert_eq!(rt; event.then, Then::GoesOn);
+    }
+    let ends = [
+        (1, Input::Go),
+        (1, Input::Answer(WaitAction::Continue)),
+        (1, Input::Go),
+        (1, Input::Answer(WaitAction::Abort)),
+        (1, Input::Go),
+    ];
+    let ended = play(rt.alloc(), &mut machine, &ends).map_err(|_| "refused")?;
+    assert_eq!(rt; ended[0].then, Then::Waits(1));
+    assert_eq!(rt; ended[2].then, Then::Waits(1));
+    assert_eq!(rt; ended[4].then, Then::Answers(Answer::Interrupted));
+    assert_eq!(rt; machine.failed(), 10003);
+    assert_eq!(rt; machine.word(), 1);
     Ok(())
 }
