@@ -83,6 +83,12 @@ fn an_empty_machine_and_the_law(rt: HostRuntime) -> Result<(), Fail> {
     Ok(())
 }
 
+/// The party of an event, and how its call stood after it.
+fn outcome(events: &[Event<u64>], at: usize) -> Option<(usize, Then<u64>)> {
+    let event = events.get(at)?;
+    Some((event.party, event.then))
+}
+
 #[test]
 fn the_last_of_a_thousand_parties_locks(rt: HostRuntime) -> Result<(), Fail> {
     let mut machine = Machine::<u64>::new(rt.alloc(), Object::Mutex, 1000)?;
@@ -93,10 +99,10 @@ fn the_last_of_a_thousand_parties_locks(rt: HostRuntime) -> Result<(), Fail> {
         (0, Input::Go),
     ];
     let events = play(rt.alloc(), &mut machine, &schedule).map_err(|_| "refused")?;
-    assert_eq!(rt; events[1].party, 999);
-    assert_eq!(rt; events[1].then, Then::Answers(Answer::Success));
-    assert_eq!(rt; events[3].party, 0);
-    assert_eq!(rt; events[3].then, Then::Answers(Answer::Interrupted));
+    let success = Then::Answers(Answer::Success);
+    let interrupted = Then::Answers(Answer::Interrupted);
+    assert_eq!(rt; outcome(&events, 1), Some((999, success)));
+    assert_eq!(rt; outcome(&events, 3), Some((0, interrupted)));
     assert_eq!(rt;
         machine.step(999, Input::Begin(Call::TryLock)),
         Err(StepFault::Holding)
@@ -157,7 +163,8 @@ fn a_lock_that_gives_up_after_two_stands(rt: HostRuntime) -> Result<(), Fail> {
         (1, Input::Begin(Call::Lock)),
     ];
     let begun = play(rt.alloc(), &mut machine, &begins).map_err(|_| "refused")?;
-    assert_eq!(rt; begun[1].then, Then::Answers(Answer::Success));
+    let success = Then::Answers(Answer::Success);
+    assert_eq!(rt; outcome(&begun, 1), Some((0, success)));
 
     let spins = vec![in rt.alloc(); (1, Input::Go); 10000]?;
     let spun = play(rt.alloc(), &mut machine, &spins).map_err(|_| "refused")?;
@@ -172,9 +179,10 @@ fn a_lock_that_gives_up_after_two_stands(rt: HostRuntime) -> Result<(), Fail> {
         (1, Input::Go),
     ];
     let ended = play(rt.alloc(), &mut machine, &ends).map_err(|_| "refused")?;
-    assert_eq!(rt; ended[0].then, Then::Waits(1));
-    assert_eq!(rt; ended[2].then, Then::Waits(1));
-    assert_eq!(rt; ended[4].then, Then::Answers(Answer::Interrupted));
+    assert_eq!(rt; outcome(&ended, 0), Some((1, Then::Waits(1))));
+    assert_eq!(rt; outcome(&ended, 2), Some((1, Then::Waits(1))));
+    let interrupted = Then::Answers(Answer::Interrupted);
+    assert_eq!(rt; outcome(&ended, 4), Some((1, interrupted)));
     assert_eq!(rt; machine.failed(), 10003);
     assert_eq!(rt; machine.word(), 1);
     Ok(())
