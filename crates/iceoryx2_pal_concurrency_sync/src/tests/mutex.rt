@@ -465,3 +465,32 @@ fn locks_within_a_method(rt: HostRuntime) -> Result<(), Fail> {
     assert_eq!(rt; counted.enter(&rt), 1);
     Ok(())
 }
+
+/// What `try_lock` of another pass answers under `with_lock`.
+fn is_refused_under_the_lock<R: Wait>(
+    rt: &R,
+    mutex: &Mutex,
+    one: &mut MutexPass,
+    two: &mut MutexPass,
+) -> WaitResult<bool>
+    requires { IsMutexPass mutex.now one.old × IsMutexPass mutex.now two.old }
+{
+    mutex.with_lock(
+        rt,
+        one,
+        |_, _| WaitAction::Continue,
+        |_| (),
+        || is_refused(mutex, two),
+    )
+}
+
+#[test]
+fn acts_while_the_mutex_is_locked(rt: HostRuntime) -> Result<(), Fail> {
+    let (mutex, pass) = Mutex::new(rt.alloc())?;
+    let Ok((mut one, mut two)) = pass.split(&mutex) else {
+        return Err("no parts")?;
+    };
+    let inside = is_refused_under_the_lock(&rt, &mutex, &mut one, &mut two);
+    assert_eq!(rt; matches!(inside, WaitResult::Success(true)), true);
+    Ok(())
+}

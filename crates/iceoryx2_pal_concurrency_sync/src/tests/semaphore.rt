@@ -292,3 +292,32 @@ fn a_permit_is_given_back(rt: HostRuntime) -> Result<(), Fail> {
     assert_eq!(rt; semaphore.close(pass), 1);
     Ok(())
 }
+
+/// What another pass sees under `with_permit`.
+fn value_under_a_permit<R: Wait>(
+    rt: &R,
+    semaphore: &Semaphore,
+    one: &mut SemPass,
+    two: &mut SemPass,
+) -> WaitResult<u64>
+    requires { IsSemPass semaphore.now one.old × IsSemPass semaphore.now two.old }
+{
+    semaphore.with_permit(
+        rt,
+        one,
+        |_, _| WaitAction::Continue,
+        |_| (),
+        || semaphore.value(two),
+    )
+}
+
+#[test]
+fn acts_while_the_permit_is_taken(rt: HostRuntime) -> Result<(), Fail> {
+    let (semaphore, pass) = Semaphore::new(rt.alloc(), 1)?;
+    let Ok((mut one, mut two)) = pass.split(&semaphore) else {
+        return Err("no parts")?;
+    };
+    let inside = value_under_a_permit(&rt, &semaphore, &mut one, &mut two);
+    assert_eq!(rt; matches!(inside, WaitResult::Success(0)), true);
+    Ok(())
+}
