@@ -1,0 +1,30 @@
+use Rattle.std.proofs.Common.{◌<◌, length, subst}
+use Rattle.steps_events.specs.declared.event.Input.TheVariants as inputs
+use Rattle.sync_steps.specs.Machine.{Configuration}
+use Rattle.sync_steps.specs.Machine.Applies.{HasTurned, HasRefused}
+use Rattle.sync_steps.specs.Machine.Turns.{choose_turn, TurnsTo}
+use Rattle.sync_steps.proofs.Stands.{turned_in_place, refused_in_place}
+use Rattle.sync_steps.proofs.steps.machine.Machine.choose.Goals as goal
+
+pub returns-in-Ok-clause-ok : goal.returns-in-Ok-clause-ok
+returns-in-Ok-clause-ok g c =
+    let own = c.self.inside in
+    let was : Configuration g.row.T.Denot = record { object = own.object; parties = own.parties.items; words = own.words; failed = own.failed } in
+    let turned = subst (λ r. TurnsTo (choose_turn c.index_mut.result.now c.args.choice) c.index_mut.result.now c.choose.new.party r) c.in-Ok.is c.choose.ensures in
+    subst
+    (λ (m : Configuration g.row.T.Denot). c.args.party < length m.parties → HasTurned c.args.party (inputs.Choose c.args.choice) m c.tell.new.self c.tell.result)
+    c.self.view_is
+    (λ within. turned_in_place c.args.party (inputs.Choose c.args.choice) c.index_mut.result.now c.choose.new.party c.in-Ok.act c.in-Ok.then c.tell.result was c.tell.new.self within
+    c.index_mut.ensures.value turned c.tell.ensures.event c.tell.ensures.written)
+    c.requires
+
+pub returns-in-Err-clause-fault : goal.returns-in-Err-clause-fault
+returns-in-Err-clause-fault g c =
+    let own = c.self.inside in
+    let was : Configuration g.row.T.Denot = record { object = own.object; parties = own.parties.items; words = own.words; failed = own.failed } in
+    let turned = subst (λ r. TurnsTo (choose_turn c.index_mut.result.now c.args.choice) c.index_mut.result.now c.choose.new.party r) c.in-Err.is c.choose.ensures in
+    subst
+    (λ (m : Configuration g.row.T.Denot). c.args.party < length m.parties → HasRefused c.args.party (inputs.Choose c.args.choice) m c.in-Err.fault)
+    c.self.view_is
+    (λ within. refused_in_place c.args.party (inputs.Choose c.args.choice) c.index_mut.result.now c.choose.new.party c.in-Err.fault was within c.index_mut.ensures.value turned)
+    c.requires
