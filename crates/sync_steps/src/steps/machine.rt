@@ -133,6 +133,7 @@ impl<T: AtomicInteger> Machine<T> {
 
 impl<T: Copy> Machine<T> {
     /// A party begins a call.
+    #[tactic(auto, using(crate::proofs::Stands::turned_in_place, crate::proofs::Stands::refused_in_place))]
     #[inline(always)]
     fn begin(&mut self, party: usize, call: Call<T>) -> Result<Event<T>, StepFault>
         requires { party < length self.old.parties }
@@ -147,6 +148,7 @@ impl<T: Copy> Machine<T> {
     }
 
     /// A party makes the next step of its call. Of all inputs it is the one that comes by the million.
+    #[tactic(auto, using(crate::proofs::Stands::turned_in_place, crate::proofs::Stands::refused_in_place))]
     #[inline(always)]
     fn go(&mut self, party: usize) -> Result<Event<T>, StepFault>
         requires { party < length self.old.parties }
@@ -161,6 +163,7 @@ impl<T: Copy> Machine<T> {
     }
 
     /// The wait closure of a party answers.
+    #[tactic(auto, using(crate::proofs::Stands::turned_in_place, crate::proofs::Stands::refused_in_place))]
     #[inline(always)]
     fn answer(&mut self, party: usize, action: WaitAction) -> Result<Event<T>, StepFault>
         requires { party < length self.old.parties }
@@ -175,6 +178,7 @@ impl<T: Copy> Machine<T> {
     }
 
     /// The choice closure of a party answers.
+    #[tactic(auto, using(crate::proofs::Stands::turned_in_place, crate::proofs::Stands::refused_in_place))]
     #[inline(always)]
     fn choose(&mut self, party: usize, choice: Option<T>) -> Result<Event<T>, StepFault>
         requires { party < length self.old.parties }
