@@ -89,6 +89,6 @@ pub record PlaysUpTo {T : Type 0} (z : Arithmetic T) (o : Object T) (parties : �
   pub fault_is : fault_of z o parties (after events past) input.0 input.1 ≡ Some fault
 
 -- playing ended early: for want of memory before the first step, or at a refused input
-abbrev pub Refuses : {T : Type 0} → Arithmetic T → List (ℕ × Input T) → Configuration T → Configuration T → PlayFault T → Type 0
+abbrev pub Refuses : {T A : Type 0} → Arithmetic T → List (ℕ × Input T) → Configuration T → Configuration T → PlayFault T A → Type 0
 Refuses z schedule old new faults.Memory = new ≡ old
 Refuses z schedule old new (faults.Step done fault) = ForRunAt z old (λ o parties past. PlaysUpTo z o parties past schedule done.items fault new)

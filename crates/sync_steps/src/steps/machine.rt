@@ -12,7 +12,7 @@ ghost use Rattle.steps_events.specs.WordsAt.{word_at};
 
 use super::place::Party;
 use super::turn;
-use std::alloc::{AllocError, Global};
+use std::alloc::{AllocError, Allocator, Global};
 use std::marker::Model;
 use steps_events::WaitAction;
 use steps_events::atomic::internal::AtomicInteger;
@@ -21,14 +21,14 @@ use steps_events::words::{Words, failed_after};
 
 /// One object and its parties, numbered from 0, each with at most one call under way and at most one hold.
 #[derive(Debug, Drop)]
-pub struct Machine<T> {
+pub struct Machine<T, A: Allocator = Global> {
     object: Object<T>,
-    parties: Vec<Party<T>>,
+    parties: Vec<Party<T>, A>,
     words: Words,
     failed: u64,
 }
 
-impl<T> Model for Machine<T> {
+impl<T, A: Allocator> Model for Machine<T, A> {
     ghost use Rattle.sync_steps.specs.Machine.{Configuration};
 
     ghost Value = { Configuration T };
@@ -36,11 +36,11 @@ impl<T> Model for Machine<T> {
     ghost view = { λ m. record { object = m.object; parties = m.parties.items; words = m.words; failed = m.failed } };
 }
 
-impl<T: AtomicInteger> Machine<T> {
+impl<T: AtomicInteger, A: Allocator> Machine<T, A> {
     /// A machine of the object, where no party has begun a call yet. So far it serves mutexes and semaphores.
     ///
     /// It takes memory for the places of its parties, and answers `AllocError` where there is none.
-    pub fn new(alloc: Global, object: Object<T>, parties: usize) -> Result<Machine<T>, AllocError>
+    pub fn new(alloc: A, object: Object<T>, parties: usize) -> Result<Machine<T, A>, AllocError>
         requires { is_served object ≡ true }
         ensures { IfOk result (StandsAt T.arithmetic object parties []) }
     {
@@ -131,7 +131,7 @@ impl<T: AtomicInteger> Machine<T> {
     }
 }
 
-impl<T: Copy> Machine<T> {
+impl<T: Copy, A: Allocator> Machine<T, A> {
     /// A party begins a call.
     #[tactic(auto, using(crate::proofs::Stands::turned_in_place, crate::proofs::Stands::refused_in_place))]
     #[inline(always)]

@@ -3,7 +3,7 @@ ghost use Rattle.sync_steps.specs.Machine.{Plays, Refuses};
 
 use super::fault::PlayFault;
 use super::machine::Machine;
-use std::alloc::Global;
+use std::alloc::Allocator;
 use steps_events::atomic::internal::AtomicInteger;
 use steps_events::event::{Event, Input};
 
@@ -12,11 +12,11 @@ use steps_events::event::{Event, Input};
 /// The list of events is asked for before the first step, so after `PlayFault::Memory` the machine is unchanged. After
 /// `PlayFault::Step` it stands after the events `done` of the inputs before the refused one. A schedule may be played in
 /// several pieces: each piece goes on with the run that stands at the machine.
-pub fn play<T: AtomicInteger>(
-    alloc: Global,
-    machine: &mut Machine<T>,
+pub fn play<T: AtomicInteger, A: Allocator, B: Allocator>(
+    alloc: B,
+    machine: &mut Machine<T, A>,
     schedule: &[(usize, Input<T>)],
-) -> Result<Vec<Event<T>>, PlayFault<T>>
+) -> Result<Vec<Event<T>, B>, PlayFault<T, B>>
     ensures ok { IfOk result (λ events. Plays T.arithmetic schedule.now machine.old events.items machine.new) }
     ensures err { IfErr result (Refuses T.arithmetic schedule.now machine.old machine.new) }
 {
