@@ -26,7 +26,7 @@ use Rattle.sync_play.specs.Header.{header_of}
 use Rattle.sync_play.specs.Text.{events_asked, line_events, output_after, output_of_lines, output_of}
 use Rattle.sync_play.specs.Print.{printed}
 use Rattle.sync_play.specs.Law.{LinesAsk, GoOn, IsRefusedAt, RunRefused, TaskRefused, LineRefused, LaterLineRefused, IsRefusedLine, FaultsAreRefusals, RefusalsAreFaults}
-use Rattle.sync_play.proofs.Moves.{AreHad, none_are_had, next_is_had, run_is_had, allowed_moves}
+use Rattle.sync_play.proofs.Moves.{HavePlacesAt, none_have_places, next_has_places_at, run_has_places, allowed_moves}
 use Rattle.sync_play.proofs.RunsAreOutputs.{no_inputs, cut_run, line_is}
 use Rattle.sync_play.proofs.OutputsAreRuns.{HasValues, command_values, ok_at_line, next_is, run_of_both, line_runs}
 use Rattle.sync_play.proofs.PlayerLaws.{event_is, event_refused, run_length, run_refused as schedule_refused}
@@ -61,7 +61,7 @@ refused_by party (Some refusal) move fault moves e = (refusal, refl, cc)
 refused_by party None (Some m) fault moves e = absurd cc
 refused_by party None None fault moves e = absurd (moves refl refl)
 
-input_refused : (o : Object ℕ) (parties : ℕ) (past : List Ev) (party : ℕ) (input : Input ℕ) (fault : LineFault) → AreHad o past → event_of o parties past party input ≡ Err fault → InputRefused o parties past party input fault
+input_refused : (o : Object ℕ) (parties : ℕ) (past : List Ev) (party : ℕ) (input : Input ℕ) (fault : LineFault) → HavePlacesAt o past → event_of o parties past party input ≡ Err fault → InputRefused o parties past party input fault
 unfolding event_of
 input_refused o parties past party input fault had e =
     let r = refused_by party (fault_of u64_arithmetic o parties past party input)
@@ -92,7 +92,7 @@ refused_later : (o : Object ℕ) (parties : ℕ) (past : List Ev) (turn : ℕ ×
 refused_later o parties past turn schedule e events fault n r =
     record { before = turn ∷ r.before; turn = r.turn; others = r.others; schedule_is = ap (λ (l : List (ℕ × Input ℕ)). turn ∷ l) r.schedule_is; run = (n, r.run); refusal = r.refusal; refused = r.refused; word = r.word }
 
-events_refused : (o : Object ℕ) (parties : ℕ) (past : List Ev) (schedule : List (ℕ × Input ℕ)) (fault : LineFault) → AreHad o past → Values schedule → events_of o parties past schedule ≡ Err fault → RefusedAt o parties past schedule fault
+events_refused : (o : Object ℕ) (parties : ℕ) (past : List Ev) (schedule : List (ℕ × Input ℕ)) (fault : LineFault) → HavePlacesAt o past → Values schedule → events_of o parties past schedule ≡ Err fault → RefusedAt o parties past schedule fault
 unfolding events_of
 events_refused o parties past [] fault had values h = absurd cc
 events_refused o parties past (turn ∷ schedule) fault had values h =
@@ -100,7 +100,7 @@ events_refused o parties past (turn ∷ schedule) fault had values h =
       | inl at ↦ ([], refused_first o parties past turn schedule fault (input_refused o parties past turn.0 turn.1 fault had at))
       | inr later ↦
           let n = next_is o parties past turn.0 turn.1 later.0 values.0 later.1 in
-          let r = events_refused o parties (later.0 ∷ past) schedule fault (next_is_had o parties past turn.0 turn.1 later.0 had n) values.1
+          let r = events_refused o parties (later.0 ∷ past) schedule fault (next_has_places_at o parties past turn.0 turn.1 later.0 had n) values.1
           (inner (events_of o parties (later.0 ∷ past) schedule) (λ es. later.0 ∷ es) fault later.2) in
           (later.0 ∷ r.0, refused_later o parties past turn schedule later.0 r.0 fault n r.1)
     ]
@@ -117,7 +117,7 @@ goes_or_ends : (e : Ev) (b : Bool) (more : Result (List Ev) LineFault) (fault : 
 goes_or_ends e true more fault g h = (g, inner more (λ es. e ∷ es) fault h)
 goes_or_ends e false more fault g h = absurd cc
 
-run_refused : (o : Object ℕ) (parties : ℕ) (past : List Ev) (party limit : ℕ) (fault : LineFault) → AreHad o past → run_of o parties limit past party ≡ Err fault → RunRefused o parties past party limit fault
+run_refused : (o : Object ℕ) (parties : ℕ) (past : List Ev) (party limit : ℕ) (fault : LineFault) → HavePlacesAt o past → run_of o parties limit past party ≡ Err fault → RunRefused o parties past party limit fault
 unfolding run_of steps_of
 run_refused o parties past party zero fault had h = inr ([], tt, tt, cc)
 run_refused o parties past party (suc limit) fault had h =
@@ -126,23 +126,23 @@ run_refused o parties past party (suc limit) fault had h =
       | inr later ↦
           let n = next_is o parties past party inputs.Go later.0 tt later.1 in
           let g = goes_or_ends later.0 (goes_on later.0.then) (run_of o parties limit (later.0 ∷ past) party) fault refl later.2 in
-          refused_on o parties past party limit later.0 fault n g.0 (run_refused o parties (later.0 ∷ past) party limit fault (next_is_had o parties past party inputs.Go later.0 had n) g.1)
+          refused_on o parties past party limit later.0 fault n g.0 (run_refused o parties (later.0 ∷ past) party limit fault (next_has_places_at o parties past party inputs.Go later.0 had n) g.1)
     ]
 
 -- A line.
 
-task_refused : (o : Object ℕ) (parties : ℕ) (past : List Ev) (party : ℕ) (task : Task) (fault : LineFault) → AreHad o past → HasValues task → task_events o parties past party task ≡ Err fault → TaskRefused o parties past party task fault
+task_refused : (o : Object ℕ) (parties : ℕ) (past : List Ev) (party : ℕ) (task : Task) (fault : LineFault) → HavePlacesAt o past → HasValues task → task_events o parties past party task ≡ Err fault → TaskRefused o parties past party task fault
 task_refused o parties past party (tasks.Give input) fault had values h = events_refused o parties past ((party, input) ∷ []) fault had (values, tt) h
 task_refused o parties past party (tasks.Go n) fault had values h = events_refused o parties past (steps_of n party) fault had (step_values n party) h
 task_refused o parties past party (tasks.Run limit) fault had values h = run_refused o parties past party limit fault had h
 
-asked_refused : (o : Object ℕ) (parties : ℕ) (past : List Ev) (words : List (List ℕ)) (asked : Option Command) (fault : LineFault) → AreHad o past → command_of o words ≡ Ok asked → events_asked o parties past asked ≡ Err fault
+asked_refused : (o : Object ℕ) (parties : ℕ) (past : List Ev) (words : List (List ℕ)) (asked : Option Command) (fault : LineFault) → HavePlacesAt o past → command_of o words ≡ Ok asked → events_asked o parties past asked ≡ Err fault
     → LineRefused o parties past words fault
 asked_refused o parties past words None fault had is h = absurd cc
 asked_refused o parties past words (Some command) fault had is h =
     inr (command, is, task_refused o parties past command.party command.task fault had (command_values o words command is) h)
 
-line_refused : (o : Object ℕ) (parties : ℕ) (past : List Ev) (words : List (List ℕ)) (fault : LineFault) → AreHad o past → line_events o parties past words ≡ Err fault → LineRefused o parties past words fault
+line_refused : (o : Object ℕ) (parties : ℕ) (past : List Ev) (words : List (List ℕ)) (fault : LineFault) → HavePlacesAt o past → line_events o parties past words ≡ Err fault → LineRefused o parties past words fault
 unfolding line_events
 line_refused o parties past words fault had h =
     elim (fails (command_of o words) (λ asked. events_asked o parties past asked) fault h) [
@@ -193,7 +193,7 @@ refused_below o parties past number line lines told fault front is r =
       refused = rw (after_both front r.events past) r.refused;
     }
 
-lines_refused : (o : Object ℕ) (parties number : ℕ) (lines : List (List ℕ)) (past : List Ev) (fault : FaultAt) → AreHad o past → output_after o parties number lines past ≡ Err fault
+lines_refused : (o : Object ℕ) (parties number : ℕ) (lines : List (List ℕ)) (past : List Ev) (fault : FaultAt) → HavePlacesAt o past → output_after o parties number lines past ≡ Err fault
     → FirstRefused o parties past number lines fault.line fault.fault
 unfolding output_after
 lines_refused o parties number [] past fault had h = absurd cc
@@ -206,7 +206,7 @@ lines_refused o parties number (line ∷ lines) past fault had h =
           let is = ok_at_line number (line_events o parties past (words_of line)) later.0 later.1 in
           let runs = line_runs o parties past (words_of line) later.0 is in
           refused_below o parties past number line lines fault.line fault.fault later.0 is
-          (lines_refused o parties (number + 1) lines (after later.0 past) fault (run_is_had o parties past runs.schedule later.0 had runs.run)
+          (lines_refused o parties (number + 1) lines (after later.0 past) fault (run_has_places o parties past runs.schedule later.0 had runs.run)
           (inner (output_after o parties (number + 1) lines (after later.0 past)) (λ rest. printed later.0 ++ rest) fault later.2))
     ]
 
@@ -228,7 +228,7 @@ text_refused (first ∷ lines) fault h =
       | inl at ↦ let here = at_fails 1 (header_of (words_of first)) fault at in inl (here.1, here.0)
       | inr later ↦
           inr (opened_refused first lines later.0 fault (sym (ok_at_line 1 (header_of (words_of first)) later.0 later.1))
-          (lines_refused later.0.object later.0.parties 2 lines [] fault (none_are_had later.0.object) later.2))
+          (lines_refused later.0.object later.0.parties 2 lines [] fault (none_have_places later.0.object) later.2))
     ]
 
 pub faults_are_refusals : FaultsAreRefusals

@@ -13,20 +13,20 @@ abbrev Ev : Type 0
 Ev = Event ℕ
 
 -- each call under way is at a place of the object's table
-abbrev pub AreHad : Object ℕ → List Ev → Type 0
-AreHad o past = HavePlaces (table_of u64_arithmetic o) past
+abbrev pub HavePlacesAt : Object ℕ → List Ev → Type 0
+HavePlacesAt o past = HavePlaces (table_of u64_arithmetic o) past
 
-pub none_are_had : (o : Object ℕ) → AreHad o []
-none_are_had o party = tt
+pub none_have_places : (o : Object ℕ) → HavePlacesAt o []
+none_have_places o party = tt
 
-pub next_is_had : (o : Object ℕ) (parties : ℕ) (past : List Ev) (party : ℕ) (input : Input ℕ) (e : Ev) → AreHad o past → IsNext u64_arithmetic o parties past party input e → AreHad o (e ∷ past)
-next_is_had o parties past party input e had next = next_has_places u64_arithmetic (table_of u64_arithmetic o) parties past party input e had next
+pub next_has_places_at : (o : Object ℕ) (parties : ℕ) (past : List Ev) (party : ℕ) (input : Input ℕ) (e : Ev) → HavePlacesAt o past → IsNext u64_arithmetic o parties past party input e → HavePlacesAt o (e ∷ past)
+next_has_places_at o parties past party input e had next = next_has_places u64_arithmetic (table_of u64_arithmetic o) parties past party input e had next
 
-pub run_is_had : (o : Object ℕ) (parties : ℕ) (past : List Ev) (schedule : List (ℕ × Input ℕ)) (events : List Ev) → AreHad o past → IsRun u64_arithmetic o parties past schedule events → AreHad o (after events past)
-run_is_had o parties past [] [] had run = had
-run_is_had o parties past [] (e ∷ events) had run = absurd run
-run_is_had o parties past (turn ∷ schedule) [] had run = absurd run
-run_is_had o parties past (turn ∷ schedule) (e ∷ events) had run = run_is_had o parties (e ∷ past) schedule events (next_is_had o parties past turn.0 turn.1 e had run.0) run.1
+pub run_has_places : (o : Object ℕ) (parties : ℕ) (past : List Ev) (schedule : List (ℕ × Input ℕ)) (events : List Ev) → HavePlacesAt o past → IsRun u64_arithmetic o parties past schedule events → HavePlacesAt o (after events past)
+run_has_places o parties past [] [] had run = had
+run_has_places o parties past [] (e ∷ events) had run = absurd run
+run_has_places o parties past (turn ∷ schedule) [] had run = absurd run
+run_has_places o parties past (turn ∷ schedule) (e ∷ events) had run = run_has_places o parties (e ∷ past) schedule events (next_has_places_at o parties past turn.0 turn.1 e had run.0) run.1
 
-pub allowed_moves : (o : Object ℕ) (parties : ℕ) (past : List Ev) (party : ℕ) (input : Input ℕ) → AreHad o past → fault_of u64_arithmetic o parties past party input ≡ None → move_of u64_arithmetic o past party input ≡ None → ⊥
+pub allowed_moves : (o : Object ℕ) (parties : ℕ) (past : List Ev) (party : ℕ) (input : Input ℕ) → HavePlacesAt o past → fault_of u64_arithmetic o parties past party input ≡ None → move_of u64_arithmetic o past party input ≡ None → ⊥
 allowed_moves o parties past party input had allowed none = gives_event (table_of u64_arithmetic o) parties past party input had allowed none
