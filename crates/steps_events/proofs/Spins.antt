@@ -98,12 +98,12 @@ stands_after_spinning {T} in_vain wrap patience seen own so = by_tests patience.
     by_tests false left spins = tt
 
 -- it gives up only where its closure has answered Abort
-pub refused_by_abort :
-    {T P : Type 0} (in_vain : Act T → Bool) (wrap : Patience → P) (patience : Patience) (seen : ℕ) (own : List (Event T)) → HasSpun in_vain patience own →
-    is_refusal (outcome_of (within wrap (refused {T = T} patience seen))) ≡ true → keeps_asking own ≡ false
-refused_by_abort {T} in_vain wrap patience seen own so = by_tests patience.keep (nat_lt patience.spins 10000) refl
+pub refused_because :
+    {T P : Type 0} (in_vain : Act T → Bool) (wrap : Patience → P) (patience : Patience) (seen : ℕ) (own : List (Event T)) (Because : Type 0) → HasSpun in_vain patience own → (keeps_asking own ≡ false → Because) →
+    MatchBool (is_refusal (outcome_of (within wrap (refused {T = T} patience seen)))) Because (Unit {0})
+refused_because {T} in_vain wrap patience seen own Because so aborted = by_tests patience.keep (nat_lt patience.spins 10000) refl
   where
-    by_tests : (keep left : Bool) → patience.keep ≡ keep → is_refusal (outcome_of (within wrap (refused_by {T = T} patience seen keep left))) ≡ true → keeps_asking own ≡ false
-    by_tests true true keeps gave = absurd cc
-    by_tests true false keeps gave = absurd cc
-    by_tests false left keeps gave = so.keeps ∙ keeps
+    by_tests : (keep left : Bool) → patience.keep ≡ keep → MatchBool (is_refusal (outcome_of (within wrap (refused_by {T = T} patience seen keep left)))) Because (Unit {0})
+    by_tests true true keeps = tt
+    by_tests true false keeps = tt
+    by_tests false left keeps = aborted (so.keeps ∙ keeps)
