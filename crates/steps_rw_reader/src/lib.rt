@@ -18,7 +18,7 @@ use steps_events::row::{After, Intent};
 mod tests;
 
 /// The word with a write hold.
-const WRITTEN: u64 = u64::MAX;
+const WRITE_LOCKED: u64 = u64::MAX;
 
 /// The word after a reader entered, where one may: no write hold stands, and there are less than 2^64 - 2 read holds.
 #[inline(always)]
@@ -26,7 +26,7 @@ pub fn reader_enters(word: u64) -> Option<u64>
     ensures open { word < 2 ^ 64 - 2 → result ≡ Some (word + 1) }
     ensures shut { 2 ^ 64 - 2 ≤ word → result ≡ None }
 {
-    if word < WRITTEN - 1 {
+    if word < WRITE_LOCKED - 1 {
         Some(word + 1)
     } else {
         None
@@ -40,7 +40,7 @@ pub fn reader_leaves(word: u64) -> Option<u64>
     ensures written { word ≡ 2 ^ 64 - 1 → result ≡ None }
     ensures read { word ≢ 0 → word ≢ 2 ^ 64 - 1 → result ≡ Some (word - 1) }
 {
-    if word == WRITTEN {
+    if word == WRITE_LOCKED {
         None
     } else {
         word.checked_sub(1)
@@ -53,7 +53,7 @@ pub fn writer_enters(word: u64) -> Option<u64>
     ensures free { word ≡ 0 → result ≡ Some (2 ^ 64 - 1) }
     ensures held { word ≢ 0 → result ≡ None }
 {
-    (word == 0).then_some(WRITTEN)
+    (word == 0).then_some(WRITE_LOCKED)
 }
 
 /// Where a party is in a call at a reader-preferring lock; each place is named for its next step.
@@ -117,7 +117,7 @@ impl RwReaderPlace {
             RwReaderPlace::TryWrite | RwReaderPlace::Write(_) => Intent::Exchange {
                 word,
                 from: 0,
-                to: WRITTEN,
+                to: WRITE_LOCKED,
             },
             RwReaderPlace::Release => release(word, hold),
             RwReaderPlace::Wake => Intent::Wake(Wake::One),
