@@ -37,7 +37,7 @@ impl<T, A: Allocator> Model for Machine<T, A> {
 }
 
 impl<T: AtomicInteger, A: Allocator> Machine<T, A> {
-    /// A machine of the object, where no party has begun a call yet. So far it serves mutexes and semaphores.
+    /// A machine of the object, where no party has begun a call yet. So far it serves mutexes, semaphores and reader-preferring locks.
     ///
     /// It takes memory for the places of its parties, and answers `AllocError` where there is none.
     pub fn new(alloc: A, object: Object<T>, parties: usize) -> Result<Machine<T, A>, AllocError>
