@@ -4,3 +4,5 @@ pub mod MutexShown
 pub mod SemaphoreRule
 pub mod SemaphoreTally
 pub mod SemaphoreShown
+pub mod Held
+pub mod HeldTally
