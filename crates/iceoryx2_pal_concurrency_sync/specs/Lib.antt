@@ -6,3 +6,6 @@ pub mod SemaphoreTally
 pub mod SemaphoreShown
 pub mod Held
 pub mod HeldTally
+pub mod RwShown
+pub mod RwReaderRule
+pub mod RwReaderShown

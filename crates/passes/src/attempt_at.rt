@@ -35,7 +35,7 @@ pub trait AttemptAt<T> {
 
 /// Further tries, as many as a call makes by itself, until one is not refused. `seen` is the value that refused the first.
 #[tactic(auto, using(crate::proofs::Attempts::moved_later, crate::proofs::Attempts::seen_twice))]
-pub fn spin_at<T, M: AttemptAt<T>, R: Wait>(
+fn spin_at<T, M: AttemptAt<T>, R: Wait>(
     rt: &R,
     by: &M,
     pass: &mut Pass<T>,
@@ -62,7 +62,7 @@ pub fn spin_at<T, M: AttemptAt<T>, R: Wait>(
 /// The wait closure before each further try, until one is not refused, or is refused after the closure answered `Abort`. The closure
 /// is called with the word, and with the value that refused the try before; `seen` is the first of these.
 #[tactic(auto, using(crate::proofs::Attempts::moved_later, crate::proofs::Attempts::seen_twice))]
-pub fn ask_at<T, M: AttemptAt<T>, X, R: Wait, W: Fn(&X, &u64) -> WaitAction>(
+fn ask_at<T, M: AttemptAt<T>, X, R: Wait, W: Fn(&X, &u64) -> WaitAction>(
     rt: &R,
     by: &M,
     pass: &mut Pass<T>,
@@ -88,4 +88,28 @@ pub fn ask_at<T, M: AttemptAt<T>, X, R: Wait, W: Fn(&X, &u64) -> WaitAction>(
         }
     }
     unreachable!()
+}
+
+/// What a call that may wait does once its first try was refused: further tries by itself, and then the wait closure before each.
+/// `seen` is the value that refused the first.
+#[tactic(auto, using(crate::proofs::Attempts::moved_later, crate::proofs::Attempts::seen_twice))]
+pub fn try_again<T, M: AttemptAt<T>, X, R: Wait, W: Fn(&X, &u64) -> WaitAction>(
+    rt: &R,
+    by: &M,
+    pass: &mut Pass<T>,
+    word: &X,
+    seen: u64,
+    wait: &W,
+) -> bool
+    requires own { object_of pass.old ≡ M.object by.now }
+    requires may { W.IsAlwaysCallable wait.now }
+    requires seen { (sights_of pass.old).last ≡ seen }
+    requires refused { M.refuses seen }
+    ensures told { MatchBool result (HasMoved M.moves pass.old pass.new) (WasRefused M.refuses 10001 pass.old pass.new) }
+    ensures aborted { result ≡ false → MayAnswerAbort W.Fn wait.now M.refuses }
+{
+    match spin_at(rt, by, pass, seen) {
+        Ok(()) => true,
+        Err(last) => ask_at(rt, by, pass, word, last, wait),
+    }
 }

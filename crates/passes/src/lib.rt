@@ -19,7 +19,7 @@ mod wait;
 mod words;
 
 pub use attempt::{Attempt, ask, spin};
-pub use attempt_at::{AttemptAt, ask_at, spin_at};
+pub use attempt_at::{AttemptAt, try_again};
 pub use deed::Deed;
 pub use part::{Part, Sights};
 pub use pass::Pass;

@@ -5,8 +5,8 @@
 //! says which holds other passes have meanwhile, and nothing of what other threads do.
 mod held;
 mod hold;
-//mod reader_preference;
+mod reader_preference;
 
 pub use held::{Held, Known};
 pub use hold::{ReadHold, RwHold, RwPass, WriteHold};
-//pub use reader_preferenceerence::{RwLockReaderPreference, RwReaderPass, no_hold_beside_a_write_hold};
+pub use reader_preference::{RwLockReaderPreference, RwReaderPass, no_hold_beside_a_write_hold};
