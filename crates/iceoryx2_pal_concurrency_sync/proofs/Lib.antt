@@ -2,3 +2,4 @@ pub mod MutexKeeps
 pub mod SemaphoreKeeps
 pub mod HeldKeeps
 pub mod RwReaderKeeps
+pub mod RwReaderUnlocks

@@ -174,16 +174,8 @@ impl<A: Allocator> RwLockReaderPreference<A> {
         ensures woke { HasWoken W.Fn wake_one }
     {
         match hold {
-            RwHold::Read(ReadHold { pass }) => {
-                self.leave_reading(pass);
-                wake(&wake_one, &self.word());
-                pass
-            }
-            RwHold::Write(WriteHold { pass }) => {
-                self.leave_writing(pass);
-                wake(&wake_one, &self.word());
-                pass
-            }
+            RwHold::Read(ReadHold { pass }) => self.unlock_read(pass, wake_one),
+            RwHold::Write(WriteHold { pass }) => self.unlock_write(pass, wake_one),
         }
     }
 
@@ -302,6 +294,44 @@ impl<A: Allocator> RwLockReaderPreference<A> {
                 try_again(rt, &reader, pass, &self.word(), seen, wait)
             }
         }
+    }
+
+    /// What `unlock` does with a read hold.
+    #[inline(always)]
+    fn unlock_read<'p, W: Fn(&WaitWord)>(
+        &self,
+        pass: &'p mut RwReaderPass,
+        wake_one: W,
+    ) -> &'p mut RwReaderPass
+        requires own { IsRwReaderPass self.now pass.old }
+        requires on { 0 < reads_of pass.old }
+        requires may { W.IsAlwaysCallable wake_one }
+        ensures same_borrow { result.ghost_name ≡ pass.entry.ghost_name }
+        ensures released { HasLeftReading pass.old result.now }
+        ensures woke { HasWoken W.Fn wake_one }
+    {
+        self.leave_reading(pass);
+        wake(&wake_one, &self.word());
+        pass
+    }
+
+    /// What `unlock` does with a write hold.
+    #[inline(always)]
+    fn unlock_write<'p, W: Fn(&WaitWord)>(
+        &self,
+        pass: &'p mut RwReaderPass,
+        wake_one: W,
+    ) -> &'p mut RwReaderPass
+        requires own { IsRwReaderPass self.now pass.old }
+        requires on { writes_of pass.old ≡ 1 }
+        requires may { W.IsAlwaysCallable wake_one }
+        ensures same_borrow { result.ghost_name ≡ pass.entry.ghost_name }
+        ensures released { HasLeftWriting pass.old result.now }
+        ensures woke { HasWoken W.Fn wake_one }
+    {
+        self.leave_writing(pass);
+        wake(&wake_one, &self.word());
+        pass
     }
 
     /// Turns the write hold on by one exchange. `Err` with the value that it found, where that was not 0.
