@@ -3,3 +3,4 @@ pub mod SemaphoreKeeps
 pub mod HeldKeeps
 pub mod RwReaderKeeps
 pub mod RwReaderUnlocks
+pub mod RwReaderJoins
