@@ -30,7 +30,7 @@ call_of_other p q act outcome past other = rw (eqb_other p q other) refl
 
 -- the hold of the event's party, and of another
 
-hold_among-without_same : (p : ℕ) (holds : List Hold) → hold_among p (without p holds) ≡ None
+pub hold_among-without_same : (p : ℕ) (holds : List Hold) → hold_among p (without p holds) ≡ None
 hold_among-without_same p [] = refl
 hold_among-without_same p (hold ∷ holds) = by_test (hold_among-without_same p holds) (hold.0 == p) refl
   where
@@ -38,7 +38,7 @@ hold_among-without_same p (hold ∷ holds) = by_test (hold_among-without_same p 
     by_test rest true e = rest
     by_test rest false e = rw e rest
 
-hold_among-without_other : (p q : ℕ) (holds : List Hold) → q ≢ p → hold_among q (without p holds) ≡ hold_among q holds
+pub hold_among-without_other : (p q : ℕ) (holds : List Hold) → q ≢ p → hold_among q (without p holds) ≡ hold_among q holds
 hold_among-without_other p q [] other = refl
 hold_among-without_other p q (hold ∷ holds) other = by_test (hold_among-without_other p q holds other) (hold.0 == p) (hold.0 == q) refl refl
   where

@@ -40,11 +40,11 @@ abbrev pub IsFreeOrHeld : ℕ → List Hold → Type 0
 IsFreeOrHeld w holds = ((w ≡ 0) × (holds ≡ [])) ⊎ ((p : ℕ) × (w ≡ 1) × (holds ≡ (p, kinds.Write) ∷ []))
 
 -- the holds after an act of a party
-abbrev holds_after : {T P : Type 0} → Table T P → ℕ → Option (PendingCall T) → Act T → List Hold → List Hold
+abbrev pub holds_after : {T P : Type 0} → Table T P → ℕ → Option (PendingCall T) → Act T → List Hold → List Hold
 holds_after t p pending act holds = cond (is_release act) (without p holds) (with_hold p (hold_taken t act pending) holds)
 
 -- the only hold goes with its holder
-without_only : (p q : ℕ) → is_some (hold_among p ((q, kinds.Write) ∷ [])) ≡ true → without p ((q, kinds.Write) ∷ []) ≡ []
+pub without_only : (p q : ℕ) → is_some (hold_among p ((q, kinds.Write) ∷ [])) ≡ true → without p ((q, kinds.Write) ∷ []) ≡ []
 without_only p q h = by_test (q == p) h
   where
     by_test : (b : Bool) → is_some (cond b (Some kinds.Write) None) ≡ true → ◌≡◌ {A = List Hold} (cond {A = List Hold} b [] ((q, kinds.Write) ∷ [])) []

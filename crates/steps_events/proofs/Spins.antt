@@ -1,6 +1,6 @@
 -- How a waiting call counts its spins, and knows whether it keeps on asking.
-use Rattle.std.proofs.Common.{◌≡◌, ℕ, ◌+◌, ◌≤◌, refl, Bool, true, false, ◌&&◌, List, ◌∷◌, None, arith}
-use Rattle.std.specs.Prelude.{nat_lt}
+use Rattle.std.proofs.Common.{◌≡◌, ◌∙◌, ℕ, ◌+◌, ◌≤◌, refl, Bool, true, false, cond, ◌&&◌, List, [], ◌∷◌, Some, None, arith}
+use Rattle.std.specs.Prelude.{nat_lt, MatchBool}
 use Rattle.std.proofs.lemmas.Bool.Decides.{nat_tests}
 use Rattle.steps_events.specs.declared.WaitAction.{WaitAction}
 use Rattle.steps_events.specs.declared.WaitAction.TheVariants as actions
@@ -9,11 +9,15 @@ use Rattle.steps_events.specs.declared.event.Act.TheVariants as acts
 use Rattle.steps_events.specs.declared.event.Event.{Event}
 use Rattle.steps_events.specs.declared.event.Then.{Then}
 use Rattle.steps_events.specs.declared.event.Then.TheVariants as thens
+use Rattle.steps_events.specs.declared.event.Answer.TheVariants as answers
 use Rattle.steps_events.specs.declared.patience.Patience.{Patience}
-use Rattle.steps_events.specs.Rows.{is_continue}
+use Rattle.steps_events.specs.declared.row.After.{After}
+use Rattle.steps_events.specs.declared.row.After.TheVariants as afters
+use Rattle.steps_events.specs.Rows.{is_continue, answered, refused, within, outcome_of, place_after}
 use Rattle.steps_events.specs.Past.{event}
 use Rattle.steps_events.specs.Moves.{answer_fault}
-use Rattle.steps_events.specs.Sights.{keeps_asking, spins_in, stands_at_wait}
+use Rattle.steps_events.specs.Sights.{keeps_asking, spins_in, is_abort, stands_at_wait}
+use Rattle.steps_events.specs.Laws.{is_refusal}
 
 -- the own events of a call whose place has this patience, where such acts are tries in vain
 pub record HasSpun {T : Type 0} (in_vain : Act T → Bool) (patience : Patience) (own : List (Event T)) : Type 0 where
@@ -38,3 +42,68 @@ answered_keep false actions.Abort own number is = refl
 pub waits_by : {T : Type 0} (outcome : Then T) → answer_fault outcome ≡ None → stands_at_wait outcome ≡ true
 waits_by (thens.Waits seen) is = refl
 waits_by other is = absurd cc
+
+-- What one more event of the call makes of it.
+
+-- a call that has just begun
+pub begun_spun : {T : Type 0} (in_vain : Act T → Bool) → HasSpun {T = T} in_vain (record { spins = 0; keep = true }) []
+begun_spun in_vain = record { spun = refl; keeps = refl; within_limit = omega arith }
+
+-- an act that is no try in vain, and no answer of the closure
+pub passed_on :
+    {T : Type 0} (in_vain : Act T → Bool) (patience : Patience) (own : List (Event T)) (number : ℕ) (act : Act T) (outcome : Then T) → HasSpun in_vain patience own →
+    in_vain act ≡ false → is_abort act ≡ false → HasSpun in_vain patience (event number act outcome ∷ own)
+passed_on in_vain patience own number act outcome so tries quiet = record { spun = rw tries (omega (arith, so.spun)); keeps = rw quiet so.keeps; within_limit = so.within_limit }
+
+-- an answer of the wait closure
+pub answered_spun :
+    {T : Type 0} (in_vain : Act T → Bool) (patience : Patience) (own : List (Event T)) (number : ℕ) (action : WaitAction) → HasSpun in_vain patience own →
+    in_vain (acts.Answered action) ≡ false → HasSpun in_vain (answered patience action) (event number (acts.Answered action) thens.GoesOn ∷ own)
+answered_spun in_vain patience own number action so tries =
+    record { spun = rw tries (omega (arith, so.spun)); keeps = answered_keep patience.keep action own number so.keeps; within_limit = so.within_limit }
+
+-- A try in vain, by two tests: the call keeps on asking, it has spins left.
+
+abbrev refused_by : {T : Type 0} → Patience → ℕ → Bool → Bool → After T Patience
+refused_by patience seen keep left =
+    cond keep (cond left (afters.At (record { spins = patience.spins + 1; keep = patience.keep })) (afters.Waits patience seen)) (afters.Ends answers.Interrupted)
+
+refused_by_leads :
+    {T P : Type 0} (in_vain : Act T → Bool) (wrap : Patience → P) (patience : Patience) (seen : ℕ) (own : List (Event T)) (number : ℕ) (act : Act T) (next : P) (keep left : Bool) → HasSpun in_vain patience own →
+    in_vain act ≡ true → is_abort act ≡ false → nat_lt patience.spins 10000 ≡ left → place_after (within wrap (refused_by {T = T} patience seen keep left)) ≡ Some next →
+    (more : Patience) × (wrap more ≡ next) × HasSpun in_vain more (event number act (outcome_of (within wrap (refused_by {T = T} patience seen keep left))) ∷ own)
+refused_by_leads in_vain wrap patience seen own number act next true true so tries quiet spins is =
+    (record { spins = patience.spins + 1; keep = patience.keep }, cc, record { spun = rw tries (omega (arith, so.spun)); keeps = rw quiet so.keeps; within_limit = spins_left patience.spins spins })
+refused_by_leads in_vain wrap patience seen own number act next true false so tries quiet spins is =
+    (patience, cc, record { spun = rw tries (omega (arith, so.spun)); keeps = rw quiet so.keeps; within_limit = so.within_limit })
+refused_by_leads in_vain wrap patience seen own number act next false left so tries quiet spins is = absurd cc
+
+-- it leads to a place of the same form, with one spin more where it spins
+pub refused_leads :
+    {T P : Type 0} (in_vain : Act T → Bool) (wrap : Patience → P) (patience : Patience) (seen : ℕ) (own : List (Event T)) (number : ℕ) (act : Act T) (next : P) → HasSpun in_vain patience own →
+    in_vain act ≡ true → is_abort act ≡ false → place_after (within wrap (refused {T = T} patience seen)) ≡ Some next →
+    (more : Patience) × (wrap more ≡ next) × HasSpun in_vain more (event number act (outcome_of (within wrap (refused {T = T} patience seen))) ∷ own)
+refused_leads in_vain wrap patience seen own number act next so tries quiet is =
+    refused_by_leads in_vain wrap patience seen own number act next patience.keep (nat_lt patience.spins 10000) so tries quiet refl is
+
+-- it stands only after all its spins
+pub stands_after_spinning :
+    {T P : Type 0} (in_vain : Act T → Bool) (wrap : Patience → P) (patience : Patience) (seen : ℕ) (own : List (Event T)) → HasSpun in_vain patience own →
+    MatchBool (stands_at_wait (outcome_of (within wrap (refused {T = T} patience seen)))) (spins_in in_vain own ≡ 10000) (Unit {0})
+stands_after_spinning {T} in_vain wrap patience seen own so = by_tests patience.keep (nat_lt patience.spins 10000) refl
+  where
+    by_tests : (keep left : Bool) → nat_lt patience.spins 10000 ≡ left → MatchBool (stands_at_wait (outcome_of (within wrap (refused_by {T = T} patience seen keep left)))) (spins_in in_vain own ≡ 10000) (Unit {0})
+    by_tests true true spins = tt
+    by_tests true false spins = so.spun ∙ spins_spent patience.spins so.within_limit spins
+    by_tests false left spins = tt
+
+-- it gives up only where its closure has answered Abort
+pub refused_because :
+    {T P : Type 0} (in_vain : Act T → Bool) (wrap : Patience → P) (patience : Patience) (seen : ℕ) (own : List (Event T)) (Because : Type 0) → HasSpun in_vain patience own → (keeps_asking own ≡ false → Because) →
+    MatchBool (is_refusal (outcome_of (within wrap (refused {T = T} patience seen)))) Because (Unit {0})
+refused_because {T} in_vain wrap patience seen own Because so aborted = by_tests patience.keep (nat_lt patience.spins 10000) refl
+  where
+    by_tests : (keep left : Bool) → patience.keep ≡ keep → MatchBool (is_refusal (outcome_of (within wrap (refused_by {T = T} patience seen keep left)))) Because (Unit {0})
+    by_tests true true keeps = tt
+    by_tests true false keeps = tt
+    by_tests false left keeps = aborted (so.keeps ∙ keeps)

@@ -5,6 +5,7 @@ pub mod WordsAt
 pub mod Rows
 pub mod Tables
 pub mod Past
+pub mod HoldCounts
 pub mod Moves
 pub mod Runs
 pub mod Sights

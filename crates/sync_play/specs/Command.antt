@@ -49,9 +49,20 @@ semaphore_calls =
     ∷ (codes "try_wait", begins calls.TryWait)
     ∷ []
 
+-- those of both reader-writer locks
+abbrev pub rw_lock_calls : List (List ℕ × Form)
+rw_lock_calls =
+    (codes "read_lock", begins calls.ReadLock)
+    ∷ (codes "try_read_lock", begins calls.TryReadLock)
+    ∷ (codes "write_lock", begins calls.WriteLock)
+    ∷ (codes "try_write_lock", begins calls.TryWriteLock)
+    ∷ (codes "unlock", begins calls.Unlock)
+    ∷ []
+
 abbrev pub calls_of : Object ℕ → List (List ℕ × Form)
 calls_of objects.Mutex = mutex_calls
 calls_of (objects.Semaphore initial) = semaphore_calls
+calls_of objects.ReaderLock = rw_lock_calls
 calls_of o = []
 
 -- the first row of this name

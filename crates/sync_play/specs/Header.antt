@@ -26,4 +26,6 @@ header_of (name ∷ words) =
     then (parties_of words >>= λ n. Ok (record { object = objects.Mutex; parties = n }))
     else (if bytes_eq name (codes "semaphore")
     then (parties_and_value (2 ^ 64 - 1) words >>= λ opened. Ok (record { object = objects.Semaphore opened.1; parties = opened.0 }))
-    else Err faults.NoObject)
+    else (if bytes_eq name (codes "rwreader")
+    then (parties_of words >>= λ n. Ok (record { object = objects.ReaderLock; parties = n }))
+    else Err faults.NoObject))

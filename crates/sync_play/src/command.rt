@@ -101,6 +101,25 @@ fn semaphore_call(name: &[u8]) -> Option<Form>
     }
 }
 
+/// The calls of both reader-writer locks.
+fn rw_lock_call(name: &[u8]) -> Option<Form>
+    ensures { result ≡ meaning.find name.now meaning.rw_lock_calls }
+{
+    if is(name, b"read_lock") {
+        Some(begins(Call::ReadLock))
+    } else if is(name, b"try_read_lock") {
+        Some(begins(Call::TryReadLock))
+    } else if is(name, b"write_lock") {
+        Some(begins(Call::WriteLock))
+    } else if is(name, b"try_write_lock") {
+        Some(begins(Call::TryWriteLock))
+    } else if is(name, b"unlock") {
+        Some(begins(Call::Unlock))
+    } else {
+        None
+    }
+}
+
 /// The calls of an object.
 fn named_call(object: Object<u64>, name: &[u8]) -> Option<Form>
     ensures { result ≡ meaning.find name.now (meaning.calls_of object) }
@@ -108,6 +127,7 @@ fn named_call(object: Object<u64>, name: &[u8]) -> Option<Form>
     match object {
         Object::Mutex => mutex_call(name),
         Object::Semaphore(_) => semaphore_call(name),
+        Object::ReaderLock => rw_lock_call(name),
         _ => None,
     }
 }

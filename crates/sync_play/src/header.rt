@@ -71,6 +71,12 @@ impl Header {
                 object: Object::Semaphore(initial),
                 parties,
             })
+        } else if is(name, b"rwreader") {
+            let parties = parties(rest)?;
+            Ok(Header {
+                object: Object::ReaderLock,
+                parties,
+            })
         } else {
             Err(LineFault::NoObject)
         }

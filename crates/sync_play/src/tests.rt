@@ -5,6 +5,7 @@ mod long;
 mod permits;
 mod player;
 mod plays;
+mod rwreader;
 mod streams;
 
 use crate::fault::RunFault;

@@ -8,6 +8,7 @@ use Rattle.steps_events.specs.Arithmetic.{Arithmetic}
 use Rattle.steps_events.specs.Laws.{TellsMemory, IsExclusive, HasCause}
 use Rattle.steps_mutex.specs.Law.{MutexCause, MutexLaw}
 use Rattle.steps_semaphore.specs.Law.{SemaphoreCause, SemaphoreLaw}
+use Rattle.steps_rw_reader.specs.Law.{RwReaderCause, RwReaderLaw}
 use Rattle.sync_steps.specs.Objects.{table_of}
 use Rattle.sync_steps.specs.Runs.{holds_of}
 
@@ -17,7 +18,7 @@ CauseOf objects.Mutex call party events = MutexCause call party events
 CauseOf objects.Spin call party events = ⊥
 CauseOf (objects.Semaphore initial) call party events = SemaphoreCause initial call party events
 CauseOf (objects.Barrier n) call party events = ⊥
-CauseOf objects.ReaderLock call party events = ⊥
+CauseOf objects.ReaderLock call party events = RwReaderCause call party events
 CauseOf objects.WriterLock call party events = ⊥
 CauseOf objects.Condvar call party events = ⊥
 CauseOf objects.Once call party events = ⊥
@@ -30,7 +31,7 @@ LawOf objects.Mutex past = MutexLaw past
 LawOf objects.Spin past = past ≡ []
 LawOf (objects.Semaphore initial) past = SemaphoreLaw initial past
 LawOf (objects.Barrier n) past = past ≡ []
-LawOf objects.ReaderLock past = past ≡ []
+LawOf objects.ReaderLock past = RwReaderLaw past
 LawOf objects.WriterLock past = past ≡ []
 LawOf objects.Condvar past = past ≡ []
 LawOf objects.Once past = past ≡ []

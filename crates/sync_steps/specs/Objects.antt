@@ -10,6 +10,8 @@ use Rattle.steps_mutex.specs.declared.MutexPlace.{MutexPlace}
 use Rattle.steps_mutex.specs.Table.{mutex_table}
 use Rattle.steps_semaphore.specs.declared.SemaphorePlace.{SemaphorePlace}
 use Rattle.steps_semaphore.specs.Table.{semaphore_table}
+use Rattle.steps_rw_reader.specs.declared.RwReaderPlace.{RwReaderPlace}
+use Rattle.steps_rw_reader.specs.Table.{rw_reader_table}
 
 -- the objects that a machine serves; the others have no places and no calls yet
 abbrev pub is_served : {T : Type 0} → Object T → Bool
@@ -17,7 +19,7 @@ is_served objects.Mutex = true
 is_served objects.Spin = false
 is_served (objects.Semaphore initial) = true
 is_served (objects.Barrier n) = false
-is_served objects.ReaderLock = false
+is_served objects.ReaderLock = true
 is_served objects.WriterLock = false
 is_served objects.Condvar = false
 is_served objects.Once = false
@@ -29,7 +31,7 @@ place_of objects.Mutex = MutexPlace
 place_of objects.Spin = ⊥
 place_of (objects.Semaphore initial) = SemaphorePlace
 place_of (objects.Barrier n) = ⊥
-place_of objects.ReaderLock = ⊥
+place_of objects.ReaderLock = RwReaderPlace
 place_of objects.WriterLock = ⊥
 place_of objects.Condvar = ⊥
 place_of objects.Once = ⊥
@@ -41,7 +43,7 @@ table_of z objects.Mutex = mutex_table
 table_of z objects.Spin = no_calls
 table_of z (objects.Semaphore initial) = semaphore_table initial
 table_of z (objects.Barrier n) = no_calls
-table_of z objects.ReaderLock = no_calls
+table_of z objects.ReaderLock = rw_reader_table
 table_of z objects.WriterLock = no_calls
 table_of z objects.Condvar = no_calls
 table_of z objects.Once = no_calls

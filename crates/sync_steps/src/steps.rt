@@ -6,6 +6,7 @@ mod machine;
 pub mod mutex;
 mod place;
 mod playing;
+pub mod rw_reader;
 pub mod semaphore;
 mod turn;
 

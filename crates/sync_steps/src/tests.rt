@@ -2,7 +2,7 @@
 use crate::atomic::internal::AtomicInteger;
 use crate::steps::{
     Act, Answer, Call, Event, Input, Machine, Object, PlayFault, StepFault, Then, Wake, Word,
-    at_every_front, mutex, play, semaphore,
+    at_every_front, mutex, play, rw_reader, semaphore,
 };
 use crate::{SPIN_REPETITIONS, WaitAction};
 use std::alloc::{AllocError, Global};
@@ -11,6 +11,7 @@ use std::test::Fail;
 #[test]
 fn word_functions_at_their_paths(rt: HostRuntime) {
     assert_eq!(rt; mutex::granted(0), Some(1));
+    assert_eq!(rt; rw_reader::writer_enters(0), Some(u64::MAX));
     assert_eq!(rt; semaphore::taken(u64::MAX), Some(u64::MAX - 1));
     assert_eq!(rt; semaphore::posted(u64::MAX, 2), 1);
     assert_eq!(rt; SPIN_REPETITIONS, 10000);
@@ -185,5 +186,73 @@ fn a_lock_that_gives_up_after_two_stands(rt: HostRuntime) -> Result<(), Fail> {
     assert_eq!(rt; outcome(&ended, 4), Some((1, interrupted)));
     assert_eq!(rt; machine.failed(), 10003);
     assert_eq!(rt; machine.word(), 1);
+    Ok(())
+}
+
+/// A reader-preferring lock of three parties, of which the first two read.
+fn two_readers(alloc: Global) -> Result<Machine<u64>, Fail> {
+    let mut machine = Machine::<u64>::new(alloc, Object::ReaderLock, 3)?;
+    let schedule = [
+        (0, Input::Begin(Call::ReadLock)),
+        (0, Input::Go),
+        (0, Input::Go),
+        (1, Input::Begin(Call::TryReadLock)),
+        (1, Input::Go),
+        (1, Input::Go),
+    ];
+    let events = play(alloc, &mut machine, &schedule).map_err(|_| "refused")?;
+    let success = Then::Answers(Answer::Success);
+    if outcome(&events, 2) == Some((0, success)) && outcome(&events, 5) == Some((1, success)) {
+        Ok(machine)
+    } else {
+        Err("no two readers")?
+    }
+}
+
+#[test]
+fn readers_leave_one_by_one_and_a_writer_enters(rt: HostRuntime) -> Result<(), Fail> {
+    let mut machine = two_readers(rt.alloc())?;
+    assert_eq!(rt; machine.word(), 2);
+    let schedule = [
+        (2, Input::Begin(Call::TryWriteLock)),
+        (2, Input::Go),
+        (0, Input::Begin(Call::Unlock)),
+        (0, Input::Go),
+        (0, Input::Go),
+        (1, Input::Begin(Call::Unlock)),
+        (1, Input::Go),
+        (1, Input::Go),
+        (2, Input::Begin(Call::WriteLock)),
+        (2, Input::Go),
+    ];
+    let events = play(rt.alloc(), &mut machine, &schedule).map_err(|_| "refused")?;
+    let interrupted = Then::Answers(Answer::Interrupted);
+    assert_eq!(rt; events.len(), 10);
+    assert_eq!(rt; outcome(&events, 1), Some((2, interrupted)));
+    let leaves = Act::Add {
+        word: Word::State,
+        old: 2,
+        put: 1,
+    };
+    assert_eq!(rt; events[3].act, leaves);
+    assert_eq!(rt; events[4].act, Act::Woke(Wake::One));
+    let done = Then::Answers(Answer::Done);
+    assert_eq!(rt; outcome(&events, 7), Some((1, done)));
+    let success = Then::Answers(Answer::Success);
+    assert_eq!(rt; outcome(&events, 9), Some((2, success)));
+    assert_eq!(rt; machine.word(), u64::MAX);
+    assert_eq!(rt; machine.counter(), 0);
+    assert_eq!(rt;
+        machine.step(2, Input::Begin(Call::TryReadLock)),
+        Err(StepFault::Holding)
+    );
+    assert_eq!(rt;
+        machine.step(0, Input::Begin(Call::Unlock)),
+        Err(StepFault::NoHold)
+    );
+    assert_eq!(rt;
+        machine.step(0, Input::Begin(Call::Lock)),
+        Err(StepFault::OtherObject)
+    );
     Ok(())
 }

@@ -17,6 +17,7 @@ use Rattle.steps_events.specs.Moves.{stage_of}
 use Rattle.steps_events.specs.Rows.{within}
 use Rattle.steps_mutex.specs.Table.{mutex_begins, mutex_intent, mutex_after, mutex_answered, mutex_grant, mutex_needs_hold}
 use Rattle.steps_semaphore.specs.Table.{semaphore_opening, semaphore_begins, semaphore_intent, semaphore_after, semaphore_answered}
+use Rattle.steps_rw_reader.specs.Table.{rw_reader_begins, rw_reader_intent, rw_reader_after, rw_reader_answered, rw_reader_grant, rw_reader_needs_hold}
 use Rattle.sync_steps.specs.declared.steps.place.Closure.{Closure}
 use Rattle.sync_steps.specs.declared.steps.place.Closure.TheVariants as closures
 use Rattle.sync_steps.specs.declared.steps.place.Doing.{Doing}
@@ -31,7 +32,7 @@ place_in objects.Mutex place = places.Mutex place
 place_in objects.Spin place = absurd place
 place_in (objects.Semaphore initial) place = places.Semaphore place
 place_in (objects.Barrier n) place = absurd place
-place_in objects.ReaderLock place = absurd place
+place_in objects.ReaderLock place = places.RwReader place
 place_in objects.WriterLock place = absurd place
 place_in objects.Condvar place = absurd place
 place_in objects.Once place = absurd place
@@ -86,7 +87,7 @@ begins_at objects.Mutex call = map_place places.Mutex (mutex_begins call)
 begins_at objects.Spin call = None
 begins_at (objects.Semaphore initial) call = map_place places.Semaphore (semaphore_begins call)
 begins_at (objects.Barrier n) call = None
-begins_at objects.ReaderLock call = None
+begins_at objects.ReaderLock call = map_place places.RwReader (rw_reader_begins call)
 begins_at objects.WriterLock call = None
 begins_at objects.Condvar call = None
 begins_at objects.Once call = None
@@ -96,25 +97,29 @@ begins_at (objects.Atomic v) call = None
 abbrev pub intent_at : {T : Type 0} → Place → Option HoldKind → Intent T
 intent_at (places.Mutex place) hold = mutex_intent words.State place
 intent_at (places.Semaphore place) hold = semaphore_intent words.State place
+intent_at (places.RwReader place) hold = rw_reader_intent words.State place hold
 
 abbrev pub after_at : {T : Type 0} → Place → Option ℕ → After T Place
 after_at (places.Mutex place) told = within places.Mutex (mutex_after place told)
 after_at (places.Semaphore place) told = within places.Semaphore (semaphore_after place told)
+after_at (places.RwReader place) told = within places.RwReader (rw_reader_after place told)
 
 abbrev pub answered_at : Place → WaitAction → Place
 answered_at (places.Mutex place) action = places.Mutex (mutex_answered place action)
 answered_at (places.Semaphore place) action = places.Semaphore (semaphore_answered place action)
+answered_at (places.RwReader place) action = places.RwReader (rw_reader_answered place action)
 
 abbrev pub chosen_at : {T : Type 0} → Place → Option T → Place
 chosen_at (places.Mutex place) choice = places.Mutex place
 chosen_at (places.Semaphore place) choice = places.Semaphore place
+chosen_at (places.RwReader place) choice = places.RwReader place
 
 abbrev pub grant_at : {T : Type 0} → Object T → Call T → ℕ → ℕ → Option HoldKind
 grant_at objects.Mutex call from to = mutex_grant call from to
 grant_at objects.Spin call from to = None
 grant_at (objects.Semaphore initial) call from to = None
 grant_at (objects.Barrier n) call from to = None
-grant_at objects.ReaderLock call from to = None
+grant_at objects.ReaderLock call from to = rw_reader_grant call from to
 grant_at objects.WriterLock call from to = None
 grant_at objects.Condvar call from to = None
 grant_at objects.Once call from to = None
@@ -126,7 +131,7 @@ needs_hold_at objects.Mutex call = mutex_needs_hold call
 needs_hold_at objects.Spin call = false
 needs_hold_at (objects.Semaphore initial) call = false
 needs_hold_at (objects.Barrier n) call = false
-needs_hold_at objects.ReaderLock call = false
+needs_hold_at objects.ReaderLock call = rw_reader_needs_hold call
 needs_hold_at objects.WriterLock call = false
 needs_hold_at objects.Condvar call = false
 needs_hold_at objects.Once call = false

@@ -8,6 +8,7 @@ use steps_events::event::{Act, Call, Object, Then, Word};
 use steps_events::hold::HoldKind;
 use steps_events::row::{After, Intent};
 use steps_mutex::MutexPlace;
+use steps_rw_reader::RwReaderPlace;
 use steps_semaphore::SemaphorePlace;
 
 /// Where a party is in its call: a place of its object's primitive.
@@ -15,6 +16,7 @@ use steps_semaphore::SemaphorePlace;
 pub enum Place {
     Mutex(MutexPlace),
     Semaphore(SemaphorePlace),
+    RwReader(RwReaderPlace),
 }
 
 /// A closure at which a call stands until it has answered.
@@ -64,9 +66,9 @@ impl Place {
         match object {
             Object::Mutex => Some(Place::Mutex(MutexPlace::begin(call)?)),
             Object::Semaphore(_) => Some(Place::Semaphore(SemaphorePlace::begin(call)?)),
+            Object::ReaderLock => Some(Place::RwReader(RwReaderPlace::begin(call)?)),
             Object::Spin
             | Object::Barrier(_)
-            | Object::ReaderLock
             | Object::WriterLock
             | Object::Condvar
             | Object::Once
@@ -77,12 +79,13 @@ impl Place {
 
     /// What the step is to do, by its party's hold.
     #[inline(always)]
-    pub fn intent<T>(&self, _hold: Option<HoldKind>) -> Intent<T>
-        ensures { result ≡ intent_at self.now _hold }
+    pub fn intent<T>(&self, hold: Option<HoldKind>) -> Intent<T>
+        ensures { result ≡ intent_at self.now hold }
     {
         match self {
             Place::Mutex(place) => place.intent(Word::State),
             Place::Semaphore(place) => place.intent(Word::State),
+            Place::RwReader(place) => place.intent(Word::State, hold),
         }
     }
 
@@ -94,6 +97,7 @@ impl Place {
         match self {
             Place::Mutex(place) => place.after(told).within(Place::Mutex),
             Place::Semaphore(place) => place.after(told).within(Place::Semaphore),
+            Place::RwReader(place) => place.after(told).within(Place::RwReader),
         }
     }
 
@@ -104,10 +108,11 @@ impl Place {
         match self {
             Place::Mutex(place) => Place::Mutex(place.answered(action)),
             Place::Semaphore(place) => Place::Semaphore(place.answered(action)),
+            Place::RwReader(place) => Place::RwReader(place.answered(action)),
         }
     }
 
-    /// Where the call goes on once its choice closure has answered: no place of a mutex or a semaphore asks for a choice.
+    /// Where the call goes on once its choice closure has answered: no place of today's objects asks for a choice.
     pub fn chosen<T>(&self, _choice: Option<T>) -> Place
     where
         T: Copy,
@@ -116,6 +121,7 @@ impl Place {
         match self {
             Place::Mutex(place) => Place::Mutex(*place),
             Place::Semaphore(place) => Place::Semaphore(*place),
+            Place::RwReader(place) => Place::RwReader(*place),
         }
     }
 }
@@ -127,10 +133,10 @@ pub fn grant<T>(object: &Object<T>, call: &Call<T>, _from: u64, _to: u64) -> Opt
 {
     match object {
         Object::Mutex => steps_mutex::grant(call),
+        Object::ReaderLock => steps_rw_reader::grant(call),
         Object::Semaphore(_)
         | Object::Spin
         | Object::Barrier(_)
-        | Object::ReaderLock
         | Object::WriterLock
         | Object::Condvar
         | Object::Once
@@ -144,11 +150,10 @@ pub fn needs_hold<T>(object: &Object<T>, call: &Call<T>) -> bool
     ensures { result ≡ needs_hold_at object.now call.now }
 {
     match object {
-        Object::Mutex => matches!(call, Call::Unlock),
+        Object::Mutex | Object::ReaderLock => matches!(call, Call::Unlock),
         Object::Semaphore(_)
         | Object::Spin
         | Object::Barrier(_)
-        | Object::ReaderLock
         | Object::WriterLock
         | Object::Condvar
         | Object::Once

@@ -1,0 +1,2 @@
+pub mod ReaderLocks
+pub mod Laws

@@ -1,0 +1,80 @@
+-- What a reader-preferring lock keeps at every front of every run: one writer or only readers, which its word counts, a cause for each
+-- refusal, and how often a call tries.
+use Rattle.std.specs.Prelude.{◌≡◌, ℕ, ◌-◌, ◌^◌, ◌<◌, ◌==◌, ◌↔◌, ◌⊎◌, Bool, true, false, not, if◌then◌else◌, List, [], ◌∷◌, MatchOption}
+use Rattle.steps_events.specs.declared.event.Word.TheVariants as words
+use Rattle.steps_events.specs.declared.event.Call.{Call}
+use Rattle.steps_events.specs.declared.event.Call.TheVariants as calls
+use Rattle.steps_events.specs.declared.event.Act.{Act}
+use Rattle.steps_events.specs.declared.event.Act.TheVariants as acts
+use Rattle.steps_events.specs.declared.event.Answer.TheVariants as answers
+use Rattle.steps_events.specs.declared.event.Then.TheVariants as thens
+use Rattle.steps_events.specs.declared.event.Event.{Event}
+use Rattle.steps_events.specs.declared.hold.HoldKind.TheVariants as kinds
+use Rattle.steps_events.specs.Past.{Hold, call_of, holds_of, word_in}
+use Rattle.steps_events.specs.HoldCounts.{reads_in, writes_in}
+use Rattle.steps_events.specs.Sights.{is_sight, AtLastSight, HasAborted, HasMissed, AsksAfterSpinning}
+use Rattle.steps_events.specs.Laws.{TellsMemory, IsExclusive, IsLocked, HasCause}
+use Rattle.steps_rw_reader.specs.Table.{lets_readers_in, rw_reader_table}
+
+-- The word and the holds.
+
+-- the word is the number of read holds, and there is no other
+pub record IsRead (w : ℕ) (holds : List Hold) : Type 0 where
+  pub counts : w ≡ reads_in holds
+  pub unwritten : writes_in holds ≡ 0
+  pub fits : w < 2 ^ 64 - 1
+
+-- the word is 2^64 - 1, and one party has the one hold, for writing
+pub record IsWritten (w : ℕ) (holds : List Hold) : Type 0 where
+  pub is_full : w ≡ 2 ^ 64 - 1
+  pub writer : ℕ
+  pub alone : holds ≡ (writer, kinds.Write) ∷ []
+
+abbrev pub CountsHolds : ℕ → List Hold → Type 0
+CountsHolds w holds = IsRead w holds ⊎ IsWritten w holds
+
+-- Why a call is refused.
+
+-- no reader may enter: a write hold stands, or 2^64 - 2 read holds
+abbrev pub IsShut : {T : Type 0} → List (Event T) → Type 0
+IsShut past = (0 < writes_in (holds_of rw_reader_table past)) ⊎ (reads_in (holds_of rw_reader_table past) ≡ 2 ^ 64 - 2)
+
+-- `TryReadLock`: no reader might enter at its last sight, or another party wrote the word between its two sights. `TryWriteLock`: a hold
+-- stood at its last sight. `ReadLock`, `WriteLock`: the first of these, and their own closure had answered Abort before that sight.
+abbrev pub RwReaderCause : {T : Type 0} → Call T → ℕ → List (Event T) → Type 0
+RwReaderCause calls.TryReadLock party events = AtLastSight words.State IsShut party events ⊎ HasMissed words.State party events
+RwReaderCause calls.ReadLock party events = AtLastSight words.State (λ before. HasAborted party before × IsShut before) party events
+RwReaderCause calls.TryWriteLock party events = AtLastSight words.State (IsLocked rw_reader_table) party events
+RwReaderCause calls.WriteLock party events = AtLastSight words.State (λ before. HasAborted party before × IsLocked rw_reader_table before) party events
+RwReaderCause other party events = ⊥
+
+-- Exact: the event in which a `TryWriteLock` sees the word grants the lock exactly where there was no hold before it.
+abbrev pub IsExactGrant : {T : Type 0} → List (Event T) → Type 0
+IsExactGrant [] = Unit {0}
+IsExactGrant (e ∷ past) =
+    MatchOption (call_of e.party past) (Unit {0})
+    (λ c. c.call ≡ calls.TryWriteLock → is_sight words.State e.act ≡ true → ((e.then ≡ thens.Answers answers.Success) ↔ (holds_of rw_reader_table past ≡ [])))
+
+-- a try in vain: a look at which no reader may enter, or a writer's exchange that failed
+abbrev pub is_in_vain : {T : Type 0} → Act T → Bool
+is_in_vain (acts.Load word seen) = not (lets_readers_in seen)
+is_in_vain (acts.Exchange word from to found false) = if to == 2 ^ 64 - 1 then true else not (lets_readers_in found)
+is_in_vain act = false
+
+-- What a reader-preferring lock keeps beside what every object does.
+pub record RwReaderLaw {T : Type 0} (past : List (Event T)) : Type 0 where
+  -- the word is the number of read holds, or 2^64 - 1 with one write hold and no other
+  pub counts : CountsHolds (word_in rw_reader_table past words.State) (holds_of rw_reader_table past)
+  -- `TryWriteLock` is granted exactly where nobody holds the lock
+  pub exact : IsExactGrant past
+  -- a wait closure is asked after 10000 spins, which are tries in vain
+  pub asks : AsksAfterSpinning is_in_vain past
+
+pub record KeepsRwReader {T : Type 0} (past : List (Event T)) : Type 0 where
+  -- each act that tells a word's value tells what the memory holds there
+  pub told : TellsMemory rw_reader_table past
+  -- one writer, or only readers
+  pub exclusive : IsExclusive (holds_of rw_reader_table past)
+  -- each refusal has its cause
+  pub cause : HasCause RwReaderCause past
+  pub law : RwReaderLaw past
