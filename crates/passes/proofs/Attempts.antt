@@ -1,10 +1,14 @@
 -- What becomes of a pass over several tries.
-use Rattle.std.proofs.Common.{ℕ, ap, ◌∙◌, subst, arith}
+use Rattle.std.proofs.Common.{◌≡◌, ◌+◌, ◌≤◌, ℕ, ap, ◌∙◌, subst, arith}
+use Rattle.std.specs.Borrow.{Bor}
+use Rattle.std.specs.Fn.{Shared}
+use Rattle.steps_events.specs.declared.WaitAction.{WaitAction}
 use Rattle.passes.specs.declared.part.Part.{Part}
 use Rattle.passes.specs.declared.part.Sights.{Sights}
 use Rattle.passes.specs.declared.pass.Pass.{Pass}
 use Rattle.passes.specs.Sights.{stale, HasOnlyRead, HasWritten}
 use Rattle.passes.specs.Passes.{tally_of, sights_of, HasOnlySeen, HasMoved}
+use Rattle.passes.specs.Answers.{MayAnswerContinue, HasAsked}
 
 read_twice : (a b c : Sights) → HasOnlyRead a b → HasOnlyRead b c → HasOnlyRead a c
 read_twice a b c first second = record {
@@ -35,4 +39,29 @@ module _ {T : Type 0} where
     tally = subst (λ (x : Part × T). Moves x.0 x.1 (tally_of r) (sights_of r).last) (λ i. (seen.part i, seen.tally i)) moved.tally;
     part = moved.part ∙ seen.part;
     saw = read_and_written (sights_of p) (sights_of q) (sights_of r) seen.saw moved.saw;
+  }
+
+-- so far the pass looked once after each answer of the wait closure, and each was Continue
+pub record HasGoneOn {F W T : Type 0} (g : Shared F (Bor W × (Bor ℕ × Unit {0})) WaitAction) (wait : F) (P : ℕ → Type 0) (p q : Pass T) : Type 0 where
+  pub answers : ℕ
+  pub looked : (sights_of q).count ≡ (sights_of p).count + answers
+  pub before : 1 ≤ answers → MayAnswerContinue g wait P
+
+module _ {F W T : Type 0} (g : Shared F (Bor W × (Bor ℕ × Unit {0})) WaitAction) (wait : F) (P : ℕ → Type 0) where
+  pub not_asked : (p : Pass T) → HasGoneOn g wait P p p
+  not_asked p = record { answers = 0; looked = omega arith; before = λ some. absurd (omega (arith, some)) }
+
+  pub goes_on : (p q r : Pass T) → HasGoneOn g wait P p q → MayAnswerContinue g wait P → (sights_of r).count ≡ (sights_of q).count + 1 → HasGoneOn g wait P p r
+  goes_on p q r gone answer once = record {
+    answers = gone.answers + 1;
+    looked = omega (arith, gone.looked, once);
+    before = λ _. answer;
+  }
+
+  pub has_asked : (p q r : Pass T) → HasGoneOn g wait P p q → (sights_of r).count ≡ (sights_of q).count + 1 → HasAsked g wait P 0 p r
+  has_asked p q r gone once = record {
+    answers = gone.answers + 1;
+    looked = omega (arith, gone.looked, once);
+    some = omega arith;
+    before = λ more. gone.before (omega (arith, more));
   }

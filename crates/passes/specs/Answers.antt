@@ -1,10 +1,12 @@
 -- What the answer of a call that may give up says, and what it says of the closures that it called.
-use Rattle.std.specs.Prelude.{◌≡◌, ℕ}
+use Rattle.std.specs.Prelude.{◌≡◌, ℕ, ◌+◌, ◌≤◌}
 use Rattle.std.specs.Borrow.{Fml, GName, RattleType, MutBor, Bor, follows_so}
 use Rattle.std.specs.Fn.{Shared, FnReturns, FnReturnsAt}
 use mathlib.Core.Option as maybe
 use Rattle.steps_events.specs.declared.WaitAction.{WaitAction}
 use Rattle.steps_events.specs.declared.WaitAction.TheVariants as actions
+use Rattle.passes.specs.declared.pass.Pass.{Pass}
+use Rattle.passes.specs.Passes.{sights_of, WasRefused}
 use Rattle.passes.specs.declared.wait.WaitResult.{WaitResult}
 use Rattle.passes.specs.declared.wait.WaitResult.TheVariants.{Success, Interrupted}
 
@@ -35,12 +37,30 @@ abbrev pub RestsIfInterrupted : (R : RattleType) → MutBor R.Denot → {H : Typ
 RestsIfInterrupted R pass borrow result P =
     follows_so R R pass.ghost_name (borrow_if_success borrow result) (λ x n. IfSuccess result (λ _. n ≡ x)) (λ n. IfInterrupted result (P n))
 
--- By what the wait closure promises of its calls, one of them may answer Abort, of some word that was seen to have a value with P.
-pub record MayAnswerAbort {F W : Type 0} (g : Shared F (Bor W × (Bor ℕ × Unit {0})) WaitAction) (wait : F) (P : ℕ → Type 0) : Type 0 where
+-- By what the wait closure promises of its calls, one of them may answer so, of some word that was seen to have a value with P.
+pub record MayAnswer {F W : Type 0} (g : Shared F (Bor W × (Bor ℕ × Unit {0})) WaitAction) (wait : F) (P : ℕ → Type 0) (action : WaitAction) : Type 0 where
   pub word : Bor W
   pub seen : Bor ℕ
   pub named : P seen.now
-  pub says : FnReturns g wait (word, (seen, tt)) actions.Abort
+  pub says : FnReturns g wait (word, (seen, tt)) action
+
+abbrev pub MayAnswerAbort : {F W : Type 0} → Shared F (Bor W × (Bor ℕ × Unit {0})) WaitAction → F → (ℕ → Type 0) → Type 0
+MayAnswerAbort g wait P = MayAnswer g wait P actions.Abort
+
+abbrev pub MayAnswerContinue : {F W : Type 0} → Shared F (Bor W × (Bor ℕ × Unit {0})) WaitAction → F → (ℕ → Type 0) → Type 0
+MayAnswerContinue g wait P = MayAnswer g wait P actions.Continue
+
+-- A call that gave up looked so often by itself, and then once after each answer of the wait closure. Of these answers the last is
+-- Abort, and each one before it is Continue.
+pub record HasAsked {F W T : Type 0} (g : Shared F (Bor W × (Bor ℕ × Unit {0})) WaitAction) (wait : F) (P : ℕ → Type 0) (looks : ℕ) (p q : Pass T) : Type 0 where
+  pub answers : ℕ
+  pub looked : (sights_of q).count ≡ (sights_of p).count + looks + answers
+  pub some : 1 ≤ answers
+  pub before : 2 ≤ answers → MayAnswerContinue g wait P
+
+-- The waiting call was refused with the value, and its sights are its own looks, which are 10001, and one after each answer.
+abbrev pub HasGivenUp : {F W T : Type 0} → Shared F (Bor W × (Bor ℕ × Unit {0})) WaitAction → F → (ℕ → Type 0) → Pass T → Pass T → Type 0
+HasGivenUp g wait P p q = WasRefused P 10002 p q × HasAsked g wait P 10001 p q
 
 -- What the wake closure promises of a call holds, for some word.
 pub record HasWoken {F W : Type 0} (g : Shared F (Bor W × Unit {0}) (Unit {0})) (wake : F) : Type 0 where

@@ -3,7 +3,7 @@ ghost use Rattle.std.specs.Prelude.{◌≡◌, ℕ, ◌+◌, true, false, MatchB
 ghost use Rattle.atomic_table.specs.Seated.{TableId};
 ghost use Rattle.passes.specs.declared.part.Part.{Part};
 ghost use Rattle.passes.specs.Passes.{object_of, part_of, sights_of, HasMoved, WasRefused};
-ghost use Rattle.passes.specs.Answers.{MayAnswerAbort};
+ghost use Rattle.passes.specs.Answers.{MayAnswerAbort, HasAsked};
 
 use crate::pass::Pass;
 use crate::wait::may_give_up;
@@ -50,7 +50,7 @@ pub fn spin<T, M: Attempt<T>, R: Wait>(rt: &R, by: &M, pass: &mut Pass<T>) -> bo
 
 /// The wait closure before each further try, until one is not refused, or is refused after the closure answered `Abort`. The closure
 /// is called with the word, and with the value at which a try is refused.
-#[tactic(auto, using(crate::proofs::Attempts::moved_later, crate::proofs::Attempts::seen_twice))]
+#[tactic(auto, using(crate::proofs::Attempts::moved_later, crate::proofs::Attempts::seen_twice, crate::proofs::Attempts::not_asked, crate::proofs::Attempts::goes_on, crate::proofs::Attempts::has_asked))]
 pub fn ask<T, M: Attempt<T>, X, R: Wait, W: Fn(&X, &u64) -> WaitAction>(
     rt: &R,
     by: &M,
@@ -63,6 +63,7 @@ pub fn ask<T, M: Attempt<T>, X, R: Wait, W: Fn(&X, &u64) -> WaitAction>(
     requires may { W.IsAlwaysCallable wait.now }
     ensures told { MatchBool result (HasMoved M.moves pass.old pass.new) (WasRefused M.refuses 1 pass.old pass.new) }
     ensures aborted { result ≡ false → MayAnswerAbort W.Fn wait.now (λ n. n ≡ seen) }
+    ensures asked { result ≡ false → M.looks_once (part_of pass.old) → HasAsked W.Fn wait.now (λ n. n ≡ seen) 0 pass.old pass.new }
 {
     for _ in rt.forever() {
         let last_try = may_give_up(wait, word, seen);

@@ -1,6 +1,6 @@
 //! How a call that may wait answers, and how it calls its closures.
 ghost use Rattle.std.specs.Prelude.{◌≡◌, true, MatchBool};
-ghost use Rattle.passes.specs.Answers.{IsSuccess, IsInterrupted, MayAnswerAbort, HasWoken};
+ghost use Rattle.passes.specs.Answers.{IsSuccess, IsInterrupted, MayAnswerAbort, MayAnswerContinue, HasWoken};
 
 use steps_events::WaitAction;
 
@@ -29,7 +29,7 @@ pub fn success_if(done: bool) -> WaitResult<()>
 #[inline(always)]
 pub fn may_give_up<X, W: Fn(&X, &u64) -> WaitAction>(wait: &W, word: &X, seen: u64) -> bool
     requires { W.IsAlwaysCallable wait.now }
-    ensures { result ≡ true → MayAnswerAbort W.Fn wait.now (λ n. n ≡ seen) }
+    ensures { MatchBool result (MayAnswerAbort W.Fn wait.now (λ n. n ≡ seen)) (MayAnswerContinue W.Fn wait.now (λ n. n ≡ seen)) }
 {
     match wait(word, &seen) {
         WaitAction::Continue => false,

@@ -96,8 +96,8 @@ impl Deed<(), Holds> for Release {
 impl<A: Allocator> Mutex<A> {
     ghost use Rattle.std.specs.Borrow.{sem};
     ghost use Rattle.std.specs.Prelude.{true, false, ◌+◌, MatchBool};
-    ghost use Rattle.passes.specs.Answers.{IfSuccess, IfInterrupted, IsSuccess, RestsIfInterrupted, MayAnswerAbort, HasWoken};
-    ghost use Rattle.passes.specs.Passes.{view, WasRefused};
+    ghost use Rattle.passes.specs.Answers.{IfSuccess, IfInterrupted, IsSuccess, RestsIfInterrupted, MayAnswerAbort, HasGivenUp, HasWoken};
+    ghost use Rattle.passes.specs.Passes.{view};
     ghost use Rattle.passes.specs.Views.{first_view};
     ghost use Rattle.passes.specs.contracts.pass.Pass.{the_row};
     ghost use Rattle.iceoryx2_pal_concurrency_sync.specs.contracts.strategy.mutex.Holds as holds_row;
@@ -124,7 +124,7 @@ impl<A: Allocator> Mutex<A> {
     ) -> WaitResult<MutexHold<'p>>
         requires own { IsMutexPass this.now pass.old }
         requires may { W.IsAlwaysCallable wait }
-        ensures* refused { sem 𝓛 (RestsIfInterrupted (the_row holds_row.the_row) pass.entry borrow_of result (WasRefused IsLocked 10002 pass.old)) }
+        ensures* refused { sem 𝓛 (RestsIfInterrupted (the_row holds_row.the_row) pass.entry borrow_of result (HasGivenUp W.Fn wait IsLocked pass.old)) }
         ensures same_borrow { IfSuccess result (λ hold. borrow_of hold ≡ pass.entry.ghost_name) }
         ensures granted { IfSuccess result (λ hold. HasEntered pass.old (pass_of hold)) }
         ensures exact { IsAlone pass.old → IsSuccess result }
@@ -186,7 +186,7 @@ impl<A: Allocator> Mutex<A> {
         requires may { W.IsAlwaysCallable wait × K.IsAlwaysCallable wake_one × F.IsAlwaysCallable act }
         ensures stayed { HasStayed pass.old pass.new }
         ensures granted { IfSuccess result (λ _. grants_of pass.new ≡ grants_of pass.old + 1) }
-        ensures refused { IfInterrupted result (WasRefused IsLocked 10002 pass.old pass.new) }
+        ensures refused { IfInterrupted result (HasGivenUp W.Fn wait IsLocked pass.old pass.new) }
         ensures exact { IsAlone pass.old → IsSuccess result }
         ensures acted { IfSuccess result (λ x. F.post act x) }
         ensures aborted { IfInterrupted result (MayAnswerAbort W.Fn wait IsLocked) }
@@ -210,7 +210,7 @@ impl<A: Allocator> Mutex<A> {
     ) -> bool
         requires own { IsMutexPass self.now pass.old }
         requires may { W.IsAlwaysCallable wait.now }
-        ensures entered { MatchBool result (HasEntered pass.old pass.new) (WasRefused IsLocked 10002 pass.old pass.new) }
+        ensures entered { MatchBool result (HasEntered pass.old pass.new) (HasGivenUp W.Fn wait.now IsLocked pass.old pass.new) }
         ensures exact { IsAlone pass.old → result ≡ true }
         ensures aborted { result ≡ false → MayAnswerAbort W.Fn wait.now IsLocked }
     {

@@ -93,7 +93,7 @@ impl Deed<u64, Permits> for Give {
 
 impl<A: Allocator> Semaphore<A> {
     ghost use Rattle.std.specs.Prelude.{true, false, ◌+◌, ◌-◌, ◌≢◌, MatchBool};
-    ghost use Rattle.passes.specs.Answers.{IfSuccess, IfInterrupted, IsSuccess, MayAnswerAbort, HasWoken};
+    ghost use Rattle.passes.specs.Answers.{IfSuccess, IfInterrupted, IsSuccess, MayAnswerAbort, HasAsked, HasWoken};
     ghost use Rattle.passes.specs.Parts.{IsWhole};
     ghost use Rattle.passes.specs.Sights.{LooksOnceOrMisses};
     ghost use Rattle.passes.specs.Views.{first_view};
@@ -150,12 +150,9 @@ impl<A: Allocator> Semaphore<A> {
         ensures some { IsWhole (part_of pass.old) → 0 < worth_of pass.old → IsSuccess result }
         ensures none { IsWhole (part_of pass.old) → IfSuccess result (λ _. 0 < worth_of pass.old) }
         ensures aborted { IfInterrupted result (MayAnswerAbort W.Fn wait IsEmpty) }
+        ensures asked { IsWhole (part_of pass.old) → IfInterrupted result (HasAsked W.Fn wait IsEmpty 10001 pass.old pass.new) }
     {
-        success_if(
-            self.take(rt, pass)
-                || spin(rt, self, pass)
-                || ask(rt, self, pass, &self.word(), 0, &wait),
-        )
+        success_if(self.enter(rt, pass, &wait))
     }
 
     /// Takes a permit where there is one, and tries again where another party's write came between its look and its exchange.
@@ -191,6 +188,7 @@ impl<A: Allocator> Semaphore<A> {
         ensures none { IsWhole (part_of pass.old) → IfSuccess result (λ _. 0 < worth_of pass.old) }
         ensures acted { IfSuccess result (λ x. F.post act x) }
         ensures aborted { IfInterrupted result (MayAnswerAbort W.Fn wait IsEmpty) }
+        ensures asked { IsWhole (part_of pass.old) → IfInterrupted result (HasAsked W.Fn wait IsEmpty 10001 pass.old pass.new) }
         ensures woke { IfSuccess result (λ _. HasWoken K.Fn wakeup) }
     {
         match self.wait(rt, pass, wait) {
@@ -212,6 +210,24 @@ impl<A: Allocator> Semaphore<A> {
     {
         let Semaphore { words } = self;
         words.close(pass, 0)
+    }
+
+    /// What `wait` does, and whether a permit was taken.
+    #[inline(always)]
+    fn enter<R: Wait, W: Fn(&WaitWord, &u64) -> WaitAction>(
+        &self,
+        rt: &R,
+        pass: &mut SemPass,
+        wait: &W,
+    ) -> bool
+        requires own { IsSemPass self.now pass.old }
+        requires may { W.IsAlwaysCallable wait.now }
+        ensures entered { MatchBool result (HasTaken pass.old pass.new) (WasRefused IsEmpty 10002 pass.old pass.new) }
+        ensures exact { IsWhole (part_of pass.old) → MatchBool result (0 < worth_of pass.old) (worth_of pass.old ≡ 0) }
+        ensures aborted { result ≡ false → MayAnswerAbort W.Fn wait.now IsEmpty }
+        ensures asked { IsWhole (part_of pass.old) → result ≡ false → HasAsked W.Fn wait.now IsEmpty 10001 pass.old pass.new }
+    {
+        self.take(rt, pass) || spin(rt, self, pass) || ask(rt, self, pass, &self.word(), 0, wait)
     }
 
     /// An exchange of the value seen for one less, and the value that it found.

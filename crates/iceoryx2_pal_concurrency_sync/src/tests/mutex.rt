@@ -1,6 +1,7 @@
 //! The running mutex.
-ghost use Rattle.std.specs.Prelude.{◌≡◌, ◌+◌};
-ghost use Rattle.passes.specs.Passes.{IsSamePass};
+ghost use Rattle.std.specs.Prelude.{◌≡◌, ◌+◌, false};
+ghost use Rattle.sync_steps.specs.declared.WaitAction.TheVariants.{Abort};
+ghost use Rattle.passes.specs.Passes.{IsSamePass, sights_of};
 ghost use Rattle.iceoryx2_pal_concurrency_sync.specs.MutexShown.{IsMutexPass, IsAlone, HasStayed, holds_of, grants_of};
 
 use crate::strategy::mutex::{Mutex, MutexPass};
@@ -189,6 +190,60 @@ fn a_waiter_aborts(rt: HostRuntime) -> Result<(), Fail> {
         Some((true, 1, 1, 1))
     );
     assert_eq!(rt; lock_and_abort(&rt, &mutex, &mut two), (false, 0, 0, 0));
+    Ok(())
+}
+
+/// Locks where the mutex is free, with a closure that never answers `Continue`: a call that gives up has then looked 10002 times.
+fn lock_or_abort_at_once<R: Wait>(rt: &R, mutex: &Mutex, pass: &mut MutexPass) -> bool
+    requires { IsMutexPass mutex.now pass.old }
+    ensures stayed { HasStayed pass.old pass.new }
+    ensures looked { result ≡ false → (sights_of pass.new).count ≡ (sights_of pass.old).count + 10002 }
+{
+    let answer = mutex.with_lock(
+        rt,
+        pass,
+        |_, _| -> WaitAction
+            ensures { result ≡ Abort }
+        { WaitAction::Abort },
+        |_| (),
+        || (),
+    );
+    match answer {
+        WaitResult::Success(()) => true,
+        WaitResult::Interrupted => false,
+    }
+}
+
+/// The same while `one` has the hold.
+fn abort_at_once_while_held<R: Wait>(
+    rt: &R,
+    mutex: &Mutex,
+    one: &mut MutexPass,
+    two: &mut MutexPass,
+) -> Option<bool>
+    requires { IsMutexPass mutex.now one.old × IsMutexPass mutex.now two.old }
+{
+    match Mutex::try_lock(one, mutex) {
+        WaitResult::Success(hold) => {
+            let locked = lock_or_abort_at_once(rt, mutex, two);
+            mutex.unlock(hold, |_| ());
+            Some(locked)
+        }
+        WaitResult::Interrupted => None,
+    }
+}
+
+#[test]
+fn gives_up_after_10002_looks(rt: HostRuntime) -> Result<(), Fail> {
+    let (mutex, pass) = Mutex::new(rt.alloc())?;
+    let Ok((mut one, mut two)) = pass.split(&mutex) else {
+        unreachable!()
+    };
+    assert_eq!(rt; lock_or_abort_at_once(&rt, &mutex, &mut one), true);
+    assert_eq!(rt;
+        abort_at_once_while_held(&rt, &mutex, &mut one, &mut two),
+        Some(false)
+    );
     Ok(())
 }
 

@@ -12,7 +12,7 @@ use passes::{AttemptAt, Deed, Pass, Rule, Words, try_again, wake};
 use std::alloc::{AllocError, Allocator, Global};
 use std::ops::Deref;
 use std::sync::Wait;
-use steps_rw_reader::{reader_enters, writer_enters};
+use sync_steps::steps::rw_reader::{reader_enters, writer_enters};
 
 /// The lock's word is the number of read holds of all passes, 2^64 - 2 at most, or 2^64 - 1 with one write hold and no other.
 impl Rule<(), ()> for Held<()> {
