@@ -8,9 +8,9 @@ use Rattle.passes.specs.Views.{looked, missed, wrote}
 use Rattle.passes.specs.Objects.{IsPassOf}
 use Rattle.iceoryx2_pal_concurrency_sync.specs.declared.strategy.rwlock.hold.RwPass.{Ghosts}
 use Rattle.iceoryx2_pal_concurrency_sync.specs.declared.strategy.rwlock.hold.RwHold.{RwHold}
-use Rattle.iceoryx2_pal_concurrency_sync.specs.declared.strategy.rwlock.hold.RwHold.TheVariants.{Read, Write}
 use Rattle.iceoryx2_pal_concurrency_sync.specs.declared.strategy.rwlock.reader_preference.RwLockReaderPreference.{RwLockReaderPreference}
 use Rattle.iceoryx2_pal_concurrency_sync.specs.Held.{read_holds, write_holds}
+use Rattle.iceoryx2_pal_concurrency_sync.specs.RwShown.{IsReadHold, IsWriteHold, pass_of}
 use Rattle.iceoryx2_pal_concurrency_sync.specs.RwReaderRule.{Holds, no_holds, read, no_more_read, written}
 
 abbrev pub IsRwReaderPass : {A : Type 0} → RwLockReaderPreference A → Pass Holds → Type 0
@@ -94,10 +94,11 @@ pub record HasLeftWriting (p q : Pass Holds) : Type 0 where
   pub off : (reads_of q ≡ 0) × (writes_of q ≡ 0)
   pub done : view q ≡ wrote (view p) no_holds
 
--- it goes by the kind of the hold
-abbrev pub HasUnlocked : {G : Ghosts (Pass Holds)} → RwHold (Pass Holds) G → Pass Holds → Pass Holds → Type 0
-HasUnlocked (Read h) = HasLeftReading
-HasUnlocked (Write h) = HasLeftWriting
+-- The hold is off, and nothing else changed. What was done goes by the kind of the hold.
+pub record HasUnlocked {G : Ghosts (Pass Holds)} (hold : RwHold (Pass Holds) G) (q : Pass Holds) : Type 0 where
+  pub same : IsSamePass (pass_of hold) q
+  pub reading : IsReadHold hold → HasLeftReading (pass_of hold) q
+  pub writing : IsWriteHold hold → HasLeftWriting (pass_of hold) q
 
 -- The holds are as they were. On the way the pass may have been granted and unlocked, and have seen the lock.
 pub record HasStayed (p q : Pass Holds) : Type 0 where

@@ -3,7 +3,7 @@ ghost use Rattle.std.specs.Prelude.{◌≡◌, ℕ, ◌+◌, true, false, MatchB
 ghost use Rattle.atomic_table.specs.Seated.{TableId};
 ghost use Rattle.passes.specs.declared.part.Part.{Part};
 ghost use Rattle.passes.specs.Passes.{object_of, part_of, sights_of, HasMoved, WasRefused, WasRefusedAt};
-ghost use Rattle.passes.specs.Answers.{MayAnswerAbort};
+ghost use Rattle.passes.specs.Answers.{MayAnswerAbort, HasAsked};
 
 use crate::pass::Pass;
 use crate::wait::may_give_up;
@@ -61,7 +61,7 @@ fn spin_at<T, M: AttemptAt<T>, R: Wait>(
 
 /// The wait closure before each further try, until one is not refused, or is refused after the closure answered `Abort`. The closure
 /// is called with the word, and with the value that refused the try before; `seen` is the first of these.
-#[tactic(auto, using(crate::proofs::Attempts::moved_later, crate::proofs::Attempts::seen_twice))]
+#[tactic(auto, using(crate::proofs::Attempts::moved_later, crate::proofs::Attempts::seen_twice, crate::proofs::Attempts::not_asked))]
 fn ask_at<T, M: AttemptAt<T>, X, R: Wait, W: Fn(&X, &u64) -> WaitAction>(
     rt: &R,
     by: &M,
@@ -75,6 +75,7 @@ fn ask_at<T, M: AttemptAt<T>, X, R: Wait, W: Fn(&X, &u64) -> WaitAction>(
     requires refused { M.refuses seen }
     ensures told { MatchBool result (HasMoved M.moves pass.old pass.new) (WasRefused M.refuses 1 pass.old pass.new) }
     ensures aborted { result ≡ false → MayAnswerAbort W.Fn wait.now M.refuses }
+    ensures asked { result ≡ false → M.looks_once (part_of pass.old) → HasAsked W.Fn wait.now M.refuses 0 pass.old pass.new }
 {
     let mut last = seen;
     for _ in rt.forever() {
@@ -107,6 +108,7 @@ pub fn try_again<T, M: AttemptAt<T>, X, R: Wait, W: Fn(&X, &u64) -> WaitAction>(
     requires refused { M.refuses seen }
     ensures told { MatchBool result (HasMoved M.moves pass.old pass.new) (WasRefused M.refuses 10001 pass.old pass.new) }
     ensures aborted { result ≡ false → MayAnswerAbort W.Fn wait.now M.refuses }
+    ensures asked { result ≡ false → M.looks_once (part_of pass.old) → HasAsked W.Fn wait.now M.refuses 10000 pass.old pass.new }
 {
     match spin_at(rt, by, pass, seen) {
         Ok(()) => true,

@@ -93,7 +93,7 @@ impl Deed<(), Held<()>> for LeaveWriting {
 impl<A: Allocator> RwLockReaderPreference<A> {
     ghost use Rattle.std.specs.Borrow.{sem, unit};
     ghost use Rattle.std.specs.Prelude.{true, false, ◌+◌, ◌<◌, ◌≢◌, MatchBool, IfErr, is_ok};
-    ghost use Rattle.passes.specs.Answers.{IfSuccess, IfInterrupted, IsSuccess, RestsIfInterrupted, MayAnswerAbort, HasWoken};
+    ghost use Rattle.passes.specs.Answers.{IfSuccess, IfInterrupted, IsSuccess, RestsIfInterrupted, MayAnswerAbort, HasAsked, HasGivenUp, HasWoken};
     ghost use Rattle.passes.specs.Parts.{IsWhole};
     ghost use Rattle.passes.specs.Passes.{view, part_of, sights_of, tally_of, HasSeen, HasMissed, HasDone, WasRefused, WasRefusedAt};
     ghost use Rattle.passes.specs.Views.{first_view};
@@ -171,7 +171,7 @@ impl<A: Allocator> RwLockReaderPreference<A> {
         requires own { IsRwReaderPass self.now (pass_of hold) }
         requires may { W.IsAlwaysCallable wake_one }
         ensures same_borrow { result.ghost_name ≡ borrow_of hold.entry }
-        ensures released { HasUnlocked hold.entry (pass_of hold.entry) result.now }
+        ensures released { HasUnlocked hold.entry result.now }
         ensures woke { HasWoken W.Fn wake_one }
     {
         match hold {
@@ -212,7 +212,7 @@ impl<A: Allocator> RwLockReaderPreference<A> {
     ) -> WaitResult<RwHold<'p, RwReaderPass>>
         requires own { IsRwReaderPass this.now pass.old }
         requires may { W.IsAlwaysCallable wait }
-        ensures* refused { sem 𝓛 (RestsIfInterrupted (the_row (held_row.the_row unit)) pass.entry borrow_of result (WasRefused IsTaken 10002 pass.old)) }
+        ensures* refused { sem 𝓛 (RestsIfInterrupted (the_row (held_row.the_row unit)) pass.entry borrow_of result (HasGivenUp W.Fn wait IsTaken pass.old)) }
         ensures same_borrow { IfSuccess result (λ hold. borrow_of hold ≡ pass.entry.ghost_name) }
         ensures kind { IfSuccess result IsWriteHold }
         ensures granted { IfSuccess result (λ hold. HasEnteredToWrite pass.old (pass_of hold)) }
@@ -287,6 +287,7 @@ impl<A: Allocator> RwLockReaderPreference<A> {
         ensures entered { MatchBool result (HasEnteredToRead pass.old pass.new) (WasRefused IsFull 10002 pass.old pass.new) }
         ensures exact { IsAlone pass.old → result ≡ true }
         ensures aborted { result ≡ false → MayAnswerAbort W.Fn wait.now IsFull }
+        ensures asked { IsWhole (part_of pass.old) → result ≡ false → HasAsked W.Fn wait.now IsFull 10001 pass.old pass.new }
     {
         match self.read_unless_full(rt, pass) {
             Ok(()) => true,
@@ -360,7 +361,7 @@ impl<A: Allocator> RwLockReaderPreference<A> {
     ) -> bool
         requires own { IsRwReaderPass self.now pass.old }
         requires may { W.IsAlwaysCallable wait.now }
-        ensures entered { MatchBool result (HasEnteredToWrite pass.old pass.new) (WasRefused IsTaken 10002 pass.old pass.new) }
+        ensures entered { MatchBool result (HasEnteredToWrite pass.old pass.new) (HasGivenUp W.Fn wait.now IsTaken pass.old pass.new) }
         ensures exact { IsAlone pass.old → result ≡ true }
         ensures aborted { result ≡ false → MayAnswerAbort W.Fn wait.now IsTaken }
     {
