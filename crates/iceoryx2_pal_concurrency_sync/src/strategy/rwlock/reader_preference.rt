@@ -93,7 +93,7 @@ impl Deed<(), Held<()>> for LeaveWriting {
 impl<A: Allocator> RwLockReaderPreference<A> {
     ghost use Rattle.std.specs.Borrow.{sem, unit};
     ghost use Rattle.std.specs.Prelude.{true, false, ◌+◌, ◌<◌, ◌≢◌, MatchBool, IfErr, is_ok};
-    ghost use Rattle.passes.specs.Answers.{IfSuccess, IfInterrupted, IsSuccess, RestsIfInterrupted, MayAnswerAbort, HasAsked, HasGivenUp, HasWoken};
+    ghost use Rattle.passes.specs.Answers.{IfSuccess, IfInterrupted, IsSuccess, RestsIfInterrupted, MayAnswerAbort, HasGivenUp, HasWoken};
     ghost use Rattle.passes.specs.Parts.{IsWhole};
     ghost use Rattle.passes.specs.Passes.{view, part_of, sights_of, tally_of, HasSeen, HasMissed, HasDone, WasRefused, WasRefusedAt};
     ghost use Rattle.passes.specs.Views.{first_view};
@@ -287,7 +287,6 @@ impl<A: Allocator> RwLockReaderPreference<A> {
         ensures entered { MatchBool result (HasEnteredToRead pass.old pass.new) (WasRefused IsFull 10002 pass.old pass.new) }
         ensures exact { IsAlone pass.old → result ≡ true }
         ensures aborted { result ≡ false → MayAnswerAbort W.Fn wait.now IsFull }
-        ensures asked { IsWhole (part_of pass.old) → result ≡ false → HasAsked W.Fn wait.now IsFull 10001 pass.old pass.new }
     {
         match self.read_unless_full(rt, pass) {
             Ok(()) => true,
