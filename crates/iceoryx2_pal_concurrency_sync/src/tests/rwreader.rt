@@ -109,16 +109,26 @@ fn two_threads_read_and_write_in_turn(rt: HostRuntime) -> Result<(), Fail> {
     Ok(())
 }
 
-/// Whether `try_read_lock` or `try_write_lock` is refused now.
-fn is_refused(lock: &RwLockReaderPreference, pass: &mut RwReaderPass, kind: Kind) -> bool
+/// Whether `try_read_lock` is refused now.
+fn is_refused_to_read(lock: &RwLockReaderPreference, pass: &mut RwReaderPass) -> bool
     requires { IsRwReaderPass lock.now pass.old }
     ensures { IsSamePass pass.old pass.new }
 {
-    let locked = match kind {
-        Kind::Read => RwLockReaderPreference::try_read_lock(pass, lock),
-        Kind::Write => RwLockReaderPreference::try_write_lock(pass, lock),
-    };
-    match locked {
+    match RwLockReaderPreference::try_read_lock(pass, lock) {
+        WaitResult::Success(hold) => {
+            lock.unlock(hold, |_| ());
+            false
+        }
+        WaitResult::Interrupted => true,
+    }
+}
+
+/// Whether `try_write_lock` is refused now.
+fn is_refused_to_write(lock: &RwLockReaderPreference, pass: &mut RwReaderPass) -> bool
+    requires { IsRwReaderPass lock.now pass.old }
+    ensures { IsSamePass pass.old pass.new }
+{
+    match RwLockReaderPreference::try_write_lock(pass, lock) {
         WaitResult::Success(hold) => {
             lock.unlock(hold, |_| ());
             false
@@ -143,16 +153,11 @@ fn refused_beside_two_readers<R: Wait>(
             match RwLockReaderPreference::try_read_lock(two, lock) {
                 WaitResult::Success(second) => {
                     let waited = write_and_abort(rt, lock, three);
-                    let reads = !is_refused(lock, three, Kind::Read);
+                    let reads = !is_refused_to_read(lock, three);
                     lock.unlock(first, |_| ());
-                    let beside_one = is_refused(lock, three, Kind::Write);
+                    let beside_one = is_refused_to_write(lock, three);
                     lock.unlock(second, |_| ());
-                    Some((
-                        waited,
-                        reads,
-                        beside_one,
-                        is_refused(lock, three, Kind::Write),
-                    ))
+                    Some((waited, reads, beside_one, is_refused_to_write(lock, three)))
                 }
                 WaitResult::Interrupted => {
                     lock.unlock(first, |_| ());
@@ -236,7 +241,6 @@ fn a_writer_enters_after_both_readers_left(rt: HostRuntime) -> Result<(), Fail> 
     };
     let answers = refused_beside_two_readers(&rt, &lock, &mut one, &mut two, &mut three);
     assert_eq!(rt; answers, Some(((true, 1, 2, 2), true, true, false)));
-    assert_eq!(rt; write_and_abort(&rt, &lock, &mut one), (false, 0, 0, 0));
     Ok(())
 }
 
@@ -251,8 +255,8 @@ fn refused_beside_a_writer<R: Wait>(
 {
     match RwLockReaderPreference::try_write_lock(one, lock) {
         WaitResult::Success(hold) => {
-            let reads = is_refused(lock, two, Kind::Read);
-            let writes = is_refused(lock, two, Kind::Write);
+            let reads = is_refused_to_read(lock, two);
+            let writes = is_refused_to_write(lock, two);
             let waited = read_and_abort(rt, lock, two);
             lock.unlock(hold, |_| ());
             Some((reads, writes, waited))
@@ -272,7 +276,15 @@ fn nobody_enters_beside_a_writer(rt: HostRuntime) -> Result<(), Fail> {
         refused_beside_a_writer(&rt, &lock, &mut one, &mut two),
         Some((true, true, (true, 1, word, word)))
     );
-    assert_eq!(rt; read_and_abort(&rt, &lock, &mut two), (false, 0, 0, 0));
+    Ok(())
+}
+
+#[test]
+fn a_free_lock_is_granted_unasked(rt: HostRuntime) -> Result<(), Fail> {
+    let (lock, mut pass) = RwLockReaderPreference::new(rt.alloc())?;
+    assert_eq!(rt; read_and_abort(&rt, &lock, &mut pass), (false, 0, 0, 0));
+    assert_eq!(rt; write_and_abort(&rt, &lock, &mut pass), (false, 0, 0, 0));
+    assert_eq!(rt; lock.close(pass), 0);
     Ok(())
 }
 
@@ -328,62 +340,102 @@ fn the_word_is_the_number_of_readers(rt: HostRuntime) -> Result<(), Fail> {
     Ok(())
 }
 
-/// How often `unlock` calls its wake closure, and the word that the closure sees.
-fn unlock_counted(
-    lock: &RwLockReaderPreference,
-    pass: &mut RwReaderPass,
-    kind: Kind,
-) -> Option<(u64, u64)>
-    requires { IsRwReaderPass lock.now pass.old }
-    ensures { IsSamePass pass.old pass.new }
-{
-    let calls = AtomicU64::new(0);
-    let word = AtomicU64::new(9);
-    let locked = match kind {
-        Kind::Read => RwLockReaderPreference::try_read_lock(pass, lock),
-        Kind::Write => RwLockReaderPreference::try_write_lock(pass, lock),
-    };
-    match locked {
-        WaitResult::Success(hold) => {
-            lock.unlock(hold, |now| {
-                calls.fetch_add(1, Ordering::SeqCst);
-                word.store(now.load(), Ordering::SeqCst);
-            });
-            Some((calls.load(Ordering::SeqCst), word.load(Ordering::SeqCst)))
+/// What a wake closure counts: its calls, and the word that it saw last.
+#[derive(Drop)]
+struct Wakes {
+    calls: AtomicU64,
+    word: AtomicU64,
+}
+
+impl Wakes {
+    fn new() -> Wakes {
+        Wakes {
+            calls: AtomicU64::new(0),
+            word: AtomicU64::new(9),
         }
-        WaitResult::Interrupted => None,
+    }
+
+    fn wake(&self, word: &WaitWord) {
+        self.calls.fetch_add(1, Ordering::SeqCst);
+        self.word.store(word.load(), Ordering::SeqCst);
+    }
+
+    fn counted(&self) -> (u64, u64) {
+        (
+            self.calls.load(Ordering::SeqCst),
+            self.word.load(Ordering::SeqCst),
+        )
     }
 }
 
-/// While another reads: the last to leave is not the first.
-fn unlock_counted_beside_a_reader(
+/// Locks for reading and unlocks with this wake closure. Whether the lock was granted.
+fn read_and_wake(lock: &RwLockReaderPreference, pass: &mut RwReaderPass, wakes: &Wakes) -> bool
+    requires { IsRwReaderPass lock.now pass.old }
+    ensures { IsSamePass pass.old pass.new }
+{
+    match RwLockReaderPreference::try_read_lock(pass, lock) {
+        WaitResult::Success(hold) => {
+            lock.unlock(hold, |word| wakes.wake(word));
+            true
+        }
+        WaitResult::Interrupted => false,
+    }
+}
+
+/// The same for writing.
+fn write_and_wake(lock: &RwLockReaderPreference, pass: &mut RwReaderPass, wakes: &Wakes) -> bool
+    requires { IsRwReaderPass lock.now pass.old }
+    ensures { IsSamePass pass.old pass.new }
+{
+    match RwLockReaderPreference::try_write_lock(pass, lock) {
+        WaitResult::Success(hold) => {
+            lock.unlock(hold, |word| wakes.wake(word));
+            true
+        }
+        WaitResult::Interrupted => false,
+    }
+}
+
+/// While `one` reads: `two` reads and unlocks.
+fn read_and_wake_beside_a_reader(
     lock: &RwLockReaderPreference,
     one: &mut RwReaderPass,
     two: &mut RwReaderPass,
-) -> Option<(u64, u64)>
+    wakes: &Wakes,
+) -> bool
     requires { IsRwReaderPass lock.now one.old × IsRwReaderPass lock.now two.old }
-    ensures { IsSamePass one.old one.new × IsSamePass two.old two.new }
 {
     match RwLockReaderPreference::try_read_lock(one, lock) {
         WaitResult::Success(hold) => {
-            let counted = unlock_counted(lock, two, Kind::Read);
+            let granted = read_and_wake(lock, two, wakes);
             lock.unlock(hold, |_| ());
-            counted
+            granted
         }
-        WaitResult::Interrupted => None,
+        WaitResult::Interrupted => false,
     }
 }
 
 #[test]
 fn each_unlock_wakes_once_after_its_write(rt: HostRuntime) -> Result<(), Fail> {
+    let (lock, mut pass) = RwLockReaderPreference::new(rt.alloc())?;
+    let (after_reading, after_writing) = (Wakes::new(), Wakes::new());
+    assert!(rt; read_and_wake(&lock, &mut pass, &after_reading));
+    assert_eq!(rt; after_reading.counted(), (1, 0));
+    assert!(rt; write_and_wake(&lock, &mut pass, &after_writing));
+    assert_eq!(rt; after_writing.counted(), (1, 0));
+    Ok(())
+}
+
+/// The first of two readers to leave wakes too, and leaves the word at 1.
+#[test]
+fn a_reader_that_is_not_the_last_wakes(rt: HostRuntime) -> Result<(), Fail> {
     let (lock, pass) = RwLockReaderPreference::new(rt.alloc())?;
     let Ok((mut one, mut two)) = pass.split(&lock) else {
         unreachable!()
     };
-    let beside = unlock_counted_beside_a_reader(&lock, &mut one, &mut two);
-    assert_eq!(rt; beside, Some((1, 1)));
-    assert_eq!(rt; unlock_counted(&lock, &mut two, Kind::Read), Some((1, 0)));
-    assert_eq!(rt; unlock_counted(&lock, &mut two, Kind::Write), Some((1, 0)));
+    let wakes = Wakes::new();
+    assert!(rt; read_and_wake_beside_a_reader(&lock, &mut one, &mut two, &wakes));
+    assert_eq!(rt; wakes.counted(), (1, 1));
     Ok(())
 }
 

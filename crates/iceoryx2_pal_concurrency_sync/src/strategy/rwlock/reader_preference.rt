@@ -312,7 +312,7 @@ impl<A: Allocator> RwLockReaderPreference<A> {
         ensures woke { HasWoken W.Fn wake_one }
     {
         self.leave_reading(pass);
-        wake(&wake_one, &self.word());
+        self.wake(&wake_one);
         pass
     }
 
@@ -331,7 +331,7 @@ impl<A: Allocator> RwLockReaderPreference<A> {
         ensures woke { HasWoken W.Fn wake_one }
     {
         self.leave_writing(pass);
-        wake(&wake_one, &self.word());
+        self.wake(&wake_one);
         pass
     }
 
@@ -434,6 +434,15 @@ impl<A: Allocator> RwLockReaderPreference<A> {
         ensures released { HasLeftWriting pass.old pass.new }
     {
         self.words.store::<LeaveWriting>(pass, 0, 0);
+    }
+
+    /// Calls the wake closure once.
+    #[inline(always)]
+    fn wake<W: Fn(&WaitWord)>(&self, wake_one: &W)
+        requires may { W.IsAlwaysCallable wake_one.now }
+        ensures woke { HasWoken W.Fn wake_one.now }
+    {
+        wake(wake_one, &self.word());
     }
 
     /// The lock's word, as closures see it.
