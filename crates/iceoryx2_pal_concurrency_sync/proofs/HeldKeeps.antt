@@ -1,6 +1,5 @@
 -- What each step of a reader-writer lock does to what all passes count, whatever its holds know.
-use Rattle.std.proofs.Common.{◌≡◌, ℕ, zero, suc, ◌+◌, ◌-◌, ◌*◌, ◌^◌, ◌<◌, Bool, true, false, cond, refl, sym, ◌∙◌, ap, subst, arith}
-use Rattle.passes.specs.Tallies.{IsTally}
+use Rattle.std.proofs.Common.{◌≡◌, ℕ, zero, suc, ◌+◌, ◌-◌, ◌^◌, ◌<◌, Bool, true, false, refl, sym, ◌∙◌, ap, subst, arith}
 use Rattle.iceoryx2_pal_concurrency_sync.specs.declared.strategy.rwlock.held.Held.{Held}
 use Rattle.iceoryx2_pal_concurrency_sync.specs.declared.strategy.rwlock.held.Held.TheVariants.{Free, Reading, Writing, Torn}
 use Rattle.iceoryx2_pal_concurrency_sync.specs.Held.{TellsSame, readers_if, both_held, read_holds, write_holds, Knows, reader_in, reader_out, Locks}

@@ -1,8 +1,7 @@
 -- Passes that are joined.
-use Rattle.std.proofs.Common.{◌≡◌, ℕ, ◌+◌, refl, arith}
-use Rattle.iceoryx2_pal_concurrency_sync.specs.declared.strategy.rwlock.held.Held.{Held}
+use Rattle.std.proofs.Common.{◌≡◌, refl, arith}
 use Rattle.iceoryx2_pal_concurrency_sync.specs.declared.strategy.rwlock.held.Held.TheVariants.{Free, Reading, Writing, Torn}
-use Rattle.iceoryx2_pal_concurrency_sync.specs.Held.{both_held, read_holds, write_holds}
+use Rattle.iceoryx2_pal_concurrency_sync.specs.Held.{read_holds, write_holds}
 use Rattle.iceoryx2_pal_concurrency_sync.specs.RwReaderRule.{Holds, both_holds}
 
 -- a pass with no hold adds none to one that it is joined to

@@ -1,5 +1,5 @@
 -- Each step of a reader-preferring lock keeps its rule.
-use Rattle.std.proofs.Common.{◌≡◌, ◌≢◌, ℕ, ◌+◌, ◌-◌, ◌*◌, ◌%◌, ◌^◌, ◌<◌, eqb, List, get_or, set, refl, sym, ap, ◌∙◌, subst, arith, length-set, get_or-set_same}
+use Rattle.std.proofs.Common.{◌≡◌, ℕ, ◌+◌, ◌-◌, ◌%◌, ◌^◌, ◌<◌, eqb, List, get_or, set, refl, sym, ◌∙◌, subst, arith, length-set, get_or-set_same}
 use mathlib.Core.Logic.{dite}
 use native.Mathlib.Decide.{ℕ_discrete}
 use prog.Atomic.{either}
@@ -7,9 +7,8 @@ use Rattle.passes.specs.declared.view.View.{View}
 use Rattle.passes.specs.Views.{looked, missed, wrote, Updates}
 use Rattle.passes.proofs.Sums.{sum_of_two}
 use Rattle.passes.proofs.Updates.{by_look, by_exchange}
-use Rattle.iceoryx2_pal_concurrency_sync.specs.declared.strategy.rwlock.held.Held.{Held}
 use Rattle.iceoryx2_pal_concurrency_sync.specs.declared.strategy.rwlock.held.Held.TheVariants.{Free, Reading, Writing, Torn}
-use Rattle.iceoryx2_pal_concurrency_sync.specs.Held.{both_held, read_holds, write_holds, Knows, Locks}
+use Rattle.iceoryx2_pal_concurrency_sync.specs.Held.{read_holds, write_holds, Knows, Locks}
 use Rattle.iceoryx2_pal_concurrency_sync.specs.HeldTally.{same_nothing, tells_same_nothing, held_adds_up}
 use Rattle.iceoryx2_pal_concurrency_sync.specs.RwReaderRule.{Holds, no_holds, both_holds, IsHeld, RwReaderAgrees, NoHoldBesideAWriteHold, word_of, read, no_more_read, written, Loaded, ReaderIn, ReaderOut, WriterIn, WriterOut}
 use Rattle.iceoryx2_pal_concurrency_sync.proofs.HeldKeeps.{comes_in, goes_out, takes_over, steps_down, word_alone, parts}

@@ -1,5 +1,5 @@
 -- What is unlocked goes by the kind of the hold.
-use Rattle.std.proofs.Common.{◌≡◌, sym, ap, ◌∙◌, subst}
+use Rattle.std.proofs.Common.{◌≡◌, sym, subst}
 use Rattle.passes.specs.declared.pass.Pass.{Pass}
 use Rattle.passes.specs.Passes.{IsSamePass}
 use Rattle.iceoryx2_pal_concurrency_sync.specs.declared.strategy.rwlock.hold.RwPass.{Ghosts}

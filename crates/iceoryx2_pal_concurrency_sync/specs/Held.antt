@@ -1,5 +1,5 @@
 -- What the passes of a reader-writer lock count together, and what that says of the lock's word.
-use Rattle.std.specs.Prelude.{◌≡◌, ℕ, zero, suc, ◌+◌, ◌*◌, ◌-◌, ◌^◌, ◌<◌, Bool, true, false, cond}
+use Rattle.std.specs.Prelude.{◌≡◌, ℕ, zero, suc, ◌+◌, ◌*◌, ◌-◌, ◌^◌, ◌<◌, Bool, true, cond}
 use Rattle.iceoryx2_pal_concurrency_sync.specs.declared.strategy.rwlock.held.Held.{Held}
 use Rattle.iceoryx2_pal_concurrency_sync.specs.declared.strategy.rwlock.held.Held.TheVariants.{Free, Reading, Writing, Torn}
 

@@ -1,5 +1,5 @@
 -- What the passes of a reader-writer lock count adds up.
-use Rattle.std.proofs.Common.{ℕ, ◌+◌, ◌≡◌, Bool, true, false, cond, refl, sym, subst, ◌∙◌, arith}
+use Rattle.std.proofs.Common.{ℕ, ◌+◌, ◌≡◌, Bool, true, false, refl, sym, subst, ◌∙◌, arith}
 use Rattle.std.proofs.lemmas.Bool.{true≢false}
 use Rattle.passes.specs.Tallies.{IsTally}
 use Rattle.iceoryx2_pal_concurrency_sync.specs.declared.strategy.rwlock.held.Held.{Held}

@@ -1,4 +1,3 @@
-use Rattle.std.proofs.Common.{◌≡◌}
 use Rattle.passes.specs.Passes.{part_of, HasOnlySeen}
 use Rattle.passes.proofs.Attempts.{HasGoneOn}
 use Rattle.passes.proofs.attempt_at.ask_at.Given as goal
