@@ -24,8 +24,8 @@ abbrev pub writes_of : Pass Holds → ℕ
 writes_of p = write_holds (tally_of p)
 
 -- the values at which no reader enters: there is no room for one more, or a writer is in
-abbrev pub IsFull : ℕ → Type 0
-IsFull word = 2 ^ 64 - 2 ≤ word
+abbrev pub IsShut : ℕ → Type 0
+IsShut word = 2 ^ 64 - 2 ≤ word
 
 -- the values at which no writer enters
 abbrev pub IsTaken : ℕ → Type 0
@@ -64,8 +64,8 @@ abbrev pub HasWrittenAtOnce : Pass Holds → Pass Holds → Type 0
 HasWrittenAtOnce p q = view q ≡ wrote (view p) written
 
 -- one look saw a value at which no reader enters
-abbrev pub HasSeenFull : Pass Holds → Pass Holds → Type 0
-HasSeenFull p q = IsFull (sights_of q).last × (view q ≡ looked (view p) (sights_of q).last)
+abbrev pub HasSeenShut : Pass Holds → Pass Holds → Type 0
+HasSeenShut p q = IsShut (sights_of q).last × (view q ≡ looked (view p) (sights_of q).last)
 
 -- an exchange from the value that one look saw found another, since another party had written in between
 abbrev pub HasBeenOvertaken : Pass Holds → Pass Holds → Type 0
@@ -74,7 +74,7 @@ HasBeenOvertaken p q = ((sights_of q).missed ≡ true) × ((sights_of q).count �
 -- One look, or one and an exchange that failed, did not let the reader in. Nothing was counted.
 pub record WasTurnedAway (p q : Pass Holds) : Type 0 where
   pub stayed : HasOnlySeen p q
-  pub cause : HasSeenFull p q ⊎ HasBeenOvertaken p q
+  pub cause : HasSeenShut p q ⊎ HasBeenOvertaken p q
 
 -- one exchange saw a value at which no writer enters, and nothing else changed
 abbrev pub HasSeenTaken : Pass Holds → Pass Holds → Type 0

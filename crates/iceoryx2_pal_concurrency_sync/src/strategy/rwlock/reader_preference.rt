@@ -101,7 +101,7 @@ impl<A: Allocator> RwLockReaderPreference<A> {
     ghost use Rattle.iceoryx2_pal_concurrency_sync.specs.contracts.strategy.rwlock.held.Held as held_row;
     ghost use Rattle.iceoryx2_pal_concurrency_sync.specs.RwShown.{IsReadHold, IsWriteHold, pass_of, borrow_of};
     ghost use Rattle.iceoryx2_pal_concurrency_sync.specs.RwReaderRule.{no_holds, read, written, word_of};
-    ghost use Rattle.iceoryx2_pal_concurrency_sync.specs.RwReaderShown.{IsRwReaderPass, IsAlone, IsFull, IsTaken, reads_of, writes_of, HasEnteredToRead, HasEnteredToWrite, HasReadAtOnce, HasWrittenAtOnce, WasTurnedAway, HasSeenTaken, HasLeftReading, HasLeftWriting, HasUnlocked};
+    ghost use Rattle.iceoryx2_pal_concurrency_sync.specs.RwReaderShown.{IsRwReaderPass, IsAlone, IsShut, IsTaken, reads_of, writes_of, HasEnteredToRead, HasEnteredToWrite, HasReadAtOnce, HasWrittenAtOnce, WasTurnedAway, HasSeenTaken, HasLeftReading, HasLeftWriting, HasUnlocked};
 
     /// A lock that is free, and the pass that is whole. `Err` where there was no memory; then nothing was made.
     pub fn new(alloc: A) -> Result<(RwLockReaderPreference<A>, RwReaderPass), AllocError>
@@ -146,12 +146,12 @@ impl<A: Allocator> RwLockReaderPreference<A> {
     ) -> WaitResult<RwHold<'p, RwReaderPass>>
         requires own { IsRwReaderPass this.now pass.old }
         requires may { W.IsAlwaysCallable wait }
-        ensures* refused { sem 𝓛 (RestsIfInterrupted (the_row (held_row.the_row unit)) pass.entry borrow_of result (WasRefused IsFull 10002 pass.old)) }
+        ensures* refused { sem 𝓛 (RestsIfInterrupted (the_row (held_row.the_row unit)) pass.entry borrow_of result (WasRefused IsShut 10002 pass.old)) }
         ensures same_borrow { IfSuccess result (λ hold. borrow_of hold ≡ pass.entry.ghost_name) }
         ensures kind { IfSuccess result IsReadHold }
         ensures granted { IfSuccess result (λ hold. HasEnteredToRead pass.old (pass_of hold)) }
         ensures exact { IsAlone pass.old → IsSuccess result }
-        ensures aborted { IfInterrupted result (MayAnswerAbort W.Fn wait IsFull) }
+        ensures aborted { IfInterrupted result (MayAnswerAbort W.Fn wait IsShut) }
     {
         if this.wait_to_read(pass, rt, &wait) {
             WaitResult::Success(RwHold::Read(ReadHold { pass }))
@@ -253,10 +253,10 @@ impl<A: Allocator> RwLockReaderPreference<A> {
 
     /// Looks, and turns a read hold on while there is room. `Err` with a value at which there was none.
     #[inline(always)]
-    fn read_unless_full<R: Wait>(&self, rt: &R, pass: &mut RwReaderPass) -> Result<(), u64>
+    fn read_unless_shut<R: Wait>(&self, rt: &R, pass: &mut RwReaderPass) -> Result<(), u64>
         requires own { IsRwReaderPass self.now pass.old }
         ensures entered { IfOk result (λ _. HasEnteredToRead pass.old pass.new) }
-        ensures refused { IfErr result (λ seen. WasRefusedAt IsFull seen 1 pass.old pass.new) }
+        ensures refused { IfErr result (λ seen. WasRefusedAt IsShut seen 1 pass.old pass.new) }
         ensures once { IfErr result (λ _. IsWhole (part_of pass.old) → (sights_of pass.new).count ≡ (sights_of pass.old).count + 1) }
         ensures exact { IsAlone pass.old → is_ok result ≡ true }
     {
@@ -284,11 +284,11 @@ impl<A: Allocator> RwLockReaderPreference<A> {
     ) -> bool
         requires own { IsRwReaderPass self.now pass.old }
         requires may { W.IsAlwaysCallable wait.now }
-        ensures entered { MatchBool result (HasEnteredToRead pass.old pass.new) (WasRefused IsFull 10002 pass.old pass.new) }
+        ensures entered { MatchBool result (HasEnteredToRead pass.old pass.new) (WasRefused IsShut 10002 pass.old pass.new) }
         ensures exact { IsAlone pass.old → result ≡ true }
-        ensures aborted { result ≡ false → MayAnswerAbort W.Fn wait.now IsFull }
+        ensures aborted { result ≡ false → MayAnswerAbort W.Fn wait.now IsShut }
     {
-        match self.read_unless_full(rt, pass) {
+        match self.read_unless_shut(rt, pass) {
             Ok(()) => true,
             Err(seen) => {
                 let reader = Reader { lock: self };
@@ -464,19 +464,19 @@ struct Reader<'l, A: Allocator> {
 impl<A: Allocator> AttemptAt<Held<()>> for Reader<'_, A> {
     ghost use Rattle.passes.specs.Parts.{IsWhole};
     ghost use Rattle.passes.specs.Objects.{id_of};
-    ghost use Rattle.iceoryx2_pal_concurrency_sync.specs.RwReaderShown.{IsFull, EntersToRead};
+    ghost use Rattle.iceoryx2_pal_concurrency_sync.specs.RwReaderShown.{IsShut, EntersToRead};
 
     ghost object = { λ r. id_of r.lock.now.words };
 
     ghost moves = { EntersToRead };
 
-    ghost refuses = { IsFull };
+    ghost refuses = { IsShut };
 
     ghost looks_once = { IsWhole };
 
     #[inline(always)]
     fn attempt_at<R: Wait>(&self, rt: &R, pass: &mut RwReaderPass) -> Result<(), u64> {
-        self.lock.read_unless_full(rt, pass)
+        self.lock.read_unless_shut(rt, pass)
     }
 }
 

@@ -4,7 +4,7 @@ use Rattle.passes.specs.Sights.{HasLooked}
 use Rattle.passes.specs.Passes.{view, part_of, sights_of, tally_of, HasOnlySeen}
 use Rattle.passes.specs.Views.{looked}
 use Rattle.iceoryx2_pal_concurrency_sync.specs.RwReaderRule.{word_of}
-use Rattle.iceoryx2_pal_concurrency_sync.proofs.strategy.rwlock.reader_preference.RwLockReaderPreference.read_unless_full.Given as goal
+use Rattle.iceoryx2_pal_concurrency_sync.proofs.strategy.rwlock.reader_preference.RwLockReaderPreference.read_unless_shut.Given as goal
 
 -- the value seen is the last one that was seen, by the first look or by an exchange that failed
 abbrev pub invariant-loop : goal.invariant-loop
