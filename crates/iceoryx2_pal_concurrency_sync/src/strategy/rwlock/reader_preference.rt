@@ -112,8 +112,8 @@ impl<A: Allocator> RwLockReaderPreference<A> {
         Ok((RwLockReaderPreference { words }, pass))
     }
 
-    /// Locks for reading: one look and, where there is room for a reader, one exchange. `Interrupted` where a writer is in or the
-    /// lock is full, and also where another party wrote between the two; then this call holds nothing.
+    /// Locks for reading: one look and, where there is room for a reader, one exchange. `Interrupted` where a writer is in or there
+    /// is no room for one more reader, and also where another party wrote between the two; then this call holds nothing.
     #[inline(always)]
     pub fn try_read_lock<'p>(
         pass: &'p mut RwReaderPass,
