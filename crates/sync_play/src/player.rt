@@ -1,17 +1,18 @@
 //! Plays a command event by event.
-ghost use Rattle.std.specs.Prelude.{◌≡◌, ◌<◌, ℕ, List, IfOk, OnErr, IfSome};
+ghost use Rattle.std.specs.Prelude.{◌≡◌, ◌<◌, ℕ, List, IfOk, IfErr, OnErr, IfSome};
 ghost use Rattle.steps_events.specs.Integers.{u64_arithmetic};
 ghost use Rattle.steps_events.specs.Sights.{goes_on};
-ghost use Rattle.sync_steps.specs.Machine.{StandsAt};
+ghost use Rattle.sync_steps.specs.Machine.{StandsAt, Steps, RefusesStep};
 ghost use Rattle.steps_events.specs.declared.event.Event.{Event as AnEvent};
 ghost use Rattle.steps_events.specs.declared.event.Object.{Object as AnObject};
 ghost use Rattle.sync_play.specs.Player as meaning;
 
 use crate::command::{Command, Task};
 use crate::fault::LineFault;
-use sync_steps::steps::{Event, Input, Machine, Then};
+use sync_steps::steps::{Event, Input, Machine, StepFault, Then};
 
 /// Whether a call goes on by itself.
+#[inline(always)]
 fn goes_on(then: &Then<u64>) -> bool
     ensures { result ≡ goes_on then.now }
 {
@@ -23,6 +24,7 @@ fn goes_on(then: &Then<u64>) -> bool
 
 impl Task {
     /// The next input. `None` once all is done.
+    #[inline(always)]
     fn next(&self) -> Result<Option<Input<u64>>, LineFault>
         ensures { result ≡ meaning.next_input self.now }
     {
@@ -34,26 +36,45 @@ impl Task {
         }
     }
 
-    /// What is left after the event of the next input, which left the call so.
-    fn after(self, then: &Then<u64>) -> Task
-        requires { 0 < meaning.steps_left self }
-        ensures { result ≡ meaning.left_after (goes_on then.now) self }
+    /// Leaves what is left after the event of the next input, which left the call so.
+    #[inline(always)]
+    fn count(&mut self, then: &Then<u64>)
+        requires { 0 < meaning.steps_left self.old }
+        ensures { self.new ≡ meaning.left_after (goes_on then.now) self.old }
     {
         match self {
-            Task::Give(_) => Task::Go(0),
-            Task::Go(count) => Task::Go(count - 1),
+            Task::Give(_) => *self = Task::Go(0),
+            Task::Go(count) => *count -= 1,
             Task::Run(limit) => if goes_on(then) {
-                Task::Run(limit - 1)
+                *limit -= 1;
             } else {
-                Task::Go(0)
+                *self = Task::Go(0);
             },
         }
+    }
+}
+
+/// Gives the machine an input. Most are steps, and one that is known to be a step is played faster.
+#[inline(always)]
+fn give(
+    machine: &mut Machine<u64>,
+    party: usize,
+    input: Input<u64>,
+) -> Result<Event<u64>, StepFault>
+    ensures next { IfOk result (λ event. Steps u64_arithmetic machine.old party input event machine.new) }
+    ensures fault { IfErr result (RefusesStep u64_arithmetic machine.old party input) }
+    ensures err { OnErr result (machine.new ≡ machine.old) }
+{
+    match input {
+        Input::Go => machine.step(party, Input::Go),
+        input => machine.step(party, input),
     }
 }
 
 /// The next event of a command, and `left` is then what is left of it. `None` once all of it is done.
 ///
 /// After a fault the machine and `left` are as they were. It takes no memory.
+#[inline(always)]
 pub fn next_event(
     machine: &mut Machine<u64>,
     left: &mut Command,
@@ -68,7 +89,7 @@ pub fn next_event(
     let Some(input) = left.task.next()? else {
         return Ok(None);
     };
-    let event = machine.step(left.party, input)?;
-    left.task = left.task.after(&event.then);
+    let event = give(machine, left.party, input)?;
+    left.task.count(&event.then);
     Ok(Some(event))
 }

@@ -1,5 +1,6 @@
 //! What an event prints, and the last line.
 ghost use Rattle.std.specs.Prelude.{◌≡◌, ◌++◌, OnOk, string_bytes};
+ghost use Rattle.steps_events.specs.declared.event.Act.TheVariants as acts;
 ghost use Rattle.sync_play.specs.Print.{answer_words, counts_line, act_line, then_line, event_lines};
 
 use std::alloc::AllocError;
@@ -24,21 +25,22 @@ fn print_answer(out: &mut String, answer: Answer<u64>) -> Result<(), AllocError>
 }
 
 /// A call of a wake closure, by a party counted from 0.
-fn print_act(out: &mut String, party: usize, act: &Act<u64>) -> Result<(), AllocError>
-    ensures { OnOk result (string_bytes out.new ≡ string_bytes out.old ++ act_line party act.now) }
+#[inline(never)]
+fn print_wake(out: &mut String, party: usize, wake: Wake) -> Result<(), AllocError>
+    ensures { OnOk result (string_bytes out.new ≡ string_bytes out.old ++ act_line party (acts.Woke wake)) }
 {
     // Wide, so that the number of every party can be counted from 1.
     let number = party as u128 + 1;
-    match act {
-        Act::Woke(Wake::One) => writeln!(out, "{number} wakes one"),
-        Act::Woke(Wake::All) => writeln!(out, "{number} wakes all"),
-        _ => Ok(()),
+    match wake {
+        Wake::One => writeln!(out, "{number} wakes one"),
+        Wake::All => writeln!(out, "{number} wakes all"),
     }
 }
 
 /// How the call of a party stands then.
-fn print_then(out: &mut String, party: usize, then: &Then<u64>) -> Result<(), AllocError>
-    ensures { OnOk result (string_bytes out.new ≡ string_bytes out.old ++ then_line party then.now) }
+#[inline(never)]
+fn print_then(out: &mut String, party: usize, then: Then<u64>) -> Result<(), AllocError>
+    ensures { OnOk result (string_bytes out.new ≡ string_bytes out.old ++ then_line party then) }
 {
     let number = party as u128 + 1;
     match then {
@@ -47,18 +49,26 @@ fn print_then(out: &mut String, party: usize, then: &Then<u64>) -> Result<(), Al
         Then::Chooses(old) => writeln!(out, "{number} chooses {old}"),
         Then::Answers(answer) => {
             write!(out, "{number} ")?;
-            print_answer(out, *answer)?;
+            print_answer(out, answer)?;
             writeln!(out)
         }
     }
 }
 
 /// Prints what an event prints: a call of a wake closure, a stand at a closure, or an answer.
+///
+/// Most events print nothing, so what prints stands apart.
+#[inline(always)]
 pub fn print_event(out: &mut String, event: &Event<u64>) -> Result<(), AllocError>
     ensures { OnOk result (string_bytes out.new ≡ string_bytes out.old ++ event_lines event.now) }
 {
-    print_act(out, event.party, &event.act)?;
-    print_then(out, event.party, &event.then)
+    if let Act::Woke(wake) = event.act {
+        print_wake(out, event.party, wake)?;
+    }
+    match event.then {
+        Then::GoesOn => Ok(()),
+        then => print_then(out, event.party, then),
+    }
 }
 
 /// Prints the last line.

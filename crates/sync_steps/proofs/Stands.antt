@@ -1,5 +1,5 @@
 -- A turn leads from where a run stands to where it stands with one more event.
-use Rattle.std.proofs.Common.{◌≡◌, ◌≢◌, ℕ, zero, suc, ◌<◌, refl, sym, ◌∙◌, ap, subst, List, [], ◌∷◌, length, false, is_some, Option, Some, None, Result, Ok, Err, IfOk, IfErr, ◌⊎◌, inl, inr, slice_get, slice_set, get_or, arith}
+use Rattle.std.proofs.Common.{◌≡◌, ◌≢◌, ℕ, zero, suc, ◌<◌, refl, sym, ◌∙◌, ap, subst, List, [], ◌∷◌, length, false, Option, Some, None, Result, Ok, Err, IfOk, IfErr, ◌⊎◌, inl, inr, slice_get, slice_set, get_or, arith}
 use Rattle.std.proofs.lemmas.Option.{slice_get-get_or}
 use std.Path.{fun_ext}
 use Rattle.std.specs.Option.{ForSome}
@@ -10,9 +10,10 @@ use Rattle.std.proofs.lemmas.List.{length-replicate}
 use Rattle.std.specs.Prelude.{replicate}
 use Rattle.steps_events.specs.declared.event.Event.{Event}
 use Rattle.steps_events.specs.declared.event.Input.{Input}
-use Rattle.steps_events.specs.declared.event.Input.TheVariants as inputs
 use Rattle.steps_events.specs.declared.event.Object.{Object}
 use Rattle.steps_events.specs.declared.event.StepFault.{StepFault}
+use Rattle.steps_events.specs.declared.event.Act.{Act}
+use Rattle.steps_events.specs.declared.event.Then.{Then}
 use Rattle.steps_events.specs.declared.event.Word.{Word}
 use Rattle.steps_events.specs.declared.hold.HoldKind.{HoldKind}
 use Rattle.steps_events.specs.WordsAt.{word_at}
@@ -22,13 +23,13 @@ use Rattle.steps_events.specs.Moves.{InputValues, fault_at}
 use Rattle.steps_events.proofs.Holds.{call_of_same, call_of_other, hold_of_same, hold_of_other}
 use Rattle.sync_steps.specs.declared.steps.place.Doing.{Doing}
 use Rattle.sync_steps.specs.declared.steps.place.Party.{Party}
-use Rattle.sync_steps.specs.declared.steps.place.Turn.{Turn}
+use Rattle.sync_steps.specs.Machine.Turns.{Turn}
 use Rattle.sync_steps.specs.Objects.{table_of, has_word, IsObject}
 use Rattle.sync_steps.specs.Runs.{word_in, fault_of, IsNext}
 use Rattle.sync_steps.specs.Machine.{Configuration, StandsAt, Steps, RefusesStep, KeepsHeadline}
-use Rattle.sync_steps.specs.Machine.Applies.{Applies, HasTurned, HasRefused}
+use Rattle.sync_steps.specs.Machine.Applies.{Applies, HasWritten, HasTurned, HasRefused}
 use Rattle.sync_steps.specs.Machine.Places.{IsParty, DoesCall, opening_at}
-use Rattle.sync_steps.specs.Machine.Turns.{turn_at, go_at, stepped}
+use Rattle.sync_steps.specs.Machine.Turns.{turn_at, TurnsTo}
 use Rattle.sync_steps.proofs.Headlines.{headline, absent_word}
 use Rattle.sync_steps.proofs.Places.{opening_is}
 use Rattle.sync_steps.proofs.Turns.{Turns, TurnsOr, turns_at}
@@ -51,7 +52,7 @@ TurnsAfter z o past party input turn = Turns z o (call_of party past) (hold_of (
 
 is_next :
     {T : Type 0} (z : Arithmetic T) (o : Object T) (parties : ℕ) (past : List (Event T)) (party : ℕ) (input : Input T) (turn : Turn T) →
-    party < parties → InputValues z input → TurnsAfter z o past party input turn → IsNext z o parties past party input (event party turn.act turn.then)
+    party < parties → InputValues z input → TurnsAfter z o past party input turn → IsNext z o parties past party input (event party turn.act turn.outcome)
 is_next z o parties past party input turn below values turns =
     record {
       allowed = rw (lt-ltb party parties below) turns.allowed;
@@ -68,17 +69,17 @@ stands_each :
     ((p : ℕ) → p < length old → ForSome (slice_get old p) (λ x. IsParty z o x (call_of p past) (hold_of (table_of z o) p past))) →
     (p : ℕ) → p < length old → (x : Party T) → slice_get (slice_set old party turn.party) p ≡ Some x →
     ((p ≡ party) ⊎ (p ≢ party)) →
-    IsParty z o x (call_of p (event party turn.act turn.then ∷ past)) (hold_of (table_of z o) p (event party turn.act turn.then ∷ past))
+    IsParty z o x (call_of p (event party turn.act turn.outcome ∷ past)) (hold_of (table_of z o) p (event party turn.act turn.outcome ∷ past))
 stands_each {T} z o past party input turn old within turns each p below x got (inl is) =
     let t = table_of z o in
-    let e = event party turn.act turn.then in
-    let before : IsParty z o turn.party (call_after turn.then e (call_of party past)) (hold_after t turn.act (call_of party past) (hold_of t party past)) = turns.leaves party in
+    let e = event party turn.act turn.outcome in
+    let before : IsParty z o turn.party (call_after turn.outcome e (call_of party past)) (hold_after t turn.act (call_of party past) (hold_of t party past)) = turns.leaves party in
     let P : Option (PendingCall T) → Type 0 = λ c. IsParty z o turn.party c (hold_after t turn.act (call_of party past) (hold_of t party past)) in
     let called : IsParty z o turn.party (call_of party (e ∷ past)) (hold_after t turn.act (call_of party past) (hold_of t party past)) =
-    subst P (sym (call_of_same party turn.act turn.then past)) before in
+    subst P (sym (call_of_same party turn.act turn.outcome past)) before in
     let Q : Option HoldKind → Type 0 = λ h. IsParty z o turn.party (call_of party (e ∷ past)) h in
     let held : IsParty z o turn.party (call_of party (e ∷ past)) (hold_of t party (e ∷ past)) =
-    subst Q (sym (hold_of_same t party turn.act turn.then past)) called in
+    subst Q (sym (hold_of_same t party turn.act turn.outcome past)) called in
     let same : slice_get (slice_set old party turn.party) p ≡ Some turn.party =
     ap (slice_get (slice_set old party turn.party)) is ∙ slice_get-set_same old party turn.party within in
     let here : turn.party ≡ x = cc in
@@ -87,17 +88,17 @@ stands_each {T} z o past party input turn old within turns each p below x got (i
     subst S here (subst R (sym is) held)
 stands_each {T} z o past party input turn old within turns each p below x got (inr other) =
     let t = table_of z o in
-    let e = event party turn.act turn.then in
+    let e = event party turn.act turn.outcome in
     let before : IsParty z o x (call_of p past) (hold_of t p past) = each p below x (sym (slice_get-set_other old party p turn.party other) ∙ got) in
     let P : Option (PendingCall T) → Type 0 = λ c. IsParty z o x c (hold_of t p past) in
     let Q : Option HoldKind → Type 0 = λ h. IsParty z o x (call_of p (e ∷ past)) h in
-    subst Q (sym (hold_of_other t party p turn.act turn.then past other)) (subst P (sym (call_of_other party p turn.act turn.then past other)) before)
+    subst Q (sym (hold_of_other t party p turn.act turn.outcome past other)) (subst P (sym (call_of_other party p turn.act turn.outcome past other)) before)
 
 -- the run with one more event stands at the machine after the turn
 stands_after :
     {T : Type 0} (z : Arithmetic T) (o : Object T) (parties : ℕ) (past : List (Event T)) (old new : Configuration T) (party : ℕ) (input : Input T) (turn : Turn T) →
     party < length old.parties → InputValues z input → StandsAt z o parties past old → TurnsAfter z o past party input turn → Applies party turn old new →
-    IsNext z o parties past party input (event party turn.act turn.then) × StandsAt z o parties (event party turn.act turn.then ∷ past) new
+    IsNext z o parties past party input (event party turn.act turn.outcome) × StandsAt z o parties (event party turn.act turn.outcome ∷ past) new
 stands_after {T} z o parties past old new party input turn within values at turns applies =
     let below : party < parties = rw at.count at within in
     let next = is_next z o parties past party input turn below values turns in
@@ -135,7 +136,7 @@ turns_there {T} z o parties past m party found input within got at =
 stands_after_turn :
     {T : Type 0} (z : Arithmetic T) (o : Object T) (parties : ℕ) (past : List (Event T)) (old new : Configuration T) (party : ℕ) (found : Party T) (input : Input T) (turn : Turn T) →
     party < length old.parties → slice_get old.parties party ≡ Some found → InputValues z input → turn_at old.object found (word_at old.words) input ≡ Ok turn → Applies party turn old new → StandsAt z o parties past old →
-    IsNext z o parties past party input (event party turn.act turn.then) × StandsAt z o parties (event party turn.act turn.then ∷ past) new
+    IsNext z o parties past party input (event party turn.act turn.outcome) × StandsAt z o parties (event party turn.act turn.outcome ∷ past) new
 stands_after_turn {T} z o parties past old new party found input turn within got values is applies at =
     let t = table_of z o in
     let turns : TurnsAfter z o past party input turn =
@@ -220,18 +221,30 @@ pub turns_fault :
 turns_fault z party input known old (Ok made) within same refused = tt
 turns_fault z party input known old (Err fault) within same refused = refused_step z party input known old fault within same refused
 
--- a call that goes on by itself has the step at its place as its turn
-pub has_stepped :
-    {T : Type 0} (party : ℕ) (found : Party T) (doing : Doing T) (turn : Turn T) (old new : Configuration T) (made : Event T) →
-    party < length old.parties → found ≡ get_or old.parties party found → found.doing ≡ Some doing → is_some doing.stands ≡ false → turn ≡ stepped old.object doing found.hold (word_at old.words) →
-    made ≡ event party turn.act turn.then → Applies party turn old new → HasTurned party inputs.Go old new made
-has_stepped {T} party found doing turn old new made within there does free is made_is applied =
-    let goes : go_at old.object (Some doing) found.hold (word_at old.words) ≡ Ok turn = rw free (ap Ok (sym is)) in
+-- a party changed in place
+abbrev pub with_party : {T : Type 0} → Configuration T → ℕ → Party T → Configuration T
+with_party m party after = record { object = m.object; parties = slice_set m.parties party after; words = m.words; failed = m.failed }
+
+-- a turn for which the party was changed in place, and then what its act puts was written
+pub turned_in_place :
+    {T : Type 0} (party : ℕ) (input : Input T) (found after : Party T) (act : Act T) (outcome : Then T) (made : Event T) (old new : Configuration T) →
+    party < length old.parties → found ≡ get_or old.parties party found →
+    TurnsTo (turn_at old.object found (word_at old.words) input) found after (Ok (act, outcome)) →
+    made ≡ event party act outcome → HasWritten act (with_party old party after) new → HasTurned party input old new made
+turned_in_place party input found after act outcome made old new within there turned told written =
     record {
       found = found;
       there = slice_get-get_or old.parties party found within ∙ ap Some (sym there);
-      turn = turn;
-      is = ap (λ (d : Option (Doing T)). go_at old.object d found.hold (word_at old.words)) does ∙ goes;
-      made_is = made_is;
-      applied = applied;
+      turn = record { act = act; outcome = outcome; party = after };
+      is = turned;
+      made_is = told;
+      applied = record { object = written.object; parties = written.parties; words = written.words; failed = written.failed };
     }
+
+-- a fault in its place
+pub refused_in_place :
+    {T : Type 0} (party : ℕ) (input : Input T) (found after : Party T) (fault : StepFault) (old : Configuration T) →
+    party < length old.parties → found ≡ get_or old.parties party found →
+    TurnsTo (turn_at old.object found (word_at old.words) input) found after (Err fault) → HasRefused party input old fault
+refused_in_place party input found after fault old within there turned =
+    record { found = found; there = slice_get-get_or old.parties party found within ∙ ap Some (sym there); is = turned.0 }

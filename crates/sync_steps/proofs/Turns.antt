@@ -25,7 +25,7 @@ use Rattle.steps_events.proofs.Steps.{carried_is_step, carried_goes_on, carried_
 use Rattle.sync_steps.specs.declared.steps.place.Doing.{Doing}
 use Rattle.sync_steps.specs.declared.steps.place.Party.{Party}
 use Rattle.sync_steps.specs.declared.steps.place.Place.{Place}
-use Rattle.sync_steps.specs.declared.steps.place.Turn.{Turn}
+use Rattle.sync_steps.specs.Machine.Turns.{Turn}
 use Rattle.sync_steps.specs.Objects.{place_of, table_of}
 use Rattle.sync_steps.specs.Machine.Places.{place_in, closure_of, IsDoing, DoesCall, IsParty, map_place, begins_at, answered_at, chosen_at, needs_hold_at}
 use Rattle.sync_steps.specs.Machine.Turns.{doing_after, turn_after, stepped_by, begun, begin_at, begin_turn, stepped, go_at, told_answer, is_at_wait, is_at_choice, answer_at, choose_at, turn_at}
@@ -35,8 +35,8 @@ use Rattle.sync_steps.proofs.Places.{begins_is, intent_is, after_is, answered_is
 pub record Turns {T : Type 0} (z : Arithmetic T) (o : Object T) (pending : Option (PendingCall T)) (hold : Option HoldKind) (memory : Word → ℕ) (input : Input T) (turn : Turn T) : Type 0 where
   pub allowed : fault_at (table_of z o) pending hold input ≡ None
   pub form : HasForm input turn.act
-  pub moved : move_of (table_of z o) pending hold memory input ≡ Some (record { act = turn.act; outcome = turn.then })
-  pub leaves : (number : ℕ) → IsParty z o turn.party (call_after turn.then (event number turn.act turn.then) pending) (hold_after (table_of z o) turn.act pending hold)
+  pub moved : move_of (table_of z o) pending hold memory input ≡ Some (record { act = turn.act; outcome = turn.outcome })
+  pub leaves : (number : ℕ) → IsParty z o turn.party (call_after turn.outcome (event number turn.act turn.outcome) pending) (hold_after (table_of z o) turn.act pending hold)
 
 -- what is promised of a turn, or of the fault in its place
 abbrev pub TurnsOr : {T : Type 0} → Arithmetic T → Object T → Option (PendingCall T) → Option HoldKind → (Word → ℕ) → Input T → Result (Turn T) StepFault → Type 0

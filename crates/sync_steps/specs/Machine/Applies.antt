@@ -1,5 +1,6 @@
 -- What a machine changes at a turn of a party, and at none.
 use Rattle.std.specs.Prelude.{◌≡◌, ℕ, ◌+◌, ◌-◌, ◌^◌, min, slice_get, slice_set, Some, Ok, Err}
+use Rattle.steps_events.specs.declared.event.Act.{Act}
 use Rattle.steps_events.specs.declared.event.Event.{Event}
 use Rattle.steps_events.specs.declared.event.Input.{Input}
 use Rattle.steps_events.specs.declared.event.StepFault.{StepFault}
@@ -7,9 +8,16 @@ use Rattle.steps_events.specs.declared.event.Word.{Word}
 use Rattle.steps_events.specs.Past.{word_after, failures_by, event}
 use Rattle.steps_events.specs.WordsAt.{word_at}
 use Rattle.sync_steps.specs.declared.steps.place.Party.{Party}
-use Rattle.sync_steps.specs.declared.steps.place.Turn.{Turn}
+use Rattle.sync_steps.specs.Machine.Turns.{Turn}
 use Rattle.sync_steps.specs.Machine.{Configuration}
 use Rattle.sync_steps.specs.Machine.Turns.{turn_at}
+
+-- what the act puts is written, and a failed exchange is counted
+pub record HasWritten {T : Type 0} (act : Act T) (old new : Configuration T) : Type 0 where
+  pub object : new.object ≡ old.object
+  pub parties : new.parties ≡ old.parties
+  pub words : (word : Word) → word_at new.words word ≡ word_after word act (word_at old.words word)
+  pub failed : (count : ℕ) → old.failed ≡ min count (2 ^ 64 - 1) → new.failed ≡ min (failures_by act + count) (2 ^ 64 - 1)
 
 pub record Applies {T : Type 0} (party : ℕ) (turn : Turn T) (old new : Configuration T) : Type 0 where
   pub object : new.object ≡ old.object
@@ -23,7 +31,7 @@ pub record HasTurned {T : Type 0} (party : ℕ) (input : Input T) (old new : Con
   pub there : slice_get old.parties party ≡ Some found
   pub turn : Turn T
   pub is : turn_at old.object found (word_at old.words) input ≡ Ok turn
-  pub made_is : made ≡ event party turn.act turn.then
+  pub made_is : made ≡ event party turn.act turn.outcome
   pub applied : Applies party turn old new
 
 -- the party has a fault in its place

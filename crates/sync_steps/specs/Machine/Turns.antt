@@ -1,5 +1,5 @@
 -- What one input makes a party of a machine do: what the functions of `src/steps/turn.rt` answer.
-use Rattle.std.specs.Prelude.{ℕ, zero, Bool, true, false, ◌&&◌, is_some, is_none, if◌then◌else◌, Option, Some, None, Result, Ok, Err}
+use Rattle.std.specs.Prelude.{◌≡◌, ℕ, zero, Bool, true, false, ◌&&◌, is_some, is_none, if◌then◌else◌, Option, Some, None, Result, Ok, Err}
 use Rattle.steps_events.specs.declared.WaitAction.{WaitAction}
 use Rattle.steps_events.specs.declared.event.Act.{Act}
 use Rattle.steps_events.specs.declared.event.Act.TheVariants as acts
@@ -9,6 +9,7 @@ use Rattle.steps_events.specs.declared.event.Input.TheVariants as inputs
 use Rattle.steps_events.specs.declared.event.Object.{Object}
 use Rattle.steps_events.specs.declared.event.StepFault.{StepFault}
 use Rattle.steps_events.specs.declared.event.StepFault.TheVariants as faults
+use Rattle.steps_events.specs.declared.event.Then.{Then}
 use Rattle.steps_events.specs.declared.event.Then.TheVariants as thens
 use Rattle.steps_events.specs.declared.event.Word.{Word}
 use Rattle.steps_events.specs.declared.event.Word.TheVariants as words
@@ -23,8 +24,18 @@ use Rattle.sync_steps.specs.declared.steps.place.Closure.{Closure}
 use Rattle.sync_steps.specs.declared.steps.place.Doing.{Doing}
 use Rattle.sync_steps.specs.declared.steps.place.Party.{Party}
 use Rattle.sync_steps.specs.declared.steps.place.Place.{Place}
-use Rattle.sync_steps.specs.declared.steps.place.Turn.{Turn}
 use Rattle.sync_steps.specs.Machine.Places.{begins_at, intent_at, after_at, answered_at, chosen_at, grant_at, needs_hold_at}
+
+-- what a party does at an input, how its call goes on, and the party after it
+pub record Turn (T : Type 0) : Type 0 where
+  pub act : Act T
+  pub outcome : Then T
+  pub party : Party T
+
+-- A party had this turn, or the fault in its place. What it did, and how its call goes on, is the answer.
+abbrev pub TurnsTo : {T : Type 0} → Result (Turn T) StepFault → Party T → Party T → Result (Act T × Then T) StepFault → Type 0
+TurnsTo turned old new (Ok told) = turned ≡ Ok (record { act = told.0; outcome = told.1; party = new })
+TurnsTo turned old new (Err fault) = (turned ≡ Err fault) × (new ≡ old)
 
 -- the hold that an act of a call takes
 abbrev pub hold_won : {T : Type 0} → Object T → Call T → Act T → Option HoldKind
@@ -41,12 +52,16 @@ doing_after call (afters.Waits place seen) = Some (record { call = call; place =
 doing_after call (afters.Chooses place old) = Some (record { call = call; place = place; stands = Some closures.Choice })
 doing_after call (afters.Ends answer) = None
 
+abbrev pub moved_on : {T : Type 0} → Option (Doing T) → After T Place → Option (Doing T)
+moved_on None after = None
+moved_on (Some doing) after = doing_after doing.call after
+
 -- a party begins a call at this place
 abbrev pub begun : {T : Type 0} → Party T → Call T → Place → Turn T
 begun party call place =
     record {
       act = acts.Begun call;
-      «then» = thens.GoesOn;
+      outcome = thens.GoesOn;
       party = record { doing = Some (record { call = call; place = place; stands = None }); hold = party.hold };
     }
 
@@ -63,7 +78,7 @@ begin_turn o party call = if is_some party.doing then Err faults.Busy else begin
 -- after an act of a call that goes on so
 abbrev pub turn_after : {T : Type 0} → Object T → Call T → Option HoldKind → Act T → After T Place → Turn T
 turn_after o call hold act after =
-    record { act = act; «then» = outcome_of after; party = record { doing = doing_after call after; hold = new_hold o call act hold } }
+    record { act = act; outcome = outcome_of after; party = record { doing = doing_after call after; hold = new_hold o call act hold } }
 
 -- the step at the place of a call
 abbrev pub stepped_by : {T : Type 0} → Object T → Doing T → Option HoldKind → Act T → Turn T
@@ -84,7 +99,7 @@ abbrev pub told_answer : {T : Type 0} → Act T → Doing T → Option HoldKind 
 told_answer act doing hold place =
     record {
       act = act;
-      «then» = thens.GoesOn;
+      outcome = thens.GoesOn;
       party = record { doing = Some (record { call = doing.call; place = place; stands = None }); hold = hold };
     }
 

@@ -4,19 +4,19 @@ ghost use Rattle.steps_events.specs.declared.event.Word.TheVariants as words;
 ghost use Rattle.steps_events.specs.Past.{event};
 ghost use Rattle.sync_steps.specs.Objects.{is_served, IsObject};
 ghost use Rattle.sync_steps.specs.Machine.{StandsAt, Tells, IsNoneWithout, TellsFailed, Steps, RefusesStep, KeepsHeadline};
-ghost use Rattle.sync_steps.specs.Machine.Applies.{Applies, HasTurned, HasRefused};
+ghost use Rattle.sync_steps.specs.Machine.Applies.{HasWritten, HasTurned, HasRefused};
 ghost use Rattle.sync_steps.specs.Machine.Places.{opening_at};
 ghost use Rattle.steps_events.specs.declared.event.Word.{Word as AnyWord};
 ghost use Rattle.steps_events.specs.Arithmetic.{Arithmetic};
 ghost use Rattle.steps_events.specs.WordsAt.{word_at};
 
-use super::place::{Party, Turn};
+use super::place::Party;
 use super::turn;
 use std::alloc::{AllocError, Global};
 use std::marker::Model;
 use steps_events::WaitAction;
 use steps_events::atomic::internal::AtomicInteger;
-use steps_events::event::{Call, Event, Input, Object, StepFault};
+use steps_events::event::{Act, Call, Event, Input, Object, StepFault, Then};
 use steps_events::words::{Words, failed_after};
 
 /// One object and its parties, numbered from 0, each with at most one call under way and at most one hold.
@@ -133,6 +133,7 @@ impl<T: AtomicInteger> Machine<T> {
 
 impl<T: Copy> Machine<T> {
     /// A party begins a call.
+    #[tactic(auto, using(crate::proofs::Stands::turned_in_place, crate::proofs::Stands::refused_in_place))]
     #[inline(always)]
     fn begin(&mut self, party: usize, call: Call<T>) -> Result<Event<T>, StepFault>
         requires { party < length self.old.parties }
@@ -140,13 +141,14 @@ impl<T: Copy> Machine<T> {
         ensures fault { IfErr result (HasRefused party (inputs.Begin call) self.old) }
         ensures err { OnErr result (self.new ≡ self.old) }
     {
-        match turn::begin(&self.object, &self.parties[party], call) {
-            Ok(turn) => Ok(self.apply(party, &turn)),
+        match turn::begin(&self.object, &mut self.parties[party], call) {
+            Ok((act, then)) => Ok(self.tell(party, act, then)),
             Err(fault) => Err(fault),
         }
     }
 
     /// A party makes the next step of its call. Of all inputs it is the one that comes by the million.
+    #[tactic(auto, using(crate::proofs::Stands::turned_in_place, crate::proofs::Stands::refused_in_place))]
     #[inline(always)]
     fn go(&mut self, party: usize) -> Result<Event<T>, StepFault>
         requires { party < length self.old.parties }
@@ -154,18 +156,14 @@ impl<T: Copy> Machine<T> {
         ensures fault { IfErr result (HasRefused party inputs.Go self.old) }
         ensures err { OnErr result (self.new ≡ self.old) }
     {
-        let was = &self.parties[party];
-        let Some(doing) = &was.doing else {
-            return Err(StepFault::Idle);
-        };
-        if doing.stands.is_some() {
-            return Err(StepFault::WaitingForAnswer);
+        match turn::go(&self.object, &mut self.parties[party], &self.words) {
+            Ok((act, then)) => Ok(self.tell(party, act, then)),
+            Err(fault) => Err(fault),
         }
-        let turn = turn::step(&self.object, doing, was.hold, &self.words);
-        Ok(self.apply(party, &turn))
     }
 
     /// The wait closure of a party answers.
+    #[tactic(auto, using(crate::proofs::Stands::turned_in_place, crate::proofs::Stands::refused_in_place))]
     #[inline(always)]
     fn answer(&mut self, party: usize, action: WaitAction) -> Result<Event<T>, StepFault>
         requires { party < length self.old.parties }
@@ -173,13 +171,14 @@ impl<T: Copy> Machine<T> {
         ensures fault { IfErr result (HasRefused party (inputs.Answer action) self.old) }
         ensures err { OnErr result (self.new ≡ self.old) }
     {
-        match turn::answer(&self.parties[party], action) {
-            Ok(turn) => Ok(self.apply(party, &turn)),
+        match turn::answer(&mut self.parties[party], action) {
+            Ok((act, then)) => Ok(self.tell(party, act, then)),
             Err(fault) => Err(fault),
         }
     }
 
     /// The choice closure of a party answers.
+    #[tactic(auto, using(crate::proofs::Stands::turned_in_place, crate::proofs::Stands::refused_in_place))]
     #[inline(always)]
     fn choose(&mut self, party: usize, choice: Option<T>) -> Result<Event<T>, StepFault>
         requires { party < length self.old.parties }
@@ -187,27 +186,21 @@ impl<T: Copy> Machine<T> {
         ensures fault { IfErr result (HasRefused party (inputs.Choose choice) self.old) }
         ensures err { OnErr result (self.new ≡ self.old) }
     {
-        match turn::choose(&self.parties[party], choice) {
-            Ok(turn) => Ok(self.apply(party, &turn)),
+        match turn::choose(&mut self.parties[party], choice) {
+            Ok((act, then)) => Ok(self.tell(party, act, then)),
             Err(fault) => Err(fault),
         }
     }
 
-    /// Makes the turn of a party.
+    /// Writes what a party's act puts, and tells it as an event.
     #[inline(always)]
-    fn apply(&mut self, party: usize, turn: &Turn<T>) -> Event<T>
-        requires { party < length self.old.parties }
-        ensures event { result ≡ event party turn.now.act turn.now.then }
-        ensures applied { Applies party turn.now self.old self.new }
+    fn tell(&mut self, party: usize, act: Act<T>, then: Then<T>) -> Event<T>
+        ensures event { result ≡ event party act then }
+        ensures written { HasWritten act self.old self.new }
     {
-        self.words.apply(&turn.act);
-        self.failed = failed_after(self.failed, &turn.act);
-        self.parties[party] = turn.party;
-        Event {
-            party,
-            act: turn.act,
-            then: turn.then,
-        }
+        self.words.apply(&act);
+        self.failed = failed_after(self.failed, &act);
+        Event { party, act, then }
     }
 }
 

@@ -4,7 +4,7 @@ ghost use Rattle.sync_steps.specs.Machine.Places.{begins_at, intent_at, after_at
 
 use std::alloc::AllocError;
 use steps_events::WaitAction;
-use steps_events::event::{Act, Call, Object, Then, Word};
+use steps_events::event::{Call, Object, Word};
 use steps_events::hold::HoldKind;
 use steps_events::row::{After, Intent};
 use steps_mutex::MutexPlace;
@@ -48,14 +48,6 @@ impl<T: Copy> Clone for Party<T> {
     fn clone(&self) -> Result<Self, AllocError> {
         Ok(*self)
     }
-}
-
-/// What a party does at an input, how its call goes on, and the party after it.
-#[derive(Debug, Drop)]
-pub struct Turn<T> {
-    pub act: Act<T>,
-    pub then: Then<T>,
-    pub party: Party<T>,
 }
 
 impl Place {

@@ -3,9 +3,9 @@ ghost use Rattle.std.specs.Prelude.{◌≡◌};
 ghost use Rattle.steps_events.specs.WordsAt.{word_at};
 ghost use Rattle.steps_events.specs.Arithmetic.{IsValue};
 ghost use Rattle.steps_events.specs.Moves.{is_locking, CallValues, InputValues};
-ghost use Rattle.sync_steps.specs.Machine.Turns.{new_hold, doing_after, begin_turn, stepped, answer_turn, choose_turn};
+ghost use Rattle.sync_steps.specs.Machine.Turns.{new_hold, moved_on, begin_turn, go_turn, answer_turn, choose_turn, TurnsTo};
 
-use super::place::{Closure, Doing, Party, Place, Turn, grant, needs_hold};
+use super::place::{Closure, Doing, Party, Place, grant, needs_hold};
 use steps_events::WaitAction;
 use steps_events::atomic::internal::AtomicInteger;
 use steps_events::event::{Act, Call, Input, Object, StepFault, Then, Word};
@@ -64,33 +64,41 @@ fn hold_after<T>(
     }
 }
 
-/// The call of a party after a step of it.
+/// Moves the call of a party on after a step of it, in place.
 #[inline(always)]
-fn doing_after<T>(call: Call<T>, after: &After<T, Place>) -> Option<Doing<T>>
-where
-    T: Copy,
-    ensures { result ≡ doing_after call after.now }
+fn move_on<T: Copy>(doing: &mut Option<Doing<T>>, after: &After<T, Place>)
+    ensures { doing.new ≡ moved_on doing.old after.now }
 {
-    let (place, stands) = match after {
-        After::At(place) => (*place, None),
-        After::Waits(place, _) => (*place, Some(Closure::Wait)),
-        After::Chooses(place, _) => (*place, Some(Closure::Choice)),
-        After::Ends(_) => return None,
-    };
-    Some(Doing {
-        call,
-        place,
-        stands,
-    })
+    match doing {
+        Some(doing) => match after {
+            After::At(place) => {
+                doing.place = *place;
+                doing.stands = None;
+            }
+            After::Waits(place, _) => {
+                doing.place = *place;
+                doing.stands = Some(Closure::Wait);
+            }
+            After::Chooses(place, _) => {
+                doing.place = *place;
+                doing.stands = Some(Closure::Choice);
+            }
+            After::Ends(_) => {}
+        },
+        None => {}
+    }
+    if let After::Ends(_) = after {
+        *doing = None;
+    }
 }
 
 /// A party begins a call.
 pub(crate) fn begin<T: Copy>(
     object: &Object<T>,
-    party: &Party<T>,
+    party: &mut Party<T>,
     call: Call<T>,
-) -> Result<Turn<T>, StepFault>
-    ensures { result ≡ begin_turn object.now party.now call }
+) -> Result<(Act<T>, Then<T>), StepFault>
+    ensures { TurnsTo (begin_turn object.now party.old call) party.old party.new result }
 {
     if party.doing.is_some() {
         return Err(StepFault::Busy);
@@ -104,88 +112,77 @@ pub(crate) fn begin<T: Copy>(
     if needs_hold(object, &call) && party.hold.is_none() {
         return Err(StepFault::NoHold);
     }
-    Ok(Turn {
-        act: Act::Begun(call),
-        then: Then::GoesOn,
-        party: Party {
-            doing: Some(Doing {
-                call,
-                place,
-                stands: None,
-            }),
-            hold: party.hold,
-        },
-    })
+    party.doing = Some(Doing {
+        call,
+        place,
+        stands: None,
+    });
+    Ok((Act::Begun(call), Then::GoesOn))
 }
 
-/// The step at the place of a call.
+/// A party makes the step at the place of its call. Of all turns it is the one that comes by the million: so what the step does not
+/// change stays where it is.
 #[inline(always)]
-pub(crate) fn step<T: Copy>(
+pub(crate) fn go<T: Copy>(
     object: &Object<T>,
-    doing: &Doing<T>,
-    hold: Option<HoldKind>,
+    party: &mut Party<T>,
     words: &Words,
-) -> Turn<T>
-    ensures { result ≡ stepped object.now doing.now hold (word_at words.now) }
+) -> Result<(Act<T>, Then<T>), StepFault>
+    ensures { TurnsTo (go_turn object.now party.old (word_at words.now)) party.old party.new result }
 {
-    let act = words.carry_out(doing.place.intent(hold));
-    let after = doing.place.after(act.told());
-    Turn {
-        then: after.outcome(),
-        party: Party {
-            doing: doing_after(doing.call, &after),
-            hold: hold_after(object, &doing.call, &act, hold),
-        },
-        act,
+    let Some(doing) = &party.doing else {
+        return Err(StepFault::Idle);
+    };
+    if doing.stands.is_some() {
+        return Err(StepFault::WaitingForAnswer);
     }
+    let act = words.carry_out(doing.place.intent(party.hold));
+    let after = doing.place.after(act.told());
+    party.hold = hold_after(object, &doing.call, &act, party.hold);
+    move_on(&mut party.doing, &after);
+    Ok((act, after.outcome()))
 }
 
 /// The wait closure of a party answers.
-pub(crate) fn answer<T: Copy>(party: &Party<T>, action: WaitAction) -> Result<Turn<T>, StepFault>
-    ensures { result ≡ answer_turn party.now action }
+pub(crate) fn answer<T: Copy>(
+    party: &mut Party<T>,
+    action: WaitAction,
+) -> Result<(Act<T>, Then<T>), StepFault>
+    ensures { TurnsTo (answer_turn party.old action) party.old party.new result }
 {
-    let Some(doing) = &party.doing else {
+    let Some(doing) = party.doing else {
         return Err(StepFault::NotWaiting);
     };
     if doing.stands != Some(Closure::Wait) {
         return Err(StepFault::NotWaiting);
     }
-    Ok(Turn {
-        act: Act::Answered(action),
-        then: Then::GoesOn,
-        party: Party {
-            doing: Some(Doing {
-                call: doing.call,
-                place: doing.place.answered(action),
-                stands: None,
-            }),
-            hold: party.hold,
-        },
-    })
+    party.doing = Some(Doing {
+        call: doing.call,
+        place: doing.place.answered(action),
+        stands: None,
+    });
+    Ok((Act::Answered(action), Then::GoesOn))
 }
 
 /// The choice closure of a party answers.
-pub(crate) fn choose<T: Copy>(party: &Party<T>, choice: Option<T>) -> Result<Turn<T>, StepFault>
-    ensures { result ≡ choose_turn party.now choice }
+pub(crate) fn choose<T: Copy>(
+    party: &mut Party<T>,
+    choice: Option<T>,
+) -> Result<(Act<T>, Then<T>), StepFault>
+    ensures { TurnsTo (choose_turn party.old choice) party.old party.new result }
 {
-    let Some(doing) = &party.doing else {
+    let Some(doing) = party.doing else {
         return Err(StepFault::NotWaiting);
     };
     if doing.stands != Some(Closure::Choice) {
         return Err(StepFault::NotWaiting);
     }
-    Ok(Turn {
-        act: Act::Chosen(choice),
-        then: Then::GoesOn,
-        party: Party {
-            doing: Some(Doing {
-                call: doing.call,
-                place: doing.place.chosen(choice),
-                stands: None,
-            }),
-            hold: party.hold,
-        },
-    })
+    party.doing = Some(Doing {
+        call: doing.call,
+        place: doing.place.chosen(choice),
+        stands: None,
+    });
+    Ok((Act::Chosen(choice), Then::GoesOn))
 }
 
 /// What an input brings are values of its type. It reads them, and does nothing else.

@@ -22,5 +22,5 @@ returns-in_err-event-clause-turn c =
 pub returns-clause-turn : goal.returns-clause-turn
 returns-clause-turn c =
     let left = c.args.left.now in
-    λ o parties past stands. turn_made o parties past left (record { party = left.party; task = c.after-left.result }) c.in-Some.input c.in_ok-event.event _ _ (next_is _ _ _ c.in_ok-input.ensures c.in-Some.is)
-    refl c.after-left.ensures stands c.in_ok-event.ensures.next
+    λ o parties past stands. turn_made o parties past left (record { party = left.party; task = c.count.new.self }) c.in-Some.input c.in_ok-event.event _ _ (next_is _ _ _ c.in_ok-input.ensures c.in-Some.is)
+    refl c.count.ensures stands c.in_ok-event.ensures.next
