@@ -1,6 +1,7 @@
 //! The running reader-preferring lock.
-ghost use Rattle.std.specs.Prelude.{◌≡◌};
-ghost use Rattle.passes.specs.Passes.{IsSamePass};
+ghost use Rattle.std.specs.Prelude.{◌≡◌, ◌+◌, false};
+ghost use Rattle.sync_steps.specs.declared.WaitAction.TheVariants.{Abort};
+ghost use Rattle.passes.specs.Passes.{IsSamePass, sights_of};
 ghost use Rattle.iceoryx2_pal_concurrency_sync.specs.RwReaderShown.{IsRwReaderPass, IsAlone, HasStayed, reads_of, writes_of};
 
 use crate::strategy::rwlock::{ReadHold, RwHold, RwLockReaderPreference, RwReaderPass, WriteHold};
@@ -241,6 +242,63 @@ fn a_writer_enters_after_both_readers_left(rt: HostRuntime) -> Result<(), Fail> 
     };
     let answers = refused_beside_two_readers(&rt, &lock, &mut one, &mut two, &mut three);
     assert_eq!(rt; answers, Some(((true, 1, 2, 2), true, true, false)));
+    Ok(())
+}
+
+/// Locks for writing, with a closure that never answers `Continue`: a call that gives up has then looked 10002 times.
+fn write_or_abort_at_once<R: Wait>(
+    rt: &R,
+    lock: &RwLockReaderPreference,
+    pass: &mut RwReaderPass,
+) -> bool
+    requires { IsRwReaderPass lock.now pass.old }
+    ensures same { IsSamePass pass.old pass.new }
+    ensures looked { result ≡ false → (sights_of pass.new).count ≡ (sights_of pass.old).count + 10002 }
+{
+    let locked = RwLockReaderPreference::write_lock(
+        pass,
+        lock,
+        rt,
+        |_, _| -> WaitAction
+            ensures { result ≡ Abort }
+        { WaitAction::Abort },
+    );
+    match locked {
+        WaitResult::Success(hold) => {
+            lock.unlock(hold, |_| ());
+            true
+        }
+        WaitResult::Interrupted => false,
+    }
+}
+
+/// The same while `one` reads, and after.
+fn abort_at_once_beside_a_reader<R: Wait>(
+    rt: &R,
+    lock: &RwLockReaderPreference,
+    one: &mut RwReaderPass,
+    two: &mut RwReaderPass,
+) -> Option<(bool, bool)>
+    requires { IsRwReaderPass lock.now one.old × IsRwReaderPass lock.now two.old }
+{
+    match RwLockReaderPreference::try_read_lock(one, lock) {
+        WaitResult::Success(hold) => {
+            let beside = write_or_abort_at_once(rt, lock, two);
+            lock.unlock(hold, |_| ());
+            Some((beside, write_or_abort_at_once(rt, lock, two)))
+        }
+        WaitResult::Interrupted => None,
+    }
+}
+
+#[test]
+fn gives_up_writing_after_10002_looks(rt: HostRuntime) -> Result<(), Fail> {
+    let (lock, pass) = RwLockReaderPreference::new(rt.alloc())?;
+    let Ok((mut one, mut two)) = pass.split(&lock) else {
+        unreachable!()
+    };
+    let answers = abort_at_once_beside_a_reader(&rt, &lock, &mut one, &mut two);
+    assert_eq!(rt; answers, Some((false, true)));
     Ok(())
 }
 
