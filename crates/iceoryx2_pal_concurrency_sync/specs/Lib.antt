@@ -4,3 +4,8 @@ pub mod MutexShown
 pub mod SemaphoreRule
 pub mod SemaphoreTally
 pub mod SemaphoreShown
+pub mod Held
+pub mod HeldTally
+pub mod RwShown
+pub mod RwReaderRule
+pub mod RwReaderShown

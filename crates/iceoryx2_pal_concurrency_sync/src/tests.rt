@@ -2,5 +2,6 @@
 mod buffer;
 mod mutex;
 mod refusals;
+mod rwreader;
 mod semaphore;
 mod signal;

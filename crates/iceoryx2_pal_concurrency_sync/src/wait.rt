@@ -1,5 +1,6 @@
 //! The word that wait and wake closures see.
 use crate::strategy::mutex::Holds;
+use crate::strategy::rwlock::Held;
 use crate::strategy::semaphore::Permits;
 use passes::Word;
 
@@ -14,6 +15,7 @@ pub struct WaitWord<'t> {
 pub(crate) enum AnyWord<'t> {
     Mutex(Word<'t, (), Holds>),
     Semaphore(Word<'t, u64, Permits>),
+    ReaderLock(Word<'t, (), Held<()>>),
 }
 
 impl WaitWord<'_> {
@@ -23,6 +25,7 @@ impl WaitWord<'_> {
         match &self.word {
             AnyWord::Mutex(word) => word.load(),
             AnyWord::Semaphore(word) => word.load(),
+            AnyWord::ReaderLock(word) => word.load(),
         }
     }
 }

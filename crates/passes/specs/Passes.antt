@@ -66,3 +66,7 @@ module _ {T : Type 0} where
   pub record WasRefused (IsRefusing : ℕ → Type 0) (n : ℕ) (p q : Pass T) : Type 0 where
     pub stayed : HasOnlySeen p q
     pub looked : HasLooked IsRefusing n (sights_of p) (sights_of q)
+
+  -- so, and the value that refused is this
+  abbrev pub WasRefusedAt : (ℕ → Type 0) → ℕ → ℕ → Pass T → Pass T → Type 0
+  WasRefusedAt IsRefusing seen n p q = WasRefused (λ m. (m ≡ seen) × IsRefusing seen) n p q

@@ -6,6 +6,7 @@
 #![tactic(auto)]
 
 mod attempt;
+mod attempt_at;
 mod deed;
 mod part;
 mod pass;
@@ -18,6 +19,7 @@ mod wait;
 mod words;
 
 pub use attempt::{Attempt, ask, spin};
+pub use attempt_at::{AttemptAt, try_again};
 pub use deed::Deed;
 pub use part::{Part, Sights};
 pub use pass::Pass;

@@ -5,6 +5,7 @@
 ghost use Rattle.std.specs.Prelude.{◌≡◌, ◌≤◌};
 
 mod mutex;
+mod rwreader;
 mod semaphore;
 mod yardsticks;
 
@@ -24,10 +25,15 @@ pub enum Line {
     MutexNewDrop,
     SemaphoreTryWaitPost,
     SemaphoreValue,
+    BareLoadExchangeSubtract,
+    StdRwLockReadUnlock,
+    StdRwLockWriteUnlock,
+    RwReaderReadUnlock,
+    RwReaderWriteUnlock,
 }
 
 /// Every line, in the order of the table.
-pub const LINES: [Line; 7] = [
+pub const LINES: [Line; 12] = [
     Line::BareExchangeStore,
     Line::StdMutexLockUnlock,
     Line::MutexLockUnlock,
@@ -35,6 +41,11 @@ pub const LINES: [Line; 7] = [
     Line::MutexNewDrop,
     Line::SemaphoreTryWaitPost,
     Line::SemaphoreValue,
+    Line::BareLoadExchangeSubtract,
+    Line::StdRwLockReadUnlock,
+    Line::StdRwLockWriteUnlock,
+    Line::RwReaderReadUnlock,
+    Line::RwReaderWriteUnlock,
 ];
 
 impl Line {
@@ -52,6 +63,11 @@ impl Line {
             Line::MutexNewDrop => "mutex new drop",
             Line::SemaphoreTryWaitPost => "semaphore try_wait post",
             Line::SemaphoreValue => "semaphore value",
+            Line::BareLoadExchangeSubtract => "bare load exchange subtract",
+            Line::StdRwLockReadUnlock => "std rwlock read unlock",
+            Line::StdRwLockWriteUnlock => "std rwlock write unlock",
+            Line::RwReaderReadUnlock => "rwlock reader read unlock",
+            Line::RwReaderWriteUnlock => "rwlock reader write unlock",
         }
     }
 
@@ -66,6 +82,11 @@ impl Line {
             Line::MutexNewDrop => Ok(mutex::new_drop(alloc)),
             Line::SemaphoreTryWaitPost => semaphore::try_wait_post(rt, alloc),
             Line::SemaphoreValue => semaphore::value(alloc),
+            Line::BareLoadExchangeSubtract => Ok(yardsticks::bare_load_exchange_subtract()),
+            Line::StdRwLockReadUnlock => Ok(yardsticks::std_rwlock_read_unlock(rt)),
+            Line::StdRwLockWriteUnlock => Ok(yardsticks::std_rwlock_write_unlock(rt)),
+            Line::RwReaderReadUnlock => rwreader::read_unlock(rt, alloc),
+            Line::RwReaderWriteUnlock => rwreader::write_unlock(rt, alloc),
         }
     }
 }

@@ -1,0 +1,48 @@
+//! What a pass of a reader-writer lock counts.
+ghost use Rattle.std.specs.Prelude.{Bool};
+
+use passes::Tally;
+
+/// What a hold knows of what is kept under its lock. Two that know of one thing can be compared.
+pub trait Known {
+    ghost use Rattle.iceoryx2_pal_concurrency_sync.specs.Held.{TellsSame};
+
+    ghost same: { Self → Self → Bool };
+
+    ghost tells: { TellsSame same };
+}
+
+/// Nothing is kept under the lock that its holds know of.
+impl Known for () {
+    ghost use Rattle.iceoryx2_pal_concurrency_sync.specs.HeldTally.{same_nothing, tells_same_nothing};
+
+    ghost same = { same_nothing };
+
+    ghost tells = { tells_same_nothing };
+}
+
+/// What a pass of a reader-writer lock counts: its holds, with what each of them knows. No value of it is made.
+pub enum Held<X> {
+    /// No hold stands.
+    Free,
+    /// One read hold more than this stands, and each knows this.
+    Reading(u64, X),
+    /// One write hold stands, which knows what is kept, and what was kept when it came in.
+    Writing(X, X),
+    /// More stands than may: a write hold beside another hold, or holds that know different things.
+    Torn,
+}
+
+impl<X: Known> Tally for Held<X> {
+    ghost use Rattle.iceoryx2_pal_concurrency_sync.specs.declared.strategy.rwlock.held.Held.TheVariants.{Free};
+    ghost use Rattle.iceoryx2_pal_concurrency_sync.specs.Held.{both_held};
+    ghost use Rattle.iceoryx2_pal_concurrency_sync.specs.HeldTally.{held_adds_up};
+
+    ghost none = { Free };
+
+    ghost add = { both_held X.same };
+
+    ghost core = { λ _. Free };
+
+    ghost adds_up = { held_adds_up X.same X.tells };
+}
