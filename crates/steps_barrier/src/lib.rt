@@ -15,6 +15,9 @@ use steps_events::event::{Answer, Call, Wake, Word};
 use steps_events::patience::Patience;
 use steps_events::row::{After, Intent};
 
+#[cfg(test)]
+mod tests;
+
 /// The word after an arrival, where fewer than all have arrived. The one that makes all opens the next round.
 #[inline(always)]
 pub fn arrived(word: u64, number_of_waiters: u32) -> Option<u64>
@@ -61,7 +64,9 @@ fn count(word: u64) -> u64
 #[derive(Clone, Copy, Debug, PartialEq, Eq)]
 pub enum BarrierPlace {
     /// The load of a call that has not arrived.
-    Look { number_of_waiters: u32 },
+    Look {
+        number_of_waiters: u32,
+    },
     /// The exchange that arrives, from the value seen.
     Arrive {
         number_of_waiters: u32,
@@ -71,7 +76,10 @@ pub enum BarrierPlace {
     /// The wake of the arrival that filled its round.
     Wake,
     /// The load of a call that has arrived, and stays while it sees the epoch of its arrival.
-    Stay { epoch: u64, spins: u64 },
+    Stay {
+        epoch: u64,
+        spins: u64,
+    },
 }
 
 impl BarrierPlace {
@@ -174,10 +182,12 @@ fn stay<T>(epoch: u64, spins: u64, seen: u64) -> After<T, BarrierPlace>
         return After::Ends(Answer::Ok);
     }
     let patience = Patience { spins, keep: true };
-    patience.refused(seen).within(|patience| BarrierPlace::Stay {
-        epoch,
-        spins: patience.spins,
-    })
+    patience
+        .refused(seen)
+        .within(|patience| BarrierPlace::Stay {
+            epoch,
+            spins: patience.spins,
+        })
 }
 
 /// What holds at every front of every run of a barrier, of any number of parties. It says so of the definitions alone, and
