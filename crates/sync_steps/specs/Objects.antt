@@ -10,13 +10,15 @@ use Rattle.steps_mutex.specs.declared.MutexPlace.{MutexPlace}
 use Rattle.steps_mutex.specs.Table.{mutex_table}
 use Rattle.steps_semaphore.specs.declared.SemaphorePlace.{SemaphorePlace}
 use Rattle.steps_semaphore.specs.Table.{semaphore_table}
+use Rattle.steps_barrier.specs.declared.BarrierPlace.{BarrierPlace}
+use Rattle.steps_barrier.specs.Table.{barrier_table}
 
 -- the objects that a machine serves; the others have no places and no calls yet
 abbrev pub is_served : {T : Type 0} → Object T → Bool
 is_served objects.Mutex = true
 is_served objects.Spin = false
 is_served (objects.Semaphore initial) = true
-is_served (objects.Barrier n) = false
+is_served (objects.Barrier n) = true
 is_served objects.ReaderLock = false
 is_served objects.WriterLock = false
 is_served objects.Condvar = false
@@ -28,7 +30,7 @@ abbrev pub place_of : {T : Type 0} → Object T → Type 0
 place_of objects.Mutex = MutexPlace
 place_of objects.Spin = ⊥
 place_of (objects.Semaphore initial) = SemaphorePlace
-place_of (objects.Barrier n) = ⊥
+place_of (objects.Barrier n) = BarrierPlace
 place_of objects.ReaderLock = ⊥
 place_of objects.WriterLock = ⊥
 place_of objects.Condvar = ⊥
@@ -40,7 +42,7 @@ abbrev pub table_of : {T : Type 0} → Arithmetic T → (o : Object T) → Table
 table_of z objects.Mutex = mutex_table
 table_of z objects.Spin = no_calls
 table_of z (objects.Semaphore initial) = semaphore_table initial
-table_of z (objects.Barrier n) = no_calls
+table_of z (objects.Barrier n) = barrier_table n
 table_of z objects.ReaderLock = no_calls
 table_of z objects.WriterLock = no_calls
 table_of z objects.Condvar = no_calls

@@ -1,5 +1,6 @@
 //! The steps of every primitive, one atomic step at a time.
 
+pub mod barrier;
 mod fault;
 mod headline;
 mod machine;

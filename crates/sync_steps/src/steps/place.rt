@@ -3,6 +3,7 @@ ghost use Rattle.std.specs.Prelude.{◌≡◌};
 ghost use Rattle.sync_steps.specs.Machine.Places.{begins_at, intent_at, after_at, answered_at, chosen_at, grant_at, needs_hold_at};
 
 use std::alloc::AllocError;
+use steps_barrier::BarrierPlace;
 use steps_events::WaitAction;
 use steps_events::event::{Act, Call, Object, Then, Word};
 use steps_events::hold::HoldKind;
@@ -15,6 +16,7 @@ use steps_semaphore::SemaphorePlace;
 pub enum Place {
     Mutex(MutexPlace),
     Semaphore(SemaphorePlace),
+    Barrier(BarrierPlace),
 }
 
 /// A closure at which a call stands until it has answered.
@@ -64,8 +66,8 @@ impl Place {
         match object {
             Object::Mutex => Some(Place::Mutex(MutexPlace::begin(call)?)),
             Object::Semaphore(_) => Some(Place::Semaphore(SemaphorePlace::begin(call)?)),
+            Object::Barrier(n) => Some(Place::Barrier(BarrierPlace::begin(call, *n)?)),
             Object::Spin
-            | Object::Barrier(_)
             | Object::ReaderLock
             | Object::WriterLock
             | Object::Condvar
@@ -83,6 +85,7 @@ impl Place {
         match self {
             Place::Mutex(place) => place.intent(Word::State),
             Place::Semaphore(place) => place.intent(Word::State),
+            Place::Barrier(place) => place.intent(Word::State),
         }
     }
 
@@ -94,6 +97,7 @@ impl Place {
         match self {
             Place::Mutex(place) => place.after(told).within(Place::Mutex),
             Place::Semaphore(place) => place.after(told).within(Place::Semaphore),
+            Place::Barrier(place) => place.after(told).within(Place::Barrier),
         }
     }
 
@@ -104,10 +108,11 @@ impl Place {
         match self {
             Place::Mutex(place) => Place::Mutex(place.answered(action)),
             Place::Semaphore(place) => Place::Semaphore(place.answered(action)),
+            Place::Barrier(place) => Place::Barrier(place.answered(action)),
         }
     }
 
-    /// Where the call goes on once its choice closure has answered: no place of a mutex or a semaphore asks for a choice.
+    /// Where the call goes on once its choice closure has answered: no place of these asks for a choice.
     pub fn chosen<T>(&self, _choice: Option<T>) -> Place
     where
         T: Copy,
@@ -116,6 +121,7 @@ impl Place {
         match self {
             Place::Mutex(place) => Place::Mutex(*place),
             Place::Semaphore(place) => Place::Semaphore(*place),
+            Place::Barrier(place) => Place::Barrier(*place),
         }
     }
 }
