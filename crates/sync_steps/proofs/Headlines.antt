@@ -22,6 +22,8 @@ use Rattle.steps_semaphore.specs.Table.{semaphore_table, semaphore_opening}
 use Rattle.steps_semaphore.proofs.Laws.{keeps_semaphore, semaphore_lacks}
 use Rattle.steps_barrier.specs.Table.{barrier_table}
 use Rattle.steps_barrier.proofs.Laws.{keeps_barrier, barrier_lacks}
+use Rattle.steps_once.specs.Table.{once_table}
+use Rattle.steps_once.proofs.Laws.{keeps_once, once_lacks}
 use Rattle.sync_steps.specs.Objects.{has_word}
 use Rattle.sync_steps.specs.Runs.{word_in, IsNext, IsPast, IsRun}
 use Rattle.sync_steps.specs.Law.{Headline}
@@ -59,7 +61,9 @@ headline z (objects.Barrier n) parties past run =
 headline {T} z objects.ReaderLock parties past run = subst (λ (p : List (Event T)). Headline z objects.ReaderLock p) (sym (no_events z parties past run.1)) (record { told = tt; exclusive = none_held; law = refl; cause = tt })
 headline {T} z objects.WriterLock parties past run = subst (λ (p : List (Event T)). Headline z objects.WriterLock p) (sym (no_events z parties past run.1)) (record { told = tt; exclusive = none_held; law = refl; cause = tt })
 headline {T} z objects.Condvar parties past run = subst (λ (p : List (Event T)). Headline z objects.Condvar p) (sym (no_events z parties past run.1)) (record { told = tt; exclusive = none_held; law = refl; cause = tt })
-headline {T} z objects.Once parties past run = subst (λ (p : List (Event T)). Headline z objects.Once p) (sym (no_events z parties past run.1)) (record { told = tt; exclusive = none_held; law = refl; cause = tt })
+headline z objects.Once parties past run =
+    let keeps = keeps_once z parties past run.1 in
+    record { told = keeps.told; exclusive = rw keeps.unheld none_held; law = keeps.law; cause = keeps.cause }
 headline {T} z (objects.Lazy v) parties past run = subst (λ (p : List (Event T)). Headline z (objects.Lazy v) p) (sym (no_events z parties past run.1)) (record { told = tt; exclusive = none_held; law = refl; cause = tt })
 headline {T} z (objects.Atomic v) parties past run = subst (λ (p : List (Event T)). Headline z (objects.Atomic v) p) (sym (no_events z parties past run.1)) (record { told = tt; exclusive = none_held; law = refl; cause = tt })
 
@@ -107,6 +111,6 @@ absent_word {T} z (objects.Barrier n) parties past word run lacks = lacked_word 
 absent_word z objects.ReaderLock parties past word run lacks = silent_word z objects.ReaderLock parties past word run.1 refl
 absent_word z objects.WriterLock parties past word run lacks = silent_word z objects.WriterLock parties past word run.1 refl
 absent_word z objects.Condvar parties past word run lacks = silent_word z objects.Condvar parties past word run.1 refl
-absent_word z objects.Once parties past word run lacks = silent_word z objects.Once parties past word run.1 refl
+absent_word {T} z objects.Once parties past word run lacks = lacked_word z once_table parties word (once_lacks T word (not_state T objects.Once word lacks)) past run.1
 absent_word z (objects.Lazy v) parties past word run lacks = silent_word z (objects.Lazy v) parties past word run.1 refl
 absent_word z (objects.Atomic v) parties past word run lacks = silent_word z (objects.Atomic v) parties past word run.1 refl

@@ -12,6 +12,8 @@ use Rattle.steps_semaphore.specs.declared.SemaphorePlace.{SemaphorePlace}
 use Rattle.steps_semaphore.specs.Table.{semaphore_table}
 use Rattle.steps_barrier.specs.declared.BarrierPlace.{BarrierPlace}
 use Rattle.steps_barrier.specs.Table.{barrier_table}
+use Rattle.steps_once.specs.declared.OncePlace.{OncePlace}
+use Rattle.steps_once.specs.Table.{once_table}
 
 -- the objects that a machine serves; the others have no places and no calls yet
 abbrev pub is_served : {T : Type 0} → Object T → Bool
@@ -22,7 +24,7 @@ is_served (objects.Barrier n) = true
 is_served objects.ReaderLock = false
 is_served objects.WriterLock = false
 is_served objects.Condvar = false
-is_served objects.Once = false
+is_served objects.Once = true
 is_served (objects.Lazy v) = false
 is_served (objects.Atomic v) = false
 
@@ -34,7 +36,7 @@ place_of (objects.Barrier n) = BarrierPlace
 place_of objects.ReaderLock = ⊥
 place_of objects.WriterLock = ⊥
 place_of objects.Condvar = ⊥
-place_of objects.Once = ⊥
+place_of objects.Once = OncePlace
 place_of (objects.Lazy v) = ⊥
 place_of (objects.Atomic v) = ⊥
 
@@ -46,7 +48,7 @@ table_of z (objects.Barrier n) = barrier_table n
 table_of z objects.ReaderLock = no_calls
 table_of z objects.WriterLock = no_calls
 table_of z objects.Condvar = no_calls
-table_of z objects.Once = no_calls
+table_of z objects.Once = once_table
 table_of z (objects.Lazy v) = no_calls
 table_of z (objects.Atomic v) = no_calls
 

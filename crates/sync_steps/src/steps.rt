@@ -5,6 +5,7 @@ mod fault;
 mod headline;
 mod machine;
 pub mod mutex;
+pub mod once;
 mod place;
 mod playing;
 pub mod semaphore;

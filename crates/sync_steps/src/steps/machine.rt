@@ -37,7 +37,7 @@ impl<T> Model for Machine<T> {
 }
 
 impl<T: AtomicInteger> Machine<T> {
-    /// A machine of the object, where no party has begun a call yet. So far it serves mutexes, semaphores and barriers.
+    /// A machine of the object, where no party has begun a call yet. So far it serves mutexes, semaphores, barriers and onces.
     ///
     /// It takes memory for the places of its parties, and answers `AllocError` where there is none.
     pub fn new(alloc: Global, object: Object<T>, parties: usize) -> Result<Machine<T>, AllocError>

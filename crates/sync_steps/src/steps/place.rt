@@ -9,6 +9,7 @@ use steps_events::event::{Act, Call, Object, Then, Word};
 use steps_events::hold::HoldKind;
 use steps_events::row::{After, Intent};
 use steps_mutex::MutexPlace;
+use steps_once::OncePlace;
 use steps_semaphore::SemaphorePlace;
 
 /// Where a party is in its call: a place of its object's primitive.
@@ -17,6 +18,7 @@ pub enum Place {
     Mutex(MutexPlace),
     Semaphore(SemaphorePlace),
     Barrier(BarrierPlace),
+    Once(OncePlace),
 }
 
 /// A closure at which a call stands until it has answered.
@@ -67,11 +69,11 @@ impl Place {
             Object::Mutex => Some(Place::Mutex(MutexPlace::begin(call)?)),
             Object::Semaphore(_) => Some(Place::Semaphore(SemaphorePlace::begin(call)?)),
             Object::Barrier(n) => Some(Place::Barrier(BarrierPlace::begin(call, *n)?)),
+            Object::Once => Some(Place::Once(OncePlace::begin(call)?)),
             Object::Spin
             | Object::ReaderLock
             | Object::WriterLock
             | Object::Condvar
-            | Object::Once
             | Object::Lazy(_)
             | Object::Atomic(_) => None,
         }
@@ -86,6 +88,7 @@ impl Place {
             Place::Mutex(place) => place.intent(Word::State),
             Place::Semaphore(place) => place.intent(Word::State),
             Place::Barrier(place) => place.intent(Word::State),
+            Place::Once(place) => place.intent(Word::State),
         }
     }
 
@@ -98,6 +101,7 @@ impl Place {
             Place::Mutex(place) => place.after(told).within(Place::Mutex),
             Place::Semaphore(place) => place.after(told).within(Place::Semaphore),
             Place::Barrier(place) => place.after(told).within(Place::Barrier),
+            Place::Once(place) => place.after(told).within(Place::Once),
         }
     }
 
@@ -109,6 +113,7 @@ impl Place {
             Place::Mutex(place) => Place::Mutex(place.answered(action)),
             Place::Semaphore(place) => Place::Semaphore(place.answered(action)),
             Place::Barrier(place) => Place::Barrier(place.answered(action)),
+            Place::Once(place) => Place::Once(place.answered(action)),
         }
     }
 
@@ -122,6 +127,7 @@ impl Place {
             Place::Mutex(place) => Place::Mutex(*place),
             Place::Semaphore(place) => Place::Semaphore(*place),
             Place::Barrier(place) => Place::Barrier(*place),
+            Place::Once(place) => Place::Once(*place),
         }
     }
 }
