@@ -18,7 +18,8 @@ use steps_events::row::{After, Intent};
 #[cfg(test)]
 mod tests;
 
-/// The word after an arrival, where fewer than all have arrived. The one that makes all opens the next round.
+/// The word after an arrival, where fewer than so many have arrived; `None` where there is no place for one more, as at a
+/// barrier of 0. The arrival that fills the round opens the next one.
 #[inline(always)]
 pub fn arrived(word: u64, number_of_waiters: u32) -> Option<u64>
     ensures full { number_of_waiters ≤ count_of word → result ≡ None }
@@ -143,7 +144,7 @@ impl BarrierPlace {
     }
 }
 
-/// After a look a call is refused where all have arrived, and else arrives.
+/// After a look a call is refused where there is no place for it, and else arrives.
 #[inline(always)]
 fn look<T>(number_of_waiters: u32, seen: u64) -> After<T, BarrierPlace>
     ensures { result ≡ look number_of_waiters seen }
