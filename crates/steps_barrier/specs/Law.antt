@@ -22,6 +22,11 @@ abbrev pub is_ok : {T : Type 0} → Then T → Bool
 is_ok (thens.Answers answers.Ok) = true
 is_ok other = false
 
+-- a call arrives once at most: the latest event is an arrival only where its call had not arrived before
+abbrev pub ArrivesOnce : {T : Type 0} → List (Event T) → Type 0
+ArrivesOnce [] = Unit {0}
+ArrivesOnce (e ∷ past) = MatchBool (is_arrival e.act) (MatchOption (call_of e.party past) ⊥ (λ c. arrivals_in c.own ≡ 0)) (Unit {0})
+
 -- the latest event answers `Ok` only where the call's own arrival stands in a round that was full before
 abbrev pub OkAfterFullRound : {T : Type 0} → ℕ → List (Event T) → Type 0
 OkAfterFullRound n [] = Unit {0}
@@ -49,6 +54,8 @@ AsksAfterStaying (e ∷ past) =
 pub record BarrierLaw {T : Type 0} (n : ℕ) (past : List (Event T)) : Type 0 where
   -- the word tells the rounds that are full, modulo 2 ^ 32, and the arrivals of the next one
   pub counts : CountsArrivals n (arrivals_in past) (word_in (barrier_table n) past words.State)
+  -- a call arrives once at most
+  pub once : ArrivesOnce past
   -- `Ok` comes after the call's own round is full
   pub passes : OkAfterFullRound n past
   -- a barrier of 0 refuses each call, and no other refuses any
