@@ -5,3 +5,4 @@ pub mod Parties
 pub mod Locks
 pub mod Spins
 pub mod LastSights
+pub mod Own

@@ -28,7 +28,8 @@ fn parties(rest: &[u8]) -> Result<usize, LineFault>
 
 /// The parties of an object that is opened with a value, and the value.
 fn parties_and_value(greatest: u64, rest: &[u8]) -> Result<(usize, u64), LineFault>
-    ensures { result ≡ meaning.parties_and_value greatest (words_of rest.now) }
+    ensures read { result ≡ meaning.parties_and_value greatest (words_of rest.now) }
+    ensures within { IfOk result (λ opened. opened.1 ≤ greatest) }
 {
     let Some((parties, rest)) = next_word(rest) else {
         return Err(LineFault::BadLine);
@@ -71,10 +72,22 @@ impl Header {
                 object: Object::Semaphore(initial),
                 parties,
             })
+        } else if is(name, b"barrier") {
+            let (parties, number_of_waiters) = parties_and_value(u64::from(u32::MAX), rest)?;
+            Ok(Header {
+                object: Object::Barrier(number_of_waiters as u32),
+                parties,
+            })
         } else if is(name, b"rwreader") {
             let parties = parties(rest)?;
             Ok(Header {
                 object: Object::ReaderLock,
+                parties,
+            })
+        } else if is(name, b"once") {
+            let parties = parties(rest)?;
+            Ok(Header {
+                object: Object::Once,
                 parties,
             })
         } else {

@@ -37,7 +37,8 @@ impl<T, A: Allocator> Model for Machine<T, A> {
 }
 
 impl<T: AtomicInteger, A: Allocator> Machine<T, A> {
-    /// A machine of the object, where no party has begun a call yet. So far it serves mutexes, semaphores and reader-preferring locks.
+    /// A machine of the object, where no party has begun a call yet. So far it serves mutexes, semaphores, barriers, reader-preferring
+    /// locks and onces.
     ///
     /// It takes memory for the places of its parties, and answers `AllocError` where there is none.
     pub fn new(alloc: A, object: Object<T>, parties: usize) -> Result<Machine<T, A>, AllocError>
@@ -211,9 +212,13 @@ fn opened<T>(object: &Object<T>) -> Words
 {
     let state = match object {
         Object::Semaphore(initial) => *initial,
+        // Read, so that it is known to be below 2^32.
+        Object::Barrier(n) => {
+            let _n = *n;
+            0
+        }
         Object::Mutex
         | Object::Spin
-        | Object::Barrier(_)
         | Object::ReaderLock
         | Object::WriterLock
         | Object::Condvar

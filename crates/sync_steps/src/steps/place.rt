@@ -3,11 +3,13 @@ ghost use Rattle.std.specs.Prelude.{◌≡◌};
 ghost use Rattle.sync_steps.specs.Machine.Places.{begins_at, intent_at, after_at, answered_at, chosen_at, grant_at, needs_hold_at};
 
 use std::alloc::AllocError;
+use steps_barrier::BarrierPlace;
 use steps_events::WaitAction;
 use steps_events::event::{Call, Object, Word};
 use steps_events::hold::HoldKind;
 use steps_events::row::{After, Intent};
 use steps_mutex::MutexPlace;
+use steps_once::OncePlace;
 use steps_rw_reader::RwReaderPlace;
 use steps_semaphore::SemaphorePlace;
 
@@ -16,7 +18,9 @@ use steps_semaphore::SemaphorePlace;
 pub enum Place {
     Mutex(MutexPlace),
     Semaphore(SemaphorePlace),
+    Barrier(BarrierPlace),
     RwReader(RwReaderPlace),
+    Once(OncePlace),
 }
 
 /// A closure at which a call stands until it has answered.
@@ -58,12 +62,12 @@ impl Place {
         match object {
             Object::Mutex => Some(Place::Mutex(MutexPlace::begin(call)?)),
             Object::Semaphore(_) => Some(Place::Semaphore(SemaphorePlace::begin(call)?)),
+            Object::Barrier(n) => Some(Place::Barrier(BarrierPlace::begin(call, *n)?)),
             Object::ReaderLock => Some(Place::RwReader(RwReaderPlace::begin(call)?)),
+            Object::Once => Some(Place::Once(OncePlace::begin(call)?)),
             Object::Spin
-            | Object::Barrier(_)
             | Object::WriterLock
             | Object::Condvar
-            | Object::Once
             | Object::Lazy(_)
             | Object::Atomic(_) => None,
         }
@@ -77,7 +81,9 @@ impl Place {
         match self {
             Place::Mutex(place) => place.intent(Word::State),
             Place::Semaphore(place) => place.intent(Word::State),
+            Place::Barrier(place) => place.intent(Word::State),
             Place::RwReader(place) => place.intent(Word::State, hold),
+            Place::Once(place) => place.intent(Word::State),
         }
     }
 
@@ -89,7 +95,9 @@ impl Place {
         match self {
             Place::Mutex(place) => place.after(told).within(Place::Mutex),
             Place::Semaphore(place) => place.after(told).within(Place::Semaphore),
+            Place::Barrier(place) => place.after(told).within(Place::Barrier),
             Place::RwReader(place) => place.after(told).within(Place::RwReader),
+            Place::Once(place) => place.after(told).within(Place::Once),
         }
     }
 
@@ -100,7 +108,9 @@ impl Place {
         match self {
             Place::Mutex(place) => Place::Mutex(place.answered(action)),
             Place::Semaphore(place) => Place::Semaphore(place.answered(action)),
+            Place::Barrier(place) => Place::Barrier(place.answered(action)),
             Place::RwReader(place) => Place::RwReader(place.answered(action)),
+            Place::Once(place) => Place::Once(place.answered(action)),
         }
     }
 
@@ -113,7 +123,9 @@ impl Place {
         match self {
             Place::Mutex(place) => Place::Mutex(*place),
             Place::Semaphore(place) => Place::Semaphore(*place),
+            Place::Barrier(place) => Place::Barrier(*place),
             Place::RwReader(place) => Place::RwReader(*place),
+            Place::Once(place) => Place::Once(*place),
         }
     }
 }
