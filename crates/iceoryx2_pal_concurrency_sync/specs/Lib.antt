@@ -1,11 +1,11 @@
 pub mod MutexRule
 pub mod MutexTally
 pub mod MutexShown
-pub mod SemaphoreRule
-pub mod SemaphoreTally
-pub mod SemaphoreShown
 pub mod Held
 pub mod HeldTally
 pub mod RwShown
 pub mod RwReaderRule
 pub mod RwReaderShown
+pub mod SemaphoreRule
+pub mod SemaphoreTally
+pub mod SemaphoreShown

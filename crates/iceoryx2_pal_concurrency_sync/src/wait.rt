@@ -14,8 +14,8 @@ pub struct WaitWord<'t> {
 #[derive(Drop)]
 pub(crate) enum AnyWord<'t> {
     Mutex(Word<'t, (), Holds>),
-    Semaphore(Word<'t, u64, Permits>),
     ReaderLock(Word<'t, (), Held<()>>),
+    Semaphore(Word<'t, u64, Permits>),
 }
 
 impl WaitWord<'_> {
@@ -24,8 +24,8 @@ impl WaitWord<'_> {
     pub fn load(&self) -> u64 {
         match &self.word {
             AnyWord::Mutex(word) => word.load(),
-            AnyWord::Semaphore(word) => word.load(),
             AnyWord::ReaderLock(word) => word.load(),
+            AnyWord::Semaphore(word) => word.load(),
         }
     }
 }

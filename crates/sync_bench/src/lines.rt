@@ -23,13 +23,13 @@ pub enum Line {
     MutexLockUnlock,
     MutexTryLockUnlock,
     MutexNewDrop,
-    SemaphoreTryWaitPost,
-    SemaphoreValue,
     BareLoadExchangeSubtract,
     StdRwLockReadUnlock,
     StdRwLockWriteUnlock,
     RwReaderReadUnlock,
     RwReaderWriteUnlock,
+    SemaphoreTryWaitPost,
+    SemaphoreValue,
 }
 
 /// Every line, in the order of the table.
@@ -39,13 +39,13 @@ pub const LINES: [Line; 12] = [
     Line::MutexLockUnlock,
     Line::MutexTryLockUnlock,
     Line::MutexNewDrop,
-    Line::SemaphoreTryWaitPost,
-    Line::SemaphoreValue,
     Line::BareLoadExchangeSubtract,
     Line::StdRwLockReadUnlock,
     Line::StdRwLockWriteUnlock,
     Line::RwReaderReadUnlock,
     Line::RwReaderWriteUnlock,
+    Line::SemaphoreTryWaitPost,
+    Line::SemaphoreValue,
 ];
 
 impl Line {
@@ -61,13 +61,13 @@ impl Line {
             Line::MutexLockUnlock => "mutex lock unlock",
             Line::MutexTryLockUnlock => "mutex try_lock unlock",
             Line::MutexNewDrop => "mutex new drop",
-            Line::SemaphoreTryWaitPost => "semaphore try_wait post",
-            Line::SemaphoreValue => "semaphore value",
             Line::BareLoadExchangeSubtract => "bare load exchange subtract",
             Line::StdRwLockReadUnlock => "std rwlock read unlock",
             Line::StdRwLockWriteUnlock => "std rwlock write unlock",
             Line::RwReaderReadUnlock => "rwlock reader read unlock",
             Line::RwReaderWriteUnlock => "rwlock reader write unlock",
+            Line::SemaphoreTryWaitPost => "semaphore try_wait post",
+            Line::SemaphoreValue => "semaphore value",
         }
     }
 
@@ -80,13 +80,13 @@ impl Line {
             Line::MutexLockUnlock => mutex::lock_unlock(rt, alloc),
             Line::MutexTryLockUnlock => mutex::try_lock_unlock(alloc),
             Line::MutexNewDrop => Ok(mutex::new_drop(alloc)),
-            Line::SemaphoreTryWaitPost => semaphore::try_wait_post(rt, alloc),
-            Line::SemaphoreValue => semaphore::value(alloc),
             Line::BareLoadExchangeSubtract => Ok(yardsticks::bare_load_exchange_subtract()),
             Line::StdRwLockReadUnlock => Ok(yardsticks::std_rwlock_read_unlock(rt)),
             Line::StdRwLockWriteUnlock => Ok(yardsticks::std_rwlock_write_unlock(rt)),
             Line::RwReaderReadUnlock => rwreader::read_unlock(rt, alloc),
             Line::RwReaderWriteUnlock => rwreader::write_unlock(rt, alloc),
+            Line::SemaphoreTryWaitPost => semaphore::try_wait_post(rt, alloc),
+            Line::SemaphoreValue => semaphore::value(alloc),
         }
     }
 }

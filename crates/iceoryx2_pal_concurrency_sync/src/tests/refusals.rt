@@ -20,10 +20,10 @@ fn a_mutex_that_finds_no_memory(rt: HostRuntime) -> Result<(), Fail> {
 }
 
 #[test]
-fn a_semaphore_that_finds_no_memory(rt: HostRuntime) -> Result<(), Fail> {
+fn a_reader_preferring_lock_that_finds_no_memory(rt: HostRuntime) -> Result<(), Fail> {
     for (size, room) in [(0, false), (16, false), (32, true)] {
         let heap = LocalHeap::new(rt.alloc(), size)?;
-        let made = Semaphore::new(&heap, 5);
+        let made = RwLockReaderPreference::new(&heap);
         assert_eq!(rt; made.is_ok(), room);
         assert_eq!(rt; heap.used(), if room { 32 } else { 0 });
         drop(made);
@@ -33,10 +33,10 @@ fn a_semaphore_that_finds_no_memory(rt: HostRuntime) -> Result<(), Fail> {
 }
 
 #[test]
-fn a_reader_preferring_lock_that_finds_no_memory(rt: HostRuntime) -> Result<(), Fail> {
+fn a_semaphore_that_finds_no_memory(rt: HostRuntime) -> Result<(), Fail> {
     for (size, room) in [(0, false), (16, false), (32, true)] {
         let heap = LocalHeap::new(rt.alloc(), size)?;
-        let made = RwLockReaderPreference::new(&heap);
+        let made = Semaphore::new(&heap, 5);
         assert_eq!(rt; made.is_ok(), room);
         assert_eq!(rt; heap.used(), if room { 32 } else { 0 });
         drop(made);

@@ -26,28 +26,6 @@ impl Operation for Bare {
     }
 }
 
-/// Locks a mutex of std, reads what it guards, and drops the guard.
-pub fn std_mutex_lock_unlock(rt: &impl Wait) -> u32 {
-    successes(&mut StdLock {
-        rt,
-        mutex: Mutex::new(true),
-    })
-}
-
-#[derive(Drop)]
-struct StdLock<'r, R: Wait> {
-    rt: &'r R,
-    mutex: Mutex<bool>,
-}
-
-impl<R: Wait> Operation for StdLock<'_, R> {
-    #[inline(always)]
-    fn once(&mut self) -> bool {
-        let guard = self.mutex.lock(self.rt);
-        *guard
-    }
-}
-
 /// Counts a reader in and out of a bare word: the least that a read lock and an unlock can do.
 pub fn bare_load_exchange_subtract() -> u32 {
     successes(&mut BareReader {
@@ -112,6 +90,28 @@ impl<R: Wait> Operation for StdWrite<'_, R> {
     #[inline(always)]
     fn once(&mut self) -> bool {
         let guard = self.lock.write(self.rt);
+        *guard
+    }
+}
+
+/// Locks a mutex of std, reads what it guards, and drops the guard.
+pub fn std_mutex_lock_unlock(rt: &impl Wait) -> u32 {
+    successes(&mut StdLock {
+        rt,
+        mutex: Mutex::new(true),
+    })
+}
+
+#[derive(Drop)]
+struct StdLock<'r, R: Wait> {
+    rt: &'r R,
+    mutex: Mutex<bool>,
+}
+
+impl<R: Wait> Operation for StdLock<'_, R> {
+    #[inline(always)]
+    fn once(&mut self) -> bool {
+        let guard = self.mutex.lock(self.rt);
         *guard
     }
 }

@@ -12,13 +12,13 @@ const NAMES: [&str; 12] = [
     "mutex lock unlock",
     "mutex try_lock unlock",
     "mutex new drop",
-    "semaphore try_wait post",
-    "semaphore value",
     "bare load exchange subtract",
     "std rwlock read unlock",
     "std rwlock write unlock",
     "rwlock reader read unlock",
     "rwlock reader write unlock",
+    "semaphore try_wait post",
+    "semaphore value",
 ];
 
 const HEAD: &str = "name\tmedian\tlower tenth\tupper tenth\n";

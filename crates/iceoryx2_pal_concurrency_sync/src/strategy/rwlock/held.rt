@@ -3,10 +3,12 @@ ghost use Rattle.std.specs.Prelude.{Bool};
 
 use passes::Tally;
 
-/// What a hold knows of what is kept under its lock. Two that know of one thing can be compared.
+/// What a hold knows of what is kept under its lock, as plain data of which no value is made. It can be told whether two holds know
+/// the same.
 pub trait Known {
     ghost use Rattle.iceoryx2_pal_concurrency_sync.specs.Held.{TellsSame};
 
+    // Whether both are the same.
     ghost same: { Self → Self → Bool };
 
     ghost tells: { TellsSame same };
