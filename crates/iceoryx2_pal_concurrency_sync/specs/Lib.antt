@@ -4,3 +4,6 @@ pub mod MutexShown
 pub mod SemaphoreRule
 pub mod SemaphoreTally
 pub mod SemaphoreShown
+pub mod BarrierRule
+pub mod BarrierTally
+pub mod BarrierShown

@@ -1,3 +1,4 @@
 //! One module for each primitive.
+pub mod barrier;
 pub mod mutex;
 pub mod semaphore;

@@ -1,4 +1,5 @@
 //! The word that wait and wake closures see.
+use crate::strategy::barrier::Rounds;
 use crate::strategy::mutex::Holds;
 use crate::strategy::semaphore::Permits;
 use passes::Word;
@@ -14,6 +15,7 @@ pub struct WaitWord<'t> {
 pub(crate) enum AnyWord<'t> {
     Mutex(Word<'t, (), Holds>),
     Semaphore(Word<'t, u64, Permits>),
+    Barrier(Word<'t, u32, Rounds>),
 }
 
 impl WaitWord<'_> {
@@ -23,6 +25,7 @@ impl WaitWord<'_> {
         match &self.word {
             AnyWord::Mutex(word) => word.load(),
             AnyWord::Semaphore(word) => word.load(),
+            AnyWord::Barrier(word) => word.load(),
         }
     }
 }
