@@ -8,13 +8,15 @@ use prog.Atomic.{either}
 use Rattle.passes.specs.declared.view.View.{View}
 use Rattle.passes.specs.Parts.{IsWhole, total}
 use Rattle.passes.specs.Sights.{stale}
-use Rattle.passes.specs.Views.{view_of, looked, missed, sum_of, Updates}
+use Rattle.passes.specs.Views.{view_of, looked, missed, left_view, right_view, joined_view, sum_of, Updates}
+use Rattle.passes.specs.declared.pass.Pass.{Pass}
+use Rattle.passes.specs.Passes.{view}
 use Rattle.passes.proofs.Sums.{others, sum_at}
 use Rattle.passes.proofs.Updates.{by_look, by_exchange}
 use Rattle.iceoryx2_pal_concurrency_sync.specs.declared.strategy.barrier.Rounds.{Rounds}
 use Rattle.iceoryx2_pal_concurrency_sync.specs.BarrierRule.{epoch_of, count_of, in_round, one_more, both_counts, rounds, no_rounds, both_rounds, known_rounds, IsFilling, BarrierAgrees, OpenRoundsAreFull, reaches, Says, MadeAll, Loaded, Arrives, Exchanged}
 use Rattle.iceoryx2_pal_concurrency_sync.specs.BarrierTally.{rounds_add_up}
-use Rattle.iceoryx2_pal_concurrency_sync.specs.BarrierShown.{IsNextWord}
+use Rattle.iceoryx2_pal_concurrency_sync.specs.BarrierShown.{counts_of, arrivals_of, IsNextWord}
 
 -- counts
 
@@ -57,6 +59,11 @@ sum_more zero [] = refl
 sum_more zero (x ∷ xs) = let a = sum_cons (x + 1) xs in let b = sum_cons x xs in omega arith
 sum_more (suc round) [] = let a = sum_cons 0 (one_more round []) in let b = sum_more round [] in omega arith
 sum_more (suc round) (x ∷ xs) = let a = sum_cons x (one_more round xs) in let b = sum_cons x xs in let c = sum_more round xs in omega arith
+
+pub sum_both : (xs ys : List ℕ) → sum (both_counts xs ys) ≡ sum xs + sum ys
+sum_both [] ys = omega arith
+sum_both (x ∷ xs) [] = omega arith
+sum_both (x ∷ xs) (y ∷ ys) = let a = sum_cons (x + y) (both_counts xs ys) in let b = sum_cons x xs in let c = sum_cons y ys in let d = sum_both xs ys in omega arith
 
 -- the rule again
 
@@ -140,32 +147,32 @@ pub exchanges : (n : ℕ) (v : View Rounds) (old new : ℕ) → IsNextWord n old
 exchanges n v old new next = by_exchange no_rounds both_rounds (BarrierAgrees n) v 0 old new (Exchanged n old v)
     (λ words homes rest is alone fits hit. let s : Rounds = both_rounds v.tally rest in let round : ℕ = s.opened in let known = is.known in
     let counts = more_in_both round v.tally.arrivals rest.arrivals in let room = next.room in dite (ℕ_discrete (count_of old + 1) n)
-        (λ fills. let w : View Rounds = view_of v.part (stale v.sights) (rounds (one_more round v.tally.arrivals) (round + 1) (v.tally.opened + 1)) in let to = next.last fills in
-        let again : IsFilling n (set words 0 new) (both_rounds w.tally rest) = last_again n words new s (both_rounds w.tally rest) is (omega arith) (omega arith) counts (omega arith) (omega arith) in (
-          w,
-          refl,
-          again,
-          record {
-            round = round;
-            says = says n words v rest is alone;
-            done = λ _. (record { arrivals = refl; counted = sum_more round v.tally.arrivals; last = λ _. (refl, refl); early = λ not. absurd (not fills) }, refl, refl);
-            failed = λ miss. absurd (miss hit);
-            has_all = λ whole. all_alone n (set words 0 new) w.tally rest again (omega arith) (alone whole);
-          },
-        ))
-        (λ early. let w : View Rounds = view_of v.part (stale v.sights) (rounds (one_more round v.tally.arrivals) round v.tally.opened) in let to = next.early (omega arith) in
-        let again : IsFilling n (set words 0 new) (both_rounds w.tally rest) = early_again n words new s (both_rounds w.tally rest) is (omega arith) (omega arith) counts refl (omega arith) in (
-          w,
-          refl,
-          again,
-          record {
-            round = round;
-            says = says n words v rest is alone;
-            done = λ _. (record { arrivals = refl; counted = sum_more round v.tally.arrivals; last = λ fills. absurd (early fills); early = λ _. (refl, refl) }, refl, refl);
-            failed = λ miss. absurd (miss hit);
-            has_all = λ whole. all_alone n (set words 0 new) w.tally rest again (omega arith) (alone whole);
-          },
-        )))
+    (λ fills. let w : View Rounds = view_of v.part (stale v.sights) (rounds (one_more round v.tally.arrivals) (round + 1) (v.tally.opened + 1)) in let to = next.last fills in
+    let again : IsFilling n (set words 0 new) (both_rounds w.tally rest) = last_again n words new s (both_rounds w.tally rest) is (omega arith) (omega arith) counts (omega arith) (omega arith) in (
+      w,
+      refl,
+      again,
+      record {
+        round = round;
+        says = says n words v rest is alone;
+        done = λ _. (record { arrivals = refl; counted = sum_more round v.tally.arrivals; last = λ _. (refl, refl); early = λ not. absurd (not fills) }, refl, refl);
+        failed = λ miss. absurd (miss hit);
+        has_all = λ whole. all_alone n (set words 0 new) w.tally rest again (omega arith) (alone whole);
+      },
+    ))
+    (λ early. let w : View Rounds = view_of v.part (stale v.sights) (rounds (one_more round v.tally.arrivals) round v.tally.opened) in let to = next.early (omega arith) in
+    let again : IsFilling n (set words 0 new) (both_rounds w.tally rest) = early_again n words new s (both_rounds w.tally rest) is (omega arith) (omega arith) counts refl (omega arith) in (
+      w,
+      refl,
+      again,
+      record {
+        round = round;
+        says = says n words v rest is alone;
+        done = λ _. (record { arrivals = refl; counted = sum_more round v.tally.arrivals; last = λ fills. absurd (early fills); early = λ _. (refl, refl) }, refl, refl);
+        failed = λ miss. absurd (miss hit);
+        has_all = λ whole. all_alone n (set words 0 new) w.tally rest again (omega arith) (alone whole);
+      },
+    )))
     (λ words homes rest is alone fits miss. let round : ℕ = v.tally.opened + rest.opened in let w : View Rounds = reaches round (missed v old (get_or words 0 0)) in let known = is.known in
     let again : IsFilling n words (both_rounds w.tally rest) = known_again n words (both_rounds v.tally rest) (both_rounds w.tally rest) is refl refl (omega arith) in (
       w,
@@ -190,3 +197,11 @@ pub open_rounds_are_full : OpenRoundsAreFull
 open_rounds_are_full n s r i v here round below = let all : Rounds = sum_of no_rounds both_rounds s.views in let at = sum_at no_rounds both_rounds known_rounds rounds_add_up s.views i v here in
     let reached = ap (λ (t : Rounds). t.reached) at in let known = r.agree.known in
     sym (total_in round s.views) ∙ r.agree.full round (omega arith)
+
+-- what a split and a join leave of the arrivals
+
+pub parted_arrivals : (p one other : Pass Rounds) → (view one ≡ left_view (view p)) × (view other ≡ right_view known_rounds (view p)) → arrivals_of one + arrivals_of other ≡ arrivals_of p
+parted_arrivals p one other views = let first = ap (λ (v : View Rounds). sum v.tally.arrivals) views.0 in let second = ap (λ (v : View Rounds). sum v.tally.arrivals) views.1 in omega arith
+
+pub joined_arrivals : (one other both : Pass Rounds) → view both ≡ joined_view both_rounds (view one) (view other) → arrivals_of both ≡ arrivals_of one + arrivals_of other
+joined_arrivals one other both views = ap (λ (v : View Rounds). sum v.tally.arrivals) views ∙ sum_both (counts_of one) (counts_of other)
