@@ -1,3 +1,4 @@
 pub mod MutexKeeps
 pub mod SemaphoreKeeps
 pub mod BarrierKeeps
+pub mod OnceKeeps

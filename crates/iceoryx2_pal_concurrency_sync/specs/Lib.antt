@@ -7,3 +7,6 @@ pub mod SemaphoreShown
 pub mod BarrierRule
 pub mod BarrierTally
 pub mod BarrierShown
+pub mod OnceRule
+pub mod OnceTally
+pub mod OnceShown

@@ -2,6 +2,7 @@
 mod barrier;
 mod buffer;
 mod mutex;
+mod once;
 mod refusals;
 mod semaphore;
 mod signal;
