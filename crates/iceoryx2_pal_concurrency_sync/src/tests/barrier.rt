@@ -42,12 +42,10 @@ fn wait_counted<R: Wait>(
 #[test]
 fn a_barrier_of_none_is_full(rt: HostRuntime) -> Result<(), Fail> {
     let (barrier, mut pass) = Barrier::new(rt.alloc(), 0)?;
-    for _ in 0..2u64 {
-        assert_eq!(rt;
-            wait_counted(&rt, &barrier, &mut pass),
-            (Err(BarrierFull), 0, 0, 9)
-        );
-    }
+    let first = wait_counted(&rt, &barrier, &mut pass);
+    let second = wait_counted(&rt, &barrier, &mut pass);
+    assert_eq!(rt; first, (Err(BarrierFull), 0, 0, 9));
+    assert_eq!(rt; second, (Err(BarrierFull), 0, 0, 9));
     Ok(())
 }
 
