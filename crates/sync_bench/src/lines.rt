@@ -4,7 +4,9 @@
 //! its place in `LINES`, its name and its call. The name is said once more in `specs/Lines.antt` and in the tests.
 ghost use Rattle.std.specs.Prelude.{◌≡◌, ◌≤◌};
 
+mod barrier;
 mod mutex;
+mod once;
 mod semaphore;
 mod yardsticks;
 
@@ -24,10 +26,15 @@ pub enum Line {
     MutexNewDrop,
     SemaphoreTryWaitPost,
     SemaphoreValue,
+    BareLoadExchange,
+    StdBarrierOfOne,
+    BarrierOfOne,
+    StdOnceLockGet,
+    OnceAfter,
 }
 
 /// Every line, in the order of the table.
-pub const LINES: [Line; 7] = [
+pub const LINES: [Line; 12] = [
     Line::BareExchangeStore,
     Line::StdMutexLockUnlock,
     Line::MutexLockUnlock,
@@ -35,6 +42,11 @@ pub const LINES: [Line; 7] = [
     Line::MutexNewDrop,
     Line::SemaphoreTryWaitPost,
     Line::SemaphoreValue,
+    Line::BareLoadExchange,
+    Line::StdBarrierOfOne,
+    Line::BarrierOfOne,
+    Line::StdOnceLockGet,
+    Line::OnceAfter,
 ];
 
 impl Line {
@@ -52,6 +64,11 @@ impl Line {
             Line::MutexNewDrop => "mutex new drop",
             Line::SemaphoreTryWaitPost => "semaphore try_wait post",
             Line::SemaphoreValue => "semaphore value",
+            Line::BareLoadExchange => "bare load exchange",
+            Line::StdBarrierOfOne => "std barrier of one",
+            Line::BarrierOfOne => "barrier of one",
+            Line::StdOnceLockGet => "std once_lock get",
+            Line::OnceAfter => "once after",
         }
     }
 
@@ -66,6 +83,11 @@ impl Line {
             Line::MutexNewDrop => Ok(mutex::new_drop(alloc)),
             Line::SemaphoreTryWaitPost => semaphore::try_wait_post(rt, alloc),
             Line::SemaphoreValue => semaphore::value(alloc),
+            Line::BareLoadExchange => Ok(yardsticks::bare_load_exchange()),
+            Line::StdBarrierOfOne => Ok(yardsticks::std_barrier_of_one(rt)),
+            Line::BarrierOfOne => barrier::of_one(rt, alloc),
+            Line::StdOnceLockGet => Ok(yardsticks::std_once_lock_get()),
+            Line::OnceAfter => once::after(rt, alloc),
         }
     }
 }

@@ -6,7 +6,7 @@ use std::test::Fail;
 use std::time::{Clock, Duration};
 
 /// The names of the lines, in the order of the table.
-const NAMES: [&str; 7] = [
+const NAMES: [&str; 12] = [
     "bare exchange store",
     "std mutex lock unlock",
     "mutex lock unlock",
@@ -14,6 +14,11 @@ const NAMES: [&str; 7] = [
     "mutex new drop",
     "semaphore try_wait post",
     "semaphore value",
+    "bare load exchange",
+    "std barrier of one",
+    "barrier of one",
+    "std once_lock get",
+    "once after",
 ];
 
 const HEAD: &str = "name\tmedian\tlower tenth\tupper tenth\n";
