@@ -1,13 +1,16 @@
 -- What one more event changes in the calls and the holds of each party.
-use Rattle.std.proofs.Common.{◌≡◌, ◌≢◌, ℕ, ◌==◌, refl, sym, ◌∙◌, Bool, true, false, cond, List, [], ◌∷◌, Option, Some, None, arith}
+use Rattle.std.proofs.Common.{◌≡◌, ◌≢◌, ℕ, zero, ◌==◌, refl, sym, ◌∙◌, Bool, true, false, cond, List, [], ◌∷◌, Option, Some, None, arith}
 use Rattle.std.proofs.lemmas.Bool.{eq-eqb, eqb-true}
 use Rattle.std.proofs.lemmas.Bool.Decides.{nat_tests}
+use Rattle.steps_events.specs.declared.event.Word.TheVariants as words
+use Rattle.steps_events.specs.declared.event.Call.{Call}
 use Rattle.steps_events.specs.declared.event.Act.{Act}
+use Rattle.steps_events.specs.declared.event.Act.TheVariants as acts
 use Rattle.steps_events.specs.declared.event.Then.{Then}
 use Rattle.steps_events.specs.declared.event.Event.{Event}
 use Rattle.steps_events.specs.declared.hold.HoldKind.{HoldKind}
 use Rattle.steps_events.specs.Tables.{Table}
-use Rattle.steps_events.specs.Past.{Hold, call_of, call_after, holds_of, hold_among, hold_or, hold_after, without, with_hold, is_release, hold_taken}
+use Rattle.steps_events.specs.Past.{Hold, PendingCall, call_of, call_after, holds_of, hold_among, hold_or, hold_after, without, with_hold, is_release, hold_taken}
 use Rattle.steps_events.specs.Past.{event}
 
 pub eqb_same : (p : ℕ) → (p == p) ≡ true
@@ -79,3 +82,20 @@ pub hold_of_other :
     hold_among q (holds_of t (event p act outcome ∷ past)) ≡ hold_among q (holds_of t past)
 unfolding stepped_holds
 hold_of_other t p q act outcome past other = hold_among-stepped_other (is_release act) p q (hold_taken t act (call_of p past)) (holds_of t past) other
+
+-- Where no call is granted a hold, nobody has one.
+
+takes_none :
+    {T P : Type 0} (t : Table T P) → ((call : Call T) (from to : ℕ) → t.grant call from to ≡ None) → (act : Act T) (pending : Option (PendingCall T)) → hold_taken t act pending ≡ None
+takes_none t ungranted (acts.Exchange words.State from to found true) (Some c) = ungranted c.call from to
+takes_none t ungranted (acts.Swap words.State zero put) (Some c) = ungranted c.call 0 put
+takes_none t ungranted act pending = refl
+
+pub no_holds : {T P : Type 0} (t : Table T P) → ((call : Call T) (from to : ℕ) → t.grant call from to ≡ None) → (past : List (Event T)) → holds_of t past ≡ []
+no_holds t ungranted [] = refl
+no_holds {T} t ungranted (e ∷ past) = by_test (is_release e.act) (no_holds t ungranted past)
+  where
+    by_test : (b : Bool) → holds_of t past ≡ [] →
+        ◌≡◌ {A = List Hold} (cond b (without e.party (holds_of t past)) (with_hold e.party (hold_taken t e.act (call_of e.party past)) (holds_of t past))) []
+    by_test true free = rw free refl
+    by_test false free = rw (takes_none t ungranted e.act (call_of e.party past), free) refl

@@ -3,3 +3,4 @@ pub mod Steps
 pub mod Parties
 pub mod Locks
 pub mod Spins
+pub mod Own

@@ -24,13 +24,17 @@ abbrev pub is_beginning : {T : Type 0} → Act T → Bool
 is_beginning (acts.Begun call) = true
 is_beginning other = false
 
--- P of the events before a party's last sight of the word in its latest call; a call without a sight has none
-abbrev pub AtLastSight : {T : Type 0} → Word → (List (Event T) → Type 0) → ℕ → List (Event T) → Type 0
-AtLastSight word P party [] = ⊥
-AtLastSight word P party (e ∷ past) =
+-- P of the events before a party's last act of a kind in its latest call; a call without such an act has none
+abbrev pub AtLast : {T : Type 0} → (Act T → Bool) → (List (Event T) → Type 0) → ℕ → List (Event T) → Type 0
+AtLast is_it P party [] = ⊥
+AtLast is_it P party (e ∷ past) =
     MatchBool (e.party == party)
-    (MatchBool (is_sight word e.act) (P past) (MatchBool (is_beginning e.act) ⊥ (AtLastSight word P party past)))
-    (AtLastSight word P party past)
+    (MatchBool (is_it e.act) (P past) (MatchBool (is_beginning e.act) ⊥ (AtLast is_it P party past)))
+    (AtLast is_it P party past)
+
+-- before its last sight of the word
+abbrev pub AtLastSight : {T : Type 0} → Word → (List (Event T) → Type 0) → ℕ → List (Event T) → Type 0
+AtLastSight word P party past = AtLast (is_sight word) P party past
 
 -- The answers of the wait closure.
 
@@ -108,3 +112,20 @@ is_exchange act = false
 abbrev pub exchanges_in : {T : Type 0} → List (Event T) → ℕ
 exchanges_in [] = 0
 exchanges_in (e ∷ own) = (if is_exchange e.act then 1 else 0) + exchanges_in own
+
+-- Acts of a kind.
+
+-- an exchange of the word that is done
+abbrev pub is_done_exchange : {T : Type 0} → Word → Act T → Bool
+is_done_exchange word (acts.Exchange w from to found done) = same_word w word && done
+is_done_exchange word act = false
+
+-- how many acts of a kind there are
+abbrev pub acts_in : {T : Type 0} → (Act T → Bool) → List (Event T) → ℕ
+acts_in is_it [] = 0
+acts_in is_it (e ∷ past) = (if is_it e.act then 1 else 0) + acts_in is_it past
+
+-- the latest of them
+abbrev pub last_of : {T : Type 0} → (Act T → Bool) → List (Event T) → Option (Act T)
+last_of is_it [] = None
+last_of is_it (e ∷ own) = if is_it e.act then Some e.act else last_of is_it own

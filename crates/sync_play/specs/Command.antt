@@ -49,9 +49,20 @@ semaphore_calls =
     ∷ (codes "try_wait", begins calls.TryWait)
     ∷ []
 
+abbrev pub barrier_calls : List (List ℕ × Form)
+barrier_calls = (codes "start_wait", begins calls.Wait) ∷ []
+
+abbrev pub once_calls : List (List ℕ × Form)
+once_calls =
+    (codes "call_once", begins calls.CallOnce)
+    ∷ (codes "is_completed", begins calls.IsCompleted)
+    ∷ []
+
 abbrev pub calls_of : Object ℕ → List (List ℕ × Form)
 calls_of objects.Mutex = mutex_calls
 calls_of (objects.Semaphore initial) = semaphore_calls
+calls_of (objects.Barrier n) = barrier_calls
+calls_of objects.Once = once_calls
 calls_of o = []
 
 -- the first row of this name

@@ -101,6 +101,29 @@ fn semaphore_call(name: &[u8]) -> Option<Form>
     }
 }
 
+/// Its one call is written `start_wait`, as a semaphore's.
+fn barrier_call(name: &[u8]) -> Option<Form>
+    ensures { result ≡ meaning.find name.now meaning.barrier_calls }
+{
+    if is(name, b"start_wait") {
+        Some(begins(Call::Wait))
+    } else {
+        None
+    }
+}
+
+fn once_call(name: &[u8]) -> Option<Form>
+    ensures { result ≡ meaning.find name.now meaning.once_calls }
+{
+    if is(name, b"call_once") {
+        Some(begins(Call::CallOnce))
+    } else if is(name, b"is_completed") {
+        Some(begins(Call::IsCompleted))
+    } else {
+        None
+    }
+}
+
 /// The calls of an object.
 fn named_call(object: Object<u64>, name: &[u8]) -> Option<Form>
     ensures { result ≡ meaning.find name.now (meaning.calls_of object) }
@@ -108,6 +131,8 @@ fn named_call(object: Object<u64>, name: &[u8]) -> Option<Form>
     match object {
         Object::Mutex => mutex_call(name),
         Object::Semaphore(_) => semaphore_call(name),
+        Object::Barrier(_) => barrier_call(name),
+        Object::Once => once_call(name),
         _ => None,
     }
 }

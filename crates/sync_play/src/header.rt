@@ -28,7 +28,8 @@ fn parties(rest: &[u8]) -> Result<usize, LineFault>
 
 /// The parties of an object that is opened with a value, and the value.
 fn parties_and_value(greatest: u64, rest: &[u8]) -> Result<(usize, u64), LineFault>
-    ensures { result ≡ meaning.parties_and_value greatest (words_of rest.now) }
+    ensures read { result ≡ meaning.parties_and_value greatest (words_of rest.now) }
+    ensures within { IfOk result (λ opened. opened.1 ≤ greatest) }
 {
     let Some((parties, rest)) = next_word(rest) else {
         return Err(LineFault::BadLine);
@@ -69,6 +70,18 @@ impl Header {
             let (parties, initial) = parties_and_value(u64::MAX, rest)?;
             Ok(Header {
                 object: Object::Semaphore(initial),
+                parties,
+            })
+        } else if is(name, b"barrier") {
+            let (parties, number_of_waiters) = parties_and_value(u64::from(u32::MAX), rest)?;
+            Ok(Header {
+                object: Object::Barrier(number_of_waiters as u32),
+                parties,
+            })
+        } else if is(name, b"once") {
+            let parties = parties(rest)?;
+            Ok(Header {
+                object: Object::Once,
                 parties,
             })
         } else {

@@ -1,5 +1,5 @@
 //! The lines of a text, the words of a line, and the numbers that words write.
-ghost use Rattle.std.specs.Prelude.{◌≡◌, ◌<◌, ◌==◌, List, length, not, position, IfSome};
+ghost use Rattle.std.specs.Prelude.{◌≡◌, ◌<◌, ◌≤◌, ◌==◌, List, length, not, position, IfSome, IfOk};
 ghost use Rattle.std.specs.Str.{bytes_eq};
 ghost use Rattle.sync_play.specs.Lexer as meaning;
 
@@ -96,7 +96,8 @@ fn number(word: &[u8]) -> Option<u64>
 
 /// The number of a word, in a range.
 pub fn number_within(low: u64, high: u64, word: &[u8]) -> Result<u64, LineFault>
-    ensures { result ≡ meaning.number_within low high word.now }
+    ensures read { result ≡ meaning.number_within low high word.now }
+    ensures within { IfOk result (λ number. number ≤ high) }
 {
     match number(word) {
         Some(number) if low <= number && number <= high => Ok(number),

@@ -1,7 +1,9 @@
 //! Each text is played by `run`, from a slice to a vector.
 
+mod barrier;
 mod faults;
 mod long;
+mod once;
 mod permits;
 mod player;
 mod plays;

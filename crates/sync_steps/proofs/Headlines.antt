@@ -20,6 +20,10 @@ use Rattle.steps_mutex.specs.Table.{mutex_table}
 use Rattle.steps_mutex.proofs.Laws.{keeps_mutex, mutex_lacks}
 use Rattle.steps_semaphore.specs.Table.{semaphore_table, semaphore_opening}
 use Rattle.steps_semaphore.proofs.Laws.{keeps_semaphore, semaphore_lacks}
+use Rattle.steps_barrier.specs.Table.{barrier_table}
+use Rattle.steps_barrier.proofs.Laws.{keeps_barrier, barrier_lacks}
+use Rattle.steps_once.specs.Table.{once_table}
+use Rattle.steps_once.proofs.Laws.{keeps_once, once_lacks}
 use Rattle.sync_steps.specs.Objects.{has_word}
 use Rattle.sync_steps.specs.Runs.{word_in, IsNext, IsPast, IsRun}
 use Rattle.sync_steps.specs.Law.{Headline}
@@ -51,11 +55,15 @@ headline z (objects.Semaphore initial) parties past run =
     let keeps = keeps_semaphore z initial parties past run.0 run.1 in
     record { told = keeps.told; exclusive = rw keeps.unheld none_held; law = keeps.law; cause = keeps.cause }
 headline {T} z objects.Spin parties past run = subst (λ (p : List (Event T)). Headline z objects.Spin p) (sym (no_events z parties past run.1)) (record { told = tt; exclusive = none_held; law = refl; cause = tt })
-headline {T} z (objects.Barrier n) parties past run = subst (λ (p : List (Event T)). Headline z (objects.Barrier n) p) (sym (no_events z parties past run.1)) (record { told = tt; exclusive = none_held; law = refl; cause = tt })
+headline z (objects.Barrier n) parties past run =
+    let keeps = keeps_barrier z n parties past run.0 run.1 in
+    record { told = keeps.told; exclusive = rw keeps.unheld none_held; law = keeps.law; cause = keeps.cause }
 headline {T} z objects.ReaderLock parties past run = subst (λ (p : List (Event T)). Headline z objects.ReaderLock p) (sym (no_events z parties past run.1)) (record { told = tt; exclusive = none_held; law = refl; cause = tt })
 headline {T} z objects.WriterLock parties past run = subst (λ (p : List (Event T)). Headline z objects.WriterLock p) (sym (no_events z parties past run.1)) (record { told = tt; exclusive = none_held; law = refl; cause = tt })
 headline {T} z objects.Condvar parties past run = subst (λ (p : List (Event T)). Headline z objects.Condvar p) (sym (no_events z parties past run.1)) (record { told = tt; exclusive = none_held; law = refl; cause = tt })
-headline {T} z objects.Once parties past run = subst (λ (p : List (Event T)). Headline z objects.Once p) (sym (no_events z parties past run.1)) (record { told = tt; exclusive = none_held; law = refl; cause = tt })
+headline z objects.Once parties past run =
+    let keeps = keeps_once z parties past run.1 in
+    record { told = keeps.told; exclusive = rw keeps.unheld none_held; law = keeps.law; cause = keeps.cause }
 headline {T} z (objects.Lazy v) parties past run = subst (λ (p : List (Event T)). Headline z (objects.Lazy v) p) (sym (no_events z parties past run.1)) (record { told = tt; exclusive = none_held; law = refl; cause = tt })
 headline {T} z (objects.Atomic v) parties past run = subst (λ (p : List (Event T)). Headline z (objects.Atomic v) p) (sym (no_events z parties past run.1)) (record { told = tt; exclusive = none_held; law = refl; cause = tt })
 
@@ -99,10 +107,10 @@ absent_word {T} z (objects.Semaphore initial) parties past word run lacks =
     let other = not_state T (objects.Semaphore initial) word lacks in
     lacked_word z (semaphore_table initial) parties word (semaphore_lacks T initial word other) past run.1 ∙ unopened initial word other
 absent_word z objects.Spin parties past word run lacks = silent_word z objects.Spin parties past word run.1 refl
-absent_word z (objects.Barrier n) parties past word run lacks = silent_word z (objects.Barrier n) parties past word run.1 refl
+absent_word {T} z (objects.Barrier n) parties past word run lacks = lacked_word z (barrier_table n) parties word (barrier_lacks T n word (not_state T (objects.Barrier n) word lacks)) past run.1
 absent_word z objects.ReaderLock parties past word run lacks = silent_word z objects.ReaderLock parties past word run.1 refl
 absent_word z objects.WriterLock parties past word run lacks = silent_word z objects.WriterLock parties past word run.1 refl
 absent_word z objects.Condvar parties past word run lacks = silent_word z objects.Condvar parties past word run.1 refl
-absent_word z objects.Once parties past word run lacks = silent_word z objects.Once parties past word run.1 refl
+absent_word {T} z objects.Once parties past word run lacks = lacked_word z once_table parties word (once_lacks T word (not_state T objects.Once word lacks)) past run.1
 absent_word z (objects.Lazy v) parties past word run lacks = silent_word z (objects.Lazy v) parties past word run.1 refl
 absent_word z (objects.Atomic v) parties past word run lacks = silent_word z (objects.Atomic v) parties past word run.1 refl

@@ -10,17 +10,21 @@ use Rattle.steps_mutex.specs.declared.MutexPlace.{MutexPlace}
 use Rattle.steps_mutex.specs.Table.{mutex_table}
 use Rattle.steps_semaphore.specs.declared.SemaphorePlace.{SemaphorePlace}
 use Rattle.steps_semaphore.specs.Table.{semaphore_table}
+use Rattle.steps_barrier.specs.declared.BarrierPlace.{BarrierPlace}
+use Rattle.steps_barrier.specs.Table.{barrier_table}
+use Rattle.steps_once.specs.declared.OncePlace.{OncePlace}
+use Rattle.steps_once.specs.Table.{once_table}
 
 -- the objects that a machine serves; the others have no places and no calls yet
 abbrev pub is_served : {T : Type 0} → Object T → Bool
 is_served objects.Mutex = true
 is_served objects.Spin = false
 is_served (objects.Semaphore initial) = true
-is_served (objects.Barrier n) = false
+is_served (objects.Barrier n) = true
 is_served objects.ReaderLock = false
 is_served objects.WriterLock = false
 is_served objects.Condvar = false
-is_served objects.Once = false
+is_served objects.Once = true
 is_served (objects.Lazy v) = false
 is_served (objects.Atomic v) = false
 
@@ -28,11 +32,11 @@ abbrev pub place_of : {T : Type 0} → Object T → Type 0
 place_of objects.Mutex = MutexPlace
 place_of objects.Spin = ⊥
 place_of (objects.Semaphore initial) = SemaphorePlace
-place_of (objects.Barrier n) = ⊥
+place_of (objects.Barrier n) = BarrierPlace
 place_of objects.ReaderLock = ⊥
 place_of objects.WriterLock = ⊥
 place_of objects.Condvar = ⊥
-place_of objects.Once = ⊥
+place_of objects.Once = OncePlace
 place_of (objects.Lazy v) = ⊥
 place_of (objects.Atomic v) = ⊥
 
@@ -40,11 +44,11 @@ abbrev pub table_of : {T : Type 0} → Arithmetic T → (o : Object T) → Table
 table_of z objects.Mutex = mutex_table
 table_of z objects.Spin = no_calls
 table_of z (objects.Semaphore initial) = semaphore_table initial
-table_of z (objects.Barrier n) = no_calls
+table_of z (objects.Barrier n) = barrier_table n
 table_of z objects.ReaderLock = no_calls
 table_of z objects.WriterLock = no_calls
 table_of z objects.Condvar = no_calls
-table_of z objects.Once = no_calls
+table_of z objects.Once = once_table
 table_of z (objects.Lazy v) = no_calls
 table_of z (objects.Atomic v) = no_calls
 

@@ -1,9 +1,11 @@
 //! The steps of every primitive, one atomic step at a time.
 
+pub mod barrier;
 mod fault;
 mod headline;
 mod machine;
 pub mod mutex;
+pub mod once;
 mod place;
 mod playing;
 pub mod semaphore;

@@ -1,8 +1,10 @@
 //! Each public call once, with ample memory. Every text of the schedule is tested in `sync_play`.
+ghost use Rattle.std.specs.Prelude.{◌≤◌, length};
+
 use crate::atomic::internal::AtomicInteger;
 use crate::steps::{
     Act, Answer, Call, Event, Input, Machine, Object, PlayFault, StepFault, Then, Wake, Word,
-    at_every_front, mutex, play, semaphore,
+    at_every_front, barrier, mutex, once, play, semaphore,
 };
 use crate::{SPIN_REPETITIONS, WaitAction};
 use std::alloc::{AllocError, Global};
@@ -13,6 +15,9 @@ fn word_functions_at_their_paths(rt: HostRuntime) {
     assert_eq!(rt; mutex::granted(0), Some(1));
     assert_eq!(rt; semaphore::taken(u64::MAX), Some(u64::MAX - 1));
     assert_eq!(rt; semaphore::posted(u64::MAX, 2), 1);
+    assert_eq!(rt; barrier::arrived(1, 2), Some(4294967296));
+    assert_eq!(rt; barrier::opened(18446744069414584321), 0);
+    assert_eq!(rt; once::begun(0), Some(1));
     assert_eq!(rt; SPIN_REPETITIONS, 10000);
     assert_eq!(rt; u64::from_words(7, 9), 7);
 }
@@ -185,5 +190,80 @@ fn a_lock_that_gives_up_after_two_stands(rt: HostRuntime) -> Result<(), Fail> {
     assert_eq!(rt; outcome(&ended, 4), Some((1, interrupted)));
     assert_eq!(rt; machine.failed(), 10003);
     assert_eq!(rt; machine.word(), 1);
+    Ok(())
+}
+
+/// The events of a schedule that is played in one piece, and in two that part before the input of this number; and the word.
+fn in_two_pieces(
+    alloc: Global,
+    object: Object<u64>,
+    schedule: &[(usize, Input<u64>)],
+    at: usize,
+) -> Result<(Vec<Event<u64>>, Vec<Event<u64>>, u64), Fail>
+    requires { at ≤ length schedule.now }
+{
+    let mut machine = Machine::<u64>::new(alloc, object, 3)?;
+    let whole = play(alloc, &mut machine, schedule).map_err(|_| "refused")?;
+    let mut machine = Machine::<u64>::new(alloc, object, 3)?;
+    let mut parts = play(alloc, &mut machine, &schedule[..at]).map_err(|_| "refused")?;
+    for event in &play(alloc, &mut machine, &schedule[at..]).map_err(|_| "refused")? {
+        parts.push(*event)?;
+    }
+    Ok((whole, parts, machine.word()))
+}
+
+#[test]
+fn a_barrier_opens_in_one_piece_and_in_two(rt: HostRuntime) -> Result<(), Fail> {
+    let schedule = [
+        (0, Input::Begin(Call::Wait)),
+        (0, Input::Go),
+        (0, Input::Go),
+        (0, Input::Go),
+        (2, Input::Begin(Call::Wait)),
+        (2, Input::Go),
+        (2, Input::Go),
+        (2, Input::Go),
+        (0, Input::Go),
+    ];
+    let ok = Then::Answers(Answer::Ok);
+    for at in 0..9 {
+        let (whole, parts, word) = in_two_pieces(rt.alloc(), Object::Barrier(2), &schedule, at)?;
+        assert_eq!(rt; outcome(&whole, 3), Some((0, Then::GoesOn)));
+        assert_eq!(rt; outcome(&whole, 6), Some((2, Then::GoesOn)));
+        assert_eq!(rt; outcome(&whole, 7), Some((2, ok)));
+        assert_eq!(rt; outcome(&whole, 8), Some((0, ok)));
+        assert!(rt; whole.as_slice() == parts.as_slice());
+        assert_eq!(rt; word, 4294967296);
+    }
+    Ok(())
+}
+
+#[test]
+fn a_once_runs_in_one_piece_and_in_two(rt: HostRuntime) -> Result<(), Fail> {
+    let schedule = [
+        (1, Input::Begin(Call::CallOnce)),
+        (1, Input::Go),
+        (1, Input::Go),
+        (0, Input::Begin(Call::CallOnce)),
+        (0, Input::Go),
+        (0, Input::Go),
+        (1, Input::Go),
+        (1, Input::Go),
+        (0, Input::Go),
+        (2, Input::Begin(Call::IsCompleted)),
+        (2, Input::Go),
+    ];
+    let done = Then::Answers(Answer::Done);
+    for at in 0..11 {
+        let (whole, parts, word) = in_two_pieces(rt.alloc(), Object::Once, &schedule, at)?;
+        assert_eq!(rt; outcome(&whole, 5), Some((0, Then::GoesOn)));
+        assert_eq!(rt; outcome(&whole, 6), Some((1, Then::GoesOn)));
+        assert_eq!(rt; outcome(&whole, 7), Some((1, done)));
+        assert_eq!(rt; outcome(&whole, 8), Some((0, done)));
+        let told = Then::Answers(Answer::Flag(true));
+        assert_eq!(rt; outcome(&whole, 10), Some((2, told)));
+        assert!(rt; whole.as_slice() == parts.as_slice());
+        assert_eq!(rt; word, 2);
+    }
     Ok(())
 }

@@ -2,7 +2,7 @@ use super::{played, text};
 use std::test::Fail;
 
 /// Texts, their lines parted by ` / `, with the fault of each.
-const FAULTS: [(&str, &str); 44] = [
+const FAULTS: [(&str, &str); 55] = [
     ("mutex 1 / 1 go", "line 2: idle"),
     ("mutex 1 / 1 run", "line 2: idle"),
     ("mutex 1 / 1 lock / 1 lock", "line 3: busy"),
@@ -71,7 +71,28 @@ const FAULTS: [(&str, &str); 44] = [
         "semaphore 1 0 / 1 start_wait / 1 run / 1 go",
         "line 4: waiting",
     ),
-    ("barrier 1 2", "line 1: no object"),
+    ("barrier 1", "line 1: bad line"),
+    ("barrier 1 2 3", "line 1: bad line"),
+    ("barrier 1 4294967296", "line 1: bad number"),
+    ("barrier 1 1 / 1 wait", "line 2: not waiting"),
+    ("barrier 1 1 / 1 try_wait", "line 2: bad line"),
+    (
+        "barrier 1 1 / 1 start_wait / 1 start_wait",
+        "line 3: busy",
+    ),
+    ("once 1 1", "line 1: bad line"),
+    ("once 1 / 1 lock", "line 2: bad line"),
+    ("once 1 / 1 call_once 1", "line 2: bad line"),
+    // Another's closure runs, and nobody ends it within the line.
+    (
+        "once 2 / 1 call_once / 1 go 2 / 2 call_once / 2 run / 1 run / 2 run",
+        "line 5: step limit",
+    ),
+    (
+        "once 2 / 1 call_once / 1 go 2 / 2 call_once / 2 abort",
+        "line 5: not waiting",
+    ),
+    ("latch 1 2", "line 1: no object"),
 ];
 
 #[test]

@@ -17,6 +17,8 @@ use Rattle.steps_events.specs.Moves.{stage_of}
 use Rattle.steps_events.specs.Rows.{within}
 use Rattle.steps_mutex.specs.Table.{mutex_begins, mutex_intent, mutex_after, mutex_answered, mutex_grant, mutex_needs_hold}
 use Rattle.steps_semaphore.specs.Table.{semaphore_opening, semaphore_begins, semaphore_intent, semaphore_after, semaphore_answered}
+use Rattle.steps_barrier.specs.Table.{barrier_begins, barrier_intent, barrier_after}
+use Rattle.steps_once.specs.Table.{once_begins, once_intent, once_after}
 use Rattle.sync_steps.specs.declared.steps.place.Closure.{Closure}
 use Rattle.sync_steps.specs.declared.steps.place.Closure.TheVariants as closures
 use Rattle.sync_steps.specs.declared.steps.place.Doing.{Doing}
@@ -30,11 +32,11 @@ abbrev pub place_in : {T : Type 0} (o : Object T) → place_of o → Place
 place_in objects.Mutex place = places.Mutex place
 place_in objects.Spin place = absurd place
 place_in (objects.Semaphore initial) place = places.Semaphore place
-place_in (objects.Barrier n) place = absurd place
+place_in (objects.Barrier n) place = places.Barrier place
 place_in objects.ReaderLock place = absurd place
 place_in objects.WriterLock place = absurd place
 place_in objects.Condvar place = absurd place
-place_in objects.Once place = absurd place
+place_in objects.Once place = places.Once place
 place_in (objects.Lazy v) place = absurd place
 place_in (objects.Atomic v) place = absurd place
 
@@ -85,29 +87,37 @@ abbrev pub begins_at : {T : Type 0} → Object T → Call T → Option Place
 begins_at objects.Mutex call = map_place places.Mutex (mutex_begins call)
 begins_at objects.Spin call = None
 begins_at (objects.Semaphore initial) call = map_place places.Semaphore (semaphore_begins call)
-begins_at (objects.Barrier n) call = None
+begins_at (objects.Barrier n) call = map_place places.Barrier (barrier_begins n call)
 begins_at objects.ReaderLock call = None
 begins_at objects.WriterLock call = None
 begins_at objects.Condvar call = None
-begins_at objects.Once call = None
+begins_at objects.Once call = map_place places.Once (once_begins call)
 begins_at (objects.Lazy v) call = None
 begins_at (objects.Atomic v) call = None
 
 abbrev pub intent_at : {T : Type 0} → Place → Option HoldKind → Intent T
 intent_at (places.Mutex place) hold = mutex_intent words.State place
 intent_at (places.Semaphore place) hold = semaphore_intent words.State place
+intent_at (places.Barrier place) hold = barrier_intent words.State place
+intent_at (places.Once place) hold = once_intent words.State place
 
 abbrev pub after_at : {T : Type 0} → Place → Option ℕ → After T Place
 after_at (places.Mutex place) told = within places.Mutex (mutex_after place told)
 after_at (places.Semaphore place) told = within places.Semaphore (semaphore_after place told)
+after_at (places.Barrier place) told = within places.Barrier (barrier_after place told)
+after_at (places.Once place) told = within places.Once (once_after place told)
 
 abbrev pub answered_at : Place → WaitAction → Place
 answered_at (places.Mutex place) action = places.Mutex (mutex_answered place action)
 answered_at (places.Semaphore place) action = places.Semaphore (semaphore_answered place action)
+answered_at (places.Barrier place) action = places.Barrier place
+answered_at (places.Once place) action = places.Once place
 
 abbrev pub chosen_at : {T : Type 0} → Place → Option T → Place
 chosen_at (places.Mutex place) choice = places.Mutex place
 chosen_at (places.Semaphore place) choice = places.Semaphore place
+chosen_at (places.Barrier place) choice = places.Barrier place
+chosen_at (places.Once place) choice = places.Once place
 
 abbrev pub grant_at : {T : Type 0} → Object T → Call T → ℕ → ℕ → Option HoldKind
 grant_at objects.Mutex call from to = mutex_grant call from to

@@ -37,7 +37,7 @@ impl<T> Model for Machine<T> {
 }
 
 impl<T: AtomicInteger> Machine<T> {
-    /// A machine of the object, where no party has begun a call yet. So far it serves mutexes and semaphores.
+    /// A machine of the object, where no party has begun a call yet. So far it serves mutexes, semaphores, barriers and onces.
     ///
     /// It takes memory for the places of its parties, and answers `AllocError` where there is none.
     pub fn new(alloc: Global, object: Object<T>, parties: usize) -> Result<Machine<T>, AllocError>
@@ -218,9 +218,13 @@ fn opened<T>(object: &Object<T>) -> Words
 {
     let state = match object {
         Object::Semaphore(initial) => *initial,
+        // Read, so that it is known to be below 2^32.
+        Object::Barrier(n) => {
+            let _n = *n;
+            0
+        }
         Object::Mutex
         | Object::Spin
-        | Object::Barrier(_)
         | Object::ReaderLock
         | Object::WriterLock
         | Object::Condvar

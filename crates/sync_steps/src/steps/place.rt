@@ -3,11 +3,13 @@ ghost use Rattle.std.specs.Prelude.{◌≡◌};
 ghost use Rattle.sync_steps.specs.Machine.Places.{begins_at, intent_at, after_at, answered_at, chosen_at, grant_at, needs_hold_at};
 
 use std::alloc::AllocError;
+use steps_barrier::BarrierPlace;
 use steps_events::WaitAction;
 use steps_events::event::{Act, Call, Object, Then, Word};
 use steps_events::hold::HoldKind;
 use steps_events::row::{After, Intent};
 use steps_mutex::MutexPlace;
+use steps_once::OncePlace;
 use steps_semaphore::SemaphorePlace;
 
 /// Where a party is in its call: a place of its object's primitive.
@@ -15,6 +17,8 @@ use steps_semaphore::SemaphorePlace;
 pub enum Place {
     Mutex(MutexPlace),
     Semaphore(SemaphorePlace),
+    Barrier(BarrierPlace),
+    Once(OncePlace),
 }
 
 /// A closure at which a call stands until it has answered.
@@ -64,12 +68,12 @@ impl Place {
         match object {
             Object::Mutex => Some(Place::Mutex(MutexPlace::begin(call)?)),
             Object::Semaphore(_) => Some(Place::Semaphore(SemaphorePlace::begin(call)?)),
+            Object::Barrier(n) => Some(Place::Barrier(BarrierPlace::begin(call, *n)?)),
+            Object::Once => Some(Place::Once(OncePlace::begin(call)?)),
             Object::Spin
-            | Object::Barrier(_)
             | Object::ReaderLock
             | Object::WriterLock
             | Object::Condvar
-            | Object::Once
             | Object::Lazy(_)
             | Object::Atomic(_) => None,
         }
@@ -83,6 +87,8 @@ impl Place {
         match self {
             Place::Mutex(place) => place.intent(Word::State),
             Place::Semaphore(place) => place.intent(Word::State),
+            Place::Barrier(place) => place.intent(Word::State),
+            Place::Once(place) => place.intent(Word::State),
         }
     }
 
@@ -94,6 +100,8 @@ impl Place {
         match self {
             Place::Mutex(place) => place.after(told).within(Place::Mutex),
             Place::Semaphore(place) => place.after(told).within(Place::Semaphore),
+            Place::Barrier(place) => place.after(told).within(Place::Barrier),
+            Place::Once(place) => place.after(told).within(Place::Once),
         }
     }
 
@@ -104,10 +112,12 @@ impl Place {
         match self {
             Place::Mutex(place) => Place::Mutex(place.answered(action)),
             Place::Semaphore(place) => Place::Semaphore(place.answered(action)),
+            Place::Barrier(place) => Place::Barrier(place.answered(action)),
+            Place::Once(place) => Place::Once(place.answered(action)),
         }
     }
 
-    /// Where the call goes on once its choice closure has answered: no place of a mutex or a semaphore asks for a choice.
+    /// Where the call goes on once its choice closure has answered: no place of these asks for a choice.
     pub fn chosen<T>(&self, _choice: Option<T>) -> Place
     where
         T: Copy,
@@ -116,6 +126,8 @@ impl Place {
         match self {
             Place::Mutex(place) => Place::Mutex(*place),
             Place::Semaphore(place) => Place::Semaphore(*place),
+            Place::Barrier(place) => Place::Barrier(*place),
+            Place::Once(place) => Place::Once(*place),
         }
     }
 }

@@ -1,0 +1,338 @@
+-- A barrier keeps its law at every front of every run.
+use Rattle.std.proofs.Common.{◌≡◌, ◌≢◌, ℕ, zero, suc, ◌+◌, ◌/◌, ◌≤◌, ◌<◌, ◌^◌, ◌==◌, refl, sym, ◌∙◌, ap, subst, Bool, true, false, cond, List, [], ◌∷◌, Option, Some, ◌⊎◌, inl, inr, ◌↔◌, arith}
+use Rattle.std.specs.Prelude.{MatchBool, MatchOption, nat_lt, not}
+use Rattle.std.proofs.lemmas.Bool.{eqb-true, eqb-false}
+use Rattle.std.proofs.lemmas.Bool.Decides.{nat_tests}
+use Rattle.std.proofs.lemmas.Nat.{mod_below}
+use Rattle.steps_events.specs.declared.WaitAction.{WaitAction}
+use Rattle.steps_events.specs.declared.event.Word.{Word}
+use Rattle.steps_events.specs.declared.event.Word.TheVariants as words
+use Rattle.steps_events.specs.declared.event.Call.{Call}
+use Rattle.steps_events.specs.declared.event.Call.TheVariants as calls
+use Rattle.steps_events.specs.declared.event.Act.{Act}
+use Rattle.steps_events.specs.declared.event.Act.TheVariants as acts
+use Rattle.steps_events.specs.declared.event.Answer.TheVariants as answers
+use Rattle.steps_events.specs.declared.event.Event.{Event}
+use Rattle.steps_events.specs.declared.event.Then.{Then}
+use Rattle.steps_events.specs.declared.event.Then.TheVariants as thens
+use Rattle.steps_events.specs.declared.hold.HoldKind.{HoldKind}
+use Rattle.steps_events.specs.declared.patience.Patience.{Patience}
+use Rattle.steps_events.specs.declared.row.After.{After}
+use Rattle.steps_events.specs.declared.row.After.TheVariants as afters
+use Rattle.steps_events.specs.Arithmetic.{Arithmetic}
+use Rattle.steps_events.specs.Rows.{carried_out, value_told, outcome_of, place_after, within}
+use Rattle.steps_events.specs.Past.{same_word, PendingCall, call_of, hold_of, word_in, word_after, event}
+use Rattle.steps_events.specs.Moves.{Move, step_at}
+use Rattle.steps_events.specs.Runs.{IsPast}
+use Rattle.steps_events.specs.Sights.{is_sight, AtLast, spins_in, stands_at_wait, last_of}
+use Rattle.steps_events.specs.Laws.{Lacks, is_refusal}
+use Rattle.steps_events.proofs.Holds.{no_holds}
+use Rattle.steps_events.proofs.Steps.{by_move, tells_memory}
+use Rattle.steps_events.proofs.Spins.{spins_left, spins_spent}
+use Rattle.steps_events.proofs.Parties.{IsKept, at_place}
+use Rattle.steps_events.proofs.Own.{IsToldOf, own_at_last, at_last_maps}
+use Rattle.steps_barrier.specs.declared.BarrierPlace.{BarrierPlace}
+use Rattle.steps_barrier.specs.declared.BarrierPlace.TheVariants as places
+use Rattle.steps_barrier.specs.Rounds.{epoch_of, count_of, with_arrival, is_arrival, arrivals_in, round_of, IsFull, CountsArrivals}
+use Rattle.steps_barrier.specs.Table.{barrier_table, barrier_begins, barrier_intent, barrier_after}
+use Rattle.steps_barrier.specs.Law.{BarrierCause, is_ok, since_arrival, KeepsBarrier}
+use Rattle.steps_barrier.proofs.Rounds.{count_is, counts_none, counts_more, later_epoch, filled_round, is_full}
+
+-- What is kept of a call at its place.
+
+-- the call's own arrival was from this value, where fewer than n had arrived
+abbrev pub HasArrived : {T : Type 0} → ℕ → ℕ → List (Event T) → Type 0
+HasArrived n v own = (to : ℕ) × (found : ℕ) × (last_of is_arrival own ≡ Some (acts.Exchange words.State v to found true)) × (count_of v < n)
+
+abbrev pub AtBarrier : {T : Type 0} → ℕ → BarrierPlace → PendingCall T → Option HoldKind → Type 0
+AtBarrier n (places.Look m) c hold = (c.call ≡ calls.Wait) × (m ≡ n)
+AtBarrier n (places.Arrive m seen to) c hold = (c.call ≡ calls.Wait) × (m ≡ n) × (count_of seen < n) × (to ≡ with_arrival n seen)
+AtBarrier n places.Wake c hold = (c.call ≡ calls.Wait) × ((v : ℕ) × HasArrived n v c.own × (count_of v + 1 ≡ n))
+AtBarrier n (places.Stay epoch spins) c hold =
+    (c.call ≡ calls.Wait) × ((v : ℕ) × HasArrived n v c.own × (epoch_of v ≡ epoch)) × (spins_in (is_sight words.State) (since_arrival c.own) ≡ spins) × (spins ≤ 10000)
+
+-- Where a call begins.
+
+begins_at :
+    {T : Type 0} (n : ℕ) (call : Call T) (place : BarrierPlace) (hold : Option HoldKind) → barrier_begins n call ≡ Some place → AtBarrier {T = T} n place (record { call = call; own = [] }) hold
+begins_at {T} n calls.Wait place hold is =
+    let made : places.Look n ≡ place = cc in
+    subst (λ p. AtBarrier {T = T} n p (record { call = calls.Wait; own = [] }) hold) made (refl, refl)
+begins_at n other place hold is = absurd cc
+
+-- Where a step leads.
+
+below_of : (v m n : ℕ) → m ≡ n → nat_lt (count_of v) m ≡ true → count_of v < n
+below_of v m n same below = grind (arith, nat_tests)
+
+-- how a call goes on after a look, by whether fewer than all have arrived
+abbrev look_after : {T : Type 0} → ℕ → ℕ → Bool → After T BarrierPlace
+look_after m v below = cond below (afters.At (places.Arrive m v (with_arrival m v))) (afters.Ends answers.Full)
+
+look_steps :
+    {T : Type 0} (n m : ℕ) (c : PendingCall T) (hold : Option HoldKind) (v : ℕ) (e : Event T) (next : BarrierPlace) (below : Bool) → c.call ≡ calls.Wait → m ≡ n → nat_lt (count_of v) m ≡ below →
+    place_after {T = T} (look_after m v below) ≡ Some next → AtBarrier n next (record { call = c.call; own = e ∷ c.own }) hold
+look_steps n m c hold v e next false wait same below is = absurd cc
+look_steps {T} n m c hold v e next true wait same below is =
+    let made : places.Arrive m v (with_arrival m v) ≡ next = cc in
+    subst (λ p. AtBarrier {T = T} n p (record { call = c.call; own = e ∷ c.own }) hold) made (wait, same, below_of v m n same below, ap (λ k. with_arrival k v) same)
+
+-- how it goes on after its arrival, by whether this made n
+abbrev joined_after : {T : Type 0} → ℕ → Bool → After T BarrierPlace
+joined_after v fills = cond fills (afters.At places.Wake) (afters.At (places.Stay (epoch_of v) 0))
+
+joined_steps :
+    {T : Type 0} (n m : ℕ) (c : PendingCall T) (hold : Option HoldKind) (seen to found number : ℕ) (outcome : Then T) (next : BarrierPlace) (fills : Bool) → c.call ≡ calls.Wait → m ≡ n → count_of seen < n →
+    (count_of seen + 1 == m) ≡ fills → place_after {T = T} (joined_after seen fills) ≡ Some next →
+    AtBarrier n next (record { call = c.call; own = event number (acts.Exchange words.State seen to found true) outcome ∷ c.own }) hold
+joined_steps {T} n m c hold seen to found number outcome next true wait same below fills is =
+    let made : places.Wake ≡ next = cc in
+    subst (λ p. AtBarrier {T = T} n p (record { call = c.call; own = event number (acts.Exchange words.State seen to found true) outcome ∷ c.own }) hold) made
+    (wait, (seen, (to, found, refl, below), eqb-true (count_of seen + 1) m fills ∙ same))
+joined_steps {T} n m c hold seen to found number outcome next false wait same below fills is =
+    let made : places.Stay (epoch_of seen) 0 ≡ next = cc in
+    subst (λ p. AtBarrier {T = T} n p (record { call = c.call; own = event number (acts.Exchange words.State seen to found true) outcome ∷ c.own }) hold) made
+    (wait, (seen, (to, found, refl, below), refl), refl, omega arith)
+
+arrive_steps :
+    {T : Type 0} (n m : ℕ) (c : PendingCall T) (hold : Option HoldKind) (seen to w number : ℕ) (outcome : Then T) (next : BarrierPlace) (done : Bool) → c.call ≡ calls.Wait → m ≡ n → count_of seen < n →
+    place_after {T = T} (cond done (joined_after seen (count_of seen + 1 == m)) (look_after m w (nat_lt (count_of w) m))) ≡ Some next →
+    AtBarrier n next (record { call = c.call; own = event number (acts.Exchange words.State seen to w done) outcome ∷ c.own }) hold
+arrive_steps n m c hold seen to w number outcome next true wait same below is = joined_steps n m c hold seen to w number outcome next (count_of seen + 1 == m) wait same below refl is
+arrive_steps n m c hold seen to w number outcome next false wait same below is = look_steps n m c hold w _ next (nat_lt (count_of w) m) wait same refl is
+
+-- how a call that stays goes on, by two tests: it sees the epoch of its arrival, it has spins left
+abbrev stay_after : {T : Type 0} → ℕ → ℕ → ℕ → Bool → Bool → After T BarrierPlace
+stay_after epoch spins v same left =
+    cond same (within (λ (p : Patience). places.Stay epoch p.spins) (cond left (afters.At (record { spins = spins + 1; keep = true })) (afters.Waits (record { spins = spins; keep = true }) v))) (afters.Ends answers.Ok)
+
+stay_steps :
+    {T : Type 0} (n epoch spins : ℕ) (c : PendingCall T) (hold : Option HoldKind) (v number : ℕ) (next : BarrierPlace) (same left : Bool) → AtBarrier n (places.Stay epoch spins) c hold → nat_lt spins 10000 ≡ left →
+    place_after {T = T} (stay_after epoch spins v same left) ≡ Some next →
+    AtBarrier n next (record { call = c.call; own = event number (acts.Load words.State v) (outcome_of {T = T} (stay_after epoch spins v same left)) ∷ c.own }) hold
+stay_steps n epoch spins c hold v number next false left at spun is = absurd cc
+stay_steps {T} n epoch spins c hold v number next true true at spun is =
+    let made : places.Stay epoch (spins + 1) ≡ next = cc in
+    subst (λ p. AtBarrier {T = T} n p (record { call = c.call; own = event number (acts.Load words.State v) thens.GoesOn ∷ c.own }) hold) made
+    (at.0, at.1, omega (arith, at.2), spins_left spins spun)
+stay_steps {T} n epoch spins c hold v number next true false at spun is =
+    let made : places.Stay epoch spins ≡ next = cc in
+    subst (λ p. AtBarrier {T = T} n p (record { call = c.call; own = event number (acts.Load words.State v) (thens.Waits v) ∷ c.own }) hold) made
+    (at.0, at.1, omega (arith, at.2), at.3)
+
+steps_at :
+    {T : Type 0} (n : ℕ) (place : BarrierPlace) (c : PendingCall T) (hold left : Option HoldKind) (memory : Word → ℕ) (number : ℕ) (next : BarrierPlace) → AtBarrier n place c hold →
+    place_after {T = T} (barrier_after place (value_told {T = T} (carried_out (barrier_intent words.State place) memory))) ≡ Some next →
+    AtBarrier n next (record { call = c.call; own = event number (step_at (barrier_table n) place hold memory).act (step_at (barrier_table n) place hold memory).outcome ∷ c.own }) left
+steps_at n (places.Look m) c hold left memory number next at is = look_steps n m c left (memory words.State) _ next (nat_lt (count_of (memory words.State)) m) at.0 at.1 refl is
+steps_at n (places.Arrive m seen to) c hold left memory number next at is = arrive_steps n m c left seen to (memory words.State) number _ next (memory words.State == seen) at.0 at.1 at.2 is
+steps_at n places.Wake c hold left memory number next at is = absurd cc
+steps_at n (places.Stay epoch spins) c hold left memory number next at is =
+    stay_steps n epoch spins c left (memory words.State) number next (epoch_of (memory words.State) == epoch) (nat_lt spins 10000) at refl is
+
+-- Where an answer leads.
+
+answers_at :
+    {T : Type 0} (n : ℕ) (place : BarrierPlace) (c : PendingCall T) (hold : Option HoldKind) (action : WaitAction) (number : ℕ) → AtBarrier n place c hold →
+    AtBarrier {T = T} n place (record { call = c.call; own = event number (acts.Answered action) thens.GoesOn ∷ c.own }) hold
+answers_at n (places.Look m) c hold action number at = at
+answers_at n (places.Arrive m seen to) c hold action number at = at
+answers_at n places.Wake c hold action number at = at
+answers_at n (places.Stay epoch spins) c hold action number at = (at.0, at.1, omega (arith, at.2), at.3)
+
+chooses_at :
+    {T : Type 0} (n : ℕ) (place : BarrierPlace) (c : PendingCall T) (hold : Option HoldKind) (choice : Option T) (number : ℕ) → AtBarrier n place c hold →
+    AtBarrier {T = T} n place (record { call = c.call; own = event number (acts.Chosen choice) thens.GoesOn ∷ c.own }) hold
+chooses_at n (places.Look m) c hold choice number at = at
+chooses_at n (places.Arrive m seen to) c hold choice number at = at
+chooses_at n places.Wake c hold choice number at = at
+chooses_at n (places.Stay epoch spins) c hold choice number at = (at.0, at.1, omega (arith, at.2), at.3)
+
+pub barrier_kept : {T : Type 0} (n : ℕ) → IsKept {T = T} (barrier_table n) (AtBarrier n)
+barrier_kept n =
+    record {
+      begins = λ call place hold is allowed. begins_at n call place hold is;
+      steps = λ place c hold memory number next at free is. steps_at n place c hold _ memory number next at is;
+      answers = λ place c hold action number at stands. answers_at n place c hold action number at;
+      chooses = λ place c hold choice number at stands. chooses_at n place c hold choice number at;
+    }
+
+-- What a step does to the word: nothing, or it counts one arrival.
+
+abbrev Effect : {T : Type 0} → ℕ → ℕ → Act T → Type 0
+Effect n w act = ((word_after words.State act w ≡ w) × (is_arrival act ≡ false)) ⊎ ((count_of w < n) × (word_after words.State act w ≡ with_arrival n w) × (is_arrival act ≡ true))
+
+arrive_effect : (T : Type 0) (n seen to w : ℕ) (done : Bool) → count_of seen < n → to ≡ with_arrival n seen → (w == seen) ≡ done → Effect {T = T} n w (acts.Exchange words.State seen to w done)
+arrive_effect T n seen to w false below to_is is = inl (refl, refl)
+arrive_effect T n seen to w true below to_is is =
+    let found : w ≡ seen = eqb-true w seen is in
+    inr (subst (λ v. count_of v < n) (sym found) below, to_is ∙ ap (λ v. with_arrival n v) (sym found), refl)
+
+step_effect :
+    {T : Type 0} (n : ℕ) (c : PendingCall T) (place : BarrierPlace) (hold : Option HoldKind) (memory : Word → ℕ) → AtBarrier {T = T} n place c hold → Effect {T = T} n (memory words.State) (step_at (barrier_table n) place hold memory).act
+step_effect n c (places.Look m) hold memory at = inl (refl, refl)
+step_effect {T} n c (places.Arrive m seen to) hold memory at = arrive_effect T n seen to (memory words.State) (memory words.State == seen) at.2 at.3 refl
+step_effect n c places.Wake hold memory at = inl (refl, refl)
+step_effect n c (places.Stay epoch spins) hold memory at = inl (refl, refl)
+
+event_effect : {T : Type 0} (z : Arithmetic T) (n parties : ℕ) (past : List (Event T)) (e : Event T) → IsPast z (barrier_table n) parties (e ∷ past) → Effect n (word_in (barrier_table n) past words.State) e.act
+event_effect {T} z n parties past e run =
+    by_move (barrier_table n) (call_of e.party past) (hold_of (barrier_table n) e.party past) (word_in (barrier_table n) past)
+    (λ (k : Option (PendingCall T)) (m : Move T). Effect n (word_in (barrier_table n) past words.State) m.act)
+    run.0.0 (record { act = e.act; outcome = e.then })
+    (λ call _. inl (refl, refl)) (λ action _. inl (refl, refl)) (λ choice _. inl (refl, refl))
+    (λ c place _ called stage.
+    step_effect n c place (hold_of (barrier_table n) e.party past) (word_in (barrier_table n) past)
+    (at_place z (barrier_table n) parties (AtBarrier n) (barrier_kept n) past run.1 e.party c place called stage))
+    run.0.1.moved
+
+counted : (n arrivals w word : ℕ) (arrives : Bool) → n < 2 ^ 32 → CountsArrivals n arrivals w →
+    ((word ≡ w) × (arrives ≡ false)) ⊎ ((count_of w < n) × (word ≡ with_arrival n w) × (arrives ≡ true)) → CountsArrivals n (cond arrives 1 0 + arrivals) word
+counted n arrivals w word arrives fits counts (inl quiet) = rw (quiet.0, quiet.1) (let none : 0 + arrivals ≡ arrivals = omega arith in rw none counts)
+counted n arrivals w word arrives fits counts (inr more) =
+    rw (more.1, more.2) (let one : 1 + arrivals ≡ arrivals + 1 = omega arith in rw one (counts_more n arrivals w fits more.0 counts))
+
+-- at every front the word tells the full rounds and the arrivals of the next one
+pub barrier_counts : {T : Type 0} (z : Arithmetic T) (n parties : ℕ) → n < 2 ^ 32 → (past : List (Event T)) → IsPast z (barrier_table n) parties past → CountsArrivals n (arrivals_in past) (word_in (barrier_table n) past words.State)
+barrier_counts z n parties fits [] run = counts_none n
+barrier_counts z n parties fits (e ∷ past) run = counted n _ _ _ (is_arrival e.act) fits (barrier_counts z n parties fits past run.1) (event_effect z n parties past e run)
+
+-- A call that has arrived stands in a full round, where its own round is before the present one.
+
+abbrev pub StandsInFullRound : {T : Type 0} → ℕ → ℕ → List (Event T) → Type 0
+StandsInFullRound n party past = AtLast is_arrival (λ before. IsFull n (round_of n (arrivals_in before)) past) party past
+
+own_round_full :
+    {T : Type 0} (z : Arithmetic T) (n parties : ℕ) → n < 2 ^ 32 → (party : ℕ) (past : List (Event T)) → IsPast z (barrier_table n) parties past → (c : PendingCall T) → call_of party past ≡ Some c →
+    (v : ℕ) → HasArrived n v c.own → ((own : ℕ) → own < arrivals_in past → CountsArrivals n own v → own / n < arrivals_in past / n) → StandsInFullRound n party past
+own_round_full {T} z n parties fits party past run c called v arrived passed =
+    at_last_maps is_arrival (IsToldOf z (barrier_table n) parties is_arrival act past) (λ before. IsFull n (round_of n (arrivals_in before)) past) full party past
+    (own_at_last z (barrier_table n) parties is_arrival party act past run c called arrived.2)
+  where
+    act : Act T
+    act = acts.Exchange words.State v arrived.0 arrived.1 true
+
+    full : (before : List (Event T)) → IsToldOf z (barrier_table n) parties is_arrival (acts.Exchange words.State v arrived.0 arrived.1 true) past before → IsFull n (round_of n (arrivals_in before)) past
+    full before told =
+        let held : word_in (barrier_table n) before words.State ≡ v = sym told.1.0 ∙ eqb-true arrived.1 v (sym told.1.1) in
+        let counts : CountsArrivals n (arrivals_in before) v = subst (λ w. CountsArrivals n (arrivals_in before) w) held (barrier_counts z n parties fits before told.0) in
+        let some : 0 < n = omega (arith, arrived.3) in
+        λ arrival is. is_full n (arrivals_in past) (arrivals_in before / n) some (passed (arrivals_in before) told.2 counts) arrival is
+
+-- What one more event tells.
+
+pub record EventLaw {T : Type 0} (n party : ℕ) (past : List (Event T)) (pending : Option (PendingCall T)) (m : Move T) : Type 0 where
+  pub cause : MatchBool (is_refusal m.outcome) (MatchOption pending ⊥ (λ c. BarrierCause n c.call party (event party m.act m.outcome ∷ past))) (Unit {0})
+  pub passes : MatchBool (is_ok m.outcome) (StandsInFullRound n party past) (Unit {0})
+  pub exact : is_sight words.State m.act ≡ true → ((m.outcome ≡ thens.Answers answers.Full) ↔ (n ≡ 0))
+  pub asks : MatchBool (stands_at_wait m.outcome) (MatchOption pending ⊥ (λ c. spins_in (is_sight words.State) (since_arrival c.own) ≡ 10000)) (Unit {0})
+
+none_of : (v n : ℕ) → count_of v < n → n ≡ 0 → ⊥
+none_of v n below none = omega (arith, below, none)
+
+-- only a barrier of 0 refuses
+nobody_fits : (n m arrivals v : ℕ) → n < 2 ^ 32 → CountsArrivals n arrivals v → m ≡ n → nat_lt (count_of v) m ≡ false → n ≡ 0
+nobody_fits zero m arrivals v fits counts same below = refl
+nobody_fits (suc k) m arrivals v fits counts same below =
+    let some : 0 < suc k = omega arith in
+    let reached : m ≤ count_of v = grind (arith, nat_tests) in
+    absurd (omega (arith, reached, same, count_is (suc k) arrivals v some fits counts, mod_below arrivals (suc k) some))
+
+look_law :
+    {T : Type 0} (n m party : ℕ) (past : List (Event T)) (c : PendingCall T) (act : Act T) (v : ℕ) (below : Bool) → n < 2 ^ 32 → c.call ≡ calls.Wait → m ≡ n → CountsArrivals n (arrivals_in past) v →
+    nat_lt (count_of v) m ≡ below → EventLaw n party past (Some c) (record { act = act; outcome = outcome_of {T = T} (look_after m v below) })
+look_law n m party past c act v true fits wait same counts below =
+    record { cause = tt; passes = tt; exact = λ sees. (λ full. absurd cc, λ none. absurd (none_of v n (below_of v m n same below) none)); asks = tt }
+look_law {T} n m party past c act v false fits wait same counts below =
+    let none : n ≡ 0 = nobody_fits n m (arrivals_in past) v fits counts same below in
+    let refuses : Event T = event party act (thens.Answers answers.Full) in
+    record {
+      cause = subst (λ (k : Call T). BarrierCause n k party (refuses ∷ past)) (sym wait) none;
+      passes = tt;
+      exact = λ sees. (λ full. none, λ is. refl);
+      asks = tt;
+    }
+
+joined_law :
+    {T : Type 0} (n party : ℕ) (past : List (Event T)) (c : PendingCall T) (act : Act T) (seen : ℕ) (fills : Bool) → count_of seen < n →
+    EventLaw n party past (Some c) (record { act = act; outcome = outcome_of {T = T} (joined_after seen fills) })
+joined_law n party past c act seen true below = record { cause = tt; passes = tt; exact = λ sees. (λ full. absurd cc, λ none. absurd (none_of seen n below none)); asks = tt }
+joined_law n party past c act seen false below = record { cause = tt; passes = tt; exact = λ sees. (λ full. absurd cc, λ none. absurd (none_of seen n below none)); asks = tt }
+
+arrive_law :
+    {T : Type 0} (n m party : ℕ) (past : List (Event T)) (c : PendingCall T) (act : Act T) (seen w : ℕ) (done : Bool) → n < 2 ^ 32 → c.call ≡ calls.Wait → m ≡ n → count_of seen < n → CountsArrivals n (arrivals_in past) w →
+    EventLaw n party past (Some c) (record { act = act; outcome = outcome_of {T = T} (cond done (joined_after seen (count_of seen + 1 == m)) (look_after m w (nat_lt (count_of w) m))) })
+arrive_law n m party past c act seen w true fits wait same below counts = joined_law n party past c act seen (count_of seen + 1 == m) below
+arrive_law n m party past c act seen w false fits wait same below counts = look_law n m party past c act w (nat_lt (count_of w) m) fits wait same counts refl
+
+stay_law :
+    {T : Type 0} (z : Arithmetic T) (n parties : ℕ) → n < 2 ^ 32 → (party : ℕ) (past : List (Event T)) → IsPast z (barrier_table n) parties past → (c : PendingCall T) → call_of party past ≡ Some c →
+    (hold : Option HoldKind) (epoch spins w : ℕ) (same left : Bool) → AtBarrier n (places.Stay epoch spins) c hold → CountsArrivals n (arrivals_in past) w → (epoch_of w == epoch) ≡ same → nat_lt spins 10000 ≡ left →
+    EventLaw n party past (Some c) (record { act = acts.Load words.State w; outcome = outcome_of {T = T} (stay_after epoch spins w same left) })
+stay_law z n parties fits party past run c called hold epoch spins w false left at counts sees spun =
+    let v = at.1.0 in
+    let below : count_of v < n = at.1.1.3 in
+    let other : epoch_of w ≢ epoch_of v = λ is. eqb-false (epoch_of w) epoch sees (is ∙ at.1.2) in
+    record {
+      cause = tt;
+      passes = own_round_full z n parties fits party past run c called v at.1.1 (λ own before counted. later_epoch n (arrivals_in past) own w v (omega (arith, below)) fits before counts counted other);
+      exact = λ sight. (λ full. absurd cc, λ none. absurd (none_of v n below none));
+      asks = tt;
+    }
+stay_law z n parties fits party past run c called hold epoch spins w true true at counts sees spun =
+    record { cause = tt; passes = tt; exact = λ sight. (λ full. absurd cc, λ none. absurd (none_of at.1.0 n at.1.1.3 none)); asks = tt }
+stay_law z n parties fits party past run c called hold epoch spins w true false at counts sees spun =
+    record { cause = tt; passes = tt; exact = λ sight. (λ full. absurd cc, λ none. absurd (none_of at.1.0 n at.1.1.3 none)); asks = at.2 ∙ spins_spent spins at.3 spun }
+
+step_law :
+    {T : Type 0} (z : Arithmetic T) (n parties : ℕ) → n < 2 ^ 32 → (party : ℕ) (past : List (Event T)) → IsPast z (barrier_table n) parties past → (c : PendingCall T) → call_of party past ≡ Some c →
+    (place : BarrierPlace) (hold : Option HoldKind) (memory : Word → ℕ) → AtBarrier n place c hold → CountsArrivals n (arrivals_in past) (memory words.State) →
+    EventLaw n party past (Some c) (step_at (barrier_table n) place hold memory)
+step_law z n parties fits party past run c called (places.Look m) hold memory at counts =
+    let w = memory words.State in
+    look_law n m party past c (acts.Load words.State w) w (nat_lt (count_of w) m) fits at.0 at.1 counts refl
+step_law z n parties fits party past run c called (places.Arrive m seen to) hold memory at counts =
+    let w = memory words.State in
+    arrive_law n m party past c (acts.Exchange words.State seen to w (w == seen)) seen w (w == seen) fits at.0 at.1 at.2 counts
+step_law z n parties fits party past run c called places.Wake hold memory at counts =
+    let some : 0 < n = omega (arith, at.1.1.3) in
+    record {
+      cause = tt;
+      passes = own_round_full z n parties fits party past run c called at.1.0 at.1.1 (λ own before counted. filled_round n (arrivals_in past) own at.1.0 some fits before counted at.1.2);
+      exact = λ sees. absurd cc;
+      asks = tt;
+    }
+step_law z n parties fits party past run c called (places.Stay epoch spins) hold memory at counts =
+    let w = memory words.State in
+    stay_law z n parties fits party past run c called hold epoch spins w (epoch_of w == epoch) (nat_lt spins 10000) at counts refl refl
+
+event_law : {T : Type 0} (z : Arithmetic T) (n parties : ℕ) → n < 2 ^ 32 → (past : List (Event T)) (e : Event T) → IsPast z (barrier_table n) parties (e ∷ past) → EventLaw n e.party past (call_of e.party past) (record { act = e.act; outcome = e.then })
+event_law {T} z n parties fits past e run =
+    by_move (barrier_table n) (call_of e.party past) (hold_of (barrier_table n) e.party past) (word_in (barrier_table n) past)
+    (λ (k : Option (PendingCall T)) (m : Move T). EventLaw n e.party past k m)
+    run.0.0 (record { act = e.act; outcome = e.then })
+    (λ call _. record { cause = tt; passes = tt; exact = λ sees. absurd cc; asks = tt })
+    (λ action _. record { cause = tt; passes = tt; exact = λ sees. absurd cc; asks = tt })
+    (λ choice _. record { cause = tt; passes = tt; exact = λ sees. absurd cc; asks = tt })
+    (λ c place _ called stage.
+    step_law z n parties fits e.party past run.1 c called place (hold_of (barrier_table n) e.party past) (word_in (barrier_table n) past)
+    (at_place z (barrier_table n) parties (AtBarrier n) (barrier_kept n) past run.1 e.party c place called stage) (barrier_counts z n parties fits past run.1))
+    run.0.1.moved
+
+pub keeps_barrier : {T : Type 0} (z : Arithmetic T) (n parties : ℕ) (past : List (Event T)) → n < 2 ^ 32 → IsPast z (barrier_table n) parties past → KeepsBarrier n past
+keeps_barrier z n parties [] fits run = record { told = tt; unheld = refl; cause = tt; law = record { counts = barrier_counts z n parties fits [] run; passes = tt; exact = tt; asks = tt } }
+keeps_barrier z n parties (e ∷ past) fits run =
+    let event = event_law z n parties fits past e run in
+    record {
+      told = tells_memory z (barrier_table n) parties (e ∷ past) run;
+      unheld = no_holds (barrier_table n) (λ call from to. refl) (e ∷ past);
+      cause = event.cause;
+      law = record { counts = barrier_counts z n parties fits (e ∷ past) run; passes = event.passes; exact = event.exact; asks = event.asks };
+    }
+
+-- a barrier has no other word
+pub barrier_lacks : (T : Type 0) (n : ℕ) (word : Word) → same_word words.State word ≡ false → Lacks {T = T} (barrier_table n) word
+barrier_lacks T n word other (places.Look m) hold = ap not other
+barrier_lacks T n word other (places.Arrive m seen to) hold = ap not other
+barrier_lacks T n word other places.Wake hold = refl
+barrier_lacks T n word other (places.Stay epoch spins) hold = ap not other

@@ -1,0 +1,66 @@
+-- What a barrier keeps at every front of every run: rounds of n arrivals, each of which is full before one of its calls answers `Ok`.
+use Rattle.std.specs.Prelude.{◌≡◌, ℕ, ◌↔◌, Bool, true, false, if◌then◌else◌, List, [], ◌∷◌, MatchBool, MatchOption}
+use Rattle.steps_events.specs.declared.event.Word.TheVariants as words
+use Rattle.steps_events.specs.declared.event.Call.{Call}
+use Rattle.steps_events.specs.declared.event.Call.TheVariants as calls
+use Rattle.steps_events.specs.declared.event.Answer.TheVariants as answers
+use Rattle.steps_events.specs.declared.event.Then.{Then}
+use Rattle.steps_events.specs.declared.event.Then.TheVariants as thens
+use Rattle.steps_events.specs.declared.event.Event.{Event}
+use Rattle.steps_events.specs.Past.{call_of, holds_of, word_in}
+use Rattle.steps_events.specs.Sights.{is_sight, AtLast, spins_in, stands_at_wait}
+use Rattle.steps_events.specs.Laws.{TellsMemory, HasCause}
+use Rattle.steps_barrier.specs.Rounds.{is_arrival, arrivals_in, round_of, IsFull, CountsArrivals}
+use Rattle.steps_barrier.specs.Table.{barrier_table}
+
+-- `Wait`: n is 0.
+abbrev pub BarrierCause : {T : Type 0} → ℕ → Call T → ℕ → List (Event T) → Type 0
+BarrierCause n calls.Wait party events = n ≡ 0
+BarrierCause n other party events = ⊥
+
+abbrev pub is_ok : {T : Type 0} → Then T → Bool
+is_ok (thens.Answers answers.Ok) = true
+is_ok other = false
+
+-- the latest event answers `Ok` only where the call's own arrival stands in a round that was full before
+abbrev pub OkAfterFullRound : {T : Type 0} → ℕ → List (Event T) → Type 0
+OkAfterFullRound n [] = Unit {0}
+OkAfterFullRound n (e ∷ past) = MatchBool (is_ok e.then) (AtLast is_arrival (λ before. IsFull n (round_of n (arrivals_in before)) past) e.party past) (Unit {0})
+
+-- Exact: an event that sees the word is refused exactly where n is 0.
+abbrev pub IsExactRefusal : {T : Type 0} → ℕ → List (Event T) → Type 0
+IsExactRefusal n [] = Unit {0}
+IsExactRefusal n (e ∷ past) = is_sight words.State e.act ≡ true → ((e.then ≡ thens.Answers answers.Full) ↔ (n ≡ 0))
+
+-- a call's own events since its arrival
+abbrev pub since_arrival : {T : Type 0} → List (Event T) → List (Event T)
+since_arrival [] = []
+since_arrival (e ∷ own) = if is_arrival e.act then [] else e ∷ since_arrival own
+
+-- a wait closure is asked only after exactly 10000 spins, which are looks since the call's arrival
+abbrev pub AsksAfterStaying : {T : Type 0} → List (Event T) → Type 0
+AsksAfterStaying [] = Unit {0}
+AsksAfterStaying (e ∷ past) =
+    MatchBool (stands_at_wait e.then)
+    (MatchOption (call_of e.party past) ⊥ (λ c. spins_in (is_sight words.State) (since_arrival c.own) ≡ 10000))
+    (Unit {0})
+
+-- What a barrier keeps beside what every object does.
+pub record BarrierLaw {T : Type 0} (n : ℕ) (past : List (Event T)) : Type 0 where
+  -- the word tells the rounds that are full, modulo 2 ^ 32, and the arrivals of the next one
+  pub counts : CountsArrivals n (arrivals_in past) (word_in (barrier_table n) past words.State)
+  -- `Ok` comes after the call's own round is full
+  pub passes : OkAfterFullRound n past
+  -- a barrier of 0 refuses each call, and no other refuses any
+  pub exact : IsExactRefusal n past
+  -- a wait closure is asked after 10000 spins, which are looks since the call's arrival
+  pub asks : AsksAfterStaying past
+
+pub record KeepsBarrier {T : Type 0} (n : ℕ) (past : List (Event T)) : Type 0 where
+  -- each act that tells a word's value tells what the memory holds there
+  pub told : TellsMemory (barrier_table n) past
+  -- nobody holds a barrier
+  pub unheld : holds_of (barrier_table n) past ≡ []
+  -- each refusal has its cause
+  pub cause : HasCause (BarrierCause n) past
+  pub law : BarrierLaw n past

@@ -1,0 +1,64 @@
+-- The call of a barrier, step for step.
+use Rattle.std.specs.Prelude.{ℕ, ◌+◌, ◌==◌, nat_lt, if◌then◌else◌, true, false, Option, Some, None, unwrap_or}
+use Rattle.steps_events.specs.declared.event.Word.{Word}
+use Rattle.steps_events.specs.declared.event.Word.TheVariants as words
+use Rattle.steps_events.specs.declared.event.Wake.TheVariants as wakes
+use Rattle.steps_events.specs.declared.event.Call.{Call}
+use Rattle.steps_events.specs.declared.event.Call.TheVariants as calls
+use Rattle.steps_events.specs.declared.event.Answer.TheVariants as answers
+use Rattle.steps_events.specs.declared.row.Intent.{Intent}
+use Rattle.steps_events.specs.declared.row.Intent.TheVariants as intents
+use Rattle.steps_events.specs.declared.row.After.{After}
+use Rattle.steps_events.specs.declared.row.After.TheVariants as afters
+use Rattle.steps_events.specs.Rows.{within, refused}
+use Rattle.steps_events.specs.Tables.{Table}
+use Rattle.steps_barrier.specs.declared.BarrierPlace.{BarrierPlace}
+use Rattle.steps_barrier.specs.declared.BarrierPlace.TheVariants as places
+use Rattle.steps_barrier.specs.Rounds.{epoch_of, count_of, with_arrival}
+
+abbrev pub barrier_begins : {T : Type 0} → ℕ → Call T → Option BarrierPlace
+barrier_begins n calls.Wait = Some (places.Look n)
+barrier_begins n other = None
+
+-- the step at each place, on the barrier's word
+abbrev pub barrier_intent : {T : Type 0} → Word → BarrierPlace → Intent T
+barrier_intent word (places.Look n) = intents.Load word
+barrier_intent word (places.Arrive n seen to) = intents.Exchange word seen to
+barrier_intent word places.Wake = intents.Wake wakes.All
+barrier_intent word (places.Stay epoch spins) = intents.Load word
+
+-- After a look the call is refused where n have arrived, and else arrives from the value seen.
+abbrev pub look : {T : Type 0} → ℕ → ℕ → After T BarrierPlace
+look n v = if nat_lt (count_of v) n then afters.At (places.Arrive n v (with_arrival n v)) else afters.Ends answers.Full
+
+-- After its arrival the one that made n wakes all. Each other stays for as long as it sees the epoch of its arrival.
+abbrev pub joined : {T : Type 0} → ℕ → ℕ → After T BarrierPlace
+joined n v = if count_of v + 1 == n then afters.At places.Wake else afters.At (places.Stay (epoch_of v) 0)
+
+-- A call that stays spins, and after its spins stands each time; its closure is told the whole word.
+abbrev pub stay : {T : Type 0} → ℕ → ℕ → ℕ → After T BarrierPlace
+stay epoch spins v = if epoch_of v == epoch then within (λ p. places.Stay epoch p.spins) (refused (record { spins = spins; keep = true }) v) else afters.Ends answers.Ok
+
+-- The value that a failed exchange found is a look.
+abbrev pub found_after : {T : Type 0} → BarrierPlace → ℕ → After T BarrierPlace
+found_after (places.Look n) found = look n found
+found_after (places.Arrive n seen to) found = if found == seen then joined n seen else look n found
+found_after places.Wake found = afters.Ends answers.Ok
+found_after (places.Stay epoch spins) found = stay epoch spins found
+
+abbrev pub barrier_after : {T : Type 0} → BarrierPlace → Option ℕ → After T BarrierPlace
+barrier_after place told = found_after place (unwrap_or told 0)
+
+-- both answers of a wait closure mean that the call looks again
+abbrev pub barrier_table : {T : Type 0} → ℕ → Table T BarrierPlace
+barrier_table n =
+    record {
+      opening = λ word. 0;
+      begins = barrier_begins n;
+      needs_hold = λ call. false;
+      grant = λ call from to. None;
+      intent = λ place hold. barrier_intent words.State place;
+      after = barrier_after;
+      answered = λ place action. place;
+      chosen = λ place choice. place;
+    }

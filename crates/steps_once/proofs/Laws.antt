@@ -1,0 +1,388 @@
+-- A once keeps its law at every front of every run.
+use Rattle.std.proofs.Common.{◌≡◌, ◌≢◌, ℕ, ◌+◌, ◌≤◌, ◌==◌, refl, sym, ◌∙◌, ap, subst, Bool, true, false, cond, List, [], ◌∷◌, Option, Some, None, ◌⊎◌, inl, inr, ◌↔◌, arith}
+use Rattle.std.specs.Prelude.{IfSome, MatchBool, MatchOption, not}
+use Rattle.std.proofs.lemmas.Bool.{eqb-true}
+use Rattle.steps_events.specs.declared.WaitAction.{WaitAction}
+use Rattle.steps_events.specs.declared.event.Word.{Word}
+use Rattle.steps_events.specs.declared.event.Word.TheVariants as words
+use Rattle.steps_events.specs.declared.event.Call.{Call}
+use Rattle.steps_events.specs.declared.event.Call.TheVariants as calls
+use Rattle.steps_events.specs.declared.event.Act.{Act}
+use Rattle.steps_events.specs.declared.event.Act.TheVariants as acts
+use Rattle.steps_events.specs.declared.event.Answer.TheVariants as answers
+use Rattle.steps_events.specs.declared.event.Event.{Event}
+use Rattle.steps_events.specs.declared.event.Then.{Then}
+use Rattle.steps_events.specs.declared.event.Then.TheVariants as thens
+use Rattle.steps_events.specs.declared.hold.HoldKind.{HoldKind}
+use Rattle.steps_events.specs.declared.row.After.{After}
+use Rattle.steps_events.specs.declared.row.After.TheVariants as afters
+use Rattle.steps_events.specs.Arithmetic.{Arithmetic}
+use Rattle.steps_events.specs.Rows.{carried_out, value_told, outcome_of, place_after}
+use Rattle.steps_events.specs.Past.{same_word, PendingCall, call_of, hold_of, word_in, word_after, event}
+use Rattle.steps_events.specs.Moves.{Move, step_at}
+use Rattle.steps_events.specs.Runs.{IsPast}
+use Rattle.steps_events.specs.Sights.{AtLast, last_of}
+use Rattle.steps_events.specs.Laws.{Lacks, is_refusal}
+use Rattle.steps_events.proofs.Holds.{no_holds}
+use Rattle.steps_events.proofs.Steps.{by_move, tells_memory}
+use Rattle.steps_events.proofs.Parties.{IsKept, at_place}
+use Rattle.steps_events.proofs.Own.{IsCallAfter, call_was, own_among, IsToldOf, own_at_last, at_last_maps}
+use Rattle.steps_once.specs.declared.OncePlace.{OncePlace}
+use Rattle.steps_once.specs.declared.OncePlace.TheVariants as places
+use Rattle.steps_once.specs.Table.{once_table, once_begins, once_intent, once_after}
+use Rattle.steps_once.specs.Law.{OnceCause, is_begin, is_end, begins_in, ends_in, tells_end, flag_of, TellsState, KeepsOnce}
+
+-- What is kept of a call at its place.
+
+-- the call's closure runs: it has begun, and not ended since
+abbrev pub is_running : {T : Type 0} → List (Event T) → Bool
+is_running [] = false
+is_running (e ∷ own) = cond (is_begin e.act) true (cond (is_end e.act) false (is_running own))
+
+-- the call's own exchange began the closure
+abbrev pub HasBegun : {T : Type 0} → List (Event T) → Type 0
+HasBegun own = (found : ℕ) × (last_of is_begin own ≡ Some (acts.Exchange words.State 0 1 found true))
+
+abbrev pub AtOnce : {T : Type 0} → OncePlace → PendingCall T → Option HoldKind → Type 0
+AtOnce places.Run c hold = HasBegun c.own × (is_running c.own ≡ true)
+AtOnce places.Complete c hold = 1 ≤ ends_in c.own
+AtOnce place c hold = Unit {0}
+
+-- Where a call begins.
+
+begins_at : {T : Type 0} (call : Call T) (place : OncePlace) (hold : Option HoldKind) → once_begins call ≡ Some place → AtOnce {T = T} place (record { call = call; own = [] }) hold
+begins_at {T} calls.IsCompleted place hold is =
+    let made : places.IsCompleted ≡ place = cc in
+    subst (λ p. AtOnce {T = T} p (record { call = calls.IsCompleted; own = [] }) hold) made tt
+begins_at {T} calls.CallOnce place hold is =
+    let made : places.Look ≡ place = cc in
+    subst (λ p. AtOnce {T = T} p (record { call = calls.CallOnce; own = [] }) hold) made tt
+begins_at other place hold is = absurd cc
+
+-- Where a step leads.
+
+-- how a call goes on after a look, by whether it saw 2
+abbrev seen_after : {T : Type 0} → OncePlace → Bool → After T OncePlace
+seen_after on complete = cond complete (afters.Ends answers.Done) (afters.At on)
+
+look_steps : {T : Type 0} (c : PendingCall T) (hold : Option HoldKind) (e : Event T) (next : OncePlace) (complete : Bool) → place_after {T = T} (seen_after places.Begin complete) ≡ Some next → AtOnce next (record { call = c.call; own = e ∷ c.own }) hold
+look_steps c hold e next true is = absurd cc
+look_steps {T} c hold e next false is =
+    let made : places.Begin ≡ next = cc in
+    subst (λ p. AtOnce {T = T} p (record { call = c.call; own = e ∷ c.own }) hold) made tt
+
+stay_steps : {T : Type 0} (c : PendingCall T) (hold : Option HoldKind) (e : Event T) (next : OncePlace) (complete : Bool) → place_after {T = T} (seen_after places.Stay complete) ≡ Some next → AtOnce next (record { call = c.call; own = e ∷ c.own }) hold
+stay_steps c hold e next true is = absurd cc
+stay_steps {T} c hold e next false is =
+    let made : places.Stay ≡ next = cc in
+    subst (λ p. AtOnce {T = T} p (record { call = c.call; own = e ∷ c.own }) hold) made tt
+
+-- and after its exchange, by whether it was done
+abbrev begin_after : {T : Type 0} → Bool → After T OncePlace
+begin_after done = cond done (afters.At places.Run) (afters.At places.Stay)
+
+begin_steps :
+    {T : Type 0} (c : PendingCall T) (hold : Option HoldKind) (w number : ℕ) (outcome : Then T) (next : OncePlace) (done : Bool) → place_after {T = T} (begin_after done) ≡ Some next →
+    AtOnce next (record { call = c.call; own = event number (acts.Exchange words.State 0 1 w done) outcome ∷ c.own }) hold
+begin_steps {T} c hold w number outcome next true is =
+    let made : places.Run ≡ next = cc in
+    subst (λ p. AtOnce {T = T} p (record { call = c.call; own = event number (acts.Exchange words.State 0 1 w true) outcome ∷ c.own }) hold) made ((w, refl), refl)
+begin_steps {T} c hold w number outcome next false is =
+    let made : places.Stay ≡ next = cc in
+    subst (λ p. AtOnce {T = T} p (record { call = c.call; own = event number (acts.Exchange words.State 0 1 w false) outcome ∷ c.own }) hold) made tt
+
+steps_at :
+    {T : Type 0} (place : OncePlace) (c : PendingCall T) (hold left : Option HoldKind) (memory : Word → ℕ) (number : ℕ) (next : OncePlace) → AtOnce place c hold →
+    place_after {T = T} (once_after place (value_told {T = T} (carried_out (once_intent words.State place) memory))) ≡ Some next →
+    AtOnce next (record { call = c.call; own = event number (step_at once_table place hold memory).act (step_at once_table place hold memory).outcome ∷ c.own }) left
+steps_at places.IsCompleted c hold left memory number next at is = absurd cc
+steps_at places.Look c hold left memory number next at is = look_steps c left _ next (memory words.State == 2) is
+steps_at places.Begin c hold left memory number next at is = begin_steps c left (memory words.State) number _ next (memory words.State == 0) is
+steps_at {T} places.Run c hold left memory number next at is =
+    let made : places.Complete ≡ next = cc in
+    subst (λ p. AtOnce {T = T} p (record { call = c.call; own = event number acts.Ended thens.GoesOn ∷ c.own }) left) made (omega arith)
+steps_at places.Complete c hold left memory number next at is = absurd cc
+steps_at places.Stay c hold left memory number next at is = stay_steps c left _ next (memory words.State == 2) is
+
+-- Where an answer leads: no call of a once stands.
+
+answers_at :
+    {T : Type 0} (place : OncePlace) (c : PendingCall T) (hold : Option HoldKind) (action : WaitAction) (number : ℕ) → AtOnce place c hold →
+    AtOnce {T = T} place (record { call = c.call; own = event number (acts.Answered action) thens.GoesOn ∷ c.own }) hold
+answers_at places.IsCompleted c hold action number at = tt
+answers_at places.Look c hold action number at = tt
+answers_at places.Begin c hold action number at = tt
+answers_at places.Run c hold action number at = at
+answers_at places.Complete c hold action number at = omega (arith, at)
+answers_at places.Stay c hold action number at = tt
+
+chooses_at :
+    {T : Type 0} (place : OncePlace) (c : PendingCall T) (hold : Option HoldKind) (choice : Option T) (number : ℕ) → AtOnce place c hold →
+    AtOnce {T = T} place (record { call = c.call; own = event number (acts.Chosen choice) thens.GoesOn ∷ c.own }) hold
+chooses_at places.IsCompleted c hold choice number at = tt
+chooses_at places.Look c hold choice number at = tt
+chooses_at places.Begin c hold choice number at = tt
+chooses_at places.Run c hold choice number at = at
+chooses_at places.Complete c hold choice number at = omega (arith, at)
+chooses_at places.Stay c hold choice number at = tt
+
+pub once_kept : {T : Type 0} → IsKept {T = T} once_table AtOnce
+once_kept =
+    record {
+      begins = λ call place hold is allowed. begins_at call place hold is;
+      steps = λ place c hold memory number next at free is. steps_at place c hold _ memory number next at is;
+      answers = λ place c hold action number at stands. answers_at place c hold action number at;
+      chooses = λ place c hold choice number at stands. chooses_at place c hold choice number at;
+    }
+
+-- What a step does: nothing to the word and the closure; it begins the closure, where the word is 0; it ends its own, which runs; or it puts 2, where its own has ended.
+
+abbrev Effect : {T : Type 0} → Option (PendingCall T) → ℕ → ℕ → Bool → Bool → Type 0
+Effect pending w word begins ends =
+    ((word ≡ w) × (begins ≡ false) × (ends ≡ false))
+    ⊎ (((w ≡ 0) × (word ≡ 1) × (begins ≡ true) × (ends ≡ false))
+    ⊎ (((word ≡ w) × (begins ≡ false) × (ends ≡ true) × MatchOption pending ⊥ (λ c. is_running c.own ≡ true))
+    ⊎ ((word ≡ 2) × (begins ≡ false) × (ends ≡ false) × MatchOption pending ⊥ (λ c. 1 ≤ ends_in c.own))))
+
+abbrev EffectOf : {T : Type 0} → Option (PendingCall T) → ℕ → Act T → Type 0
+EffectOf pending w act = Effect pending w (word_after words.State act w) (is_begin act) (is_end act)
+
+begin_effect : {T : Type 0} (c : PendingCall T) (w : ℕ) (done : Bool) → (w == 0) ≡ done → EffectOf (Some c) w (acts.Exchange words.State 0 1 w done)
+begin_effect c w true is = inr (inl (eqb-true w 0 is, refl, refl, refl))
+begin_effect c w false is = inl (refl, refl, refl)
+
+step_effect : {T : Type 0} (c : PendingCall T) (place : OncePlace) (hold : Option HoldKind) (memory : Word → ℕ) → AtOnce place c hold → EffectOf (Some c) (memory words.State) (step_at once_table place hold memory).act
+step_effect c places.IsCompleted hold memory at = inl (refl, refl, refl)
+step_effect c places.Look hold memory at = inl (refl, refl, refl)
+step_effect c places.Begin hold memory at = begin_effect c (memory words.State) (memory words.State == 0) refl
+step_effect c places.Run hold memory at = inr (inr (inl (refl, refl, refl, at.1)))
+step_effect c places.Complete hold memory at = inr (inr (inr (refl, refl, refl, at)))
+step_effect c places.Stay hold memory at = inl (refl, refl, refl)
+
+event_effect : {T : Type 0} (z : Arithmetic T) (parties : ℕ) (past : List (Event T)) (e : Event T) → IsPast z once_table parties (e ∷ past) → EffectOf (call_of e.party past) (word_in once_table past words.State) e.act
+event_effect {T} z parties past e run =
+    by_move once_table (call_of e.party past) (hold_of once_table e.party past) (word_in once_table past)
+    (λ (k : Option (PendingCall T)) (m : Move T). EffectOf k (word_in once_table past words.State) m.act)
+    run.0.0 (record { act = e.act; outcome = e.then })
+    (λ call _. inl (refl, refl, refl)) (λ action _. inl (refl, refl, refl)) (λ choice _. inl (refl, refl, refl))
+    (λ c place _ called stage.
+    step_effect c place (hold_of once_table e.party past) (word_in once_table past) (at_place z once_table parties AtOnce once_kept past run.1 e.party c place called stage))
+    run.0.1.moved
+
+-- At every front.
+
+some_same : {A : Type 0} (x y : A) → Some x ≡ Some y → x ≡ y
+some_same x y is = cc
+
+-- the party whose exchange began the closure
+abbrev pub runner_of : {T : Type 0} → List (Event T) → Option ℕ
+runner_of [] = None
+runner_of (e ∷ past) = cond (is_begin e.act) (Some e.party) (runner_of past)
+
+-- no closure has begun; one has; or it has ended, and the word says so
+abbrev pub IsState : ℕ → ℕ → ℕ → Type 0
+IsState w begins ends = ((w ≡ 0) × (begins ≡ 0) × (ends ≡ 0)) ⊎ (((w ≡ 1) × (begins ≡ 1) × (ends ≤ 1)) ⊎ ((w ≡ 2) × (begins ≡ 1) × (ends ≡ 1)))
+
+-- a party whose closure runs is the one that began, and nothing has ended
+abbrev pub RunsAlone : {T : Type 0} → List (Event T) → Type 0
+RunsAlone {T} past = (party : ℕ) (c : PendingCall T) → call_of party past ≡ Some c → is_running c.own ≡ true → (ends_in past ≡ 0) × (1 ≤ begins_in past) × (runner_of past ≡ Some party)
+
+state_after :
+    (w begins ends word : ℕ) (begun ended : Bool) → IsState w begins ends →
+    ((word ≡ w) × (begun ≡ false) × (ended ≡ false))
+    ⊎ (((w ≡ 0) × (word ≡ 1) × (begun ≡ true) × (ended ≡ false))
+    ⊎ (((word ≡ w) × (begun ≡ false) × (ended ≡ true) × (ends ≡ 0) × (1 ≤ begins))
+    ⊎ ((word ≡ 2) × (begun ≡ false) × (ended ≡ false) × (1 ≤ ends)))) →
+    IsState word (cond begun 1 0 + begins) (cond ended 1 0 + ends)
+state_after w begins ends word begun ended (inl empty) (inl quiet) = rw (quiet.1, quiet.2) (inl (omega (arith, quiet.0, empty.0), omega (arith, empty.1), omega (arith, empty.2)))
+state_after w begins ends word begun ended (inr (inl runs)) (inl quiet) = rw (quiet.1, quiet.2) (inr (inl (omega (arith, quiet.0, runs.0), omega (arith, runs.1), omega (arith, runs.2))))
+state_after w begins ends word begun ended (inr (inr done)) (inl quiet) = rw (quiet.1, quiet.2) (inr (inr (omega (arith, quiet.0, done.0), omega (arith, done.1), omega (arith, done.2))))
+state_after w begins ends word begun ended (inl empty) (inr (inl first)) = rw (first.2, first.3) (inr (inl (first.1, omega (arith, empty.1), omega (arith, empty.2))))
+state_after w begins ends word begun ended (inr (inl runs)) (inr (inl first)) = absurd (omega (arith, runs.0, first.0))
+state_after w begins ends word begun ended (inr (inr done)) (inr (inl first)) = absurd (omega (arith, done.0, first.0))
+state_after w begins ends word begun ended (inl empty) (inr (inr (inl last))) = absurd (omega (arith, empty.1, last.4))
+state_after w begins ends word begun ended (inr (inl runs)) (inr (inr (inl last))) = rw (last.1, last.2) (inr (inl (omega (arith, last.0, runs.0), omega (arith, runs.1), omega (arith, last.3))))
+state_after w begins ends word begun ended (inr (inr done)) (inr (inr (inl last))) = absurd (omega (arith, done.2, last.3))
+state_after w begins ends word begun ended (inl empty) (inr (inr (inr puts))) = absurd (omega (arith, empty.2, puts.3))
+state_after w begins ends word begun ended (inr (inl runs)) (inr (inr (inr puts))) = rw (puts.1, puts.2) (inr (inr (puts.0, omega (arith, runs.1), omega (arith, runs.2, puts.3))))
+state_after w begins ends word begun ended (inr (inr done)) (inr (inr (inr puts))) = rw (puts.1, puts.2) (inr (inr (puts.0, omega (arith, done.1), omega (arith, done.2))))
+
+-- what the effect of an event is on the numbers, where the closure that ends runs alone
+numbered :
+    {T : Type 0} (past : List (Event T)) (party w word : ℕ) (begun ended : Bool) → RunsAlone past → (pending : Option (PendingCall T)) → call_of party past ≡ pending → Effect pending w word begun ended →
+    ((word ≡ w) × (begun ≡ false) × (ended ≡ false))
+    ⊎ (((w ≡ 0) × (word ≡ 1) × (begun ≡ true) × (ended ≡ false))
+    ⊎ (((word ≡ w) × (begun ≡ false) × (ended ≡ true) × (ends_in past ≡ 0) × (1 ≤ begins_in past))
+    ⊎ ((word ≡ 2) × (begun ≡ false) × (ended ≡ false) × (1 ≤ ends_in past))))
+numbered past party w word begun ended alone pending called (inl quiet) = inl quiet
+numbered past party w word begun ended alone pending called (inr (inl first)) = inr (inl first)
+numbered past party w word begun ended alone None called (inr (inr (inl last))) = absurd last.3
+numbered past party w word begun ended alone (Some c) called (inr (inr (inl last))) =
+    let own = alone party c called last.3 in
+    inr (inr (inl (last.0, last.1, last.2, own.0, own.1)))
+numbered past party w word begun ended alone None called (inr (inr (inr puts))) = absurd puts.3
+numbered past party w word begun ended alone (Some c) called (inr (inr (inr puts))) = inr (inr (inr (puts.0, puts.1, puts.2, omega (arith, puts.3, own_among is_end past party c called))))
+
+-- another party's event leaves a closure that runs alone
+still_alone :
+    {T : Type 0} (past : List (Event T)) (e : Event T) (party w word : ℕ) → IsState w (begins_in past) (ends_in past) → RunsAlone past → e.party ≢ party → (c : PendingCall T) → call_of party past ≡ Some c → is_running c.own ≡ true →
+    (pending : Option (PendingCall T)) → call_of e.party past ≡ pending → Effect pending w word (is_begin e.act) (is_end e.act) → (ends_in (e ∷ past) ≡ 0) × (1 ≤ begins_in (e ∷ past)) × (runner_of (e ∷ past) ≡ Some party)
+still_alone past e party w word state alone other c called runs pending has (inl quiet) = let own = alone party c called runs in rw (quiet.1, quiet.2) (omega (arith, own.0), omega (arith, own.1), own.2)
+still_alone past e party w word (inl empty) alone other c called runs pending has (inr (inl first)) = absurd (omega (arith, empty.1, (alone party c called runs).1))
+still_alone past e party w word (inr (inl running)) alone other c called runs pending has (inr (inl first)) = absurd (omega (arith, running.0, first.0))
+still_alone past e party w word (inr (inr done)) alone other c called runs pending has (inr (inl first)) = absurd (omega (arith, done.0, first.0))
+still_alone past e party w word state alone other c called runs None has (inr (inr (inl last))) = absurd last.3
+still_alone past e party w word state alone other c called runs (Some k) has (inr (inr (inl last))) =
+    let one : runner_of past ≡ Some party = (alone party c called runs).2 in
+    let two : runner_of past ≡ Some e.party = (alone e.party k has last.3).2 in
+    absurd (other (some_same e.party party (sym two ∙ one)))
+still_alone past e party w word state alone other c called runs pending has (inr (inr (inr puts))) = let own = alone party c called runs in rw (puts.1, puts.2) (omega (arith, own.0), omega (arith, own.1), own.2)
+
+-- and so does the party's own, where its closure goes on or has just begun
+own_alone :
+    {T : Type 0} (past : List (Event T)) (e : Event T) (party w word : ℕ) → IsState w (begins_in past) (ends_in past) → RunsAlone past → e.party ≡ party → (before : PendingCall T) → call_of party past ≡ Some before →
+    cond (is_begin e.act) true (cond (is_end e.act) false (is_running before.own)) ≡ true →
+    (pending : Option (PendingCall T)) → Effect pending w word (is_begin e.act) (is_end e.act) → (ends_in (e ∷ past) ≡ 0) × (1 ≤ begins_in (e ∷ past)) × (runner_of (e ∷ past) ≡ Some party)
+own_alone past e party w word state alone mine before called runs pending (inl quiet) =
+    let own = alone party before called (rw (quiet.1, quiet.2) at runs) in
+    rw (quiet.1, quiet.2) (omega (arith, own.0), omega (arith, own.1), own.2)
+own_alone past e party w word (inl empty) alone mine before called runs pending (inr (inl first)) = rw (first.2, first.3) (omega (arith, empty.2), omega arith, ap (λ p. Some p) mine)
+own_alone past e party w word (inr (inl running)) alone mine before called runs pending (inr (inl first)) = absurd (omega (arith, running.0, first.0))
+own_alone past e party w word (inr (inr done)) alone mine before called runs pending (inr (inl first)) = absurd (omega (arith, done.0, first.0))
+own_alone past e party w word state alone mine before called runs pending (inr (inr (inl last))) = let no : false ≡ true = rw (last.1, last.2) at runs in absurd cc
+own_alone past e party w word state alone mine before called runs pending (inr (inr (inr puts))) =
+    let own = alone party before called (rw (puts.1, puts.2) at runs) in
+    rw (puts.1, puts.2) (omega (arith, own.0), omega (arith, own.1), own.2)
+
+pub record IsOnce {T : Type 0} (past : List (Event T)) : Type 0 where
+  pub state : IsState (word_in once_table past words.State) (begins_in past) (ends_in past)
+  pub alone : RunsAlone past
+
+pub once_front : {T : Type 0} (z : Arithmetic T) (parties : ℕ) (past : List (Event T)) → IsPast z once_table parties past → IsOnce past
+once_front z parties [] run = record { state = inl (refl, refl, refl); alone = λ party c called runs. absurd cc }
+once_front {T} z parties (e ∷ past) run = one_more (once_front z parties past run.1)
+  where
+    effect : EffectOf (call_of e.party past) (word_in once_table past words.State) e.act
+    effect = event_effect z parties past e run
+
+    one_more : IsOnce past → IsOnce (e ∷ past)
+    one_more before =
+        record {
+          state = state_after _ _ _ _ (is_begin e.act) (is_end e.act) before.state (numbered past e.party _ _ (is_begin e.act) (is_end e.act) before.alone (call_of e.party past) refl effect);
+          alone = λ party c called runs. by_call before party c runs (call_was past e party c called);
+        }
+      where
+        by_call : IsOnce past → (party : ℕ) (c : PendingCall T) → is_running c.own ≡ true → IsCallAfter past e party c → (ends_in (e ∷ past) ≡ 0) × (1 ≤ begins_in (e ∷ past)) × (runner_of (e ∷ past) ≡ Some party)
+        by_call front party c runs (inl other) = still_alone past e party _ _ front.state front.alone other.0 c other.1 runs (call_of e.party past) refl effect
+        by_call front party c runs (inr (inl begun)) = let no : is_running {T = T} [] ≡ true = subst (λ (own : List (Event T)). is_running own ≡ true) begun.1 runs in absurd cc
+        by_call front party c runs (inr (inr on)) =
+            own_alone past e party _ _ front.state front.alone on.0 on.1.0 on.1.1 (subst (λ (own : List (Event T)). is_running own ≡ true) on.1.2 runs) (call_of e.party past) effect
+
+-- What one more event tells.
+
+at_most_one : (w begins ends : ℕ) → IsState w begins ends → (begins ≤ 1) × (ends ≤ 1) × (ends ≤ begins)
+at_most_one w begins ends (inl empty) = (omega (arith, empty.1), omega (arith, empty.2), omega (arith, empty.2))
+at_most_one w begins ends (inr (inl runs)) = (omega (arith, runs.1), runs.2, omega (arith, runs.1, runs.2))
+at_most_one w begins ends (inr (inr done)) = (omega (arith, done.1), omega (arith, done.2), omega (arith, done.1, done.2))
+
+complete_ended : (w begins ends : ℕ) → IsState w begins ends → w ≡ 2 → ends ≡ 1
+complete_ended w begins ends (inl empty) is = absurd (omega (arith, empty.0, is))
+complete_ended w begins ends (inr (inl runs)) is = absurd (omega (arith, runs.0, is))
+complete_ended w begins ends (inr (inr done)) is = done.2
+
+tells_state : {T : Type 0} (past : List (Event T)) → IsState (word_in once_table past words.State) (begins_in past) (ends_in past) → TellsState past
+tells_state past state = record { begun = begun state; ended = complete_ended _ _ _ state; known = known state }
+  where
+    begun : {w begins ends : ℕ} → IsState w begins ends → (w ≡ 0) ↔ (begins ≡ 0)
+    begun (inl empty) = (λ _. empty.1, λ _. empty.0)
+    begun (inr (inl runs)) = (λ is. absurd (omega (arith, runs.0, is)), λ is. absurd (omega (arith, runs.1, is)))
+    begun (inr (inr done)) = (λ is. absurd (omega (arith, done.0, is)), λ is. absurd (omega (arith, done.1, is)))
+
+    known : {w begins ends : ℕ} → IsState w begins ends → w ≤ 2
+    known (inl empty) = omega (arith, empty.0)
+    known (inr (inl runs)) = omega (arith, runs.0)
+    known (inr (inr done)) = omega (arith, done.0)
+
+pub record EventLaw {T : Type 0} (party : ℕ) (past : List (Event T)) (w : ℕ) (pending : Option (PendingCall T)) (m : Move T) : Type 0 where
+  pub cause : MatchBool (is_refusal m.outcome) (MatchOption pending ⊥ (λ c. OnceCause c.call party (event party m.act m.outcome ∷ past))) (Unit {0})
+  pub own : MatchBool (is_end m.act) (AtLast is_begin (λ before. begins_in before ≡ 0) party past) (Unit {0})
+  pub answers : MatchBool (tells_end m.outcome) (ends_in past ≡ 1) (Unit {0})
+  pub tells : IfSome (flag_of m.outcome) (λ flag. flag ≡ (w == 2))
+
+-- of a load
+flag_law :
+    {T : Type 0} (party : ℕ) (past : List (Event T)) (c : PendingCall T) (w : ℕ) (flag : Bool) → IsState w (begins_in past) (ends_in past) → (w == 2) ≡ flag →
+    EventLaw party past w (Some c) (record { act = acts.Load words.State w; outcome = thens.Answers (answers.Flag flag) })
+flag_law party past c w true state sees = record { cause = tt; own = tt; answers = complete_ended _ _ _ state (eqb-true w 2 sees); tells = sym sees }
+flag_law party past c w false state sees = record { cause = tt; own = tt; answers = tt; tells = sym sees }
+
+seen_law :
+    {T : Type 0} (party : ℕ) (past : List (Event T)) (c : PendingCall T) (w : ℕ) (on : OncePlace) (complete : Bool) → IsState w (begins_in past) (ends_in past) → (w == 2) ≡ complete →
+    EventLaw party past w (Some c) (record { act = acts.Load words.State w; outcome = outcome_of {T = T} (seen_after on complete) })
+seen_law party past c w on true state sees = record { cause = tt; own = tt; answers = complete_ended _ _ _ state (eqb-true w 2 sees); tells = tt }
+seen_law party past c w on false state sees = record { cause = tt; own = tt; answers = tt; tells = tt }
+
+begin_law :
+    {T : Type 0} (party : ℕ) (past : List (Event T)) (c : PendingCall T) (w : ℕ) (done : Bool) →
+    EventLaw party past w (Some c) (record { act = acts.Exchange words.State 0 1 w done; outcome = outcome_of {T = T} (begin_after done) })
+begin_law party past c w true = record { cause = tt; own = tt; answers = tt; tells = tt }
+begin_law party past c w false = record { cause = tt; own = tt; answers = tt; tells = tt }
+
+-- the closure that ends is the call's own, and was the first to begin
+own_began :
+    {T : Type 0} (z : Arithmetic T) (parties party : ℕ) (past : List (Event T)) → IsPast z once_table parties past → (c : PendingCall T) → call_of party past ≡ Some c → HasBegun c.own → begins_in past ≤ 1 →
+    AtLast is_begin (λ before. begins_in before ≡ 0) party past
+own_began z parties party past run c called begun most =
+    at_last_maps is_begin (IsToldOf z once_table parties is_begin (acts.Exchange words.State 0 1 begun.0 true) past) (λ before. begins_in before ≡ 0) (λ before told. omega (arith, told.2, most)) party past
+    (own_at_last z once_table parties is_begin party (acts.Exchange words.State 0 1 begun.0 true) past run c called begun.1)
+
+step_law :
+    {T : Type 0} (z : Arithmetic T) (parties party : ℕ) (past : List (Event T)) → IsPast z once_table parties past → (c : PendingCall T) → call_of party past ≡ Some c →
+    (place : OncePlace) (hold : Option HoldKind) (memory : Word → ℕ) → AtOnce place c hold → IsState (memory words.State) (begins_in past) (ends_in past) →
+    EventLaw party past (memory words.State) (Some c) (step_at once_table place hold memory)
+step_law z parties party past run c called places.IsCompleted hold memory at state = flag_law party past c (memory words.State) (memory words.State == 2) state refl
+step_law z parties party past run c called places.Look hold memory at state = seen_law party past c (memory words.State) places.Begin (memory words.State == 2) state refl
+step_law z parties party past run c called places.Begin hold memory at state = begin_law party past c (memory words.State) (memory words.State == 0)
+step_law z parties party past run c called places.Run hold memory at state =
+    record { cause = tt; own = own_began z parties party past run c called at.0 (at_most_one _ _ _ state).0; answers = tt; tells = tt }
+step_law z parties party past run c called places.Complete hold memory at state =
+    record { cause = tt; own = tt; answers = omega (arith, at, own_among is_end past party c called, (at_most_one _ _ _ state).1); tells = tt }
+step_law z parties party past run c called places.Stay hold memory at state = seen_law party past c (memory words.State) places.Stay (memory words.State == 2) state refl
+
+event_law :
+    {T : Type 0} (z : Arithmetic T) (parties : ℕ) (past : List (Event T)) (e : Event T) → IsPast z once_table parties (e ∷ past) →
+    EventLaw e.party past (word_in once_table past words.State) (call_of e.party past) (record { act = e.act; outcome = e.then })
+event_law {T} z parties past e run =
+    by_move once_table (call_of e.party past) (hold_of once_table e.party past) (word_in once_table past)
+    (λ (k : Option (PendingCall T)) (m : Move T). EventLaw e.party past (word_in once_table past words.State) k m)
+    run.0.0 (record { act = e.act; outcome = e.then })
+    (λ call _. record { cause = tt; own = tt; answers = tt; tells = tt })
+    (λ action _. record { cause = tt; own = tt; answers = tt; tells = tt })
+    (λ choice _. record { cause = tt; own = tt; answers = tt; tells = tt })
+    (λ c place _ called stage.
+    step_law z parties e.party past run.1 c called place (hold_of once_table e.party past) (word_in once_table past)
+    (at_place z once_table parties AtOnce once_kept past run.1 e.party c place called stage) (once_front z parties past run.1).state)
+    run.0.1.moved
+
+pub keeps_once : {T : Type 0} (z : Arithmetic T) (parties : ℕ) (past : List (Event T)) → IsPast z once_table parties past → KeepsOnce past
+keeps_once z parties [] run =
+    record { told = tt; unheld = refl; cause = tt; law = record { one = omega arith; ends = omega arith; own = tt; answers = tt; tells = tt; state = tells_state [] (once_front z parties [] run).state } }
+keeps_once z parties (e ∷ past) run =
+    let event = event_law z parties past e run in
+    let front = once_front z parties (e ∷ past) run in
+    let most = at_most_one _ _ _ front.state in
+    record {
+      told = tells_memory z once_table parties (e ∷ past) run;
+      unheld = no_holds once_table (λ call from to. refl) (e ∷ past);
+      cause = event.cause;
+      law = record { one = most.0; ends = most.2; own = event.own; answers = event.answers; tells = event.tells; state = tells_state (e ∷ past) front.state };
+    }
+
+-- a once has no other word
+pub once_lacks : (T : Type 0) (word : Word) → same_word words.State word ≡ false → Lacks {T = T} once_table word
+once_lacks T word other places.IsCompleted hold = ap not other
+once_lacks T word other places.Look hold = ap not other
+once_lacks T word other places.Begin hold = ap not other
+once_lacks T word other places.Run hold = refl
+once_lacks T word other places.Complete hold = ap not other
+once_lacks T word other places.Stay hold = ap not other

@@ -1,0 +1,89 @@
+-- What a once keeps at every front of every run: one closure runs, once, and ends before any call tells of it.
+use Rattle.std.specs.Prelude.{◌≡◌, ◌≤◌, ℕ, ◌==◌, ◌↔◌, Bool, true, false, Option, Some, None, IfSome, List, [], ◌∷◌, MatchBool}
+use Rattle.steps_events.specs.declared.event.Word.TheVariants as words
+use Rattle.steps_events.specs.declared.event.Act.{Act}
+use Rattle.steps_events.specs.declared.event.Act.TheVariants as acts
+use Rattle.steps_events.specs.declared.event.Answer.TheVariants as answers
+use Rattle.steps_events.specs.declared.event.Call.{Call}
+use Rattle.steps_events.specs.declared.event.Then.{Then}
+use Rattle.steps_events.specs.declared.event.Then.TheVariants as thens
+use Rattle.steps_events.specs.declared.event.Event.{Event}
+use Rattle.steps_events.specs.Past.{holds_of, word_in}
+use Rattle.steps_events.specs.Sights.{AtLast, is_done_exchange, acts_in}
+use Rattle.steps_events.specs.Laws.{TellsMemory, HasCause}
+use Rattle.steps_once.specs.Table.{once_table}
+
+-- no call of a once is refused
+abbrev pub OnceCause : {T : Type 0} → Call T → ℕ → List (Event T) → Type 0
+OnceCause call party events = ⊥
+
+-- The closure.
+
+-- a closure begins with an exchange that is done
+abbrev pub is_begin : {T : Type 0} → Act T → Bool
+is_begin act = is_done_exchange words.State act
+
+abbrev pub is_end : {T : Type 0} → Act T → Bool
+is_end acts.Ended = true
+is_end act = false
+
+abbrev pub begins_in : {T : Type 0} → List (Event T) → ℕ
+begins_in past = acts_in is_begin past
+
+abbrev pub ends_in : {T : Type 0} → List (Event T) → ℕ
+ends_in past = acts_in is_end past
+
+-- the latest event ends a closure only where its own call began it, and it was the first to begin
+abbrev pub EndsItsOwn : {T : Type 0} → List (Event T) → Type 0
+EndsItsOwn [] = Unit {0}
+EndsItsOwn (e ∷ past) = MatchBool (is_end e.act) (AtLast is_begin (λ before. begins_in before ≡ 0) e.party past) (Unit {0})
+
+-- The answers.
+
+-- `Done` and `true` tell that the closure has ended
+abbrev pub tells_end : {T : Type 0} → Then T → Bool
+tells_end (thens.Answers answers.Done) = true
+tells_end (thens.Answers (answers.Flag flag)) = flag
+tells_end other = false
+
+abbrev pub AnswersAfterEnd : {T : Type 0} → List (Event T) → Type 0
+AnswersAfterEnd [] = Unit {0}
+AnswersAfterEnd (e ∷ past) = MatchBool (tells_end e.then) (ends_in past ≡ 1) (Unit {0})
+
+abbrev pub flag_of : {T : Type 0} → Then T → Option Bool
+flag_of (thens.Answers (answers.Flag flag)) = Some flag
+flag_of other = None
+
+-- `IsCompleted` answers whether the word is 2
+abbrev pub TellsCompletion : {T : Type 0} → List (Event T) → Type 0
+TellsCompletion [] = Unit {0}
+TellsCompletion (e ∷ past) = IfSome (flag_of e.then) (λ flag. flag ≡ (word_in once_table past words.State == 2))
+
+-- The word: 0 until a closure begins, and 2 only once it has ended.
+pub record TellsState {T : Type 0} (past : List (Event T)) : Type 0 where
+  pub begun : (word_in once_table past words.State ≡ 0) ↔ (begins_in past ≡ 0)
+  pub ended : word_in once_table past words.State ≡ 2 → ends_in past ≡ 1
+  pub known : word_in once_table past words.State ≤ 2
+
+-- What a once keeps beside what every object does.
+pub record OnceLaw {T : Type 0} (past : List (Event T)) : Type 0 where
+  -- one closure begins at most
+  pub one : begins_in past ≤ 1
+  -- no more end than began
+  pub ends : ends_in past ≤ begins_in past
+  -- it ends in the call that began it
+  pub own : EndsItsOwn past
+  -- `Done` and `true` come after its end
+  pub answers : AnswersAfterEnd past
+  -- `IsCompleted` answers whether the word is 2
+  pub tells : TellsCompletion past
+  pub state : TellsState past
+
+pub record KeepsOnce {T : Type 0} (past : List (Event T)) : Type 0 where
+  -- each act that tells a word's value tells what the memory holds there
+  pub told : TellsMemory once_table past
+  -- nobody holds a once
+  pub unheld : holds_of once_table past ≡ []
+  -- no call is refused
+  pub cause : HasCause OnceCause past
+  pub law : OnceLaw past
