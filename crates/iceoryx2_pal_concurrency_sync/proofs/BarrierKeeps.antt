@@ -1,20 +1,21 @@
 -- Each step of a barrier keeps its rule.
-use Rattle.std.proofs.Common.{◌≡◌, ◌≢◌, ℕ, zero, suc, ◌+◌, ◌-◌, ◌*◌, ◌/◌, ◌%◌, ◌^◌, ◌<◌, ◌≤◌, eqb, List, [], ◌∷◌, get_or, set, sym, refl, ap, ◌∙◌, subst, arith, length-set, get_or-set_same}
+use Rattle.std.proofs.Common.{◌≡◌, ◌≢◌, ℕ, zero, suc, ◌+◌, ◌-◌, ◌*◌, ◌%◌, ◌^◌, ◌<◌, ◌≤◌, eqb, List, [], ◌∷◌, get_or, set, sym, refl, ap, ◌∙◌, subst, arith, length-set, get_or-set_same}
 use Rattle.std.specs.List.{sum}
 use Rattle.std.proofs.lemmas.List.Sums.{sum_by-cons}
 use mathlib.Core.Logic.{dite}
 use native.Mathlib.Decide.{ℕ_discrete}
 use prog.Atomic.{either}
+use Rattle.steps_barrier.specs.Rounds.{epoch_of, count_of, opened}
 use Rattle.passes.specs.declared.view.View.{View}
 use Rattle.passes.specs.Parts.{IsWhole, total}
 use Rattle.passes.specs.Sights.{stale}
 use Rattle.passes.specs.Views.{view_of, looked, missed, left_view, right_view, joined_view, sum_of, Updates}
 use Rattle.passes.specs.declared.pass.Pass.{Pass}
 use Rattle.passes.specs.Passes.{view}
-use Rattle.passes.proofs.Sums.{others, sum_at}
+use Rattle.passes.proofs.Sums.{sum_at}
 use Rattle.passes.proofs.Updates.{by_look, by_exchange}
 use Rattle.iceoryx2_pal_concurrency_sync.specs.declared.strategy.barrier.Rounds.{Rounds}
-use Rattle.iceoryx2_pal_concurrency_sync.specs.BarrierRule.{epoch_of, count_of, in_round, one_more, both_counts, rounds, no_rounds, both_rounds, known_rounds, IsFilling, BarrierAgrees, OpenRoundsAreFull, reaches, Says, MadeAll, Loaded, Arrives, Exchanged}
+use Rattle.iceoryx2_pal_concurrency_sync.specs.BarrierRule.{in_round, one_more, both_counts, rounds, no_rounds, both_rounds, known_rounds, IsFilling, BarrierAgrees, OpenRoundsAreFull, reaches, Says, MadeAll, Loaded, Exchanged}
 use Rattle.iceoryx2_pal_concurrency_sync.specs.BarrierTally.{rounds_add_up}
 use Rattle.iceoryx2_pal_concurrency_sync.specs.BarrierShown.{counts_of, arrivals_of, IsNextWord}
 
@@ -113,7 +114,7 @@ module _ (n : ℕ) (words : List ℕ) where
       } in subst (IsFilling n (set words 0 new)) (λ i. rounds (sym counts i) u.reached (sym opens i)) so
 
   -- an arrival that fills its round
-  last_again : (new : ℕ) (s u : Rounds) → IsFilling n words s → count_of (get_or words 0 0) + 1 ≡ n → new ≡ (epoch_of (get_or words 0 0) + 1) % 2 ^ 32 * 2 ^ 32 → u.arrivals ≡ one_more s.opened s.arrivals
+  last_again : (new : ℕ) (s u : Rounds) → IsFilling n words s → count_of (get_or words 0 0) + 1 ≡ n → new ≡ opened (get_or words 0 0) → u.arrivals ≡ one_more s.opened s.arrivals
       → u.opened ≡ s.opened + 1 → u.reached ≤ s.opened + 1 → IsFilling n (set words 0 new) u
   last_again new s u is fills next counts opens known = let word = is.word in let all = is.all in let says = word_says s is in let more = sum_more s.opened s.arrivals in let here = more_here s.opened s.arrivals in
       let after = more_elsewhere s.opened (s.opened + 1) s.arrivals (λ same. omega arith) ∙ is.later (s.opened + 1) (omega arith) in
@@ -148,7 +149,7 @@ exchanges n v old new next = by_exchange no_rounds both_rounds (BarrierAgrees n)
     (λ words homes rest is alone fits hit. let s : Rounds = both_rounds v.tally rest in let round : ℕ = s.opened in let known = is.known in
     let counts = more_in_both round v.tally.arrivals rest.arrivals in let room = next.room in dite (ℕ_discrete (count_of old + 1) n)
     (λ fills. let w : View Rounds = view_of v.part (stale v.sights) (rounds (one_more round v.tally.arrivals) (round + 1) (v.tally.opened + 1)) in let to = next.last fills in
-    let again : IsFilling n (set words 0 new) (both_rounds w.tally rest) = last_again n words new s (both_rounds w.tally rest) is (omega arith) (omega arith) counts (omega arith) (omega arith) in (
+    let again : IsFilling n (set words 0 new) (both_rounds w.tally rest) = last_again n words new s (both_rounds w.tally rest) is (omega arith) (to ∙ ap opened (sym hit)) counts (omega arith) (omega arith) in (
       w,
       refl,
       again,

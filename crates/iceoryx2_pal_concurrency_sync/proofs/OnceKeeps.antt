@@ -1,5 +1,5 @@
 -- Each step of a once keeps its rule.
-use Rattle.std.proofs.Common.{◌≡◌, ◌≢◌, ℕ, ◌+◌, ◌*◌, ◌<◌, ◌≤◌, Bool, true, false, ◌||◌, eqb, List, [], ◌∷◌, get_or, set, sym, refl, ap, ◌∙◌, subst, ◌⊎◌, inl, inr, arith, length-set, get_or-set_same}
+use Rattle.std.proofs.Common.{◌≡◌, ℕ, ◌+◌, ◌*◌, ◌≤◌, Bool, true, false, ◌||◌, eqb, List, [], ◌∷◌, get_or, set, refl, ap, ◌∙◌, ◌⊎◌, inl, inr, arith, length-set, get_or-set_same}
 use Rattle.std.proofs.lemmas.Bool.{eqb-true}
 use prog.Atomic.{either}
 use Rattle.passes.specs.declared.view.View.{View}
@@ -8,7 +8,7 @@ use Rattle.passes.specs.Views.{looked, missed, wrote, sum_of, Updates}
 use Rattle.passes.proofs.Sums.{others, sum_at}
 use Rattle.passes.proofs.Updates.{by_look, by_exchange}
 use Rattle.iceoryx2_pal_concurrency_sync.specs.declared.once.Runs.{Runs}
-use Rattle.iceoryx2_pal_concurrency_sync.specs.OnceRule.{runs, no_runs, both_runs, known_runs, IsRun, OnceAgrees, OneClosure, KnownHasEnded, learns, began, ended, Says, Loaded, Exchanged, Stored}
+use Rattle.iceoryx2_pal_concurrency_sync.specs.OnceRule.{no_runs, both_runs, known_runs, IsRun, OnceAgrees, OneClosure, KnownHasEnded, learns, began, ended, Says, Loaded, Exchanged, Stored}
 use Rattle.iceoryx2_pal_concurrency_sync.specs.OnceTally.{runs_add_up}
 
 -- one of the two is true

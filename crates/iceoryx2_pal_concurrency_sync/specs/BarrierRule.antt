@@ -1,22 +1,16 @@
 -- What a pass of a barrier counts and knows, the rule over all passes, and what a step changes.
-use Rattle.std.specs.Prelude.{◌≡◌, ◌≢◌, ℕ, zero, suc, ◌+◌, ◌-◌, ◌*◌, ◌/◌, ◌%◌, ◌^◌, ◌<◌, ◌≤◌, max, List, [], ◌∷◌, length, slice_index}
+use Rattle.std.specs.Prelude.{◌≡◌, ◌≢◌, ℕ, zero, suc, ◌+◌, ◌-◌, ◌*◌, ◌%◌, ◌^◌, ◌<◌, ◌≤◌, max, List, [], ◌∷◌, length, slice_index}
 use Rattle.std.specs.List.{sum}
 use mathlib.Core.Option as maybe
 use mathlib.Core.Option.{some}
 use lib.ListN.{get_elem?}
 use Rattle.atomic_table.specs.Table.{State}
+use Rattle.steps_barrier.specs.Rounds.{epoch_of, count_of}
 use Rattle.passes.specs.declared.view.View.{View}
 use Rattle.passes.specs.Parts.{IsWhole, total}
 use Rattle.passes.specs.Sights.{stale}
 use Rattle.passes.specs.Views.{view_of, looked, missed, IsCounted}
 use Rattle.iceoryx2_pal_concurrency_sync.specs.declared.strategy.barrier.Rounds.{Rounds}
-
--- the two halves of the word
-abbrev pub epoch_of : ℕ → ℕ
-epoch_of word = word / 2 ^ 32
-
-abbrev pub count_of : ℕ → ℕ
-count_of word = word % 2 ^ 32
 
 -- how many arrivals a list of counts has in this round
 abbrev pub in_round : ℕ → List ℕ → ℕ

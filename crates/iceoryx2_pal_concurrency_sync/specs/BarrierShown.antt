@@ -1,13 +1,14 @@
 -- What contracts see of a barrier and its pass, and what a call changes in a pass.
-use Rattle.std.specs.Prelude.{◌≡◌, ℕ, ◌+◌, ◌<◌, ◌≤◌, ◌%◌, ◌^◌, ◌*◌, ◌⊎◌, List}
+use Rattle.std.specs.Prelude.{◌≡◌, ℕ, ◌+◌, ◌<◌, ◌≤◌, ◌%◌, ◌^◌, ◌⊎◌, List}
 use Rattle.std.specs.List.{sum}
+use Rattle.steps_barrier.specs.Rounds.{epoch_of, count_of, opened}
 use Rattle.passes.specs.declared.pass.Pass.{Pass}
 use Rattle.passes.specs.Parts.{IsWhole}
-use Rattle.passes.specs.Passes.{IsSamePass, view, part_of, sights_of, tally_of}
+use Rattle.passes.specs.Passes.{IsSamePass, part_of, sights_of, tally_of}
 use Rattle.passes.specs.Objects.{IsPassOf, key_of}
 use Rattle.iceoryx2_pal_concurrency_sync.specs.declared.strategy.barrier.Rounds.{Rounds}
 use Rattle.iceoryx2_pal_concurrency_sync.specs.declared.strategy.barrier.Barrier.{Barrier}
-use Rattle.iceoryx2_pal_concurrency_sync.specs.BarrierRule.{epoch_of, count_of, in_round, one_more, Arrives}
+use Rattle.iceoryx2_pal_concurrency_sync.specs.BarrierRule.{one_more, Arrives}
 
 module _ {A : Type 0} where
   abbrev pub IsBarrierPass : Barrier A → Pass Rounds → Type 0
@@ -36,7 +37,7 @@ opened_of p = (tally_of p).opened
 -- the word after an arrival, where there is room for one: the next epoch if it fills the round, else one more has come
 pub record IsNextWord (n from to : ℕ) : Type 0 where
   pub room : count_of from < n
-  pub last : count_of from + 1 ≡ n → to ≡ (epoch_of from + 1) % 2 ^ 32 * 2 ^ 32
+  pub last : count_of from + 1 ≡ n → to ≡ opened from
   pub early : count_of from + 1 < n → to ≡ from + 1
 
 -- an arrival was made at this value, and nothing else changed but what was seen

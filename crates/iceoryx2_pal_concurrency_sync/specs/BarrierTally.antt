@@ -1,5 +1,5 @@
 -- What the passes of a barrier count and know adds up.
-use Rattle.std.proofs.Common.{◌≡◌, ℕ, ◌+◌, max, List, [], ◌∷◌, refl, ap, ◌∙◌, arith, add_assoc, add_comm}
+use Rattle.std.proofs.Common.{◌≡◌, ℕ, ◌+◌, max, List, [], ◌∷◌, refl, arith, add_assoc, add_comm}
 use Rattle.passes.specs.Tallies.{IsTally}
 use Rattle.iceoryx2_pal_concurrency_sync.specs.BarrierRule.{both_counts, rounds, no_rounds, both_rounds, known_rounds}
 

@@ -10,7 +10,7 @@ use passes::{Deed, Pass, Rule, Tally, Words};
 use std::alloc::{AllocError, Allocator, Global};
 use std::hint::spin_loop;
 use std::sync::Wait;
-use steps_once::begun;
+use sync_steps::steps::once::begun;
 
 /// What a pass of a once counts and knows. No value of it is made.
 pub struct Runs {

@@ -5,7 +5,8 @@
 //! exchange, and that a barrier of 0 refuses each call.
 ghost use Rattle.std.specs.Prelude.{◌≡◌, ◌<◌, ◌≤◌, IfOk};
 ghost use Rattle.passes.specs.Objects.{count_of as words_of, key_of};
-ghost use Rattle.iceoryx2_pal_concurrency_sync.specs.BarrierRule.{OpenRoundsAreFull, epoch_of, count_of};
+ghost use Rattle.iceoryx2_pal_concurrency_sync.specs.BarrierRule.{OpenRoundsAreFull};
+ghost use Rattle.steps_barrier.specs.Rounds.{epoch_of, count_of};
 
 use crate::wait::{AnyWord, WaitWord};
 use passes::{Deed, Pass, Rule, Tally, Words, wake};
@@ -14,8 +15,8 @@ use std::hint::spin_loop;
 use std::marker::Model;
 use std::ops::Deref;
 use std::sync::Wait;
-use steps_barrier::arrived;
 use sync_steps::SPIN_REPETITIONS;
+use sync_steps::steps::barrier::arrived;
 
 /// How often a pass arrived in each round, the first round first. No value of it is made.
 #[derive(Drop)]

@@ -1,6 +1,6 @@
 use Rattle.std.proofs.Common.{◌≡◌, ◌<◌}
 use Rattle.passes.specs.Passes.{sights_of, HasSeen}
-use Rattle.iceoryx2_pal_concurrency_sync.specs.BarrierRule.{count_of}
+use Rattle.steps_barrier.specs.Rounds.{count_of}
 use Rattle.iceoryx2_pal_concurrency_sync.specs.BarrierShown.{waiters_of, HasStayed}
 use Rattle.iceoryx2_pal_concurrency_sync.proofs.strategy.barrier.Barrier.arrive.Given as goal
 

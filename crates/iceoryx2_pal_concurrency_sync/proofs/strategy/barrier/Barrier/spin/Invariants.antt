@@ -1,6 +1,7 @@
 use Rattle.std.proofs.Common.{◌≡◌, ◌%◌, ◌^◌}
 use Rattle.passes.specs.Passes.{view}
-use Rattle.iceoryx2_pal_concurrency_sync.specs.BarrierRule.{epoch_of, HasAll}
+use Rattle.steps_barrier.specs.Rounds.{epoch_of}
+use Rattle.iceoryx2_pal_concurrency_sync.specs.BarrierRule.{HasAll}
 use Rattle.iceoryx2_pal_concurrency_sync.specs.BarrierShown.{waiters_of, reached_of, HasStayed}
 use Rattle.iceoryx2_pal_concurrency_sync.proofs.strategy.barrier.Barrier.spin.Given as goal
 
