@@ -9,18 +9,18 @@ use std::sync::Wait;
 /// Passes a barrier of one, with closures that do nothing.
 pub fn of_one(rt: &impl Wait, alloc: Global) -> Result<u32, AllocError> {
     let (barrier, pass) = Barrier::new(alloc, 1)?;
-    Ok(successes(&mut OfOne { rt, barrier, pass }))
+    Ok(successes(&mut PassOne { rt, barrier, pass }))
 }
 
 #[derive(Drop)]
-struct OfOne<'r, R: Wait> {
+struct PassOne<'r, R: Wait> {
     rt: &'r R,
     barrier: Barrier,
     pass: BarrierPass,
     ghost own: { IsBarrierPass barrier pass },
 }
 
-impl<R: Wait> Operation for OfOne<'_, R> {
+impl<R: Wait> Operation for PassOne<'_, R> {
     #[inline(always)]
     fn once(&mut self) -> bool {
         let passed = self

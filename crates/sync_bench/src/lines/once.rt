@@ -10,18 +10,18 @@ use std::sync::Wait;
 pub fn after(rt: &impl Wait, alloc: Global) -> Result<u32, AllocError> {
     let (once, mut pass) = Once::new(alloc)?;
     once.call_once(rt, &mut pass, || ());
-    Ok(successes(&mut After { rt, once, pass }))
+    Ok(successes(&mut CallAfter { rt, once, pass }))
 }
 
 #[derive(Drop)]
-struct After<'r, R: Wait> {
+struct CallAfter<'r, R: Wait> {
     rt: &'r R,
     once: Once,
     pass: OncePass,
     ghost own: { IsOncePass once pass },
 }
 
-impl<R: Wait> Operation for After<'_, R> {
+impl<R: Wait> Operation for CallAfter<'_, R> {
     #[inline(always)]
     fn once(&mut self) -> bool {
         let mut ran = false;

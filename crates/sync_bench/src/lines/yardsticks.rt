@@ -95,7 +95,7 @@ impl<R: Wait> Operation for StdBarrier<'_, R> {
 /// Reads a once lock of std that was set.
 pub fn std_once_lock_get() -> u32 {
     let lock = OnceLock::new();
-    let _set = lock.try_set(true);
+    drop(lock.try_set(true));
     successes(&mut StdOnceLock { lock })
 }
 
