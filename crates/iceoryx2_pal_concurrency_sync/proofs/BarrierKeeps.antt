@@ -15,7 +15,7 @@ use Rattle.passes.specs.Passes.{view}
 use Rattle.passes.proofs.Sums.{sum_at}
 use Rattle.passes.proofs.Updates.{by_look, by_exchange}
 use Rattle.iceoryx2_pal_concurrency_sync.specs.declared.strategy.barrier.Rounds.{Rounds}
-use Rattle.iceoryx2_pal_concurrency_sync.specs.BarrierRule.{in_round, one_more, both_counts, rounds, no_rounds, both_rounds, known_rounds, IsFilling, BarrierAgrees, OpenRoundsAreFull, reaches, Says, MadeAll, Loaded, Exchanged}
+use Rattle.iceoryx2_pal_concurrency_sync.specs.BarrierRule.{in_round, one_more, both_counts, rounds, no_rounds, both_rounds, known_rounds, word_of, IsFilling, BarrierAgrees, OpenRoundsAreFull, reaches, Says, MadeAll, Loaded, Exchanged}
 use Rattle.iceoryx2_pal_concurrency_sync.specs.BarrierTally.{rounds_add_up}
 use Rattle.iceoryx2_pal_concurrency_sync.specs.BarrierShown.{counts_of, arrivals_of, IsNextWord}
 
@@ -81,13 +81,23 @@ module _ (n : ℕ) (words : List ℕ) where
       (λ none. let never = is.never none in (omega arith, omega arith))
       (λ some. let filling = is.filling (omega arith) in (omega arith, omega arith))
 
+  -- where no other pass is left, the word is what the tally says
+  word_alone : (t rest : Rounds) → IsFilling n words (both_rounds t rest) → rest ≡ no_rounds → get_or words 0 0 ≡ word_of n t
+  word_alone t rest is blank = is.word ∙ ap (λ (p : ℕ × ℕ). p.0 % 2 ^ 32 * 2 ^ 32 + (p.1 - p.0 * n)) (λ i. (opened_alone (ap (λ (u : Rounds). u.opened) blank) i, sum_alone (ap (λ (u : Rounds). sum u.arrivals) blank) i))
+    where
+      opened_alone : rest.opened ≡ 0 → t.opened + rest.opened ≡ t.opened
+      opened_alone none = omega arith
+
+      sum_alone : sum rest.arrivals ≡ 0 → sum (both_counts t.arrivals rest.arrivals) ≡ sum t.arrivals
+      sum_alone none = let both = sum_both t.arrivals rest.arrivals in omega arith
+
   says : (v : View Rounds) (rest : Rounds) → IsFilling n words (both_rounds v.tally rest) → (IsWhole v.part → rest ≡ no_rounds) → Says n v (get_or words 0 0) (v.tally.opened + rest.opened)
   says v rest is alone = let s : Rounds = both_rounds v.tally rest in let w = word_says s is in let known = is.known in let word = is.word in record {
     known = omega arith;
     epoch = w.0;
     filling = λ some. let filling = is.filling some in omega (arith, w.1);
     never = λ none. let never = is.never none in (omega arith, never.0);
-    alone = λ whole. let blank = ap (λ (u : Rounds). u.opened) (alone whole) in omega arith;
+    alone = λ whole. let blank = ap (λ (u : Rounds). u.opened) (alone whole) in (omega arith, word_alone v.tally rest is (alone whole));
   }
 
   -- where no other pass is left, this one did all that was done

@@ -42,12 +42,16 @@ both_rounds t u = rounds (both_counts t.arrivals u.arrivals) (max t.reached u.re
 abbrev pub known_rounds : Rounds → Rounds
 known_rounds t = rounds [] t.reached 0
 
+-- what a tally says of the word, where no other pass has counted anything
+abbrev pub word_of : ℕ → Rounds → ℕ
+word_of n t = t.opened % 2 ^ 32 * 2 ^ 32 + (sum t.arrivals - t.opened * n)
+
 -- There is one word. The rounds that were opened have n arrivals each, the next one fewer, and later ones none; of a barrier of 0
 -- there are none. The word is the epoch and the arrivals of the round that fills; and each round that a pass knows to be open is.
 pub record IsFilling (n : ℕ) (words : List ℕ) (t : Rounds) : Type 0 where
   pub small : n < 2 ^ 32
   pub one_word : length words ≡ 1
-  pub word : slice_index words 0 ≡ t.opened % 2 ^ 32 * 2 ^ 32 + (sum t.arrivals - t.opened * n)
+  pub word : slice_index words 0 ≡ word_of n t
   pub all : sum t.arrivals ≡ t.opened * n + in_round t.opened t.arrivals
   pub full : (round : ℕ) → round < t.opened → in_round round t.arrivals ≡ n
   pub filling : 0 < n → in_round t.opened t.arrivals < n
@@ -67,13 +71,13 @@ OpenRoundsAreFull = (n : ℕ) (s : State (Unit {0}) (View Rounds)) → IsCounted
 abbrev pub reaches : ℕ → View Rounds → View Rounds
 reaches round v = view_of v.part v.sights (rounds v.tally.arrivals round v.tally.opened)
 
--- What the word says, if it is this while so many rounds are open. Where no other pass is left, this one opened them all.
+-- What the word says, if it is this while so many rounds are open. Where no other pass is left, it is what this one did.
 pub record Says (n : ℕ) (v : View Rounds) (found round : ℕ) : Type 0 where
   pub known : v.tally.reached ≤ round
   pub epoch : epoch_of found ≡ round % 2 ^ 32
   pub filling : 0 < n → count_of found < n
   pub never : n ≡ 0 → (found ≡ 0) × (round ≡ 0)
-  pub alone : IsWhole v.part → round ≡ v.tally.opened
+  pub alone : IsWhole v.part → (round ≡ v.tally.opened) × (found ≡ word_of n v.tally)
 
 -- the pass opened all rounds that it knows to be open, and has all their arrivals
 pub record MadeAll (n : ℕ) (t : Rounds) : Type 0 where

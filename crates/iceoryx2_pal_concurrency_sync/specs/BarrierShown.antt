@@ -4,6 +4,7 @@ use Rattle.std.specs.List.{sum}
 use Rattle.steps_barrier.specs.Rounds.{epoch_of, count_of, opened}
 use Rattle.passes.specs.declared.pass.Pass.{Pass}
 use Rattle.passes.specs.Parts.{IsWhole}
+use Rattle.passes.specs.Sights.{seen, stale}
 use Rattle.passes.specs.Passes.{IsSamePass, part_of, sights_of, tally_of}
 use Rattle.passes.specs.Objects.{IsPassOf, key_of}
 use Rattle.iceoryx2_pal_concurrency_sync.specs.declared.strategy.barrier.Rounds.{Rounds}
@@ -49,7 +50,7 @@ pub record HasArrived (n from : ℕ) (p q : Pass Rounds) : Type 0 where
   pub known : reached_of p ≤ round
   pub epoch : epoch_of from ≡ round % 2 ^ 32
   pub arrives : Arrives n from round (tally_of p) (tally_of q)
-  pub saw : (sights_of p).count < (sights_of q).count
+  pub saw : (sights_of p).count ≤ (sights_of q).count
   pub alone : IsWhole (part_of p) → round ≡ opened_of p
 
 -- nothing was counted: the pass has looked, and may know more rounds to be open
@@ -74,6 +75,10 @@ pub record HasPassed (p q : Pass Rounds) : Type 0 where
   pub opened : (opened_of q ≡ opened_of p) ⊎ (opened_of q ≡ opened_of p + 1)
   pub saw : (sights_of p).count < (sights_of q).count
   pub alone : IsWhole (part_of p) → round ≡ opened_of p
+
+-- the word was seen once before the arrival, and never after
+abbrev pub HasLookedOnce : Pass Rounds → Pass Rounds → Type 0
+HasLookedOnce p q = sights_of q ≡ stale (seen (sights_of p) (sights_of q).last)
 
 -- So many rounds were passed, and nothing else changed but what was seen and opened on the way. A helper, a loop and a closure carry
 -- this one fact.

@@ -119,7 +119,7 @@ impl<A: Allocator> Barrier<A> {
     ghost use Rattle.passes.specs.Views.{first_view};
     ghost use Rattle.passes.specs.Passes.{view, part_of, tally_of, IsSamePass, HasSeen};
     ghost use Rattle.iceoryx2_pal_concurrency_sync.specs.BarrierRule.{no_rounds, Loaded, Exchanged, HasAll};
-    ghost use Rattle.iceoryx2_pal_concurrency_sync.specs.BarrierShown.{IsBarrierPass, waiters_of, reached_of, opened_of, HasArrived, HasStayed, HasPassed, IsNextWord};
+    ghost use Rattle.iceoryx2_pal_concurrency_sync.specs.BarrierShown.{IsBarrierPass, waiters_of, reached_of, opened_of, HasArrived, HasLookedOnce, HasStayed, HasPassed, IsNextWord};
 
     /// A barrier for so many waiters, and the pass that is whole. `Err` where there was no memory; then nothing was made.
     pub fn new(alloc: A, number_of_waiters: u32) -> Result<(Barrier<A>, BarrierPass), AllocError>
@@ -153,13 +153,21 @@ impl<A: Allocator> Barrier<A> {
         requires may { W.IsAlwaysCallable wait × K.IsAlwaysCallable wake_all }
         ensures passed { IfOk result (λ _. HasPassed pass.old pass.new) }
         ensures all { IfOk result (λ _. HasAll (waiters_of self.now) (view pass.new)) }
+        ensures once { IfOk result (λ _. IsWhole (part_of pass.old) → waiters_of self.now ≡ 1 → HasLookedOnce pass.old pass.new) }
         ensures refused { IfErr result (λ _. HasSeen 0 pass.old pass.new) }
         ensures some { 0 < waiters_of self.now → is_ok result ≡ true }
         ensures none { waiters_of self.now ≡ 0 → is_ok result ≡ false }
         ensures woke { IfOk result (λ _. opened_of pass.old < opened_of pass.new → HasWoken K.Fn wake_all) }
     {
-        let Some(from) = self.arrive(rt, pass) else {
+        let seen = self.look(pass);
+        let Some(next) = self.next(seen) else {
             return Err(BarrierFull);
+        };
+        let found = self.exchange(pass, seen, next);
+        let from = if found == seen {
+            seen
+        } else {
+            self.arrive(rt, pass, found)
         };
         if self.is_last(from) {
             wake(&wake_all, &self.word());
@@ -169,26 +177,32 @@ impl<A: Allocator> Barrier<A> {
         Ok(())
     }
 
-    /// Looks, and arrives where there is room: the value that the arrival was made from.
-    #[inline(always)]
-    fn arrive<R: Wait>(&self, rt: &R, pass: &mut BarrierPass) -> Option<u64>
+    /// Arrives after an exchange that failed, which found this: the value that the arrival was made from.
+    fn arrive<R: Wait>(&self, rt: &R, pass: &mut BarrierPass, found: u64) -> u64
         requires own { IsBarrierPass self.now pass.old }
-        ensures arrived { MatchOption result ((waiters_of self.now ≡ 0) × HasSeen 0 pass.old pass.new)
-            (λ from. HasArrived (waiters_of self.now) from pass.old pass.new) }
-        ensures all { IfSome result (λ _. HasAll (waiters_of self.now) (view pass.new)) }
+        requires room { count_of found < waiters_of self.now }
+        ensures arrived { HasArrived (waiters_of self.now) result pass.old pass.new }
     {
-        let mut seen = self.look(pass);
+        let mut seen = found;
         for _ in rt.forever() {
-            let Some(next) = arrived(seen, self.number_of_waiters) else {
-                return None;
+            let Some(next) = self.next(seen) else {
+                unreachable!()
             };
             let found = self.exchange(pass, seen, next);
             if found == seen {
-                return Some(seen);
+                return seen;
             }
             seen = found;
         }
         unreachable!()
+    }
+
+    /// The word after an arrival at this value, where there is room for one.
+    #[inline(always)]
+    fn next(&self, seen: u64) -> Option<u64>
+        ensures { MatchOption result (waiters_of self.now ≤ count_of seen) (IsNextWord (waiters_of self.now) seen) }
+    {
+        arrived(seen, self.number_of_waiters)
     }
 
     /// Whether an arrival from this value fills its round.
