@@ -218,22 +218,22 @@ impl<A: Allocator> Barrier<A> {
         &self,
         rt: &R,
         pass: &mut BarrierPass,
-        epoch: u64,
+        own_epoch: u64,
         wait: &W,
     )
         requires own { IsBarrierPass self.now pass.old }
-        requires epoch { epoch ≡ reached_of pass.old % 2 ^ 32 }
+        requires own_epoch { own_epoch ≡ reached_of pass.old % 2 ^ 32 }
         requires may { W.IsAlwaysCallable wait.now }
         ensures stayed { HasStayed pass.old pass.new }
         ensures reached { reached_of pass.old < reached_of pass.new }
         ensures all { HasAll (waiters_of self.now) (view pass.new) }
     {
-        let seen = self.spin(pass, epoch);
-        self.ask(rt, pass, epoch, seen, wait);
+        let seen = self.spin(pass, own_epoch);
+        self.ask(rt, pass, own_epoch, seen, wait);
     }
 
     /// Looks, up to 10000 times more while the epoch is this one. The value seen last.
-    fn spin(&self, pass: &mut BarrierPass, epoch: u64) -> u64
+    fn spin(&self, pass: &mut BarrierPass, own_epoch: u64) -> u64
         requires own { IsBarrierPass self.now pass.old }
         ensures stayed { HasStayed pass.old pass.new }
         ensures epoch { epoch_of result ≡ reached_of pass.new % 2 ^ 32 }
@@ -241,7 +241,7 @@ impl<A: Allocator> Barrier<A> {
     {
         let mut seen = self.look(pass);
         for _ in 0..SPIN_REPETITIONS {
-            if crate::strategy::barrier::epoch(seen) != epoch {
+            if epoch(seen) != own_epoch {
                 return seen;
             }
             spin_loop();
@@ -255,7 +255,7 @@ impl<A: Allocator> Barrier<A> {
         &self,
         rt: &R,
         pass: &mut BarrierPass,
-        epoch: u64,
+        own_epoch: u64,
         seen: u64,
         wait: &W,
     )
@@ -264,13 +264,13 @@ impl<A: Allocator> Barrier<A> {
         requires all { HasAll (waiters_of self.now) (view pass.old) }
         requires may { W.IsAlwaysCallable wait.now }
         ensures stayed { HasStayed pass.old pass.new }
-        ensures left { reached_of pass.new % 2 ^ 32 ≢ epoch }
+        ensures left { reached_of pass.new % 2 ^ 32 ≢ own_epoch }
         ensures all { HasAll (waiters_of self.now) (view pass.new) }
     {
         let word = self.word();
         let mut seen = seen;
         for _ in rt.forever() {
-            if crate::strategy::barrier::epoch(seen) != epoch {
+            if epoch(seen) != own_epoch {
                 return;
             }
             wait(&word, &seen);
