@@ -41,7 +41,7 @@ pub record IsNextWord (n from to : ℕ) : Type 0 where
   pub last : count_of from + 1 ≡ n → to ≡ opened from
   pub early : count_of from + 1 < n → to ≡ from + 1
 
--- an arrival was made at this value, and nothing else changed but what was seen
+-- an arrival was made from this value, which was seen last, and nothing else changed but what was seen
 pub record HasArrived (n from : ℕ) (p q : Pass Rounds) : Type 0 where
   pub same : IsSamePass p q
   pub part : part_of q ≡ part_of p
@@ -51,6 +51,7 @@ pub record HasArrived (n from : ℕ) (p q : Pass Rounds) : Type 0 where
   pub epoch : epoch_of from ≡ round % 2 ^ 32
   pub arrives : Arrives n from round (tally_of p) (tally_of q)
   pub saw : (sights_of p).count ≤ (sights_of q).count
+  pub last : (sights_of q).last ≡ from
   pub alone : IsWhole (part_of p) → round ≡ opened_of p
 
 -- nothing was counted: the pass has looked, and may know more rounds to be open

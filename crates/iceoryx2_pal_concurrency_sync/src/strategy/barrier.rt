@@ -117,7 +117,7 @@ impl<A: Allocator> Barrier<A> {
     ghost use Rattle.passes.specs.Answers.{HasWoken};
     ghost use Rattle.passes.specs.Parts.{IsWhole};
     ghost use Rattle.passes.specs.Views.{first_view};
-    ghost use Rattle.passes.specs.Passes.{view, part_of, tally_of, IsSamePass, HasSeen};
+    ghost use Rattle.passes.specs.Passes.{view, part_of, sights_of, tally_of, IsSamePass, HasSeen};
     ghost use Rattle.iceoryx2_pal_concurrency_sync.specs.BarrierRule.{no_rounds, Loaded, Exchanged, HasAll};
     ghost use Rattle.iceoryx2_pal_concurrency_sync.specs.BarrierShown.{IsBarrierPass, waiters_of, reached_of, opened_of, HasArrived, HasLookedOnce, HasStayed, HasPassed, IsNextWord};
 
@@ -181,6 +181,7 @@ impl<A: Allocator> Barrier<A> {
     fn arrive<R: Wait>(&self, rt: &R, pass: &mut BarrierPass, found: u64) -> u64
         requires own { IsBarrierPass self.now pass.old }
         requires room { count_of found < waiters_of self.now }
+        requires last { (sights_of pass.old).last ≡ found }
         ensures arrived { HasArrived (waiters_of self.now) result pass.old pass.new }
     {
         let mut seen = found;
@@ -237,6 +238,7 @@ impl<A: Allocator> Barrier<A> {
         requires own { IsBarrierPass self.now pass.old }
         ensures stayed { HasStayed pass.old pass.new }
         ensures epoch { epoch_of result ≡ reached_of pass.new % 2 ^ 32 }
+        ensures spun { epoch_of result ≡ own_epoch → (sights_of pass.new).count ≡ (sights_of pass.old).count + 10001 }
         ensures all { HasAll (waiters_of self.now) (view pass.new) }
     {
         let mut seen = self.look(pass);

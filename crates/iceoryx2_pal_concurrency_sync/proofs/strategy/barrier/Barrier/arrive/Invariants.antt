@@ -1,4 +1,5 @@
-use Rattle.std.proofs.Common.{◌<◌}
+use Rattle.std.proofs.Common.{◌≡◌, ◌<◌}
+use Rattle.passes.specs.Passes.{sights_of}
 use Rattle.steps_barrier.specs.Rounds.{count_of}
 use Rattle.iceoryx2_pal_concurrency_sync.specs.BarrierShown.{waiters_of, HasStayed}
 use Rattle.iceoryx2_pal_concurrency_sync.proofs.strategy.barrier.Barrier.arrive.Given as goal
@@ -8,4 +9,5 @@ abbrev pub invariant-loop : goal.invariant-loop
 invariant-loop g l = record {
   stayed : HasStayed l.fn.pass l.pass;
   room : count_of l.seen < waiters_of l.fn.self;
+  last : (sights_of l.pass).last ≡ l.seen;
 }
