@@ -1,5 +1,5 @@
 -- What contracts see of a once and its pass, and what a call changes in a pass.
-use Rattle.std.specs.Prelude.{◌≡◌, ℕ, ◌<◌, ◌≤◌, ◌⊎◌, true}
+use Rattle.std.specs.Prelude.{◌≡◌, ◌≢◌, ℕ, ◌<◌, ◌≤◌, ◌⊎◌, true}
 use Rattle.passes.specs.declared.part.Part.{Part}
 use Rattle.passes.specs.declared.part.Sights.{Sights}
 use Rattle.passes.specs.declared.view.View.{View}
@@ -58,6 +58,10 @@ pub record HasBegun (p q : Pass Runs) : Type 0 where
   pub same : IsSamePass p q
   pub first : (tally_of p).ended ≡ 0
   pub begins : view q ≡ wrote (view p) (began (tally_of p))
+
+-- the values at which no closure begins
+abbrev pub IsTaken : ℕ → Type 0
+IsTaken word = word ≢ 0
 
 -- within a call: nothing was counted, and nothing changed but what was seen
 pub record HasOnlyWaited (p q : Pass Runs) : Type 0 where

@@ -137,9 +137,10 @@ impl<A: Allocator> Once<A> {
     ghost use Rattle.passes.specs.Parts.{IsWhole};
     ghost use Rattle.passes.specs.Views.{first_view};
     ghost use Rattle.passes.specs.Objects.{IsPassOf};
-    ghost use Rattle.passes.specs.Passes.{view, part_of, IsSamePass, HasDone};
+    ghost use Rattle.passes.specs.Sights.{HasLooked};
+    ghost use Rattle.passes.specs.Passes.{view, part_of, sights_of, IsSamePass, HasDone};
     ghost use Rattle.iceoryx2_pal_concurrency_sync.specs.OnceRule.{no_runs, ended, Amounts, Loaded};
-    ghost use Rattle.iceoryx2_pal_concurrency_sync.specs.OnceShown.{IsOncePass, IsComplete, HasSeenOnce, HasCompleted, HasBegun, HasOnlyWaited, known_by, part_of_once, sights_of_once, ended_of};
+    ghost use Rattle.iceoryx2_pal_concurrency_sync.specs.OnceShown.{IsOncePass, IsComplete, HasSeenOnce, HasCompleted, HasBegun, HasOnlyWaited, IsTaken, known_by, part_of_once, sights_of_once, ended_of};
 
     /// A once whose closure has not run, and the pass that is whole. `Err` where there was no memory; then nothing was made.
     pub fn new(alloc: A) -> Result<(Once<A>, OncePass), AllocError>
@@ -216,6 +217,7 @@ impl<A: Allocator> Once<A> {
     fn begin(&self, pass: &mut Pass<Runs>) -> bool
         requires own { IsPassOf self.now.words pass.old }
         ensures begun { MatchBool result (HasBegun pass.old pass.new) (HasOnlyWaited pass.old pass.new) }
+        ensures refused { result ≡ false → HasLooked IsTaken 1 (sights_of pass.old) (sights_of pass.new) }
     {
         self.words.compare_exchange::<Begin>(pass, 0, 0, running()) == 0
     }
