@@ -1,5 +1,5 @@
 -- A barrier keeps its law at every front of every run.
-use Rattle.std.proofs.Common.{◌≡◌, ◌≢◌, ℕ, zero, suc, ◌+◌, ◌/◌, ◌≤◌, ◌<◌, ◌^◌, ◌==◌, refl, sym, ◌∙◌, ap, subst, Bool, true, false, cond, List, [], ◌∷◌, Option, Some, ◌⊎◌, inl, inr, ◌↔◌, arith}
+use Rattle.std.proofs.Common.{◌≡◌, ◌≢◌, ℕ, zero, suc, ◌+◌, ◌/◌, ◌%◌, ◌≤◌, ◌<◌, ◌^◌, ◌==◌, refl, sym, ◌∙◌, ap, subst, Bool, true, false, cond, List, [], ◌∷◌, Option, Some, ◌⊎◌, inl, inr, ◌↔◌, arith}
 use Rattle.std.specs.Prelude.{MatchBool, MatchOption, nat_lt, not}
 use Rattle.std.proofs.lemmas.Bool.{eqb-true, eqb-false}
 use Rattle.std.proofs.lemmas.Bool.Decides.{nat_tests}
@@ -35,7 +35,7 @@ use Rattle.steps_barrier.specs.declared.BarrierPlace.{BarrierPlace}
 use Rattle.steps_barrier.specs.declared.BarrierPlace.TheVariants as places
 use Rattle.steps_barrier.specs.Rounds.{epoch_of, count_of, with_arrival, is_arrival, arrivals_in, round_of, IsFull, CountsArrivals}
 use Rattle.steps_barrier.specs.Table.{barrier_table, barrier_begins, barrier_intent, barrier_after}
-use Rattle.steps_barrier.specs.Law.{BarrierCause, is_ok, since_arrival, KeepsBarrier}
+use Rattle.steps_barrier.specs.Law.{BarrierCause, is_ok, is_wake_of_all, since_arrival, KeepsBarrier}
 use Rattle.steps_barrier.proofs.Rounds.{count_is, counts_none, counts_more, later_epoch, filled_round, is_full}
 
 -- What is kept of a call at its place.
@@ -45,11 +45,11 @@ abbrev pub HasArrived : {T : Type 0} → ℕ → ℕ → List (Event T) → Type
 HasArrived n v own = (to : ℕ) × (found : ℕ) × (last_of is_arrival own ≡ Some (acts.Exchange words.State v to found true)) × (count_of v < n)
 
 abbrev pub AtBarrier : {T : Type 0} → ℕ → BarrierPlace → PendingCall T → Option HoldKind → Type 0
-AtBarrier n (places.Look m) c hold = (c.call ≡ calls.Wait) × (m ≡ n)
-AtBarrier n (places.Arrive m seen to) c hold = (c.call ≡ calls.Wait) × (m ≡ n) × (count_of seen < n) × (to ≡ with_arrival n seen)
+AtBarrier n (places.Look m) c hold = (c.call ≡ calls.Wait) × (m ≡ n) × (arrivals_in c.own ≡ 0)
+AtBarrier n (places.Arrive m seen to) c hold = (c.call ≡ calls.Wait) × (m ≡ n) × (count_of seen < n) × (to ≡ with_arrival n seen) × (arrivals_in c.own ≡ 0)
 AtBarrier n places.Wake c hold = (c.call ≡ calls.Wait) × ((v : ℕ) × HasArrived n v c.own × (count_of v + 1 ≡ n))
 AtBarrier n (places.Stay epoch spins) c hold =
-    (c.call ≡ calls.Wait) × ((v : ℕ) × HasArrived n v c.own × (epoch_of v ≡ epoch)) × (spins_in (is_sight words.State) (since_arrival c.own) ≡ spins) × (spins ≤ 10000)
+    (c.call ≡ calls.Wait) × ((v : ℕ) × HasArrived n v c.own × (epoch_of v ≡ epoch) × (count_of v + 1 ≢ n)) × (spins_in (is_sight words.State) (since_arrival c.own) ≡ spins) × (spins ≤ 10000)
 
 -- Where a call begins.
 
@@ -57,7 +57,7 @@ begins_at :
     {T : Type 0} (n : ℕ) (call : Call T) (place : BarrierPlace) (hold : Option HoldKind) → barrier_begins n call ≡ Some place → AtBarrier {T = T} n place (record { call = call; own = [] }) hold
 begins_at {T} n calls.Wait place hold is =
     let made : places.Look n ≡ place = cc in
-    subst (λ p. AtBarrier {T = T} n p (record { call = calls.Wait; own = [] }) hold) made (refl, refl)
+    subst (λ p. AtBarrier {T = T} n p (record { call = calls.Wait; own = [] }) hold) made (refl, refl, refl)
 begins_at n other place hold is = absurd cc
 
 -- Where a step leads.
@@ -70,12 +70,12 @@ abbrev look_after : {T : Type 0} → ℕ → ℕ → Bool → After T BarrierPla
 look_after m v below = cond below (afters.At (places.Arrive m v (with_arrival m v))) (afters.Ends answers.Full)
 
 look_steps :
-    {T : Type 0} (n m : ℕ) (c : PendingCall T) (hold : Option HoldKind) (v : ℕ) (e : Event T) (next : BarrierPlace) (below : Bool) → c.call ≡ calls.Wait → m ≡ n → nat_lt (count_of v) m ≡ below →
+    {T : Type 0} (n m : ℕ) (c : PendingCall T) (hold : Option HoldKind) (v : ℕ) (e : Event T) (next : BarrierPlace) (below : Bool) → c.call ≡ calls.Wait → m ≡ n → arrivals_in c.own ≡ 0 → is_arrival e.act ≡ false → nat_lt (count_of v) m ≡ below →
     place_after {T = T} (look_after m v below) ≡ Some next → AtBarrier n next (record { call = c.call; own = e ∷ c.own }) hold
-look_steps n m c hold v e next false wait same below is = absurd cc
-look_steps {T} n m c hold v e next true wait same below is =
+look_steps n m c hold v e next false wait same none quiet below is = absurd cc
+look_steps {T} n m c hold v e next true wait same none quiet below is =
     let made : places.Arrive m v (with_arrival m v) ≡ next = cc in
-    subst (λ p. AtBarrier {T = T} n p (record { call = c.call; own = e ∷ c.own }) hold) made (wait, same, below_of v m n same below, ap (λ k. with_arrival k v) same)
+    subst (λ p. AtBarrier {T = T} n p (record { call = c.call; own = e ∷ c.own }) hold) made (wait, same, below_of v m n same below, ap (λ k. with_arrival k v) same, rw quiet (omega (arith, none)))
 
 -- how it goes on after its arrival, by whether this made n
 abbrev joined_after : {T : Type 0} → ℕ → Bool → After T BarrierPlace
@@ -92,14 +92,15 @@ joined_steps {T} n m c hold seen to found number outcome next true wait same bel
 joined_steps {T} n m c hold seen to found number outcome next false wait same below fills is =
     let made : places.Stay (epoch_of seen) 0 ≡ next = cc in
     subst (λ p. AtBarrier {T = T} n p (record { call = c.call; own = event number (acts.Exchange words.State seen to found true) outcome ∷ c.own }) hold) made
-    (wait, (seen, (to, found, refl, below), refl), refl, omega arith)
+    (wait, (seen, (to, found, refl, below), refl, λ is. eqb-false (count_of seen + 1) m fills (is ∙ sym same)), refl, omega arith)
 
 arrive_steps :
-    {T : Type 0} (n m : ℕ) (c : PendingCall T) (hold : Option HoldKind) (seen to w number : ℕ) (outcome : Then T) (next : BarrierPlace) (done : Bool) → c.call ≡ calls.Wait → m ≡ n → count_of seen < n →
+    {T : Type 0} (n m : ℕ) (c : PendingCall T) (hold : Option HoldKind) (seen to w number : ℕ) (outcome : Then T) (next : BarrierPlace) (done : Bool) → c.call ≡ calls.Wait → m ≡ n → count_of seen < n → arrivals_in c.own ≡ 0 →
     place_after {T = T} (cond done (joined_after seen (count_of seen + 1 == m)) (look_after m w (nat_lt (count_of w) m))) ≡ Some next →
     AtBarrier n next (record { call = c.call; own = event number (acts.Exchange words.State seen to w done) outcome ∷ c.own }) hold
-arrive_steps n m c hold seen to w number outcome next true wait same below is = joined_steps n m c hold seen to w number outcome next (count_of seen + 1 == m) wait same below refl is
-arrive_steps n m c hold seen to w number outcome next false wait same below is = look_steps n m c hold w _ next (nat_lt (count_of w) m) wait same refl is
+arrive_steps n m c hold seen to w number outcome next true wait same below none is = joined_steps n m c hold seen to w number outcome next (count_of seen + 1 == m) wait same below refl is
+arrive_steps n m c hold seen to w number outcome next false wait same below none is =
+    look_steps n m c hold w (event number (acts.Exchange words.State seen to w false) outcome) next (nat_lt (count_of w) m) wait same none refl refl is
 
 -- how a call that stays goes on, by two tests: it sees the epoch of its arrival, it has spins left
 abbrev stay_after : {T : Type 0} → ℕ → ℕ → ℕ → Bool → Bool → After T BarrierPlace
@@ -124,8 +125,8 @@ steps_at :
     {T : Type 0} (n : ℕ) (place : BarrierPlace) (c : PendingCall T) (hold left : Option HoldKind) (memory : Word → ℕ) (number : ℕ) (next : BarrierPlace) → AtBarrier n place c hold →
     place_after {T = T} (barrier_after place (value_told {T = T} (carried_out (barrier_intent words.State place) memory))) ≡ Some next →
     AtBarrier n next (record { call = c.call; own = event number (step_at (barrier_table n) place hold memory).act (step_at (barrier_table n) place hold memory).outcome ∷ c.own }) left
-steps_at n (places.Look m) c hold left memory number next at is = look_steps n m c left (memory words.State) _ next (nat_lt (count_of (memory words.State)) m) at.0 at.1 refl is
-steps_at n (places.Arrive m seen to) c hold left memory number next at is = arrive_steps n m c left seen to (memory words.State) number _ next (memory words.State == seen) at.0 at.1 at.2 is
+steps_at n (places.Look m) c hold left memory number next at is = look_steps n m c left (memory words.State) _ next (nat_lt (count_of (memory words.State)) m) at.0 at.1 at.2 refl refl is
+steps_at n (places.Arrive m seen to) c hold left memory number next at is = arrive_steps n m c left seen to (memory words.State) number _ next (memory words.State == seen) at.0 at.1 at.2 at.4 is
 steps_at n places.Wake c hold left memory number next at is = absurd cc
 steps_at n (places.Stay epoch spins) c hold left memory number next at is =
     stay_steps n epoch spins c left (memory words.State) number next (epoch_of (memory words.State) == epoch) (nat_lt spins 10000) at refl is
@@ -135,16 +136,16 @@ steps_at n (places.Stay epoch spins) c hold left memory number next at is =
 answers_at :
     {T : Type 0} (n : ℕ) (place : BarrierPlace) (c : PendingCall T) (hold : Option HoldKind) (action : WaitAction) (number : ℕ) → AtBarrier n place c hold →
     AtBarrier {T = T} n place (record { call = c.call; own = event number (acts.Answered action) thens.GoesOn ∷ c.own }) hold
-answers_at n (places.Look m) c hold action number at = at
-answers_at n (places.Arrive m seen to) c hold action number at = at
+answers_at n (places.Look m) c hold action number at = (at.0, at.1, omega (arith, at.2))
+answers_at n (places.Arrive m seen to) c hold action number at = (at.0, at.1, at.2, at.3, omega (arith, at.4))
 answers_at n places.Wake c hold action number at = at
 answers_at n (places.Stay epoch spins) c hold action number at = (at.0, at.1, omega (arith, at.2), at.3)
 
 chooses_at :
     {T : Type 0} (n : ℕ) (place : BarrierPlace) (c : PendingCall T) (hold : Option HoldKind) (choice : Option T) (number : ℕ) → AtBarrier n place c hold →
     AtBarrier {T = T} n place (record { call = c.call; own = event number (acts.Chosen choice) thens.GoesOn ∷ c.own }) hold
-chooses_at n (places.Look m) c hold choice number at = at
-chooses_at n (places.Arrive m seen to) c hold choice number at = at
+chooses_at n (places.Look m) c hold choice number at = (at.0, at.1, omega (arith, at.2))
+chooses_at n (places.Arrive m seen to) c hold choice number at = (at.0, at.1, at.2, at.3, omega (arith, at.4))
 chooses_at n places.Wake c hold choice number at = at
 chooses_at n (places.Stay epoch spins) c hold choice number at = (at.0, at.1, omega (arith, at.2), at.3)
 
@@ -202,28 +203,49 @@ barrier_counts z n parties fits (e ∷ past) run = counted n _ _ _ (is_arrival e
 abbrev pub StandsInFullRound : {T : Type 0} → ℕ → ℕ → List (Event T) → Type 0
 StandsInFullRound n party past = AtLast is_arrival (λ before. IsFull n (round_of n (arrivals_in before)) past) party past
 
-own_round_full :
+-- the call's own arrival among all: before it the word was this, and fewer had arrived than have by now
+own_arrival :
     {T : Type 0} (z : Arithmetic T) (n parties : ℕ) → n < 2 ^ 32 → (party : ℕ) (past : List (Event T)) → IsPast z (barrier_table n) parties past → (c : PendingCall T) → call_of party past ≡ Some c →
-    (v : ℕ) → HasArrived n v c.own → ((own : ℕ) → own < arrivals_in past → CountsArrivals n own v → own / n < arrivals_in past / n) → StandsInFullRound n party past
-own_round_full {T} z n parties fits party past run c called v arrived passed =
-    at_last_maps is_arrival (IsToldOf z (barrier_table n) parties is_arrival act past) (λ before. IsFull n (round_of n (arrivals_in before)) past) full party past
+    (v : ℕ) → HasArrived n v c.own → AtLast is_arrival (λ before. (arrivals_in before < arrivals_in past) × CountsArrivals n (arrivals_in before) v) party past
+own_arrival {T} z n parties fits party past run c called v arrived =
+    at_last_maps is_arrival (IsToldOf z (barrier_table n) parties is_arrival act past) (λ before. (arrivals_in before < arrivals_in past) × CountsArrivals n (arrivals_in before) v) counted_at party past
     (own_at_last z (barrier_table n) parties is_arrival party act past run c called arrived.2)
   where
     act : Act T
     act = acts.Exchange words.State v arrived.0 arrived.1 true
 
-    full : (before : List (Event T)) → IsToldOf z (barrier_table n) parties is_arrival (acts.Exchange words.State v arrived.0 arrived.1 true) past before → IsFull n (round_of n (arrivals_in before)) past
-    full before told =
+    counted_at : (before : List (Event T)) → IsToldOf z (barrier_table n) parties is_arrival (acts.Exchange words.State v arrived.0 arrived.1 true) past before →
+        (arrivals_in before < arrivals_in past) × CountsArrivals n (arrivals_in before) v
+    counted_at before told =
         let held : word_in (barrier_table n) before words.State ≡ v = sym told.1.0 ∙ eqb-true arrived.1 v (sym told.1.1) in
-        let counts : CountsArrivals n (arrivals_in before) v = subst (λ w. CountsArrivals n (arrivals_in before) w) held (barrier_counts z n parties fits before told.0) in
-        let some : 0 < n = omega (arith, arrived.3) in
-        λ arrival is. is_full n (arrivals_in past) (arrivals_in before / n) some (passed (arrivals_in before) told.2 counts) arrival is
+        (told.2, subst (λ w. CountsArrivals n (arrivals_in before) w) held (barrier_counts z n parties fits before told.0))
+
+own_round_full :
+    {T : Type 0} (z : Arithmetic T) (n parties : ℕ) → n < 2 ^ 32 → (party : ℕ) (past : List (Event T)) → IsPast z (barrier_table n) parties past → (c : PendingCall T) → call_of party past ≡ Some c →
+    (v : ℕ) → HasArrived n v c.own → ((own : ℕ) → own < arrivals_in past → CountsArrivals n own v → own / n < arrivals_in past / n) → StandsInFullRound n party past
+own_round_full z n parties fits party past run c called v arrived passed =
+    let some : 0 < n = omega (arith, arrived.3) in
+    at_last_maps is_arrival (λ before. (arrivals_in before < arrivals_in past) × CountsArrivals n (arrivals_in before) v) (λ before. IsFull n (round_of n (arrivals_in before)) past)
+    (λ before own arrival is. is_full n (arrivals_in past) (arrivals_in before / n) some (passed (arrivals_in before) own.0 own.1) arrival is)
+    party past (own_arrival z n parties fits party past run c called v arrived)
+
+-- and did not fill its round, where it did not make n
+own_not_last :
+    {T : Type 0} (z : Arithmetic T) (n parties : ℕ) → n < 2 ^ 32 → (party : ℕ) (past : List (Event T)) → IsPast z (barrier_table n) parties past → (c : PendingCall T) → call_of party past ≡ Some c →
+    (v : ℕ) → HasArrived n v c.own → count_of v + 1 ≢ n → AtLast is_arrival (λ before. arrivals_in before % n + 1 ≢ n) party past
+own_not_last z n parties fits party past run c called v arrived other =
+    let some : 0 < n = omega (arith, arrived.3) in
+    at_last_maps is_arrival (λ before. (arrivals_in before < arrivals_in past) × CountsArrivals n (arrivals_in before) v) (λ before. arrivals_in before % n + 1 ≢ n)
+    (λ before own is. other (omega (arith, is, count_is n (arrivals_in before) v some fits own.1)))
+    party past (own_arrival z n parties fits party past run c called v arrived)
 
 -- What one more event tells.
 
 pub record EventLaw {T : Type 0} (n party : ℕ) (past : List (Event T)) (pending : Option (PendingCall T)) (m : Move T) : Type 0 where
   pub cause : MatchBool (is_refusal m.outcome) (MatchOption pending ⊥ (λ c. BarrierCause n c.call party (event party m.act m.outcome ∷ past))) (Unit {0})
+  pub once : MatchBool (is_arrival m.act) (MatchOption pending ⊥ (λ c. arrivals_in c.own ≡ 0)) (Unit {0})
   pub passes : MatchBool (is_ok m.outcome) (StandsInFullRound n party past) (Unit {0})
+  pub wakes : MatchBool (is_ok m.outcome) (MatchBool (is_wake_of_all m.act) (Unit {0}) (AtLast is_arrival (λ before. arrivals_in before % n + 1 ≢ n) party past)) (Unit {0})
   pub exact : is_sight words.State m.act ≡ true → ((m.outcome ≡ thens.Answers answers.Full) ↔ (n ≡ 0))
   pub asks : MatchBool (stands_at_wait m.outcome) (MatchOption pending ⊥ (λ c. spins_in (is_sight words.State) (since_arrival c.own) ≡ 10000)) (Unit {0})
 
@@ -240,30 +262,33 @@ nobody_fits (suc k) m arrivals v fits counts same below =
 
 look_law :
     {T : Type 0} (n m party : ℕ) (past : List (Event T)) (c : PendingCall T) (act : Act T) (v : ℕ) (below : Bool) → n < 2 ^ 32 → c.call ≡ calls.Wait → m ≡ n → CountsArrivals n (arrivals_in past) v →
-    nat_lt (count_of v) m ≡ below → EventLaw n party past (Some c) (record { act = act; outcome = outcome_of {T = T} (look_after m v below) })
-look_law n m party past c act v true fits wait same counts below =
-    record { cause = tt; passes = tt; exact = λ sees. (λ full. absurd cc, λ none. absurd (none_of v n (below_of v m n same below) none)); asks = tt }
-look_law {T} n m party past c act v false fits wait same counts below =
+    is_arrival act ≡ false → nat_lt (count_of v) m ≡ below → EventLaw n party past (Some c) (record { act = act; outcome = outcome_of {T = T} (look_after m v below) })
+look_law n m party past c act v true fits wait same counts quiet below =
+    record { cause = tt; once = rw quiet tt; passes = tt; wakes = tt; exact = λ sees. (λ full. absurd cc, λ none. absurd (none_of v n (below_of v m n same below) none)); asks = tt }
+look_law {T} n m party past c act v false fits wait same counts quiet below =
     let none : n ≡ 0 = nobody_fits n m (arrivals_in past) v fits counts same below in
     let refuses : Event T = event party act (thens.Answers answers.Full) in
     record {
       cause = subst (λ (k : Call T). BarrierCause n k party (refuses ∷ past)) (sym wait) none;
+      once = rw quiet tt;
       passes = tt;
+      wakes = tt;
       exact = λ sees. (λ full. none, λ is. refl);
       asks = tt;
     }
 
 joined_law :
-    {T : Type 0} (n party : ℕ) (past : List (Event T)) (c : PendingCall T) (act : Act T) (seen : ℕ) (fills : Bool) → count_of seen < n →
-    EventLaw n party past (Some c) (record { act = act; outcome = outcome_of {T = T} (joined_after seen fills) })
-joined_law n party past c act seen true below = record { cause = tt; passes = tt; exact = λ sees. (λ full. absurd cc, λ none. absurd (none_of seen n below none)); asks = tt }
-joined_law n party past c act seen false below = record { cause = tt; passes = tt; exact = λ sees. (λ full. absurd cc, λ none. absurd (none_of seen n below none)); asks = tt }
+    {T : Type 0} (n party : ℕ) (past : List (Event T)) (c : PendingCall T) (seen to w : ℕ) (fills : Bool) → count_of seen < n → arrivals_in c.own ≡ 0 →
+    EventLaw n party past (Some c) (record { act = acts.Exchange words.State seen to w true; outcome = outcome_of {T = T} (joined_after seen fills) })
+joined_law n party past c seen to w true below first = record { cause = tt; once = first; passes = tt; wakes = tt; exact = λ sees. (λ full. absurd cc, λ none. absurd (none_of seen n below none)); asks = tt }
+joined_law n party past c seen to w false below first = record { cause = tt; once = first; passes = tt; wakes = tt; exact = λ sees. (λ full. absurd cc, λ none. absurd (none_of seen n below none)); asks = tt }
 
 arrive_law :
-    {T : Type 0} (n m party : ℕ) (past : List (Event T)) (c : PendingCall T) (act : Act T) (seen w : ℕ) (done : Bool) → n < 2 ^ 32 → c.call ≡ calls.Wait → m ≡ n → count_of seen < n → CountsArrivals n (arrivals_in past) w →
-    EventLaw n party past (Some c) (record { act = act; outcome = outcome_of {T = T} (cond done (joined_after seen (count_of seen + 1 == m)) (look_after m w (nat_lt (count_of w) m))) })
-arrive_law n m party past c act seen w true fits wait same below counts = joined_law n party past c act seen (count_of seen + 1 == m) below
-arrive_law n m party past c act seen w false fits wait same below counts = look_law n m party past c act w (nat_lt (count_of w) m) fits wait same counts refl
+    {T : Type 0} (n m party : ℕ) (past : List (Event T)) (c : PendingCall T) (seen to w : ℕ) (done : Bool) → n < 2 ^ 32 → c.call ≡ calls.Wait → m ≡ n → count_of seen < n → arrivals_in c.own ≡ 0 → CountsArrivals n (arrivals_in past) w →
+    EventLaw n party past (Some c)
+    (record { act = acts.Exchange words.State seen to w done; outcome = outcome_of {T = T} (cond done (joined_after seen (count_of seen + 1 == m)) (look_after m w (nat_lt (count_of w) m))) })
+arrive_law n m party past c seen to w true fits wait same below first counts = joined_law n party past c seen to w (count_of seen + 1 == m) below first
+arrive_law n m party past c seen to w false fits wait same below first counts = look_law n m party past c (acts.Exchange words.State seen to w false) w (nat_lt (count_of w) m) fits wait same counts refl refl
 
 stay_law :
     {T : Type 0} (z : Arithmetic T) (n parties : ℕ) → n < 2 ^ 32 → (party : ℕ) (past : List (Event T)) → IsPast z (barrier_table n) parties past → (c : PendingCall T) → call_of party past ≡ Some c →
@@ -275,14 +300,16 @@ stay_law z n parties fits party past run c called hold epoch spins w false left 
     let other : epoch_of w ≢ epoch_of v = λ is. eqb-false (epoch_of w) epoch sees (is ∙ at.1.2) in
     record {
       cause = tt;
+      once = tt;
       passes = own_round_full z n parties fits party past run c called v at.1.1 (λ own before counted. later_epoch n (arrivals_in past) own w v (omega (arith, below)) fits before counts counted other);
+      wakes = own_not_last z n parties fits party past run c called v at.1.1 at.1.3;
       exact = λ sight. (λ full. absurd cc, λ none. absurd (none_of v n below none));
       asks = tt;
     }
 stay_law z n parties fits party past run c called hold epoch spins w true true at counts sees spun =
-    record { cause = tt; passes = tt; exact = λ sight. (λ full. absurd cc, λ none. absurd (none_of at.1.0 n at.1.1.3 none)); asks = tt }
+    record { cause = tt; once = tt; passes = tt; wakes = tt; exact = λ sight. (λ full. absurd cc, λ none. absurd (none_of at.1.0 n at.1.1.3 none)); asks = tt }
 stay_law z n parties fits party past run c called hold epoch spins w true false at counts sees spun =
-    record { cause = tt; passes = tt; exact = λ sight. (λ full. absurd cc, λ none. absurd (none_of at.1.0 n at.1.1.3 none)); asks = at.2 ∙ spins_spent spins at.3 spun }
+    record { cause = tt; once = tt; passes = tt; wakes = tt; exact = λ sight. (λ full. absurd cc, λ none. absurd (none_of at.1.0 n at.1.1.3 none)); asks = at.2 ∙ spins_spent spins at.3 spun }
 
 step_law :
     {T : Type 0} (z : Arithmetic T) (n parties : ℕ) → n < 2 ^ 32 → (party : ℕ) (past : List (Event T)) → IsPast z (barrier_table n) parties past → (c : PendingCall T) → call_of party past ≡ Some c →
@@ -290,15 +317,17 @@ step_law :
     EventLaw n party past (Some c) (step_at (barrier_table n) place hold memory)
 step_law z n parties fits party past run c called (places.Look m) hold memory at counts =
     let w = memory words.State in
-    look_law n m party past c (acts.Load words.State w) w (nat_lt (count_of w) m) fits at.0 at.1 counts refl
+    look_law n m party past c (acts.Load words.State w) w (nat_lt (count_of w) m) fits at.0 at.1 counts refl refl
 step_law z n parties fits party past run c called (places.Arrive m seen to) hold memory at counts =
     let w = memory words.State in
-    arrive_law n m party past c (acts.Exchange words.State seen to w (w == seen)) seen w (w == seen) fits at.0 at.1 at.2 counts
+    arrive_law n m party past c seen to w (w == seen) fits at.0 at.1 at.2 at.4 counts
 step_law z n parties fits party past run c called places.Wake hold memory at counts =
     let some : 0 < n = omega (arith, at.1.1.3) in
     record {
       cause = tt;
+      once = tt;
       passes = own_round_full z n parties fits party past run c called at.1.0 at.1.1 (λ own before counted. filled_round n (arrivals_in past) own at.1.0 some fits before counted at.1.2);
+      wakes = tt;
       exact = λ sees. absurd cc;
       asks = tt;
     }
@@ -311,23 +340,23 @@ event_law {T} z n parties fits past e run =
     by_move (barrier_table n) (call_of e.party past) (hold_of (barrier_table n) e.party past) (word_in (barrier_table n) past)
     (λ (k : Option (PendingCall T)) (m : Move T). EventLaw n e.party past k m)
     run.0.0 (record { act = e.act; outcome = e.then })
-    (λ call _. record { cause = tt; passes = tt; exact = λ sees. absurd cc; asks = tt })
-    (λ action _. record { cause = tt; passes = tt; exact = λ sees. absurd cc; asks = tt })
-    (λ choice _. record { cause = tt; passes = tt; exact = λ sees. absurd cc; asks = tt })
+    (λ call _. record { cause = tt; once = tt; passes = tt; wakes = tt; exact = λ sees. absurd cc; asks = tt })
+    (λ action _. record { cause = tt; once = tt; passes = tt; wakes = tt; exact = λ sees. absurd cc; asks = tt })
+    (λ choice _. record { cause = tt; once = tt; passes = tt; wakes = tt; exact = λ sees. absurd cc; asks = tt })
     (λ c place _ called stage.
     step_law z n parties fits e.party past run.1 c called place (hold_of (barrier_table n) e.party past) (word_in (barrier_table n) past)
     (at_place z (barrier_table n) parties (AtBarrier n) (barrier_kept n) past run.1 e.party c place called stage) (barrier_counts z n parties fits past run.1))
     run.0.1.moved
 
 pub keeps_barrier : {T : Type 0} (z : Arithmetic T) (n parties : ℕ) (past : List (Event T)) → n < 2 ^ 32 → IsPast z (barrier_table n) parties past → KeepsBarrier n past
-keeps_barrier z n parties [] fits run = record { told = tt; unheld = refl; cause = tt; law = record { counts = barrier_counts z n parties fits [] run; passes = tt; exact = tt; asks = tt } }
+keeps_barrier z n parties [] fits run = record { told = tt; unheld = refl; cause = tt; law = record { counts = barrier_counts z n parties fits [] run; once = tt; passes = tt; wakes = tt; exact = tt; asks = tt } }
 keeps_barrier z n parties (e ∷ past) fits run =
     let event = event_law z n parties fits past e run in
     record {
       told = tells_memory z (barrier_table n) parties (e ∷ past) run;
       unheld = no_holds (barrier_table n) (λ call from to. refl) (e ∷ past);
       cause = event.cause;
-      law = record { counts = barrier_counts z n parties fits (e ∷ past) run; passes = event.passes; exact = event.exact; asks = event.asks };
+      law = record { counts = barrier_counts z n parties fits (e ∷ past) run; once = event.once; passes = event.passes; wakes = event.wakes; exact = event.exact; asks = event.asks };
     }
 
 -- a barrier has no other word

@@ -1,8 +1,11 @@
 -- What a barrier keeps at every front of every run: rounds of n arrivals, each of which is full before one of its calls answers `Ok`.
-use Rattle.std.specs.Prelude.{◌≡◌, ℕ, ◌↔◌, Bool, true, false, if◌then◌else◌, List, [], ◌∷◌, MatchBool, MatchOption}
+use Rattle.std.specs.Prelude.{◌≡◌, ◌≢◌, ℕ, ◌+◌, ◌%◌, ◌↔◌, Bool, true, false, if◌then◌else◌, List, [], ◌∷◌, MatchBool, MatchOption}
 use Rattle.steps_events.specs.declared.event.Word.TheVariants as words
 use Rattle.steps_events.specs.declared.event.Call.{Call}
 use Rattle.steps_events.specs.declared.event.Call.TheVariants as calls
+use Rattle.steps_events.specs.declared.event.Act.{Act}
+use Rattle.steps_events.specs.declared.event.Act.TheVariants as acts
+use Rattle.steps_events.specs.declared.event.Wake.TheVariants as wakes
 use Rattle.steps_events.specs.declared.event.Answer.TheVariants as answers
 use Rattle.steps_events.specs.declared.event.Then.{Then}
 use Rattle.steps_events.specs.declared.event.Then.TheVariants as thens
@@ -22,10 +25,27 @@ abbrev pub is_ok : {T : Type 0} → Then T → Bool
 is_ok (thens.Answers answers.Ok) = true
 is_ok other = false
 
+-- a call arrives once at most: the latest event is an arrival only where its call had not arrived before
+abbrev pub ArrivesOnce : {T : Type 0} → List (Event T) → Type 0
+ArrivesOnce [] = Unit {0}
+ArrivesOnce (e ∷ past) = MatchBool (is_arrival e.act) (MatchOption (call_of e.party past) ⊥ (λ c. arrivals_in c.own ≡ 0)) (Unit {0})
+
 -- the latest event answers `Ok` only where the call's own arrival stands in a round that was full before
 abbrev pub OkAfterFullRound : {T : Type 0} → ℕ → List (Event T) → Type 0
 OkAfterFullRound n [] = Unit {0}
 OkAfterFullRound n (e ∷ past) = MatchBool (is_ok e.then) (AtLast is_arrival (λ before. IsFull n (round_of n (arrivals_in before)) past) e.party past) (Unit {0})
+
+abbrev pub is_wake_of_all : {T : Type 0} → Act T → Bool
+is_wake_of_all (acts.Woke wakes.All) = true
+is_wake_of_all act = false
+
+-- who fills a round wakes all: the latest event answers `Ok` as it does so, or the call's own arrival did not make n
+abbrev pub FillerWakesAll : {T : Type 0} → ℕ → List (Event T) → Type 0
+FillerWakesAll n [] = Unit {0}
+FillerWakesAll n (e ∷ past) =
+    MatchBool (is_ok e.then)
+    (MatchBool (is_wake_of_all e.act) (Unit {0}) (AtLast is_arrival (λ before. arrivals_in before % n + 1 ≢ n) e.party past))
+    (Unit {0})
 
 -- Exact: an event that sees the word is refused exactly where n is 0.
 abbrev pub IsExactRefusal : {T : Type 0} → ℕ → List (Event T) → Type 0
@@ -49,8 +69,12 @@ AsksAfterStaying (e ∷ past) =
 pub record BarrierLaw {T : Type 0} (n : ℕ) (past : List (Event T)) : Type 0 where
   -- the word tells the rounds that are full, modulo 2 ^ 32, and the arrivals of the next one
   pub counts : CountsArrivals n (arrivals_in past) (word_in (barrier_table n) past words.State)
+  -- a call arrives once at most
+  pub once : ArrivesOnce past
   -- `Ok` comes after the call's own round is full
   pub passes : OkAfterFullRound n past
+  -- the call that filled a round answers as it wakes all
+  pub wakes : FillerWakesAll n past
   -- a barrier of 0 refuses each call, and no other refuses any
   pub exact : IsExactRefusal n past
   -- a wait closure is asked after 10000 spins, which are looks since the call's arrival

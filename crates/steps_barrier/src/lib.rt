@@ -18,14 +18,15 @@ use steps_events::row::{After, Intent};
 #[cfg(test)]
 mod tests;
 
-/// The word after an arrival, where fewer than all have arrived. The one that makes all opens the next round.
+/// The word after an arrival, where fewer than so many have arrived; `None` where there is no place for one more, as at a
+/// barrier of 0. The arrival that fills the round opens the next one.
 #[inline(always)]
 pub fn arrived(word: u64, number_of_waiters: u32) -> Option<u64>
     ensures full { number_of_waiters ≤ count_of word → result ≡ None }
     ensures joins { count_of word + 1 < number_of_waiters → result ≡ Some (word + 1) }
     ensures opens { count_of word + 1 ≡ number_of_waiters → result ≡ Some (opened word) }
 {
-    let count = count(word) + 1;
+    let count = count_of(word) + 1;
     let all = u64::from(number_of_waiters);
     if count < all {
         Some(word + 1)
@@ -41,12 +42,12 @@ pub fn arrived(word: u64, number_of_waiters: u32) -> Option<u64>
 pub fn opened(word: u64) -> u64
     ensures { result ≡ opened word }
 {
-    (epoch(word) + 1) % (1 << 32) * (1 << 32)
+    (epoch_of(word) + 1) % (1 << 32) * (1 << 32)
 }
 
 /// How many rounds were opened, modulo 2^32.
 #[inline(always)]
-fn epoch(word: u64) -> u64
+fn epoch_of(word: u64) -> u64
     ensures { result ≡ epoch_of word }
 {
     word >> 32
@@ -54,7 +55,7 @@ fn epoch(word: u64) -> u64
 
 /// How many have arrived in the round that is not full.
 #[inline(always)]
-fn count(word: u64) -> u64
+fn count_of(word: u64) -> u64
     ensures { result ≡ count_of word }
 {
     word % (1 << 32)
@@ -143,7 +144,7 @@ impl BarrierPlace {
     }
 }
 
-/// After a look a call is refused where all have arrived, and else arrives.
+/// After a look a call is refused where there is no place for it, and else arrives.
 #[inline(always)]
 fn look<T>(number_of_waiters: u32, seen: u64) -> After<T, BarrierPlace>
     ensures { result ≡ look number_of_waiters seen }
@@ -163,11 +164,11 @@ fn look<T>(number_of_waiters: u32, seen: u64) -> After<T, BarrierPlace>
 fn joined<T>(number_of_waiters: u32, seen: u64) -> After<T, BarrierPlace>
     ensures { result ≡ joined number_of_waiters seen }
 {
-    if count(seen) + 1 == u64::from(number_of_waiters) {
+    if count_of(seen) + 1 == u64::from(number_of_waiters) {
         After::At(BarrierPlace::Wake)
     } else {
         After::At(BarrierPlace::Stay {
-            epoch: epoch(seen),
+            epoch: epoch_of(seen),
             spins: 0,
         })
     }
@@ -178,7 +179,7 @@ fn joined<T>(number_of_waiters: u32, seen: u64) -> After<T, BarrierPlace>
 fn stay<T>(epoch: u64, spins: u64, seen: u64) -> After<T, BarrierPlace>
     ensures { result ≡ stay epoch spins seen }
 {
-    if self::epoch(seen) != epoch {
+    if epoch_of(seen) != epoch {
         return After::Ends(Answer::Ok);
     }
     let patience = Patience { spins, keep: true };

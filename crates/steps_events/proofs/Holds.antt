@@ -19,6 +19,9 @@ eqb_same p = eq-eqb p p refl
 pub eqb_other : (p q : ℕ) → q ≢ p → (p == q) ≡ false
 eqb_other p q other = grind (arith, nat_tests)
 
+pub some_same : {A : Type 0} (x y : A) → Some x ≡ Some y → x ≡ y
+some_same x y is = cc
+
 -- the call under way of the event's party, and of another
 
 pub call_of_same :

@@ -14,7 +14,7 @@ use Rattle.steps_events.specs.Past.{PendingCall, call_of, call_after, call_going
 use Rattle.steps_events.specs.Runs.{IsPast}
 use Rattle.steps_events.specs.Sights.{AtLast, is_beginning, acts_in, last_of}
 use Rattle.steps_events.specs.Laws.{IsTold}
-use Rattle.steps_events.proofs.Holds.{eqb_other}
+use Rattle.steps_events.proofs.Holds.{some_same, eqb_other}
 use Rattle.steps_events.proofs.Steps.{tells_memory}
 
 -- What a party has under way after an event: what it had, where the event is another's; else a call that has just begun, or one with this event more.
@@ -23,9 +23,6 @@ IsCallAfter {T} past e party c =
     ((e.party ≢ party) × (call_of party past ≡ Some c))
     ⊎ (((e.party ≡ party) × (c.own ≡ []))
     ⊎ ((e.party ≡ party) × ((before : PendingCall T) × (call_of party past ≡ Some before) × (c.own ≡ e ∷ before.own) × (is_beginning e.act ≡ false))))
-
-some_same : {A : Type 0} (x y : A) → Some x ≡ Some y → x ≡ y
-some_same x y is = cc
 
 pub call_was : {T : Type 0} (past : List (Event T)) (e : Event T) (party : ℕ) (c : PendingCall T) → call_of party (e ∷ past) ≡ Some c → IsCallAfter past e party c
 call_was {T} past e party c is = by_party (eqb_tells e.party party)

@@ -22,7 +22,7 @@ use Rattle.steps_events.specs.Tables.{Table}
 use Rattle.steps_events.specs.Past.{PendingCall, call_of, call_after, call_going_on, hold_of, hold_after, word_in, latest_outcome, event}
 use Rattle.steps_events.specs.Moves.{Move, stage_of, next_stage, step_at, step_of, move_of, fault_at, fault_of, hold_fault, begin_fault, go_fault, answer_fault, choose_fault, IsNext}
 use Rattle.steps_events.specs.Runs.{IsPast}
-use Rattle.steps_events.proofs.Holds.{call_of_same, call_of_other, hold_of_same, hold_of_other}
+use Rattle.steps_events.proofs.Holds.{some_same, call_of_same, call_of_other, hold_of_same, hold_of_other}
 use Rattle.steps_events.proofs.Steps.{by_move, carried_goes_on, carried_stage}
 
 -- an input that is not refused is not refused to its party
@@ -81,9 +81,6 @@ pub record IsKept {T P : Type 0} (t : Table T P) (At : P → PendingCall T → O
   pub chooses :
       (place : P) (c : PendingCall T) (hold : Option HoldKind) (choice : Option T) (number : ℕ) → At place c hold → choose_fault (latest_outcome c.own) ≡ None →
       At (t.chosen place choice) (record { call = c.call; own = event number (acts.Chosen choice) thens.GoesOn ∷ c.own }) hold
-
-some_same : {A : Type 0} (x y : A) → Some x ≡ Some y → x ≡ y
-some_same x y is = cc
 
 -- a party's call under way is at a place, of which this is kept
 abbrev pub IsAtPlace : {T P : Type 0} → Table T P → (P → PendingCall T → Option HoldKind → Type 0) → Option (PendingCall T) → Option HoldKind → Type 0

@@ -23,7 +23,7 @@ use Rattle.steps_events.specs.Moves.{Move, step_at}
 use Rattle.steps_events.specs.Runs.{IsPast}
 use Rattle.steps_events.specs.Sights.{AtLast, last_of}
 use Rattle.steps_events.specs.Laws.{Lacks, is_refusal}
-use Rattle.steps_events.proofs.Holds.{no_holds}
+use Rattle.steps_events.proofs.Holds.{some_same, no_holds}
 use Rattle.steps_events.proofs.Steps.{by_move, tells_memory}
 use Rattle.steps_events.proofs.Parties.{IsKept, at_place}
 use Rattle.steps_events.proofs.Own.{IsCallAfter, call_was, own_among, IsToldOf, own_at_last, at_last_maps}
@@ -170,9 +170,6 @@ event_effect {T} z parties past e run =
     run.0.1.moved
 
 -- At every front.
-
-some_same : {A : Type 0} (x y : A) → Some x ≡ Some y → x ≡ y
-some_same x y is = cc
 
 -- the party whose exchange began the closure
 abbrev pub runner_of : {T : Type 0} → List (Event T) → Option ℕ

@@ -1,5 +1,5 @@
 -- A semaphore keeps its law at every front of every run.
-use Rattle.std.proofs.Common.{◌≡◌, ◌≢◌, ℕ, ◌+◌, ◌-◌, ◌<◌, ◌%◌, ◌^◌, zero, ◌==◌, refl, sym, ◌∙◌, ap, subst, Bool, true, false, cond, List, [], ◌∷◌, Option, Some, None, inl, inr, arith}
+use Rattle.std.proofs.Common.{◌≡◌, ◌≢◌, ℕ, ◌+◌, ◌-◌, ◌<◌, ◌%◌, ◌^◌, ◌==◌, refl, sym, ◌∙◌, ap, subst, Bool, true, false, cond, List, [], ◌∷◌, Option, Some, None, inl, inr, arith}
 use Rattle.std.specs.Prelude.{IfSome, MatchBool, MatchOption, nat_lt, not}
 use Rattle.std.proofs.lemmas.Bool.{eqb-true, eqb-false}
 use Rattle.steps_events.specs.declared.WaitAction.{WaitAction}
@@ -19,12 +19,12 @@ use Rattle.steps_events.specs.declared.row.After.{After}
 use Rattle.steps_events.specs.declared.row.After.TheVariants as afters
 use Rattle.steps_events.specs.Arithmetic.{Arithmetic}
 use Rattle.steps_events.specs.Rows.{carried_out, value_told, outcome_of, place_after, within}
-use Rattle.steps_events.specs.Past.{same_word, Hold, PendingCall, call_of, holds_of, hold_of, word_in, word_after, without, with_hold, is_release, hold_taken, latest_outcome, event}
+use Rattle.steps_events.specs.Past.{same_word, PendingCall, call_of, hold_of, word_in, word_after, latest_outcome, event}
 use Rattle.steps_events.specs.Moves.{Move, step_at, answer_fault}
 use Rattle.steps_events.specs.Runs.{IsPast}
 use Rattle.steps_events.specs.Sights.{sight_of, is_sight, is_abort, HasAborted, spins_in, stands_at_wait}
 use Rattle.steps_events.specs.Laws.{Lacks, is_refusal}
-use Rattle.steps_events.proofs.Holds.{eqb_same}
+use Rattle.steps_events.proofs.Holds.{eqb_same, no_holds}
 use Rattle.steps_events.proofs.Steps.{by_move, tells_memory}
 use Rattle.steps_events.proofs.Spins.{HasSpun, spins_left, spins_spent, answered_keep}
 use Rattle.steps_events.proofs.Parties.{IsKept, at_place}
@@ -269,22 +269,6 @@ event_law {T} z initial parties past e run law =
     (at_place z (semaphore_table initial) parties AtSemaphore (semaphore_kept initial) past run.1 e.party c place called stage) law)
     run.0.1.moved
 
--- Nobody holds a semaphore.
-
-takes_no_hold : {T : Type 0} (initial : ℕ) (act : Act T) (pending : Option (PendingCall T)) → hold_taken (semaphore_table initial) act pending ≡ None
-takes_no_hold initial (acts.Exchange words.State from to found true) (Some c) = refl
-takes_no_hold initial (acts.Swap words.State zero put) (Some c) = refl
-takes_no_hold initial act pending = refl
-
-no_holds : {T : Type 0} (initial : ℕ) (past : List (Event T)) → holds_of (semaphore_table initial) past ≡ []
-no_holds initial [] = refl
-no_holds {T} initial (e ∷ past) = by_test (is_release e.act) (no_holds initial past)
-  where
-    by_test : (b : Bool) → holds_of (semaphore_table initial) past ≡ [] →
-        ◌≡◌ {A = List Hold} (cond b (without e.party (holds_of (semaphore_table initial) past)) (with_hold e.party (hold_taken (semaphore_table initial) e.act (call_of e.party past)) (holds_of (semaphore_table initial) past))) []
-    by_test true none = rw none refl
-    by_test false none = rw (takes_no_hold initial e.act (call_of e.party past), none) refl
-
 -- The law of every run: the word's value and the effect of each event go hand in hand.
 
 semaphore_tallies :
@@ -304,7 +288,7 @@ keeps_semaphore z initial parties (e ∷ past) fits run =
     let event = event_law z initial parties past e run before.0 in
     record {
       told = tells_memory z (semaphore_table initial) parties (e ∷ past) run;
-      unheld = no_holds initial (e ∷ past);
+      unheld = no_holds (semaphore_table initial) (λ call from to. refl) (e ∷ past);
       cause = event.cause;
       law = record {
         permits = record {

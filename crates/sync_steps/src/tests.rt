@@ -1,5 +1,6 @@
 //! Each public call once, with ample memory. Every text of the schedule is tested in `sync_play`.
-ghost use Rattle.std.specs.Prelude.{◌≤◌, length};
+ghost use Rattle.std.specs.Prelude.{◌≡◌, ◌≤◌, true, length};
+ghost use Rattle.sync_steps.specs.Objects.{is_served};
 
 use crate::atomic::internal::AtomicInteger;
 use crate::steps::{
@@ -200,7 +201,8 @@ fn in_two_pieces(
     schedule: &[(usize, Input<u64>)],
     at: usize,
 ) -> Result<(Vec<Event<u64>>, Vec<Event<u64>>, u64), Fail>
-    requires { at ≤ length schedule.now }
+    requires served { is_served object ≡ true }
+    requires within { at ≤ length schedule.now }
 {
     let mut machine = Machine::<u64>::new(alloc, object, 3)?;
     let whole = play(alloc, &mut machine, schedule).map_err(|_| "refused")?;

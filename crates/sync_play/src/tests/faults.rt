@@ -76,10 +76,7 @@ const FAULTS: [(&str, &str); 55] = [
     ("barrier 1 4294967296", "line 1: bad number"),
     ("barrier 1 1 / 1 wait", "line 2: not waiting"),
     ("barrier 1 1 / 1 try_wait", "line 2: bad line"),
-    (
-        "barrier 1 1 / 1 start_wait / 1 start_wait",
-        "line 3: busy",
-    ),
+    ("barrier 1 1 / 1 start_wait / 1 start_wait", "line 3: busy"),
     ("once 1 1", "line 1: bad line"),
     ("once 1 / 1 lock", "line 2: bad line"),
     ("once 1 / 1 call_once 1", "line 2: bad line"),
