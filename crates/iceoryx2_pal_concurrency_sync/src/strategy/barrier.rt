@@ -173,7 +173,7 @@ impl<A: Allocator> Barrier<A> {
             wake(&wake_all, &self.word());
             return Ok(());
         }
-        self.stay(rt, pass, epoch(from), &wait);
+        self.stay(rt, pass, epoch_of(from), &wait);
         Ok(())
     }
 
@@ -211,7 +211,7 @@ impl<A: Allocator> Barrier<A> {
     fn is_last(&self, from: u64) -> bool
         ensures { MatchBool result (count_of from + 1 ≡ waiters_of self.now) (count_of from + 1 ≢ waiters_of self.now) }
     {
-        count(from) + 1 == u64::from(self.number_of_waiters)
+        count_of(from) + 1 == u64::from(self.number_of_waiters)
     }
 
     /// Waits until the epoch is another than this one, which was that of the last look or arrival.
@@ -243,7 +243,7 @@ impl<A: Allocator> Barrier<A> {
     {
         let mut seen = self.look(pass);
         for _ in 0..SPIN_REPETITIONS {
-            if epoch(seen) != own_epoch {
+            if epoch_of(seen) != own_epoch {
                 return seen;
             }
             spin_loop();
@@ -272,7 +272,7 @@ impl<A: Allocator> Barrier<A> {
         let word = self.word();
         let mut seen = seen;
         for _ in rt.forever() {
-            if epoch(seen) != own_epoch {
+            if epoch_of(seen) != own_epoch {
                 return;
             }
             wait(&word, &seen);
@@ -314,7 +314,7 @@ impl<A: Allocator> Barrier<A> {
 
 /// How many rounds were opened, modulo 2^32, at this word.
 #[inline(always)]
-fn epoch(word: u64) -> u64
+fn epoch_of(word: u64) -> u64
     ensures { result ≡ epoch_of word }
 {
     word >> 32
@@ -322,7 +322,7 @@ fn epoch(word: u64) -> u64
 
 /// How many have arrived in the round that fills, at this word.
 #[inline(always)]
-fn count(word: u64) -> u64
+fn count_of(word: u64) -> u64
     ensures { result ≡ count_of word }
 {
     word & 0xFFFF_FFFF
