@@ -4,3 +4,5 @@ pub mod RwReaderKeeps
 pub mod RwReaderUnlocks
 pub mod RwReaderJoins
 pub mod SemaphoreKeeps
+pub mod BarrierKeeps
+pub mod OnceKeeps

@@ -9,3 +9,9 @@ pub mod RwReaderShown
 pub mod SemaphoreRule
 pub mod SemaphoreTally
 pub mod SemaphoreShown
+pub mod BarrierRule
+pub mod BarrierTally
+pub mod BarrierShown
+pub mod OnceRule
+pub mod OnceTally
+pub mod OnceShown

@@ -5,6 +5,7 @@
 //! wait, and its promises hold if it returns; every other call returns where its closures do.
 #![tactic(auto)]
 
+pub mod once;
 pub mod strategy;
 #[cfg(test)]
 mod tests;

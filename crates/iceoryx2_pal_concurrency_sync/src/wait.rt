@@ -1,4 +1,5 @@
 //! The word that wait and wake closures see.
+use crate::strategy::barrier::Rounds;
 use crate::strategy::mutex::Holds;
 use crate::strategy::rwlock::Held;
 use crate::strategy::semaphore::Permits;
@@ -16,6 +17,7 @@ pub(crate) enum AnyWord<'t> {
     Mutex(Word<'t, (), Holds>),
     ReaderLock(Word<'t, (), Held<()>>),
     Semaphore(Word<'t, u64, Permits>),
+    Barrier(Word<'t, u32, Rounds>),
 }
 
 impl WaitWord<'_> {
@@ -26,6 +28,7 @@ impl WaitWord<'_> {
             AnyWord::Mutex(word) => word.load(),
             AnyWord::ReaderLock(word) => word.load(),
             AnyWord::Semaphore(word) => word.load(),
+            AnyWord::Barrier(word) => word.load(),
         }
     }
 }

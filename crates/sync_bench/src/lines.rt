@@ -4,7 +4,9 @@
 //! its place in `LINES`, its name and its call. The name is said once more in `specs/Lines.antt` and in the tests.
 ghost use Rattle.std.specs.Prelude.{◌≡◌, ◌≤◌};
 
+mod barrier;
 mod mutex;
+mod once;
 mod rwreader;
 mod semaphore;
 mod yardsticks;
@@ -30,6 +32,11 @@ pub enum Line {
     RwReaderWriteUnlock,
     SemaphoreTryWaitPost,
     SemaphoreValue,
+    BareLoadExchange,
+    StdBarrierOfOne,
+    BarrierOfOne,
+    StdOnceLockGet,
+    OnceAfter,
 }
 
 /// Every line, in the order of the table.
@@ -46,6 +53,11 @@ pub const LINES: [Line; 12] = [
     Line::RwReaderWriteUnlock,
     Line::SemaphoreTryWaitPost,
     Line::SemaphoreValue,
+    Line::BareLoadExchange,
+    Line::StdBarrierOfOne,
+    Line::BarrierOfOne,
+    Line::StdOnceLockGet,
+    Line::OnceAfter,
 ];
 
 impl Line {
@@ -68,6 +80,11 @@ impl Line {
             Line::RwReaderWriteUnlock => "rwlock reader write unlock",
             Line::SemaphoreTryWaitPost => "semaphore try_wait post",
             Line::SemaphoreValue => "semaphore value",
+            Line::BareLoadExchange => "bare load exchange",
+            Line::StdBarrierOfOne => "std barrier of one",
+            Line::BarrierOfOne => "barrier of one",
+            Line::StdOnceLockGet => "std once_lock get",
+            Line::OnceAfter => "once after",
         }
     }
 
@@ -87,6 +104,11 @@ impl Line {
             Line::RwReaderWriteUnlock => rwreader::write_unlock(rt, alloc),
             Line::SemaphoreTryWaitPost => semaphore::try_wait_post(rt, alloc),
             Line::SemaphoreValue => semaphore::value(alloc),
+            Line::BareLoadExchange => Ok(yardsticks::bare_load_exchange()),
+            Line::StdBarrierOfOne => Ok(yardsticks::std_barrier_of_one(rt)),
+            Line::BarrierOfOne => barrier::of_one(rt, alloc),
+            Line::StdOnceLockGet => Ok(yardsticks::std_once_lock_get()),
+            Line::OnceAfter => once::after(rt, alloc),
         }
     }
 }

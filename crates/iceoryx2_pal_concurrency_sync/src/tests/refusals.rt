@@ -1,5 +1,7 @@
 //! Each growth of each `new`, refused in turn. A lock is two blocks of 16 bytes, and a heap of 0, 16 or 32 bytes has room for none, for
 //! one or for both.
+use crate::once::Once;
+use crate::strategy::barrier::Barrier;
 use crate::strategy::mutex::Mutex;
 use crate::strategy::rwlock::RwLockReaderPreference;
 use crate::strategy::semaphore::Semaphore;
@@ -37,6 +39,32 @@ fn a_semaphore_that_finds_no_memory(rt: HostRuntime) -> Result<(), Fail> {
     for (size, room) in [(0, false), (16, false), (32, true)] {
         let heap = LocalHeap::new(rt.alloc(), size)?;
         let made = Semaphore::new(&heap, 5);
+        assert_eq!(rt; made.is_ok(), room);
+        assert_eq!(rt; heap.used(), if room { 32 } else { 0 });
+        drop(made);
+        assert_eq!(rt; heap.used(), 0);
+    }
+    Ok(())
+}
+
+#[test]
+fn a_barrier_that_finds_no_memory(rt: HostRuntime) -> Result<(), Fail> {
+    for (size, room) in [(0, false), (16, false), (32, true)] {
+        let heap = LocalHeap::new(rt.alloc(), size)?;
+        let made = Barrier::new(&heap, 3);
+        assert_eq!(rt; made.is_ok(), room);
+        assert_eq!(rt; heap.used(), if room { 32 } else { 0 });
+        drop(made);
+        assert_eq!(rt; heap.used(), 0);
+    }
+    Ok(())
+}
+
+#[test]
+fn a_once_that_finds_no_memory(rt: HostRuntime) -> Result<(), Fail> {
+    for (size, room) in [(0, false), (16, false), (32, true)] {
+        let heap = LocalHeap::new(rt.alloc(), size)?;
+        let made = Once::new(&heap);
         assert_eq!(rt; made.is_ok(), room);
         assert_eq!(rt; heap.used(), if room { 32 } else { 0 });
         drop(made);

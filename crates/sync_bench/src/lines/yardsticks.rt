@@ -2,7 +2,7 @@
 
 use crate::lines::{Operation, successes};
 use std::sync::atomic::{AtomicU64, Ordering};
-use std::sync::{Mutex, RwLock, Wait};
+use std::sync::{Barrier, Mutex, OnceLock, RwLock, Wait};
 
 /// Takes and frees a bare word: the least that a lock and an unlock can do.
 pub fn bare_exchange_store() -> u32 {
@@ -113,5 +113,68 @@ impl<R: Wait> Operation for StdLock<'_, R> {
     fn once(&mut self) -> bool {
         let guard = self.mutex.lock(self.rt);
         *guard
+    }
+}
+
+/// Looks at a bare word, and adds to its upper half by an exchange: the least that a barrier of one can do.
+pub fn bare_load_exchange() -> u32 {
+    successes(&mut BareEpoch {
+        word: AtomicU64::new(0),
+    })
+}
+
+#[derive(Drop)]
+struct BareEpoch {
+    word: AtomicU64,
+}
+
+impl Operation for BareEpoch {
+    #[inline(always)]
+    fn once(&mut self) -> bool {
+        let word = &self.word;
+        let seen = word.load(Ordering::SeqCst);
+        let next = seen.wrapping_add(1 << 32);
+        let opened = word.compare_exchange(seen, next, Ordering::SeqCst, Ordering::SeqCst);
+        opened.is_ok()
+    }
+}
+
+/// Passes a barrier of std for one thread.
+pub fn std_barrier_of_one(rt: &impl Wait) -> u32 {
+    successes(&mut StdBarrier {
+        rt,
+        barrier: Barrier::new(1),
+    })
+}
+
+#[derive(Drop)]
+struct StdBarrier<'r, R: Wait> {
+    rt: &'r R,
+    barrier: Barrier,
+}
+
+impl<R: Wait> Operation for StdBarrier<'_, R> {
+    #[inline(always)]
+    fn once(&mut self) -> bool {
+        self.barrier.wait(self.rt).is_leader()
+    }
+}
+
+/// Reads a once lock of std that was set.
+pub fn std_once_lock_get() -> u32 {
+    let lock = OnceLock::new();
+    drop(lock.try_set(true));
+    successes(&mut StdOnceLock { lock })
+}
+
+#[derive(Drop)]
+struct StdOnceLock {
+    lock: OnceLock<bool>,
+}
+
+impl Operation for StdOnceLock {
+    #[inline(always)]
+    fn once(&mut self) -> bool {
+        matches!(self.lock.get(), Some(true))
     }
 }

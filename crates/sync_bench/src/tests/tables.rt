@@ -19,6 +19,11 @@ const NAMES: [&str; 12] = [
     "rwlock reader write unlock",
     "semaphore try_wait post",
     "semaphore value",
+    "bare load exchange",
+    "std barrier of one",
+    "barrier of one",
+    "std once_lock get",
+    "once after",
 ];
 
 const HEAD: &str = "name\tmedian\tlower tenth\tupper tenth\n";

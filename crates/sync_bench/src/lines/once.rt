@@ -1,0 +1,31 @@
+//! The lines of the once.
+ghost use Rattle.iceoryx2_pal_concurrency_sync.specs.OnceShown.{IsOncePass};
+
+use crate::lines::{Operation, successes};
+use iceoryx2_pal_concurrency_sync::once::{Once, OncePass};
+use std::alloc::{AllocError, Global};
+use std::sync::Wait;
+
+/// Calls a once whose closure has ended.
+pub fn after(rt: &impl Wait, alloc: Global) -> Result<u32, AllocError> {
+    let (once, mut pass) = Once::new(alloc)?;
+    once.call_once(rt, &mut pass, || ());
+    Ok(successes(&mut CallAfter { rt, once, pass }))
+}
+
+#[derive(Drop)]
+struct CallAfter<'r, R: Wait> {
+    rt: &'r R,
+    once: Once,
+    pass: OncePass,
+    ghost own: { IsOncePass once pass },
+}
+
+impl<R: Wait> Operation for CallAfter<'_, R> {
+    #[inline(always)]
+    fn once(&mut self) -> bool {
+        let mut ran = false;
+        self.once.call_once(self.rt, &mut self.pass, || ran = true);
+        !ran
+    }
+}
