@@ -40,7 +40,7 @@ pub enum Line {
 }
 
 /// Every line, in the order of the table.
-pub const LINES: [Line; 12] = [
+pub const LINES: [Line; 17] = [
     Line::BareExchangeStore,
     Line::StdMutexLockUnlock,
     Line::MutexLockUnlock,
