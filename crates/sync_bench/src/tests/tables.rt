@@ -6,7 +6,7 @@ use std::test::Fail;
 use std::time::{Clock, Duration};
 
 /// The names of the lines, in the order of the table.
-const NAMES: [&str; 12] = [
+const NAMES: [&str; 17] = [
     "bare exchange store",
     "std mutex lock unlock",
     "mutex lock unlock",
