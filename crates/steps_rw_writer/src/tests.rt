@@ -1,0 +1,1 @@
+//! The public calls at the ends of their types.
