@@ -185,10 +185,10 @@ writer_out p w put holds marked law had free = by_counts law.counts
 
 -- A done exchange, by what it is.
 
-no_mark : (from to : ℕ) → to ≢ from + 1 → is_mark from to ≡ false
+pub no_mark : (from to : ℕ) → to ≢ from + 1 → is_mark from to ≡ false
 no_mark from to other = eqb_other to (from + 1) (λ is. other (sym is))
 
-is_marking : (from to : ℕ) → to ≡ from + 1 → is_mark from to ≡ true
+pub is_marking : (from to : ℕ) → to ≡ from + 1 → is_mark from to ≡ true
 is_marking from to is = rw is (eqb_is (from + 1))
   where
     eqb_is : (n : ℕ) → (n == n) ≡ true
