@@ -1,2 +1,3 @@
 pub mod WordLaws
 pub mod PlaceLaws
+pub mod Laws

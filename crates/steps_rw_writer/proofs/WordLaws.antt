@@ -75,7 +75,7 @@ pub record Keeps (holds : List Hold) (marked : Bool) (w : ℕ) (later : List Hol
 pub nobody : IsKeptWord 0 [] false
 nobody = record { counts = inl (record { counts = refl; unwritten = refl; fits = omega arith }); each = tt }
 
-unchanged : (w : ℕ) (holds : List Hold) (marked : Bool) → IsKeptWord w holds marked → Keeps holds marked w holds marked
+pub unchanged : (w : ℕ) (holds : List Hold) (marked : Bool) → IsKeptWord w holds marked → Keeps holds marked w holds marked
 unchanged w holds marked law = record { kept = law; keeps_out = λ more. absurd (omega (arith, more)) }
 
 reader_in : (p w to : ℕ) (holds : List Hold) (marked : Bool) → IsKeptWord w holds marked → hold_among p holds ≡ None → w % 2 ≡ 0 → w < 2 ^ 64 - 4 → to ≡ w + 2 → Keeps holds marked to ((p, kinds.Read) ∷ holds) marked
