@@ -42,7 +42,7 @@ use Rattle.steps_rw_writer.proofs.PlaceLaws.{AtRwWriter, writer_intent, here}
 
 -- The word counts the holds and the mark.
 
-event_keeps :
+pub event_keeps :
     {T : Type 0} (z : Arithmetic T) (parties : ℕ) (past : List (Event T)) (e : Event T) → IsPast z rw_writer_table parties (e ∷ past) →
     IsKeptWord (word_in rw_writer_table past words.State) (holds_of rw_writer_table past) (is_some (setter_of past)) →
     Keeps (holds_of rw_writer_table past) (is_some (setter_of past)) (word_in rw_writer_table (e ∷ past) words.State) (holds_of rw_writer_table (e ∷ past)) (is_some (setter_of (e ∷ past)))
@@ -389,7 +389,7 @@ live_calls (places.LoadCounter patience) c hold live at = at.0
 live_calls (places.LastLook count patience) c hold live at = at.0
 live_calls place c hold live at = absurd cc
 
-setter_is_under_way : {T : Type 0} (z : Arithmetic T) (parties : ℕ) (past : List (Event T)) → IsPast z rw_writer_table parties past → SetterIsUnderWay past
+pub setter_is_under_way : {T : Type 0} (z : Arithmetic T) (parties : ℕ) (past : List (Event T)) → IsPast z rw_writer_table parties past → SetterIsUnderWay past
 setter_is_under_way {T} z parties past run = by_setter (setter_of past) refl
   where
     by_setter : (setter : Option ℕ) → setter_of past ≡ setter → MatchOption setter (Unit {0}) (λ party. IsSetter party past)
@@ -398,18 +398,6 @@ setter_is_under_way {T} z parties past run = by_setter (setter_of past) refl
         let setter = setter_at z parties past run p is in
         let writes : setter.call.call ≡ calls.WriteLock = live_calls setter.place setter.call (hold_of rw_writer_table p past) setter.live (here z parties past run p setter.call setter.place setter.under_way setter.stage) in
         rw setter.under_way (writes, setter.marked)
-
-pub keeps_rw_writer : {T : Type 0} (z : Arithmetic T) (parties : ℕ) (past : List (Event T)) → IsPast z rw_writer_table parties past → KeepsRwWriter past
-keeps_rw_writer z parties [] run =
-    let word = writer_lock_word z parties [] run in
-    record { told = tt; exclusive = writer_lock_exclusive 0 [] false word.counts; law = record { counts = word.counts; mark = tt; keeps_out = tt } }
-keeps_rw_writer z parties (e ∷ past) run =
-    let word = event_keeps z parties past e run (writer_lock_word z parties past run.1) in
-    record {
-      told = tells_memory z rw_writer_table parties (e ∷ past) run;
-      exclusive = writer_lock_exclusive _ (holds_of rw_writer_table (e ∷ past)) (is_marked_after (e ∷ past)) word.kept.counts;
-      law = record { counts = word.kept.counts; mark = setter_is_under_way z parties (e ∷ past) run; keeps_out = word.keeps_out };
-    }
 
 -- a writer-preferring lock has no words but its own and its wake counter
 pub rw_writer_lacks : (T : Type 0) (word : Word) → same_word words.State word ≡ false → same_word words.Counter word ≡ false → Lacks {T = T} rw_writer_table word

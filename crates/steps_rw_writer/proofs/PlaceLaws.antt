@@ -1,5 +1,5 @@
 -- What is kept of a call at each place of a writer-preferring lock.
-use Rattle.std.proofs.Common.{◌≡◌, ◌≢◌, ℕ, ◌+◌, ◌-◌, ◌%◌, ◌^◌, ◌<◌, ◌==◌, refl, sym, ◌∙◌, ap, subst, Bool, true, false, cond, is_some, ◌&&◌, ◌||◌, List, [], ◌∷◌, Option, Some, None, inl, inr, arith}
+use Rattle.std.proofs.Common.{◌≡◌, ◌≢◌, ℕ, ◌+◌, ◌-◌, ◌%◌, ◌^◌, ◌<◌, ◌≤◌, ◌==◌, refl, sym, ◌∙◌, ap, subst, Bool, true, false, cond, is_some, ◌&&◌, ◌||◌, List, [], ◌∷◌, Option, Some, None, ◌⊎◌, inl, inr, arith}
 use Rattle.std.specs.Prelude.{nat_lt, not}
 use Rattle.std.proofs.lemmas.Bool.{eq-eqb, eqb-true, eqb-false}
 use Rattle.std.proofs.lemmas.Bool.Decides.{nat_tests}
@@ -21,14 +21,14 @@ use Rattle.steps_events.specs.declared.row.After.{After}
 use Rattle.steps_events.specs.declared.row.After.TheVariants as afters
 use Rattle.steps_events.specs.Arithmetic.{Arithmetic}
 use Rattle.steps_events.specs.Rows.{carried_out, value_told, outcome_of, place_after, within, refused}
-use Rattle.steps_events.specs.Past.{PendingCall, same_word, call_of, hold_of, hold_after, latest_outcome, event}
+use Rattle.steps_events.specs.Past.{PendingCall, same_word, call_of, hold_of, hold_after, latest_outcome, event, is_failure}
 use Rattle.steps_events.specs.Moves.{step_at, hold_fault, answer_fault, choose_fault, stage_of}
 use Rattle.steps_events.specs.Runs.{IsPast}
-use Rattle.steps_events.specs.Sights.{sight_of, is_write, is_abort, keeps_asking}
+use Rattle.steps_events.specs.Sights.{sight_of, is_sight, is_write, is_abort, keeps_asking}
 use Rattle.steps_events.specs.Laws.{Lacks}
 use Rattle.steps_events.proofs.Holds.{eqb_other}
 use Rattle.steps_events.proofs.Spins.{answered_keep}
-use Rattle.steps_events.proofs.LastSights.{IsLook}
+use Rattle.steps_events.proofs.LastSights.{IsLook, LastSaw}
 use Rattle.steps_events.proofs.Parties.{IsKept, at_place}
 use Rattle.steps_rw_writer.specs.declared.Leaver.{Leaver}
 use Rattle.steps_rw_writer.specs.declared.Leaver.TheVariants as leavers
@@ -57,10 +57,29 @@ Sets seen to = (seen % 2 ≡ 0) × (seen ≢ 2 ^ 64 - 2) × (to ≡ seen + 1)
 abbrev pub Clears : ℕ → ℕ → Type 0
 Clears seen to = (seen % 2 ≡ 1) × (seen ≢ 2 ^ 64 - 1) × (seen ≡ to + 1)
 
-abbrev pub LeaverCall : {T : Type 0} → Leaver → Call T → Type 0
-LeaverCall leavers.Reader call = call ≡ calls.Unlock
-LeaverCall leavers.Writer call = call ≡ calls.Unlock
-LeaverCall leavers.GivenUp call = call ≡ calls.WriteLock
+-- Why a writer gives up.
+
+-- the latest exchange of the call that failed did so after its closure had answered Abort
+abbrev pub failed_after_abort : {T : Type 0} → List (Event T) → Bool
+failed_after_abort [] = false
+failed_after_abort (e ∷ own) = cond (is_sight words.State e.act && is_failure e.act) (not (keeps_asking own)) (failed_after_abort own)
+
+-- at its last sight, after its closure had answered Abort, the word was that of a held lock
+pub record SawHold {T : Type 0} (own : List (Event T)) : Type 0 where
+  pub seen : ℕ
+  pub before : List (Event T)
+  pub saw : LastSaw words.State seen before own
+  pub held : 2 ≤ seen
+  pub aborted : keeps_asking before ≡ false
+
+abbrev pub MayGiveUp : {T : Type 0} → List (Event T) → Type 0
+MayGiveUp own = SawHold own ⊎ (failed_after_abort own ≡ true)
+
+-- who leaves: the last reader and the writer in an `Unlock`, a writer that gives up in its `WriteLock`
+abbrev pub IsLeaver : {T : Type 0} → Leaver → PendingCall T → Type 0
+IsLeaver leavers.Reader c = c.call ≡ calls.Unlock
+IsLeaver leavers.Writer c = c.call ≡ calls.Unlock
+IsLeaver leavers.GivenUp c = (c.call ≡ calls.WriteLock) × MayGiveUp c.own
 
 -- while a locking call is under way its party has no hold
 abbrev pub AtRwWriter : {T : Type 0} → RwWriterPlace → PendingCall T → Option HoldKind → Type 0
@@ -72,13 +91,13 @@ AtRwWriter places.TryWrite c hold = (c.call ≡ calls.TryWriteLock) × (hold ≡
 AtRwWriter (places.WriteLook patience) c hold = (c.call ≡ calls.WriteLock) × (hold ≡ None) × Asks patience c.own
 AtRwWriter (places.Enter seen patience) c hold = (c.call ≡ calls.WriteLock) × (hold ≡ None) × Asks patience c.own × (seen < 2) × Looked seen c.own
 AtRwWriter (places.Mark seen to patience) c hold = (c.call ≡ calls.WriteLock) × (hold ≡ None) × Asks patience c.own × Sets seen to × Looked seen c.own
-AtRwWriter (places.Unmark seen to) c hold = (c.call ≡ calls.WriteLock) × (hold ≡ None) × (keeps_asking c.own ≡ false) × Clears seen to × Looked seen c.own
+AtRwWriter (places.Unmark seen to) c hold = (c.call ≡ calls.WriteLock) × (hold ≡ None) × (keeps_asking c.own ≡ false) × Clears seen to × Looked seen c.own × ((2 ≤ seen) ⊎ (failed_after_abort c.own ≡ true))
 AtRwWriter (places.LoadCounter patience) c hold = (c.call ≡ calls.WriteLock) × (hold ≡ None) × Asks patience c.own × (latest_outcome c.own ≡ thens.GoesOn)
 AtRwWriter (places.LastLook count patience) c hold = (c.call ≡ calls.WriteLock) × (hold ≡ None) × Asks patience c.own × (latest_outcome c.own ≡ thens.GoesOn)
 AtRwWriter places.Release c hold = (c.call ≡ calls.Unlock) × (is_some hold ≡ true)
-AtRwWriter (places.Count who) c hold = LeaverCall who c.call
-AtRwWriter (places.WakeOne who) c hold = LeaverCall who c.call
-AtRwWriter (places.WakeAll who) c hold = LeaverCall who c.call
+AtRwWriter (places.Count who) c hold = IsLeaver who c
+AtRwWriter (places.WakeOne who) c hold = IsLeaver who c
+AtRwWriter (places.WakeAll who) c hold = IsLeaver who c
 
 -- the call with one more event of its own
 abbrev pub grown : {T : Type 0} → PendingCall T → Event T → PendingCall T
@@ -152,6 +171,9 @@ reader_enters v is =
 writer_enters : (v : ℕ) → lets_writer_in v ≡ true → v < 2
 writer_enters v is = grind (arith, nat_tests)
 
+pub held_above : (v : ℕ) → lets_writer_in v ≡ false → 2 ≤ v
+held_above v is = grind (arith, nat_tests)
+
 mark_sets : (v : ℕ) → lets_mark v ≡ true → Sets v (v + 1)
 mark_sets v is =
     let other : (v == 2 ^ 64 - 2) ≡ false = not_true (v == 2 ^ 64 - 2) (and_right (not (is_odd v)) (not (v == 2 ^ 64 - 2)) is) in
@@ -212,23 +234,31 @@ marks_lead {T} c hold number act patience v call free asks quiet look = by_test 
     by_test true is = (call, free, rw quiet asks, mark_sets v is, (look, refl))
     by_test false is = spins_lead c hold number act patience call free asks quiet
 
+-- what a writer saw that takes the mark away: a held lock, or that its exchange failed
+abbrev pub SawWhy : {T : Type 0} → Act T → ℕ → Type 0
+SawWhy act v = (2 ≤ v) ⊎ (is_failure act ≡ true)
+
 unmarks_lead :
-    {T : Type 0} (c : PendingCall T) (hold : Option HoldKind) (number : ℕ) (act : Act T) (v : ℕ) → c.call ≡ calls.WriteLock → hold ≡ None → keeps_asking c.own ≡ false → is_abort act ≡ false → IsLookAt act v →
+    {T : Type 0} (c : PendingCall T) (hold : Option HoldKind) (number : ℕ) (act : Act T) (v : ℕ) → c.call ≡ calls.WriteLock → hold ≡ None → keeps_asking c.own ≡ false → is_abort act ≡ false → IsLookAt act v → SawWhy act v →
     LeadsTo c hold number act (unmarks_or_leaves v)
-unmarks_lead {T} c hold number act v call free aborted quiet look = by_test (is_marked v) refl
+unmarks_lead {T} c hold number act v call free aborted quiet look why = by_test (is_marked v) refl
   where
+    because : SawWhy act v → (2 ≤ v) ⊎ (failed_after_abort (event number act thens.GoesOn ∷ c.own) ≡ true)
+    because (inl held) = inl held
+    because (inr fails) = inr (rw (look.0, fails, aborted) refl)
+
     by_test : (b : Bool) → is_marked v ≡ b → LeadsTo {T = T} c hold number act (cond b (afters.At (places.Unmark v (v - 1))) (afters.Ends answers.Interrupted))
-    by_test true is = (call, free, rw quiet aborted, mark_clears v is, (look, refl))
+    by_test true is = (call, free, rw quiet aborted, mark_clears v is, (look, refl), because why)
     by_test false is = tt
 
 write_refused_leads :
-    {T : Type 0} (c : PendingCall T) (hold : Option HoldKind) (number : ℕ) (act : Act T) (patience : Patience) (v : ℕ) → c.call ≡ calls.WriteLock → hold ≡ None → Asks patience c.own → is_abort act ≡ false → IsLookAt act v →
+    {T : Type 0} (c : PendingCall T) (hold : Option HoldKind) (number : ℕ) (act : Act T) (patience : Patience) (v : ℕ) → c.call ≡ calls.WriteLock → hold ≡ None → Asks patience c.own → is_abort act ≡ false → IsLookAt act v → SawWhy act v →
     LeadsTo c hold number act (write_refused patience v)
-write_refused_leads {T} c hold number act patience v call free asks quiet look = by_test patience.keep refl
+write_refused_leads {T} c hold number act patience v call free asks quiet look why = by_test patience.keep refl
   where
     by_test : (b : Bool) → patience.keep ≡ b → LeadsTo {T = T} c hold number act (cond b (marks_or_spins patience v) (unmarks_or_leaves v))
     by_test true is = marks_lead c hold number act patience v call free asks quiet look
-    by_test false is = unmarks_lead c hold number act v call free (asks ∙ is) quiet look
+    by_test false is = unmarks_lead c hold number act v call free (asks ∙ is) quiet look why
 
 write_look_leads :
     {T : Type 0} (c : PendingCall T) (hold : Option HoldKind) (number : ℕ) (act : Act T) (patience : Patience) (v : ℕ) → c.call ≡ calls.WriteLock → hold ≡ None → Asks patience c.own → is_abort act ≡ false → IsLookAt act v →
@@ -237,7 +267,7 @@ write_look_leads {T} c hold number act patience v call free asks quiet look = by
   where
     by_test : (b : Bool) → lets_writer_in v ≡ b → LeadsTo {T = T} c hold number act (cond b (afters.At (places.Enter v patience)) (write_refused patience v))
     by_test true is = (call, free, rw quiet asks, writer_enters v is, (look, refl))
-    by_test false is = write_refused_leads c hold number act patience v call free asks quiet look
+    by_test false is = write_refused_leads c hold number act patience v call free asks quiet look (inl (held_above v is))
 
 last_look_leads :
     {T : Type 0} (c : PendingCall T) (hold : Option HoldKind) (number count v : ℕ) (patience : Patience) → c.call ≡ calls.WriteLock → hold ≡ None → Asks patience c.own →
@@ -264,7 +294,7 @@ write_enters :
     {T : Type 0} (c : PendingCall T) (hold : Option HoldKind) (number seen to w : ℕ) (patience : Patience) (b : Bool) → c.call ≡ calls.WriteLock → hold ≡ None → Asks patience c.own →
     LeadsTo c (hold_after rw_writer_table (acts.Exchange words.State seen to w b) (Some c) hold) number (acts.Exchange words.State seen to w b) (cond b (afters.Ends answers.Success) (write_refused patience w))
 write_enters c hold number seen to w patience true call free asks = tt
-write_enters c hold number seen to w patience false call free asks = write_refused_leads c hold number (acts.Exchange words.State seen to w false) patience w call free asks refl (refl, refl)
+write_enters c hold number seen to w patience false call free asks = write_refused_leads c hold number (acts.Exchange words.State seen to w false) patience w call free asks refl (refl, refl) (inr refl)
 
 -- neither a mark nor its removal grants a hold
 
@@ -285,12 +315,29 @@ mark_leads {T} c hold number seen to w patience true call free asks more =
 mark_leads c hold number seen to w patience false call free asks more = write_look_leads c hold number (acts.Exchange words.State seen to w false) patience w call free asks refl (refl, refl)
 
 unmark_leads :
-    {T : Type 0} (c : PendingCall T) (hold : Option HoldKind) (number seen to w : ℕ) (b : Bool) → c.call ≡ calls.WriteLock → hold ≡ None → keeps_asking c.own ≡ false →
+    {T : Type 0} (c : PendingCall T) (hold : Option HoldKind) (number seen to w : ℕ) (b : Bool) → c.call ≡ calls.WriteLock → hold ≡ None → keeps_asking c.own ≡ false → (2 ≤ seen) ⊎ (failed_after_abort c.own ≡ true) → (w == seen) ≡ b →
     LeadsTo c (hold_after rw_writer_table (acts.Exchange words.State seen to w b) (Some c) hold) number (acts.Exchange words.State seen to w b) (cond b (afters.At (places.Count leavers.GivenUp)) (unmarks_or_leaves w))
-unmark_leads c hold number seen to w true call free aborted = call
-unmark_leads c hold number seen to w false call free aborted = unmarks_lead c hold number (acts.Exchange words.State seen to w false) w call free aborted refl (refl, refl)
+unmark_leads {T} c hold number seen to w true call free aborted why is = (call, gives_up why)
+  where
+    found : w ≡ seen
+    found = eqb-true w seen is
+
+    gives_up : (2 ≤ seen) ⊎ (failed_after_abort c.own ≡ true) → MayGiveUp (event number (acts.Exchange words.State seen to w true) thens.GoesOn ∷ c.own)
+    gives_up (inl held) = inl (record { seen = seen; before = c.own; saw = (ap (λ v. Some v) found, refl); held = held; aborted = aborted })
+    gives_up (inr failed) = inr failed
+unmark_leads c hold number seen to w false call free aborted why is = unmarks_lead c hold number (acts.Exchange words.State seen to w false) w call free aborted refl (refl, refl) (inr refl)
 
 -- Where the leaving leads.
+
+-- an act that is no sight of the word leaves why a writer gives up
+still_gives_up : {T : Type 0} (own : List (Event T)) (e : Event T) → is_sight words.State e.act ≡ false → MayGiveUp own → MayGiveUp (e ∷ own)
+still_gives_up own e quiet (inl saw) = inl (record { seen = saw.seen; before = saw.before; saw = rw quiet saw.saw; held = saw.held; aborted = saw.aborted })
+still_gives_up own e quiet (inr failed) = inr (rw quiet failed)
+
+leaves_on : {T : Type 0} (who : Leaver) (c : PendingCall T) (e : Event T) → is_sight words.State e.act ≡ false → IsLeaver who c → IsLeaver who (grown c e)
+leaves_on leavers.Reader c e quiet call = call
+leaves_on leavers.Writer c e quiet call = call
+leaves_on leavers.GivenUp c e quiet at = (at.0, still_gives_up c.own e quiet at.1)
 
 released_leads : {T : Type 0} (c : PendingCall T) (left : Option HoldKind) (number : ℕ) (act : Act T) (told : Option ℕ) → c.call ≡ calls.Unlock → LeadsTo c left number act (released told)
 released_leads c left number act None call = call
@@ -300,10 +347,10 @@ released_leads {T} c left number act (Some old) call = by_test (old == 3)
     by_test true = call
     by_test false = tt
 
-woken_one_leads : {T : Type 0} (c : PendingCall T) (left : Option HoldKind) (number : ℕ) (act : Act T) (who : Leaver) → LeaverCall who c.call → LeadsTo c left number act (woken_one who)
-woken_one_leads c left number act leavers.Reader call = tt
-woken_one_leads c left number act leavers.Writer call = call
-woken_one_leads c left number act leavers.GivenUp call = call
+woken_one_leads : {T : Type 0} (c : PendingCall T) (left : Option HoldKind) (number : ℕ) (act : Act T) (who : Leaver) → is_sight words.State act ≡ false → IsLeaver who c → LeadsTo c left number act (woken_one who)
+woken_one_leads c left number act leavers.Reader quiet call = tt
+woken_one_leads c left number act leavers.Writer quiet call = call
+woken_one_leads c left number act leavers.GivenUp quiet at = leaves_on leavers.GivenUp c (event number act thens.GoesOn) quiet at
 
 woken_all_leads : {T : Type 0} (c : PendingCall T) (left : Option HoldKind) (number : ℕ) (act : Act T) (who : Leaver) → LeadsTo c left number act (woken_all who)
 woken_all_leads c left number act leavers.Reader = tt
@@ -322,12 +369,12 @@ steps_at places.TryWrite c hold memory number at = tried_once c _ number _ (memo
 steps_at (places.WriteLook patience) c hold memory number at = write_look_leads c hold number (acts.Load words.State (memory words.State)) patience (memory words.State) at.0 at.1 at.2 refl (refl, refl)
 steps_at (places.Enter seen patience) c hold memory number at = write_enters c hold number seen (2 ^ 64 - 1) (memory words.State) patience (memory words.State == seen) at.0 at.1 at.2
 steps_at (places.Mark seen to patience) c hold memory number at = mark_leads c hold number seen to (memory words.State) patience (memory words.State == seen) at.0 at.1 at.2 at.3.2
-steps_at (places.Unmark seen to) c hold memory number at = unmark_leads c hold number seen to (memory words.State) (memory words.State == seen) at.0 at.1 at.2
+steps_at (places.Unmark seen to) c hold memory number at = unmark_leads c hold number seen to (memory words.State) (memory words.State == seen) at.0 at.1 at.2 at.5 refl
 steps_at (places.LoadCounter patience) c hold memory number at = (at.0, at.1, at.2, refl)
 steps_at (places.LastLook count patience) c hold memory number at = last_look_leads c hold number count (memory words.State) patience at.0 at.1 at.2
 steps_at {T} places.Release c hold memory number at = released_leads c _ number _ (value_told {T = T} (carried_out (rw_writer_table.intent places.Release hold) memory)) at.0
-steps_at (places.Count who) c hold memory number at = at
-steps_at (places.WakeOne who) c hold memory number at = woken_one_leads c _ number _ who at
+steps_at {T} (places.Count who) c hold memory number at = leaves_on who c (event number (step_at {T = T} rw_writer_table (places.Count who) hold memory).act thens.GoesOn) refl at
+steps_at (places.WakeOne who) c hold memory number at = woken_one_leads c _ number _ who refl at
 steps_at (places.WakeAll who) c hold memory number at = woken_all_leads c _ number _ who
 
 -- Where an answer leads.
@@ -353,9 +400,9 @@ answers_at (places.Unmark seen to) c hold action number at waits = absurd (asked
 answers_at (places.LoadCounter patience) c hold action number at waits = absurd (asked_nothing c.own at.3 waits)
 answers_at (places.LastLook count patience) c hold action number at waits = absurd (asked_nothing c.own at.3 waits)
 answers_at places.Release c hold action number at waits = at
-answers_at (places.Count who) c hold action number at waits = at
-answers_at (places.WakeOne who) c hold action number at waits = at
-answers_at (places.WakeAll who) c hold action number at waits = at
+answers_at (places.Count who) c hold action number at waits = leaves_on who c (event number (acts.Answered action) thens.GoesOn) refl at
+answers_at (places.WakeOne who) c hold action number at waits = leaves_on who c (event number (acts.Answered action) thens.GoesOn) refl at
+answers_at (places.WakeAll who) c hold action number at waits = leaves_on who c (event number (acts.Answered action) thens.GoesOn) refl at
 
 chooses_at :
     {T : Type 0} (place : RwWriterPlace) (c : PendingCall T) (hold : Option HoldKind) (choice : Option T) (number : ℕ) → AtRwWriter place c hold → choose_fault (latest_outcome c.own) ≡ None →
@@ -372,9 +419,9 @@ chooses_at (places.Unmark seen to) c hold choice number at stands = absurd (offe
 chooses_at (places.LoadCounter patience) c hold choice number at stands = absurd (offered_nothing c.own at.3 stands)
 chooses_at (places.LastLook count patience) c hold choice number at stands = absurd (offered_nothing c.own at.3 stands)
 chooses_at places.Release c hold choice number at stands = at
-chooses_at (places.Count who) c hold choice number at stands = at
-chooses_at (places.WakeOne who) c hold choice number at stands = at
-chooses_at (places.WakeAll who) c hold choice number at stands = at
+chooses_at (places.Count who) c hold choice number at stands = leaves_on who c (event number (acts.Chosen choice) thens.GoesOn) refl at
+chooses_at (places.WakeOne who) c hold choice number at stands = leaves_on who c (event number (acts.Chosen choice) thens.GoesOn) refl at
+chooses_at (places.WakeAll who) c hold choice number at stands = leaves_on who c (event number (acts.Chosen choice) thens.GoesOn) refl at
 
 pub rw_writer_kept : {T : Type 0} → IsKept {T = T} rw_writer_table AtRwWriter
 rw_writer_kept {T} =

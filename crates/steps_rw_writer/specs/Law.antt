@@ -53,6 +53,37 @@ abbrev pub MarkKeepsReadersOut : {T : Type 0} → List (Event T) → Type 0
 MarkKeepsReadersOut [] = Unit {0}
 MarkKeepsReadersOut (e ∷ past) = GrantsRead (e ∷ past) → is_marked_after past ≡ false
 
+-- Why a call is refused.
+
+-- no reader may enter: a write hold stands, the mark is set, or 2^63 - 2 read holds stand
+abbrev pub IsShut : {T : Type 0} → List (Event T) → Type 0
+IsShut past = (0 < writes_in (holds_of rw_writer_table past)) ⊎ ((is_marked_after past ≡ true) ⊎ (reads_in (holds_of rw_writer_table past) ≡ 2 ^ 63 - 2))
+
+-- a hold stands, or the mark is set
+abbrev pub IsTaken : {T : Type 0} → List (Event T) → Type 0
+IsTaken past = IsLocked rw_writer_table past ⊎ (is_marked_after past ≡ true)
+
+-- the latest exchange of the party's latest call that failed did so after its own closure had answered Abort, and another party had
+-- written the word since the call's sight before it
+abbrev pub HasMissedAfterAbort : {T : Type 0} → ℕ → List (Event T) → Type 0
+HasMissedAfterAbort party [] = ⊥
+HasMissedAfterAbort party (e ∷ past) =
+    MatchBool (e.party == party)
+    (MatchBool (is_sight words.State e.act && is_failure e.act) (HasAborted party past × OtherWroteSinceSight words.State party past)
+    (MatchBool (is_beginning e.act) ⊥ (HasMissedAfterAbort party past)))
+    (HasMissedAfterAbort party past)
+
+-- `TryReadLock`: no reader might enter at its last sight, or another party wrote the word between its two sights. `ReadLock`: the first
+-- of these, after its own closure had answered Abort. `TryWriteLock`: a hold stood at its last sight, or the mark was set. `WriteLock`: its
+-- own closure had answered Abort, and after that a hold stood at its last sight, or it missed.
+abbrev pub RwWriterCause : {T : Type 0} → Call T → ℕ → List (Event T) → Type 0
+RwWriterCause calls.TryReadLock party events = AtLastSight words.State IsShut party events ⊎ HasMissed words.State party events
+RwWriterCause calls.ReadLock party events = AtLastSight words.State (λ before. HasAborted party before × IsShut before) party events
+RwWriterCause calls.TryWriteLock party events = AtLastSight words.State IsTaken party events
+RwWriterCause calls.WriteLock party events =
+    AtLastSight words.State (λ before. HasAborted party before × IsLocked rw_writer_table before) party events ⊎ HasMissedAfterAbort party events
+RwWriterCause other party events = ⊥
+
 -- What a writer-preferring lock keeps beside what every object does.
 pub record RwWriterLaw {T : Type 0} (past : List (Event T)) : Type 0 where
   -- the word is twice the number of read holds and the mark, or 2^64 - 1 with one write hold and no other
@@ -67,4 +98,6 @@ pub record KeepsRwWriter {T : Type 0} (past : List (Event T)) : Type 0 where
   pub told : TellsMemory rw_writer_table past
   -- one writer, or only readers
   pub exclusive : IsExclusive (holds_of rw_writer_table past)
+  -- each refusal has its cause
+  pub cause : HasCause RwWriterCause past
   pub law : RwWriterLaw past
