@@ -1,3 +1,4 @@
 pub mod WordLaws
 pub mod PlaceLaws
 pub mod Laws
+pub mod Causes

@@ -3,7 +3,11 @@
 #![tactic(auto)]
 
 ghost use Rattle.std.specs.Prelude.{◌≡◌, ◌≢◌, ◌+◌, ◌-◌, ◌%◌, ◌^◌, ◌<◌, ◌≤◌, Option, ℕ, List};
-ghost use Rattle.steps_rw_writer.specs.Table.{rw_writer_begins, rw_writer_intent, rw_writer_after, rw_writer_answered, release, try_read_look, read_look, spins, marks_or_spins, unmarks_or_leaves, write_refused, write_look, last_look, released, woken_one, woken_all, is_blocked, rw_writer_grant};
+ghost use Rattle.steps_events.specs.declared.event.Event.{Event as AnEvent};
+ghost use Rattle.steps_events.specs.Arithmetic.{Arithmetic};
+ghost use Rattle.steps_events.specs.Runs.{IsPast};
+ghost use Rattle.steps_rw_writer.specs.Law.{KeepsRwWriter};
+ghost use Rattle.steps_rw_writer.specs.Table.{rw_writer_begins, rw_writer_intent, rw_writer_after, rw_writer_answered, release, try_read_look, read_look, spins, marks_or_spins, unmarks_or_leaves, write_refused, write_look, last_look, released, woken_one, woken_all, is_blocked, rw_writer_grant, rw_writer_table};
 
 use steps_events::event::{Answer, Call, Wake, Word};
 use steps_events::hold::HoldKind;
@@ -474,3 +478,10 @@ pub fn grant<T>(call: &Call<T>, from: u64, to: u64) -> Option<HoldKind>
         _ => None,
     }
 }
+
+/// What holds at every front of every run of a writer-preferring lock, of any number of parties. It says so of the
+/// definitions alone, and does nothing.
+pub fn at_every_front<T>()
+    ensures { (z : Arithmetic T) (parties : ℕ) (past : List (AnEvent T)) →
+        IsPast z rw_writer_table parties past → KeepsRwWriter past }
+{}
