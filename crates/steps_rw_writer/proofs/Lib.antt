@@ -1,4 +1,5 @@
 pub mod WordLaws
 pub mod PlaceLaws
 pub mod Laws
+pub mod DebtLaws
 pub mod Causes

@@ -1,3 +1,4 @@
 pub mod Table
 pub mod Marks
+pub mod Debts
 pub mod Law
