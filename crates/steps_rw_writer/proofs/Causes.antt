@@ -37,6 +37,7 @@ use Rattle.steps_rw_writer.specs.Marks.{setter_of, is_marked_after}
 use Rattle.steps_rw_writer.specs.Law.{CountsHolds, IsShut, IsTaken, HasMissedAfterAbort, RwWriterCause, KeepsRwWriter}
 use Rattle.steps_rw_writer.proofs.WordLaws.{writer_lock_exclusive}
 use Rattle.steps_rw_writer.proofs.PlaceLaws.{AtRwWriter, Asks, SawWhy, MayGiveUp, failed_after_abort, IsLeaver, even_of, held_above, here}
+use Rattle.steps_rw_writer.proofs.DebtLaws.{no_wake_is_lost}
 use Rattle.steps_rw_writer.proofs.Laws.{event_keeps, writer_lock_word, setter_is_under_way}
 
 -- What the word says of the holds and the mark.
@@ -410,13 +411,13 @@ event_cause {T} z parties past e run =
 pub keeps_rw_writer : {T : Type 0} (z : Arithmetic T) (parties : ℕ) (past : List (Event T)) → IsPast z rw_writer_table parties past → KeepsRwWriter past
 keeps_rw_writer z parties [] run =
     let word = writer_lock_word z parties [] run in
-    record { told = tt; cause = tt; exclusive = writer_lock_exclusive 0 [] false word.counts; law = record { counts = word.counts; mark = tt; keeps_out = tt } }
+    record { told = tt; cause = tt; exclusive = writer_lock_exclusive 0 [] false word.counts; law = record { counts = word.counts; mark = tt; keeps_out = tt; counted = no_wake_is_lost z parties [] run } }
 keeps_rw_writer z parties (e ∷ past) run =
     let word = event_keeps z parties past e run (writer_lock_word z parties past run.1) in
     record {
       told = tells_memory z rw_writer_table parties (e ∷ past) run;
       exclusive = writer_lock_exclusive _ (holds_of rw_writer_table (e ∷ past)) (is_marked_after (e ∷ past)) word.kept.counts;
       cause = event_cause z parties past e run;
-      law = record { counts = word.kept.counts; mark = setter_is_under_way z parties (e ∷ past) run; keeps_out = word.keeps_out };
+      law = record { counts = word.kept.counts; mark = setter_is_under_way z parties (e ∷ past) run; keeps_out = word.keeps_out; counted = no_wake_is_lost z parties (e ∷ past) run };
     }
 

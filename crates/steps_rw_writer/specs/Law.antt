@@ -14,6 +14,7 @@ use Rattle.steps_events.specs.Sights.{is_sight, is_beginning, AtLastSight, HasAb
 use Rattle.steps_events.specs.Laws.{TellsMemory, IsExclusive, IsLocked, HasCause}
 use Rattle.steps_rw_writer.specs.Table.{rw_writer_table}
 use Rattle.steps_rw_writer.specs.Marks.{setter_of, is_marked_after, has_marked}
+use Rattle.steps_rw_writer.specs.Debts.{NoWakeIsLost}
 
 -- The word, the holds and the mark.
 
@@ -92,6 +93,8 @@ pub record RwWriterLaw {T : Type 0} (past : List (Event T)) : Type 0 where
   pub mark : SetterIsUnderWay past
   -- and no read hold is granted while it is set
   pub keeps_out : MarkKeepsReadersOut past
+  -- while a writer stands, whoever frees the lock owes a counter step until it has made it
+  pub counted : NoWakeIsLost past
 
 pub record KeepsRwWriter {T : Type 0} (past : List (Event T)) : Type 0 where
   -- each act that tells a word's value tells what the memory holds there
