@@ -1,7 +1,7 @@
 -- Each refusal of a writer-preferring lock has its cause.
-use Rattle.std.proofs.Common.{◌≡◌, ◌≢◌, ℕ, ◌+◌, ◌*◌, ◌-◌, ◌%◌, ◌^◌, ◌<◌, ◌≤◌, ◌==◌, refl, sym, ◌∙◌, ap, subst, Bool, true, false, cond, is_some, ◌&&◌, length, List, [], ◌∷◌, Option, Some, None, ◌⊎◌, inl, inr, arith}
+use Rattle.std.proofs.Common.{◌≡◌, ◌≢◌, ℕ, ◌+◌, ◌-◌, ◌%◌, ◌^◌, ◌<◌, ◌≤◌, ◌==◌, refl, sym, ◌∙◌, ap, subst, Bool, true, false, cond, ◌&&◌, length, List, [], ◌∷◌, Option, Some, None, ◌⊎◌, inl, inr, arith}
 use Rattle.std.specs.Prelude.{MatchBool, MatchOption, nat_lt, not}
-use Rattle.std.proofs.lemmas.Bool.{eqb-true, eqb-false, eq-eqb}
+use Rattle.std.proofs.lemmas.Bool.{eqb-true, eqb-false}
 use Rattle.std.proofs.lemmas.Bool.Decides.{nat_tests}
 use Rattle.steps_events.specs.declared.event.Word.TheVariants as words
 use Rattle.steps_events.specs.declared.event.Call.{Call}
@@ -22,22 +22,23 @@ use Rattle.steps_events.specs.Past.{PendingCall, call_of, call_after, Hold, hold
 use Rattle.steps_events.specs.HoldCounts.{reads_in, writes_in}
 use Rattle.steps_events.specs.Moves.{Move, step_at}
 use Rattle.steps_events.specs.Runs.{IsPast}
-use Rattle.steps_events.specs.Sights.{sight_of, is_sight, is_beginning, keeps_asking, HasAborted, OtherWroteSinceSight, AtLastSight}
+use Rattle.steps_events.specs.Sights.{is_sight, is_beginning, keeps_asking, HasAborted, OtherWroteSinceSight, AtLastSight}
 use Rattle.steps_events.specs.Laws.{is_refusal, IsLocked}
 use Rattle.steps_events.proofs.Holds.{eqb_same}
 use Rattle.steps_events.proofs.HoldCounts.{both_kinds}
 use Rattle.steps_events.proofs.Steps.{by_move, tells_memory}
-use Rattle.steps_events.proofs.LastSights.{IsLook, LastSaw, kept_or_written, longer, at_last_sight}
+use Rattle.steps_events.proofs.LastSights.{kept_or_written, longer, at_last_sight}
 use Rattle.steps_rw_writer.specs.declared.Leaver.{Leaver}
 use Rattle.steps_rw_writer.specs.declared.Leaver.TheVariants as leavers
 use Rattle.steps_rw_writer.specs.declared.RwWriterPlace.{RwWriterPlace}
 use Rattle.steps_rw_writer.specs.declared.RwWriterPlace.TheVariants as places
 use Rattle.steps_rw_writer.specs.Table.{is_odd, lets_readers_in, lets_writer_in, lets_mark, is_marked, is_blocked, try_read_look, read_look, spins, marks_or_spins, unmarks_or_leaves, write_refused, write_look, last_look, released, woken_one, woken_all, rw_writer_table}
-use Rattle.steps_rw_writer.specs.Marks.{setter_of, is_marked_after}
-use Rattle.steps_rw_writer.specs.Law.{CountsHolds, IsShut, IsTaken, HasMissedAfterAbort, RwWriterCause, KeepsRwWriter}
+use Rattle.steps_rw_writer.specs.Marks.{is_marked_after}
+use Rattle.steps_rw_writer.specs.Law.{CountsHolds, HasMissedAfterAbort, RwWriterCause, KeepsRwWriter}
 use Rattle.steps_rw_writer.proofs.WordLaws.{writer_lock_exclusive}
-use Rattle.steps_rw_writer.proofs.PlaceLaws.{AtRwWriter, Asks, SawWhy, MayGiveUp, failed_after_abort, IsLeaver, even_of, held_above, here}
+use Rattle.steps_rw_writer.proofs.PlaceLaws.{AtRwWriter, Asks, MayGiveUp, failed_after_abort, IsLeaver, held_above, here}
 use Rattle.steps_rw_writer.proofs.DebtLaws.{no_wake_is_lost}
+use Rattle.steps_rw_writer.proofs.WakeLaws.{readers_are_woken}
 use Rattle.steps_rw_writer.proofs.Laws.{event_keeps, writer_lock_word, setter_is_under_way}
 
 -- What the word says of the holds and the mark.
@@ -411,13 +412,12 @@ event_cause {T} z parties past e run =
 pub keeps_rw_writer : {T : Type 0} (z : Arithmetic T) (parties : ℕ) (past : List (Event T)) → IsPast z rw_writer_table parties past → KeepsRwWriter past
 keeps_rw_writer z parties [] run =
     let word = writer_lock_word z parties [] run in
-    record { told = tt; cause = tt; exclusive = writer_lock_exclusive 0 [] false word.counts; law = record { counts = word.counts; mark = tt; keeps_out = tt; counted = no_wake_is_lost z parties [] run } }
+    record { told = tt; cause = tt; exclusive = writer_lock_exclusive 0 [] false word.counts; law = record { counts = word.counts; mark = tt; keeps_out = tt; counted = no_wake_is_lost z parties [] run; woken = readers_are_woken z parties [] run } }
 keeps_rw_writer z parties (e ∷ past) run =
     let word = event_keeps z parties past e run (writer_lock_word z parties past run.1) in
     record {
       told = tells_memory z rw_writer_table parties (e ∷ past) run;
       exclusive = writer_lock_exclusive _ (holds_of rw_writer_table (e ∷ past)) (is_marked_after (e ∷ past)) word.kept.counts;
       cause = event_cause z parties past e run;
-      law = record { counts = word.kept.counts; mark = setter_is_under_way z parties (e ∷ past) run; keeps_out = word.keeps_out; counted = no_wake_is_lost z parties (e ∷ past) run };
+      law = record { counts = word.kept.counts; mark = setter_is_under_way z parties (e ∷ past) run; keeps_out = word.keeps_out; counted = no_wake_is_lost z parties (e ∷ past) run; woken = readers_are_woken z parties (e ∷ past) run };
     }
-

@@ -1,5 +1,5 @@
 -- No wake is lost: whoever frees the lock for a waiting writer owes a counter step until it has made it.
-use Rattle.std.proofs.Common.{◌≡◌, ◌≢◌, ℕ, ◌+◌, ◌*◌, ◌-◌, ◌%◌, ◌^◌, ◌<◌, ◌≤◌, ◌==◌, refl, sym, ◌∙◌, ap, subst, Bool, true, false, cond, is_some, ◌&&◌, ◌||◌, List, [], ◌∷◌, Option, Some, None, ◌⊎◌, inl, inr, arith}
+use Rattle.std.proofs.Common.{◌≡◌, ◌≢◌, ℕ, ◌+◌, ◌-◌, ◌%◌, ◌^◌, ◌<◌, ◌==◌, refl, sym, ◌∙◌, ap, subst, Bool, true, false, cond, ◌&&◌, ◌||◌, List, [], ◌∷◌, Option, Some, None, ◌⊎◌, inl, inr, arith}
 use Rattle.std.specs.Prelude.{nat_lt, not}
 use Rattle.std.proofs.lemmas.Bool.{eqb-true, eqb-false, eq-eqb}
 use Rattle.std.proofs.lemmas.Bool.Decides.{nat_tests, eqb_tells}
@@ -36,7 +36,7 @@ use Rattle.steps_rw_writer.specs.declared.Leaver.{Leaver}
 use Rattle.steps_rw_writer.specs.declared.Leaver.TheVariants as leavers
 use Rattle.steps_rw_writer.specs.declared.RwWriterPlace.{RwWriterPlace}
 use Rattle.steps_rw_writer.specs.declared.RwWriterPlace.TheVariants as places
-use Rattle.steps_rw_writer.specs.Table.{is_odd, lets_writer_in, lets_mark, is_marked, is_blocked, spins, marks_or_spins, unmarks_or_leaves, write_refused, write_look, last_look, released, rw_writer_table, rw_writer_begins, rw_writer_answered}
+use Rattle.steps_rw_writer.specs.Table.{is_odd, lets_writer_in, lets_mark, is_marked, is_blocked, spins, marks_or_spins, unmarks_or_leaves, write_refused, write_look, last_look, rw_writer_table, rw_writer_begins, rw_writer_answered}
 use Rattle.steps_rw_writer.specs.Marks.{is_marked_after}
 use Rattle.steps_rw_writer.specs.Law.{CountsHolds}
 use Rattle.steps_rw_writer.specs.Debts.{blocks, is_blocked_after, is_answer, adds_count, owes_count, loads_count, counts_since_load, StandsWith, NoWakeIsLost}
@@ -213,7 +213,7 @@ stepped_owes {T} r c place hold memory stage led = subst Goal (sym led.counts) o
     owes =
         let e : Event T = event r act thens.GoesOn in
         let leads : next_stage rw_writer_table act (stage_of rw_writer_table c) ≡ Some (places.Count led.who) =
-            ap (next_stage rw_writer_table act) stage ∙ carried_stage rw_writer_table place (rw_writer_table.intent place hold) memory ∙ ap place_after led.counts in
+        ap (next_stage rw_writer_table act) stage ∙ carried_stage rw_writer_table place (rw_writer_table.intent place hold) memory ∙ ap place_after led.counts in
         record { call = record { call = c.call; own = e ∷ c.own }; under_way = carried_goes_on (rw_writer_table.intent place hold) memory e c; who = led.who; stage = leads }
 
 -- at the counter's place the step is the add
@@ -599,7 +599,7 @@ stepped_before {T} r count c place hold memory stage has = by_after (rw_writer_t
         by_loaded : ((patience : Patience) × (stage_of rw_writer_table loaded.call ≡ Some (places.LastLook count patience))) ⊎ (latest_outcome loaded.call.own ≡ thens.Waits count) → Led count c a
         by_loaded (inl last) =
             let leads : next_stage rw_writer_table act (stage_of rw_writer_table c) ≡ place_after a =
-                ap (next_stage rw_writer_table act) stage ∙ carried_stage rw_writer_table place (rw_writer_table.intent place hold) memory ∙ ap place_after is in
+            ap (next_stage rw_writer_table act) stage ∙ carried_stage rw_writer_table place (rw_writer_table.intent place hold) memory ∙ ap place_after is in
             (writes, inl (last.0, sym leads ∙ ap (λ (k : PendingCall T). stage_of rw_writer_table k) same ∙ last.1))
         by_loaded (inr waits) = (writes, inr (ap (λ (k : PendingCall T). latest_outcome k.own) same ∙ waits))
 

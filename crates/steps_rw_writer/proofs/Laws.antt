@@ -1,5 +1,5 @@
 -- A writer-preferring lock keeps its law at every front of every run.
-use Rattle.std.proofs.Common.{◌≡◌, ◌≢◌, ℕ, ◌+◌, ◌*◌, ◌-◌, ◌%◌, ◌^◌, ◌<◌, ◌==◌, refl, sym, ◌∙◌, ap, subst, Bool, true, false, cond, is_some, ◌&&◌, List, [], ◌∷◌, Option, Some, None, ◌⊎◌, inl, inr, arith}
+use Rattle.std.proofs.Common.{◌≡◌, ◌≢◌, ℕ, ◌+◌, ◌-◌, ◌%◌, ◌^◌, ◌<◌, ◌==◌, refl, sym, ◌∙◌, ap, subst, Bool, true, false, cond, is_some, List, [], ◌∷◌, Option, Some, None, ◌⊎◌, inl, inr, arith}
 use Rattle.std.specs.Prelude.{MatchOption, nat_lt, not}
 use Rattle.std.proofs.lemmas.Bool.{eq-eqb}
 use Rattle.std.proofs.lemmas.Bool.Decides.{eqb_tells}
@@ -23,21 +23,20 @@ use Rattle.steps_events.specs.declared.row.After.TheVariants as afters
 use Rattle.steps_events.specs.Arithmetic.{Arithmetic}
 use Rattle.steps_events.specs.Rows.{carried_out, value_told, outcome_of, place_after}
 use Rattle.steps_events.specs.Past.{same_word, PendingCall, call_of, call_after, call_going_on, Hold, holds_of, hold_of, word_in, word_after, event}
-use Rattle.steps_events.specs.HoldCounts.{reads_in}
 use Rattle.steps_events.specs.Moves.{Move, step_at, stage_of, next_stage, fault_at}
 use Rattle.steps_events.specs.Runs.{IsPast}
 use Rattle.steps_events.specs.Laws.{Lacks}
 use Rattle.steps_events.proofs.Holds.{eqb_other, call_of_same, call_of_other}
 use Rattle.steps_events.proofs.Locks.{holds_after}
-use Rattle.steps_events.proofs.Steps.{by_move, tells_memory, carried_goes_on, carried_stage}
+use Rattle.steps_events.proofs.Steps.{by_move, carried_goes_on, carried_stage}
 use Rattle.steps_events.proofs.Parties.{fault_at_none}
 use Rattle.steps_rw_writer.specs.declared.Leaver.TheVariants as leavers
 use Rattle.steps_rw_writer.specs.declared.RwWriterPlace.{RwWriterPlace}
 use Rattle.steps_rw_writer.specs.declared.RwWriterPlace.TheVariants as places
-use Rattle.steps_rw_writer.specs.Table.{is_odd, lets_writer_in, lets_mark, is_marked, is_blocked, is_mark, spins, marks_or_spins, unmarks_or_leaves, write_refused, write_look, last_look, rw_writer_table, rw_writer_answered}
-use Rattle.steps_rw_writer.specs.Marks.{is_writing, setter_after, setter_of, is_marked_after, sets_mark, has_marked}
-use Rattle.steps_rw_writer.specs.Law.{CountsHolds, IsSetter, SetterIsUnderWay, KeepsRwWriter}
-use Rattle.steps_rw_writer.proofs.WordLaws.{IsKeptWord, Keeps, nobody, unchanged, step_keeps, writer_lock_exclusive, no_mark}
+use Rattle.steps_rw_writer.specs.Table.{lets_writer_in, lets_mark, is_marked, is_blocked, is_mark, spins, marks_or_spins, unmarks_or_leaves, write_refused, write_look, last_look, rw_writer_table, rw_writer_answered}
+use Rattle.steps_rw_writer.specs.Marks.{is_writing, setter_after, setter_of, sets_mark, has_marked}
+use Rattle.steps_rw_writer.specs.Law.{CountsHolds, IsSetter, SetterIsUnderWay}
+use Rattle.steps_rw_writer.proofs.WordLaws.{IsKeptWord, Keeps, nobody, unchanged, step_keeps, no_mark}
 use Rattle.steps_rw_writer.proofs.PlaceLaws.{AtRwWriter, writer_intent, here}
 
 -- The word counts the holds and the mark.

@@ -1,5 +1,5 @@
 -- What is kept of a call at each place of a writer-preferring lock.
-use Rattle.std.proofs.Common.{◌≡◌, ◌≢◌, ℕ, ◌+◌, ◌-◌, ◌%◌, ◌^◌, ◌<◌, ◌≤◌, ◌==◌, refl, sym, ◌∙◌, ap, subst, Bool, true, false, cond, is_some, ◌&&◌, ◌||◌, List, [], ◌∷◌, Option, Some, None, ◌⊎◌, inl, inr, arith}
+use Rattle.std.proofs.Common.{◌≡◌, ◌≢◌, ℕ, ◌+◌, ◌-◌, ◌%◌, ◌^◌, ◌<◌, ◌≤◌, ◌==◌, refl, ◌∙◌, ap, subst, Bool, true, false, cond, is_some, ◌&&◌, List, [], ◌∷◌, Option, Some, None, ◌⊎◌, inl, inr, arith}
 use Rattle.std.specs.Prelude.{nat_lt, not}
 use Rattle.std.proofs.lemmas.Bool.{eq-eqb, eqb-true, eqb-false}
 use Rattle.std.proofs.lemmas.Bool.Decides.{nat_tests}
@@ -21,11 +21,10 @@ use Rattle.steps_events.specs.declared.row.After.{After}
 use Rattle.steps_events.specs.declared.row.After.TheVariants as afters
 use Rattle.steps_events.specs.Arithmetic.{Arithmetic}
 use Rattle.steps_events.specs.Rows.{carried_out, value_told, outcome_of, place_after, within, refused}
-use Rattle.steps_events.specs.Past.{PendingCall, same_word, call_of, hold_of, hold_after, latest_outcome, event, is_failure}
+use Rattle.steps_events.specs.Past.{PendingCall, call_of, hold_of, hold_after, latest_outcome, event, is_failure}
 use Rattle.steps_events.specs.Moves.{step_at, hold_fault, answer_fault, choose_fault, stage_of}
 use Rattle.steps_events.specs.Runs.{IsPast}
 use Rattle.steps_events.specs.Sights.{sight_of, is_sight, is_write, is_abort, keeps_asking}
-use Rattle.steps_events.specs.Laws.{Lacks}
 use Rattle.steps_events.proofs.Holds.{eqb_other}
 use Rattle.steps_events.proofs.Spins.{answered_keep}
 use Rattle.steps_events.proofs.LastSights.{IsLook, LastSaw}
@@ -34,7 +33,7 @@ use Rattle.steps_rw_writer.specs.declared.Leaver.{Leaver}
 use Rattle.steps_rw_writer.specs.declared.Leaver.TheVariants as leavers
 use Rattle.steps_rw_writer.specs.declared.RwWriterPlace.{RwWriterPlace}
 use Rattle.steps_rw_writer.specs.declared.RwWriterPlace.TheVariants as places
-use Rattle.steps_rw_writer.specs.Table.{is_odd, lets_readers_in, lets_writer_in, lets_mark, is_marked, is_blocked, is_mark, is_unmark, try_read_look, read_look, spins, marks_or_spins, unmarks_or_leaves, write_refused, write_look, last_look, released, woken_one, woken_all, rw_writer_table, rw_writer_begins, rw_writer_answered, rw_writer_grant}
+use Rattle.steps_rw_writer.specs.Table.{is_odd, lets_readers_in, lets_writer_in, lets_mark, is_marked, is_blocked, is_unmark, try_read_look, read_look, spins, marks_or_spins, unmarks_or_leaves, write_refused, write_look, last_look, released, woken_one, woken_all, rw_writer_table, rw_writer_begins, rw_writer_answered, rw_writer_grant}
 use Rattle.steps_rw_writer.specs.Marks.{is_writing}
 use Rattle.steps_rw_writer.proofs.WordLaws.{IsWriterIntent, no_mark, is_marking}
 

@@ -1,10 +1,9 @@
 -- What each step of a writer-preferring lock does to its word, its holds and its mark.
-use Rattle.std.proofs.Common.{◌≡◌, ◌≢◌, ℕ, ◌+◌, ◌*◌, ◌-◌, ◌%◌, ◌^◌, ◌<◌, ◌≤◌, ◌==◌, refl, sym, ◌∙◌, ap, subst, Bool, true, false, cond, is_some, length, List, [], ◌∷◌, Option, Some, None, ◌⊎◌, inl, inr, arith}
+use Rattle.std.proofs.Common.{◌≡◌, ◌≢◌, ℕ, ◌+◌, ◌*◌, ◌-◌, ◌%◌, ◌^◌, ◌<◌, ◌≤◌, ◌==◌, refl, sym, ◌∙◌, ap, subst, Bool, true, false, cond, is_some, List, [], ◌∷◌, Option, Some, None, ◌⊎◌, inl, inr, arith}
 use Rattle.std.proofs.lemmas.Bool.{eqb-true, eq-eqb}
 use Rattle.steps_events.specs.declared.event.Word.{Word}
 use Rattle.steps_events.specs.declared.event.Word.TheVariants as words
 use Rattle.steps_events.specs.declared.event.Call.{Call}
-use Rattle.steps_events.specs.declared.event.Act.{Act}
 use Rattle.steps_events.specs.declared.event.Act.TheVariants as acts
 use Rattle.steps_events.specs.declared.hold.HoldKind.{HoldKind}
 use Rattle.steps_events.specs.declared.hold.HoldKind.TheVariants as kinds
@@ -19,7 +18,7 @@ use Rattle.steps_events.proofs.HoldCounts.{IsOneEach, without_one_each, without_
 use Rattle.steps_events.proofs.Locks.{holds_after, without_only}
 use Rattle.steps_rw_writer.specs.Table.{is_mark, rw_writer_grant, rw_writer_table}
 use Rattle.steps_rw_writer.specs.Marks.{is_writing, setter_after}
-use Rattle.steps_rw_writer.specs.Law.{IsRead, IsWritten, CountsHolds}
+use Rattle.steps_rw_writer.specs.Law.{CountsHolds}
 
 -- What an exchange of the word may be: a reader enters, the writer enters, a writer sets the mark, or takes it away.
 

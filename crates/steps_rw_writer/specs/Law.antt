@@ -1,11 +1,9 @@
 -- What a writer-preferring lock keeps at every front of every run: one writer or only readers, which its word counts beside the mark; a mark
 -- of a call that is under way, which keeps readers out; and a cause for each refusal.
-use Rattle.std.specs.Prelude.{◌≡◌, ℕ, ◌+◌, ◌*◌, ◌-◌, ◌^◌, ◌<◌, ◌==◌, ◌↔◌, ◌⊎◌, ◌&&◌, Bool, true, false, not, if◌then◌else◌, List, [], ◌∷◌, Option, Some, None, MatchBool, MatchOption}
+use Rattle.std.specs.Prelude.{◌≡◌, ℕ, ◌+◌, ◌*◌, ◌-◌, ◌^◌, ◌<◌, ◌==◌, ◌⊎◌, ◌&&◌, Bool, true, false, if◌then◌else◌, List, [], ◌∷◌, MatchBool, MatchOption}
 use Rattle.steps_events.specs.declared.event.Word.TheVariants as words
 use Rattle.steps_events.specs.declared.event.Call.{Call}
 use Rattle.steps_events.specs.declared.event.Call.TheVariants as calls
-use Rattle.steps_events.specs.declared.event.Answer.TheVariants as answers
-use Rattle.steps_events.specs.declared.event.Then.TheVariants as thens
 use Rattle.steps_events.specs.declared.event.Event.{Event}
 use Rattle.steps_events.specs.declared.hold.HoldKind.TheVariants as kinds
 use Rattle.steps_events.specs.Past.{Hold, call_of, holds_of, word_in, is_failure}
@@ -14,7 +12,7 @@ use Rattle.steps_events.specs.Sights.{is_sight, is_beginning, AtLastSight, HasAb
 use Rattle.steps_events.specs.Laws.{TellsMemory, IsExclusive, IsLocked, HasCause}
 use Rattle.steps_rw_writer.specs.Table.{rw_writer_table}
 use Rattle.steps_rw_writer.specs.Marks.{setter_of, is_marked_after, has_marked}
-use Rattle.steps_rw_writer.specs.Debts.{NoWakeIsLost}
+use Rattle.steps_rw_writer.specs.Debts.{NoWakeIsLost, ReadersAreWoken}
 
 -- The word, the holds and the mark.
 
@@ -95,6 +93,8 @@ pub record RwWriterLaw {T : Type 0} (past : List (Event T)) : Type 0 where
   pub keeps_out : MarkKeepsReadersOut past
   -- while a writer stands, whoever frees the lock owes a counter step until it has made it
   pub counted : NoWakeIsLost past
+  -- while a reader stands that saw an odd word, whoever makes the word even owes a wake of all until it has made it
+  pub woken : ReadersAreWoken past
 
 pub record KeepsRwWriter {T : Type 0} (past : List (Event T)) : Type 0 where
   -- each act that tells a word's value tells what the memory holds there
