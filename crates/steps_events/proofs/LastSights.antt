@@ -4,6 +4,7 @@ use Rattle.std.specs.Prelude.{MatchBool}
 use Rattle.steps_events.specs.declared.event.Word.{Word}
 use Rattle.steps_events.specs.declared.event.Word.TheVariants as words
 use Rattle.steps_events.specs.declared.event.Act.{Act}
+use Rattle.steps_events.specs.declared.event.Call.{Call}
 use Rattle.steps_events.specs.declared.event.Act.TheVariants as acts
 use Rattle.steps_events.specs.declared.event.Event.{Event}
 use Rattle.steps_events.specs.declared.event.Then.{Then}
@@ -12,7 +13,7 @@ use Rattle.steps_events.specs.Arithmetic.{Arithmetic}
 use Rattle.steps_events.specs.Tables.{Table}
 use Rattle.steps_events.specs.Past.{PendingCall, same_word, word_after, word_in, call_of, call_after, call_going_on}
 use Rattle.steps_events.specs.Runs.{IsPast}
-use Rattle.steps_events.specs.Sights.{sight_of, is_sight, is_beginning, is_write, OtherWroteSinceSight}
+use Rattle.steps_events.specs.Sights.{sight_of, is_sight, is_beginning, is_write, AtLastSight, OtherWroteSinceSight}
 use Rattle.steps_events.specs.Laws.{IsTold}
 use Rattle.steps_events.proofs.Steps.{tells_memory}
 
@@ -107,3 +108,64 @@ kept_or_written {T} z t parties word party seen (e ∷ past) run c called look =
         let mine = latest_looks word seen e.then e (call_of party past) c is look in
         inr (unwritten word e.act (word_in t past word) mine.1 ∙ sight_is_told word e.act (word_in t past) seen mine.0 (tells_memory z t parties (e ∷ past) run))
     by_party before false is = by_write (is_write word e.act) refl (before is look)
+
+-- What held at the last sight of a call under way.
+
+-- of a call's own events, the latest sight of the word told this value, and these are the own events before it
+abbrev pub LastSaw : {T : Type 0} → Word → ℕ → List (Event T) → List (Event T) → Type 0
+LastSaw word seen before [] = ⊥
+LastSaw word seen before (e ∷ own) = MatchBool (is_sight word e.act) ((sight_of word e.act ≡ Some seen) × (before ≡ own)) (LastSaw word seen before own)
+
+-- a call under way after an event of its party: the event began it, or is the latest of its own
+longer_by :
+    {T : Type 0} (act : Act T) (e : Event T) (pending : Option (PendingCall T)) (c : PendingCall T) → call_going_on act e pending ≡ Some c →
+    (c.own ≡ []) ⊎ ((own : List (Event T)) × (pending ≡ Some (record { call = c.call; own = own })) × (c.own ≡ e ∷ own) × (is_beginning act ≡ false))
+longer_by {T} (acts.Begun call) e pending c is =
+    let begun : PendingCall T = record { call = call; own = [] } in
+    inl (sym (ap (λ (k : PendingCall T). k.own) (some_call begun c is)))
+longer_by act e None c is = absurd cc
+longer_by {T} act e (Some d) c is =
+    let longer : PendingCall T = record { call = d.call; own = e ∷ d.own } in
+    let same = some_call longer c is in
+    let calls : d.call ≡ c.call = ap (λ (k : PendingCall T). k.call) same in
+    let was : Some d ≡ Some (record { call = c.call; own = d.own }) = ap (λ (k : Call T). Some (record { call = k; own = d.own })) calls in
+    inr (d.own, was, sym (ap (λ (k : PendingCall T). k.own) same), refl)
+
+pub longer :
+    {T : Type 0} (outcome : Then T) (e : Event T) (pending : Option (PendingCall T)) (c : PendingCall T) → call_after outcome e pending ≡ Some c →
+    (c.own ≡ []) ⊎ ((own : List (Event T)) × (pending ≡ Some (record { call = c.call; own = own })) × (c.own ≡ e ∷ own) × (is_beginning e.act ≡ false))
+longer (thens.Answers answer) e pending c is = absurd cc
+longer other e pending c is = longer_by e.act e pending c is
+
+-- what follows of the events before a sight from its value and from the own events before it, held at the last sight
+pub at_last_sight :
+    {T Q : Type 0} (z : Arithmetic T) (t : Table T Q) (parties : ℕ) (word : Word) (party seen : ℕ) (call : Call T) (before : List (Event T)) (P : List (Event T) → Type 0) →
+    ((front : List (Event T)) → IsPast z t parties front → call_of party front ≡ Some (record { call = call; own = before }) → word_in t front word ≡ seen → P front) →
+    (past : List (Event T)) → IsPast z t parties past → (own : List (Event T)) → call_of party past ≡ Some (record { call = call; own = own }) → LastSaw word seen before own → AtLastSight word P party past
+at_last_sight z t parties word party seen call before P holds [] run own called saw = absurd cc
+at_last_sight {T} {Q} z t parties word party seen call before P holds (e ∷ past) run own called saw =
+    by_party (at_last_sight z t parties word party seen call before P holds past run.1) (e.party == party) called
+  where
+    Goal : Type 0
+    Goal = MatchBool (is_sight word e.act) (P past) (MatchBool (is_beginning e.act) ⊥ (AtLastSight word P party past))
+
+    by_sight : (b : Bool) → is_sight word e.act ≡ b → (own_before : List (Event T)) → call_of party past ≡ Some (record { call = call; own = own_before }) →
+        ((o : List (Event T)) → call_of party past ≡ Some (record { call = call; own = o }) → LastSaw word seen before o → AtLastSight word P party past) →
+        MatchBool b ((sight_of word e.act ≡ Some seen) × (before ≡ own_before)) (LastSaw word seen before own_before) → is_beginning e.act ≡ false → MatchBool b (P past) (MatchBool (is_beginning e.act) ⊥ (AtLastSight word P party past))
+    by_sight true is own_before was rest sees goes =
+        let told : word_in t past word ≡ seen = sight_is_told word e.act (word_in t past) seen sees.0 (tells_memory z t parties (e ∷ past) run) in
+        holds past run.1 (subst (λ (o : List (Event T)). call_of party past ≡ Some (record { call = call; own = o })) (sym sees.1) was) told
+    by_sight false is own_before was rest sees goes = rw goes (rest own_before was sees)
+
+    by_own : ((o : List (Event T)) → call_of party past ≡ Some (record { call = call; own = o }) → LastSaw word seen before o → AtLastSight word P party past) →
+        (own ≡ []) ⊎ ((o : List (Event T)) × (call_of party past ≡ Some (record { call = call; own = o })) × (own ≡ e ∷ o) × (is_beginning e.act ≡ false)) → Goal
+    by_own rest (inl none) = absurd (subst (λ (o : List (Event T)). LastSaw word seen before o) none saw)
+    by_own rest (inr more) =
+        let sees : LastSaw word seen before (e ∷ more.0) = subst (λ (o : List (Event T)). LastSaw word seen before o) more.2 saw in
+        by_sight (is_sight word e.act) refl more.0 more.1 rest sees more.3
+
+    by_party :
+        ((o : List (Event T)) → call_of party past ≡ Some (record { call = call; own = o }) → LastSaw word seen before o → AtLastSight word P party past) →
+        (b : Bool) → cond b (call_after e.then e (call_of party past)) (call_of party past) ≡ Some (record { call = call; own = own }) → MatchBool b Goal (AtLastSight word P party past)
+    by_party rest true is = by_own rest (longer e.then e (call_of party past) (record { call = call; own = own }) is)
+    by_party rest false is = rest own is saw

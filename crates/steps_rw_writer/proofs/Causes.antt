@@ -1,0 +1,423 @@
+-- Each refusal of a writer-preferring lock has its cause.
+use Rattle.std.proofs.Common.{◌≡◌, ◌≢◌, ℕ, ◌+◌, ◌-◌, ◌%◌, ◌^◌, ◌<◌, ◌≤◌, ◌==◌, refl, sym, ◌∙◌, ap, subst, Bool, true, false, cond, ◌&&◌, length, List, [], ◌∷◌, Option, Some, None, ◌⊎◌, inl, inr, arith}
+use Rattle.std.specs.Prelude.{MatchBool, MatchOption, nat_lt, not}
+use Rattle.std.proofs.lemmas.Bool.{eqb-true, eqb-false}
+use Rattle.std.proofs.lemmas.Bool.Decides.{nat_tests}
+use Rattle.steps_events.specs.declared.event.Word.TheVariants as words
+use Rattle.steps_events.specs.declared.event.Call.{Call}
+use Rattle.steps_events.specs.declared.event.Call.TheVariants as calls
+use Rattle.steps_events.specs.declared.event.Act.{Act}
+use Rattle.steps_events.specs.declared.event.Act.TheVariants as acts
+use Rattle.steps_events.specs.declared.event.Answer.TheVariants as answers
+use Rattle.steps_events.specs.declared.event.Event.{Event}
+use Rattle.steps_events.specs.declared.event.Then.TheVariants as thens
+use Rattle.steps_events.specs.declared.hold.HoldKind.{HoldKind}
+use Rattle.steps_events.specs.declared.hold.HoldKind.TheVariants as kinds
+use Rattle.steps_events.specs.declared.patience.Patience.{Patience}
+use Rattle.steps_events.specs.declared.row.After.{After}
+use Rattle.steps_events.specs.declared.row.After.TheVariants as afters
+use Rattle.steps_events.specs.Arithmetic.{Arithmetic}
+use Rattle.steps_events.specs.Rows.{carried_out, value_told, outcome_of, within, refused}
+use Rattle.steps_events.specs.Past.{PendingCall, call_of, call_after, Hold, holds_of, hold_of, word_in, event, is_failure}
+use Rattle.steps_events.specs.HoldCounts.{reads_in, writes_in}
+use Rattle.steps_events.specs.Moves.{Move, step_at}
+use Rattle.steps_events.specs.Runs.{IsPast}
+use Rattle.steps_events.specs.Sights.{is_sight, is_beginning, keeps_asking, HasAborted, OtherWroteSinceSight, AtLastSight}
+use Rattle.steps_events.specs.Laws.{is_refusal, IsLocked}
+use Rattle.steps_events.proofs.Holds.{eqb_same}
+use Rattle.steps_events.proofs.HoldCounts.{both_kinds}
+use Rattle.steps_events.proofs.Steps.{by_move, tells_memory}
+use Rattle.steps_events.proofs.LastSights.{kept_or_written, longer, at_last_sight}
+use Rattle.steps_rw_writer.specs.declared.Leaver.{Leaver}
+use Rattle.steps_rw_writer.specs.declared.Leaver.TheVariants as leavers
+use Rattle.steps_rw_writer.specs.declared.RwWriterPlace.{RwWriterPlace}
+use Rattle.steps_rw_writer.specs.declared.RwWriterPlace.TheVariants as places
+use Rattle.steps_rw_writer.specs.Table.{is_odd, lets_readers_in, lets_writer_in, lets_mark, is_marked, is_blocked, try_read_look, read_look, spins, marks_or_spins, unmarks_or_leaves, write_refused, write_look, last_look, released, woken_one, woken_all, rw_writer_table}
+use Rattle.steps_rw_writer.specs.Marks.{is_marked_after}
+use Rattle.steps_rw_writer.specs.Law.{CountsHolds, HasMissedAfterAbort, RwWriterCause, KeepsRwWriter}
+use Rattle.steps_rw_writer.proofs.WordLaws.{writer_lock_exclusive}
+use Rattle.steps_rw_writer.proofs.PlaceLaws.{AtRwWriter, Asks, MayGiveUp, failed_after_abort, IsLeaver, held_above, here}
+use Rattle.steps_rw_writer.proofs.DebtLaws.{no_wake_is_lost}
+use Rattle.steps_rw_writer.proofs.WakeLaws.{readers_are_woken}
+use Rattle.steps_rw_writer.proofs.Laws.{event_keeps, writer_lock_word, setter_is_under_way}
+
+-- What the word says of the holds and the mark.
+
+held_at : (w : ℕ) (holds : List Hold) (marked : Bool) → CountsHolds w holds marked → 2 ≤ w → 0 < length holds
+held_at w holds true (inl read) above = omega (arith, read.counts, both_kinds holds, above)
+held_at w holds false (inl read) above = omega (arith, read.counts, both_kinds holds, above)
+held_at w holds marked (inr written) above = rw written.alone (omega arith)
+
+taken_at : (w : ℕ) (holds : List Hold) (marked : Bool) → CountsHolds w holds marked → w ≢ 0 → (0 < length holds) ⊎ (marked ≡ true)
+taken_at w holds true (inl read) other = inr refl
+taken_at w holds false (inl read) other = inl (omega (arith, read.counts, both_kinds holds, other))
+taken_at w holds marked (inr written) other = inl (rw written.alone (omega arith))
+
+full_by : (odd : Bool) (v : ℕ) → odd ≡ false → (not odd && nat_lt v (2 ^ 64 - 4)) ≡ false → 2 ^ 64 - 4 ≤ v
+full_by true v even is = absurd cc
+full_by false v even is = above v is
+  where
+    above : (n : ℕ) → nat_lt n (2 ^ 64 - 4) ≡ false → 2 ^ 64 - 4 ≤ n
+    above n no_room = grind (arith, nat_tests)
+
+even_word : (w : ℕ) → w % 2 ≡ 0 → is_odd w ≡ false
+even_word w even = rw even refl
+
+shut_at : (w : ℕ) (holds : List Hold) (marked : Bool) → CountsHolds w holds marked → lets_readers_in w ≡ false → (0 < writes_in holds) ⊎ ((marked ≡ true) ⊎ (reads_in holds ≡ 2 ^ 63 - 2))
+shut_at w holds true (inl read) shut = inr (inl refl)
+shut_at w holds false (inl read) shut =
+    let even : w % 2 ≡ 0 = omega (arith, read.counts) in
+    let full : 2 ^ 64 - 4 ≤ w = full_by (is_odd w) w (even_word w even) shut in
+    inr (inr (omega (arith, read.counts, read.fits, full)))
+shut_at w holds marked (inr written) shut = inl (rw written.alone (omega arith))
+
+-- A failed exchange after a look: another party has written.
+
+failed_exchange :
+    {T : Type 0} (party : ℕ) (past : List (Event T)) (seen to w : ℕ) (b : Bool) → (w == seen) ≡ b → is_failure {T = T} (acts.Exchange words.State seen to w b) ≡ true → OtherWroteSinceSight words.State party past ⊎ (w ≡ seen) →
+    OtherWroteSinceSight words.State party past
+failed_exchange party past seen to w true is fails law = absurd cc
+failed_exchange party past seen to w false is fails (inl wrote) = wrote
+failed_exchange party past seen to w false is fails (inr kept) = absurd (eqb-false w seen is kept)
+
+same_call : {T : Type 0} (c d : PendingCall T) → Some c ≡ Some d → c ≡ d
+same_call c d is = cc
+
+other_call : {T : Type 0} (A : Type 0) (call one other : Call T) → call ≡ one → call ≡ other → (one ≡ other → ⊥) → A
+other_call A call one other is also apart = absurd (apart (sym is ∙ also))
+
+-- an exchange of a `WriteLock` that failed
+step_missed :
+    {T : Type 0} (z : Arithmetic T) (parties party : ℕ) (past : List (Event T)) (c : PendingCall T) (place : RwWriterPlace) (hold : Option HoldKind) → IsPast z rw_writer_table parties past → call_of party past ≡ Some c →
+    AtRwWriter place c hold → c.call ≡ calls.WriteLock → (is_sight words.State (step_at {T = T} rw_writer_table place hold (word_in rw_writer_table past)).act && is_failure (step_at {T = T} rw_writer_table place hold (word_in rw_writer_table past)).act) ≡ true →
+    OtherWroteSinceSight words.State party past
+step_missed {T} z parties party past c (places.TryRead seen to) hold run called at write fails = other_call _ c.call calls.TryReadLock calls.WriteLock at.0 write (λ same. absurd cc)
+step_missed {T} z parties party past c (places.Read seen to patience) hold run called at write fails = other_call _ c.call calls.ReadLock calls.WriteLock at.0 write (λ same. absurd cc)
+step_missed {T} z parties party past c places.TryWrite hold run called at write fails = other_call _ c.call calls.TryWriteLock calls.WriteLock at.0 write (λ same. absurd cc)
+step_missed z parties party past c (places.Enter seen patience) hold run called at write fails =
+    let w = word_in rw_writer_table past words.State in
+    failed_exchange party past seen (2 ^ 64 - 1) w (w == seen) refl fails (kept_or_written z rw_writer_table parties words.State party seen past run c called at.4.0)
+step_missed z parties party past c (places.Mark seen to patience) hold run called at write fails =
+    let w = word_in rw_writer_table past words.State in
+    failed_exchange party past seen to w (w == seen) refl fails (kept_or_written z rw_writer_table parties words.State party seen past run c called at.4.0)
+step_missed z parties party past c (places.Unmark seen to) hold run called at write fails =
+    let w = word_in rw_writer_table past words.State in
+    failed_exchange party past seen to w (w == seen) refl fails (kept_or_written z rw_writer_table parties words.State party seen past run c called at.4.0)
+step_missed z parties party past c places.TryReadLook hold run called at write fails = absurd cc
+step_missed z parties party past c (places.ReadLook patience) hold run called at write fails = absurd cc
+step_missed z parties party past c (places.WriteLook patience) hold run called at write fails = absurd cc
+step_missed z parties party past c (places.LoadCounter patience) hold run called at write fails = absurd cc
+step_missed z parties party past c (places.LastLook count patience) hold run called at write fails = absurd cc
+step_missed z parties party past c places.Release None run called at write fails = absurd cc
+step_missed z parties party past c places.Release (Some kinds.Read) run called at write fails = absurd cc
+step_missed z parties party past c places.Release (Some kinds.Write) run called at write fails = absurd cc
+step_missed z parties party past c (places.Count who) hold run called at write fails = absurd cc
+step_missed z parties party past c (places.WakeOne who) hold run called at write fails = absurd cc
+step_missed z parties party past c (places.WakeAll who) hold run called at write fails = absurd cc
+
+event_missed :
+    {T : Type 0} (z : Arithmetic T) (parties : ℕ) (past : List (Event T)) (e : Event T) → IsPast z rw_writer_table parties (e ∷ past) → (c : PendingCall T) → call_of e.party past ≡ Some c → c.call ≡ calls.WriteLock →
+    (is_sight words.State e.act && is_failure e.act) ≡ true → OtherWroteSinceSight words.State e.party past
+event_missed {T} z parties past e run c called write fails =
+    by_move rw_writer_table (call_of e.party past) (hold_of rw_writer_table e.party past) (word_in rw_writer_table past)
+    (λ (k : Option (PendingCall T)) (x : Move T). (k ≡ Some c) → (is_sight words.State x.act && is_failure x.act) ≡ true → OtherWroteSinceSight words.State e.party past)
+    run.0.0 (record { act = e.act; outcome = e.then }) (λ call _ is no_sight. absurd cc) (λ action _ is no_sight. absurd cc) (λ choice _ is no_sight. absurd cc)
+    (λ d place _ here_called stage is missed.
+    let same : d ≡ c = same_call d c is in
+    step_missed z parties e.party past d place (hold_of rw_writer_table e.party past) run.1 here_called (here z parties past run.1 e.party d place here_called stage)
+    (subst (λ (k : PendingCall T). k.call ≡ calls.WriteLock) (sym same) write) missed)
+    run.0.1.moved called fails
+
+not_false : (b : Bool) → not b ≡ true → b ≡ false
+not_false true is = absurd cc
+not_false false is = refl
+
+-- a `WriteLock` whose latest failed exchange came after its Abort has missed
+missed_at :
+    {T : Type 0} (z : Arithmetic T) (parties party : ℕ) (past : List (Event T)) → IsPast z rw_writer_table parties past → (own : List (Event T)) → call_of party past ≡ Some (record { call = calls.WriteLock; own = own }) →
+    failed_after_abort own ≡ true → HasMissedAfterAbort party past
+missed_at z parties party [] run own called failed = absurd cc
+missed_at {T} z parties party (e ∷ past) run own called failed = by_party (missed_at z parties party past run.1) (e.party == party) refl called
+  where
+    Before : Type 0
+    Before = (o : List (Event T)) → call_of party past ≡ Some (record { call = calls.WriteLock; own = o }) → failed_after_abort o ≡ true → HasMissedAfterAbort party past
+
+    by_failure : Before → e.party ≡ party → (o : List (Event T)) → call_of party past ≡ Some (record { call = calls.WriteLock; own = o }) → is_beginning e.act ≡ false → (b : Bool) → (is_sight words.State e.act && is_failure e.act) ≡ b →
+        cond b (not (keeps_asking o)) (failed_after_abort o) ≡ true →
+        MatchBool b (HasAborted party past × OtherWroteSinceSight words.State party past) (MatchBool (is_beginning e.act) ⊥ (HasMissedAfterAbort party past))
+    by_failure before mine o was goes true fails aborted =
+        let has_aborted : HasAborted party past = rw was (not_false (keeps_asking o) aborted) in
+        let theirs : call_of e.party past ≡ Some (record { call = calls.WriteLock; own = o }) = subst (λ q. call_of q past ≡ Some (record { call = calls.WriteLock; own = o })) (sym mine) was in
+        let wrote : OtherWroteSinceSight words.State e.party past = event_missed z parties past e run (record { call = calls.WriteLock; own = o }) theirs refl fails in
+        (has_aborted, subst (λ q. OtherWroteSinceSight words.State q past) mine wrote)
+    by_failure before mine o was goes false fails failed_before = rw goes (before o was failed_before)
+
+    by_own : Before → e.party ≡ party →
+        (own ≡ []) ⊎ ((o : List (Event T)) × (call_of party past ≡ Some (record { call = calls.WriteLock; own = o })) × (own ≡ e ∷ o) × (is_beginning e.act ≡ false)) →
+        MatchBool (is_sight words.State e.act && is_failure e.act) (HasAborted party past × OtherWroteSinceSight words.State party past) (MatchBool (is_beginning e.act) ⊥ (HasMissedAfterAbort party past))
+    by_own before mine (inl nothing) = let no_more : failed_after_abort {T = T} [] ≡ true = subst (λ (o : List (Event T)). failed_after_abort o ≡ true) nothing failed in absurd cc
+    by_own before mine (inr more) =
+        let latest : failed_after_abort (e ∷ more.0) ≡ true = subst (λ (o : List (Event T)). failed_after_abort o ≡ true) more.2 failed in
+        by_failure before mine more.0 more.1 more.3 (is_sight words.State e.act && is_failure e.act) refl latest
+
+    by_party : Before → (b : Bool) → (e.party == party) ≡ b → cond b (call_after e.then e (call_of party past)) (call_of party past) ≡ Some (record { call = calls.WriteLock; own = own }) →
+        MatchBool b
+        (MatchBool (is_sight words.State e.act && is_failure e.act) (HasAborted party past × OtherWroteSinceSight words.State party past) (MatchBool (is_beginning e.act) ⊥ (HasMissedAfterAbort party past)))
+        (HasMissedAfterAbort party past)
+    by_party before true mine is = by_own before (eqb-true e.party party mine) (longer e.then e (call_of party past) (record { call = calls.WriteLock; own = own }) is)
+    by_party before false mine is = before own is failed
+
+-- why a `WriteLock` gave up whose latest own event is no sight of the word
+gave_up :
+    {T : Type 0} (z : Arithmetic T) (parties party : ℕ) (past : List (Event T)) (own : List (Event T)) → IsPast z rw_writer_table parties past → call_of party past ≡ Some (record { call = calls.WriteLock; own = own }) → MayGiveUp own →
+    AtLastSight words.State (λ before. HasAborted party before × IsLocked rw_writer_table before) party past ⊎ HasMissedAfterAbort party past
+gave_up {T} z parties party past own run called (inl saw) =
+    inl (at_last_sight z rw_writer_table parties words.State party saw.seen calls.WriteLock saw.before (λ before. HasAborted party before × IsLocked rw_writer_table before)
+    (λ front front_run was told. held front front_run was told) past run own called saw.saw)
+  where
+    held : (front : List (Event T)) → IsPast z rw_writer_table parties front → call_of party front ≡ Some (record { call = calls.WriteLock; own = saw.before }) → word_in rw_writer_table front words.State ≡ saw.seen →
+        HasAborted party front × IsLocked rw_writer_table front
+    held front front_run was told =
+        let has_aborted : HasAborted party front = rw was saw.aborted in
+        let above : 2 ≤ word_in rw_writer_table front words.State = omega (arith, saw.held, told) in
+        (has_aborted, held_at (word_in rw_writer_table front words.State) (holds_of rw_writer_table front) (is_marked_after front) (writer_lock_word z parties front front_run).counts above)
+gave_up z parties party past own run called (inr failed) = inr (missed_at z parties party past run own called failed)
+
+-- What one more event tells, by how its call goes on.
+
+-- where it ends with a refusal, its cause is there
+abbrev HasCauseAfter : {T : Type 0} → ℕ → List (Event T) → Call T → Act T → After T RwWriterPlace → Type 0
+HasCauseAfter party past call act a = MatchBool (is_refusal (outcome_of a)) (RwWriterCause call party (event party act (outcome_of a) ∷ past)) (Unit {0})
+
+for_call : {T : Type 0} (party : ℕ) (past : List (Event T)) (c : PendingCall T) (call : Call T) (act : Act T) (a : After T RwWriterPlace) → c.call ≡ call → HasCauseAfter party past call act a → HasCauseAfter party past c.call act a
+for_call {T} party past c call act a is law = subst (λ (k : Call T). HasCauseAfter party past k act a) (sym is) law
+
+Counts : {T : Type 0} → List (Event T) → Type 0
+Counts past = CountsHolds (word_in rw_writer_table past words.State) (holds_of rw_writer_table past) (is_marked_after past)
+
+try_read_cause : {T : Type 0} (party : ℕ) (past : List (Event T)) (w : ℕ) → CountsHolds w (holds_of rw_writer_table past) (is_marked_after past) → HasCauseAfter party past calls.TryReadLock (acts.Load words.State w) (try_read_look w)
+try_read_cause {T} party past w law = by_test (lets_readers_in w) refl
+  where
+    by_test : (b : Bool) → lets_readers_in w ≡ b → HasCauseAfter {T = T} party past calls.TryReadLock (acts.Load words.State w) (cond b (afters.At (places.TryRead w (w + 2))) (afters.Ends answers.Interrupted))
+    by_test true is = tt
+    by_test false is = inl (rw (eqb_same party) (shut_at w (holds_of rw_writer_table past) (is_marked_after past) law is))
+
+try_enter_cause :
+    {T : Type 0} (party : ℕ) (past : List (Event T)) (seen to w : ℕ) (b : Bool) → (w == seen) ≡ b → OtherWroteSinceSight words.State party past ⊎ (w ≡ seen) →
+    HasCauseAfter {T = T} party past calls.TryReadLock (acts.Exchange words.State seen to w b) (cond b (afters.Ends answers.Success) (afters.Ends answers.Interrupted))
+try_enter_cause party past seen to w true is law = tt
+try_enter_cause party past seen to w false is law = inr (rw (eqb_same party) (failed_exchange party past seen to w false is refl law))
+
+refused_cause :
+    {T : Type 0} (party : ℕ) (past : List (Event T)) (c : PendingCall T) (patience : Patience) (act : Act T) (w : ℕ) → call_of party past ≡ Some c → Asks patience c.own → is_sight words.State act ≡ true → lets_readers_in w ≡ false →
+    CountsHolds w (holds_of rw_writer_table past) (is_marked_after past) → HasCauseAfter party past calls.ReadLock act (within places.ReadLook (refused patience w))
+refused_cause {T} party past c patience act w called asks sight shut law = by_tests patience.keep (nat_lt patience.spins 10000) refl
+  where
+    by_tests : (keep left : Bool) → patience.keep ≡ keep →
+        HasCauseAfter {T = T} party past calls.ReadLock act
+        (within places.ReadLook (cond keep (cond left (afters.At (record { spins = patience.spins + 1; keep = patience.keep })) (afters.Waits patience w)) (afters.Ends answers.Interrupted)))
+    by_tests true true is = tt
+    by_tests true false is = tt
+    by_tests false left is =
+        let has_aborted : HasAborted party past = rw called (asks ∙ is) in
+        rw (eqb_same party, sight) (has_aborted, shut_at w (holds_of rw_writer_table past) (is_marked_after past) law shut)
+
+read_cause :
+    {T : Type 0} (party : ℕ) (past : List (Event T)) (c : PendingCall T) (patience : Patience) (act : Act T) (w : ℕ) → call_of party past ≡ Some c → Asks patience c.own → is_sight words.State act ≡ true →
+    CountsHolds w (holds_of rw_writer_table past) (is_marked_after past) → HasCauseAfter party past calls.ReadLock act (read_look patience w)
+read_cause {T} party past c patience act w called asks sight law = by_test (lets_readers_in w) refl
+  where
+    by_test : (b : Bool) → lets_readers_in w ≡ b → HasCauseAfter {T = T} party past calls.ReadLock act (cond b (afters.At (places.Read w (w + 2) patience)) (within places.ReadLook (refused patience w)))
+    by_test true is = tt
+    by_test false is = refused_cause party past c patience act w called asks sight is law
+
+read_enters_cause :
+    {T : Type 0} (party : ℕ) (past : List (Event T)) (c : PendingCall T) (patience : Patience) (seen to w : ℕ) (b : Bool) → call_of party past ≡ Some c → Asks patience c.own →
+    CountsHolds w (holds_of rw_writer_table past) (is_marked_after past) → HasCauseAfter party past calls.ReadLock (acts.Exchange words.State seen to w b) (cond b (afters.Ends answers.Success) (read_look patience w))
+read_enters_cause party past c patience seen to w true called asks law = tt
+read_enters_cause party past c patience seen to w false called asks law = read_cause party past c patience (acts.Exchange words.State seen to w false) w called asks refl law
+
+try_write_cause :
+    {T : Type 0} (party : ℕ) (past : List (Event T)) (w : ℕ) (b : Bool) → (w == 0) ≡ b → CountsHolds w (holds_of rw_writer_table past) (is_marked_after past) →
+    HasCauseAfter {T = T} party past calls.TryWriteLock (acts.Exchange words.State 0 (2 ^ 64 - 1) w b) (cond b (afters.Ends answers.Success) (afters.Ends answers.Interrupted))
+try_write_cause party past w true is law = tt
+try_write_cause party past w false is law = rw (eqb_same party) (taken_at w (holds_of rw_writer_table past) (is_marked_after past) law (eqb-false w 0 is))
+
+-- The writer.
+
+no_spin_refuses : {T : Type 0} (party : ℕ) (past : List (Event T)) (act : Act T) (patience : Patience) → HasCauseAfter party past calls.WriteLock act (spins patience)
+no_spin_refuses {T} party past act patience = by_test (nat_lt patience.spins 10000)
+  where
+    by_test : (b : Bool) → HasCauseAfter {T = T} party past calls.WriteLock act (cond b (afters.At (places.WriteLook (record { spins = patience.spins + 1; keep = patience.keep }))) (afters.At (places.LoadCounter patience)))
+    by_test true = tt
+    by_test false = tt
+
+no_mark_refuses : {T : Type 0} (party : ℕ) (past : List (Event T)) (act : Act T) (patience : Patience) (w : ℕ) → HasCauseAfter party past calls.WriteLock act (marks_or_spins patience w)
+no_mark_refuses {T} party past act patience w = by_test (lets_mark w)
+  where
+    by_test : (b : Bool) → HasCauseAfter {T = T} party past calls.WriteLock act (cond b (afters.At (places.Mark w (w + 1) patience)) (spins patience))
+    by_test true = tt
+    by_test false = no_spin_refuses party past act patience
+
+-- a look at a held lock, or a failed exchange after a look
+abbrev Why : {T : Type 0} → ℕ → List (Event T) → Act T → ℕ → Type 0
+Why party past act w = (2 ≤ w) ⊎ ((is_failure act ≡ true) × OtherWroteSinceSight words.State party past)
+
+leaves_cause :
+    {T : Type 0} (party : ℕ) (past : List (Event T)) (c : PendingCall T) (act : Act T) (w : ℕ) → call_of party past ≡ Some c → keeps_asking c.own ≡ false → is_sight words.State act ≡ true → Why party past act w →
+    CountsHolds w (holds_of rw_writer_table past) (is_marked_after past) → HasCauseAfter party past calls.WriteLock act (unmarks_or_leaves w)
+leaves_cause {T} party past c act w called aborted sight why law = by_test (is_marked w)
+  where
+    has_aborted : HasAborted party past
+    has_aborted = rw called aborted
+
+    because : Why party past act w → RwWriterCause calls.WriteLock party (event party act (thens.Answers answers.Interrupted) ∷ past)
+    because (inl held) = inl (rw (eqb_same party, sight) (has_aborted, held_at w (holds_of rw_writer_table past) (is_marked_after past) law held))
+    because (inr missed) = inr (rw (eqb_same party, sight, missed.0) (has_aborted, missed.1))
+
+    by_test : (b : Bool) → HasCauseAfter {T = T} party past calls.WriteLock act (cond b (afters.At (places.Unmark w (w - 1))) (afters.Ends answers.Interrupted))
+    by_test true = tt
+    by_test false = because why
+
+write_refused_cause :
+    {T : Type 0} (party : ℕ) (past : List (Event T)) (c : PendingCall T) (patience : Patience) (act : Act T) (w : ℕ) → call_of party past ≡ Some c → Asks patience c.own → is_sight words.State act ≡ true → Why party past act w →
+    CountsHolds w (holds_of rw_writer_table past) (is_marked_after past) → HasCauseAfter party past calls.WriteLock act (write_refused patience w)
+write_refused_cause {T} party past c patience act w called asks sight why law = by_test patience.keep refl
+  where
+    by_test : (b : Bool) → patience.keep ≡ b → HasCauseAfter {T = T} party past calls.WriteLock act (cond b (marks_or_spins patience w) (unmarks_or_leaves w))
+    by_test true is = no_mark_refuses party past act patience w
+    by_test false is = leaves_cause party past c act w called (asks ∙ is) sight why law
+
+write_look_cause :
+    {T : Type 0} (party : ℕ) (past : List (Event T)) (c : PendingCall T) (patience : Patience) (act : Act T) (w : ℕ) → call_of party past ≡ Some c → Asks patience c.own → is_sight words.State act ≡ true →
+    CountsHolds w (holds_of rw_writer_table past) (is_marked_after past) → HasCauseAfter party past calls.WriteLock act (write_look patience w)
+write_look_cause {T} party past c patience act w called asks sight law = by_test (lets_writer_in w) refl
+  where
+    by_test : (b : Bool) → lets_writer_in w ≡ b → HasCauseAfter {T = T} party past calls.WriteLock act (cond b (afters.At (places.Enter w patience)) (write_refused patience w))
+    by_test true is = tt
+    by_test false is = write_refused_cause party past c patience act w called asks sight (inl (held_above w is)) law
+
+last_look_cause :
+    {T : Type 0} (party count : ℕ) (past : List (Event T)) (c : PendingCall T) (patience : Patience) (w : ℕ) → call_of party past ≡ Some c → Asks patience c.own →
+    CountsHolds w (holds_of rw_writer_table past) (is_marked_after past) → HasCauseAfter party past calls.WriteLock (acts.Load words.State w) (last_look count patience w)
+last_look_cause {T} party count past c patience w called asks law = by_test (is_blocked w)
+  where
+    by_test : (b : Bool) → HasCauseAfter {T = T} party past calls.WriteLock (acts.Load words.State w) (cond b (afters.Waits (places.WriteLook patience) count) (write_look patience w))
+    by_test true = tt
+    by_test false = write_look_cause party past c patience (acts.Load words.State w) w called asks refl law
+
+write_enters_cause :
+    {T : Type 0} (party : ℕ) (past : List (Event T)) (c : PendingCall T) (patience : Patience) (seen to w : ℕ) (b : Bool) → (w == seen) ≡ b → call_of party past ≡ Some c → Asks patience c.own → OtherWroteSinceSight words.State party past ⊎ (w ≡ seen) →
+    CountsHolds w (holds_of rw_writer_table past) (is_marked_after past) → HasCauseAfter party past calls.WriteLock (acts.Exchange words.State seen to w b) (cond b (afters.Ends answers.Success) (write_refused patience w))
+write_enters_cause party past c patience seen to w true is called asks wrote law = tt
+write_enters_cause party past c patience seen to w false is called asks wrote law =
+    write_refused_cause party past c patience (acts.Exchange words.State seen to w false) w called asks refl (inr (refl, failed_exchange party past seen to w false is refl wrote)) law
+
+mark_cause :
+    {T : Type 0} (party : ℕ) (past : List (Event T)) (c : PendingCall T) (patience : Patience) (seen to w : ℕ) (b : Bool) → call_of party past ≡ Some c → Asks patience c.own →
+    CountsHolds w (holds_of rw_writer_table past) (is_marked_after past) → HasCauseAfter party past calls.WriteLock (acts.Exchange words.State seen to w b) (cond b (spins patience) (write_look patience w))
+mark_cause party past c patience seen to w true called asks law = no_spin_refuses party past (acts.Exchange words.State seen to w true) patience
+mark_cause party past c patience seen to w false called asks law = write_look_cause party past c patience (acts.Exchange words.State seen to w false) w called asks refl law
+
+unmark_cause :
+    {T : Type 0} (party : ℕ) (past : List (Event T)) (c : PendingCall T) (seen to w : ℕ) (b : Bool) → (w == seen) ≡ b → call_of party past ≡ Some c → keeps_asking c.own ≡ false → OtherWroteSinceSight words.State party past ⊎ (w ≡ seen) →
+    CountsHolds w (holds_of rw_writer_table past) (is_marked_after past) → HasCauseAfter party past calls.WriteLock (acts.Exchange words.State seen to w b) (cond b (afters.At (places.Count leavers.GivenUp)) (unmarks_or_leaves w))
+unmark_cause party past c seen to w true is called aborted wrote law = tt
+unmark_cause party past c seen to w false is called aborted wrote law =
+    leaves_cause party past c (acts.Exchange words.State seen to w false) w called aborted refl (inr (refl, failed_exchange party past seen to w false is refl wrote)) law
+
+-- The leaving.
+
+released_cause : {T : Type 0} (party : ℕ) (past : List (Event T)) (call : Call T) (act : Act T) (told : Option ℕ) → HasCauseAfter party past call act (released told)
+released_cause party past call act None = tt
+released_cause {T} party past call act (Some old) = by_test (old == 3)
+  where
+    by_test : (b : Bool) → HasCauseAfter {T = T} party past call act (cond b (afters.At (places.Count leavers.Reader)) (afters.Ends answers.Done))
+    by_test true = tt
+    by_test false = tt
+
+woken_one_cause : {T : Type 0} (party : ℕ) (past : List (Event T)) (call : Call T) (act : Act T) (who : Leaver) → HasCauseAfter party past call act (woken_one who)
+woken_one_cause party past call act leavers.Reader = tt
+woken_one_cause party past call act leavers.Writer = tt
+woken_one_cause party past call act leavers.GivenUp = tt
+
+own_call : {T : Type 0} (c : PendingCall T) → c.call ≡ calls.WriteLock → Some c ≡ Some (record { call = calls.WriteLock; own = c.own })
+own_call {T} c is = ap (λ (k : Call T). Some (record { call = k; own = c.own })) is
+
+woken_all_cause :
+    {T : Type 0} (z : Arithmetic T) (parties party : ℕ) (past : List (Event T)) (c : PendingCall T) (act : Act T) (who : Leaver) → IsPast z rw_writer_table parties past → call_of party past ≡ Some c → IsLeaver who c → is_sight words.State act ≡ false → is_beginning act ≡ false →
+    HasCauseAfter party past c.call act (woken_all who)
+woken_all_cause z parties party past c act leavers.Reader run called at quiet goes = tt
+woken_all_cause z parties party past c act leavers.Writer run called at quiet goes = tt
+woken_all_cause {T} z parties party past c act leavers.GivenUp run called at quiet goes = for_call party past c calls.WriteLock act (afters.Ends answers.Interrupted) at.0 (because (gave_up z parties party past c.own run (called ∙ own_call c at.0) at.1))
+  where
+    because : AtLastSight words.State (λ before. HasAborted party before × IsLocked rw_writer_table before) party past ⊎ HasMissedAfterAbort party past →
+        RwWriterCause calls.WriteLock party (event party act (thens.Answers answers.Interrupted) ∷ past)
+    because (inl held) = inl (rw (eqb_same party, quiet, goes) held)
+    because (inr missed) = inr (rw (eqb_same party, quiet, goes) missed)
+
+step_cause :
+    {T : Type 0} (z : Arithmetic T) (parties party : ℕ) (past : List (Event T)) (c : PendingCall T) (place : RwWriterPlace) (hold : Option HoldKind) → IsPast z rw_writer_table parties past → call_of party past ≡ Some c → AtRwWriter place c hold →
+    HasCauseAfter party past c.call (step_at rw_writer_table place hold (word_in rw_writer_table past)).act
+    (rw_writer_table.after place (value_told {T = T} (carried_out (rw_writer_table.intent place hold) (word_in rw_writer_table past))))
+step_cause z parties party past c places.TryReadLook hold run called at =
+    let w = word_in rw_writer_table past words.State in
+    for_call party past c calls.TryReadLock (acts.Load words.State w) (try_read_look w) at.0 (try_read_cause party past w (writer_lock_word z parties past run).counts)
+step_cause z parties party past c (places.TryRead seen to) hold run called at =
+    let w = word_in rw_writer_table past words.State in
+    for_call party past c calls.TryReadLock _ _ at.0 (try_enter_cause party past seen to w (w == seen) refl (kept_or_written z rw_writer_table parties words.State party seen past run c called at.3.0))
+step_cause z parties party past c (places.ReadLook patience) hold run called at =
+    let w = word_in rw_writer_table past words.State in
+    for_call party past c calls.ReadLock (acts.Load words.State w) (read_look patience w) at.0 (read_cause party past c patience (acts.Load words.State w) w called at.2 refl (writer_lock_word z parties past run).counts)
+step_cause z parties party past c (places.Read seen to patience) hold run called at =
+    let w = word_in rw_writer_table past words.State in
+    for_call party past c calls.ReadLock _ _ at.0 (read_enters_cause party past c patience seen to w (w == seen) called at.2 (writer_lock_word z parties past run).counts)
+step_cause z parties party past c places.TryWrite hold run called at =
+    let w = word_in rw_writer_table past words.State in
+    for_call party past c calls.TryWriteLock _ _ at.0 (try_write_cause party past w (w == 0) refl (writer_lock_word z parties past run).counts)
+step_cause z parties party past c (places.WriteLook patience) hold run called at =
+    let w = word_in rw_writer_table past words.State in
+    for_call party past c calls.WriteLock (acts.Load words.State w) (write_look patience w) at.0 (write_look_cause party past c patience (acts.Load words.State w) w called at.2 refl (writer_lock_word z parties past run).counts)
+step_cause z parties party past c (places.Enter seen patience) hold run called at =
+    let w = word_in rw_writer_table past words.State in
+    let wrote = kept_or_written z rw_writer_table parties words.State party seen past run c called at.4.0 in
+    for_call party past c calls.WriteLock _ _ at.0 (write_enters_cause party past c patience seen (2 ^ 64 - 1) w (w == seen) refl called at.2 wrote (writer_lock_word z parties past run).counts)
+step_cause z parties party past c (places.Mark seen to patience) hold run called at =
+    let w = word_in rw_writer_table past words.State in
+    for_call party past c calls.WriteLock _ _ at.0 (mark_cause party past c patience seen to w (w == seen) called at.2 (writer_lock_word z parties past run).counts)
+step_cause z parties party past c (places.Unmark seen to) hold run called at =
+    let w = word_in rw_writer_table past words.State in
+    let wrote = kept_or_written z rw_writer_table parties words.State party seen past run c called at.4.0 in
+    for_call party past c calls.WriteLock _ _ at.0 (unmark_cause party past c seen to w (w == seen) refl called at.2 wrote (writer_lock_word z parties past run).counts)
+step_cause z parties party past c (places.LoadCounter patience) hold run called at = tt
+step_cause z parties party past c (places.LastLook count patience) hold run called at =
+    let w = word_in rw_writer_table past words.State in
+    for_call party past c calls.WriteLock (acts.Load words.State w) (last_look count patience w) at.0 (last_look_cause party count past c patience w called at.2 (writer_lock_word z parties past run).counts)
+step_cause {T} z parties party past c places.Release hold run called at =
+    released_cause party past c.call _ (value_told {T = T} (carried_out (rw_writer_table.intent places.Release hold) (word_in rw_writer_table past)))
+step_cause z parties party past c (places.Count who) hold run called at = tt
+step_cause z parties party past c (places.WakeOne who) hold run called at = woken_one_cause party past c.call _ who
+step_cause z parties party past c (places.WakeAll who) hold run called at = woken_all_cause z parties party past c _ who run called at refl refl
+
+event_cause :
+    {T : Type 0} (z : Arithmetic T) (parties : ℕ) (past : List (Event T)) (e : Event T) → IsPast z rw_writer_table parties (e ∷ past) →
+    MatchBool (is_refusal e.then) (MatchOption (call_of e.party past) ⊥ (λ c. RwWriterCause c.call e.party (e ∷ past))) (Unit {0})
+event_cause {T} z parties past e run =
+    by_move rw_writer_table (call_of e.party past) (hold_of rw_writer_table e.party past) (word_in rw_writer_table past)
+    (λ (k : Option (PendingCall T)) (x : Move T). MatchBool (is_refusal x.outcome) (MatchOption k ⊥ (λ c. RwWriterCause c.call e.party (event e.party x.act x.outcome ∷ past))) (Unit {0}))
+    run.0.0 (record { act = e.act; outcome = e.then }) (λ call _. tt) (λ action _. tt) (λ choice _. tt)
+    (λ c place _ called stage. step_cause z parties e.party past c place (hold_of rw_writer_table e.party past) run.1 called (here z parties past run.1 e.party c place called stage))
+    run.0.1.moved
+
+pub keeps_rw_writer : {T : Type 0} (z : Arithmetic T) (parties : ℕ) (past : List (Event T)) → IsPast z rw_writer_table parties past → KeepsRwWriter past
+keeps_rw_writer z parties [] run =
+    let word = writer_lock_word z parties [] run in
+    record { told = tt; cause = tt; exclusive = writer_lock_exclusive 0 [] false word.counts; law = record { counts = word.counts; mark = tt; keeps_out = tt; counted = no_wake_is_lost z parties [] run; woken = readers_are_woken z parties [] run } }
+keeps_rw_writer z parties (e ∷ past) run =
+    let word = event_keeps z parties past e run (writer_lock_word z parties past run.1) in
+    record {
+      told = tells_memory z rw_writer_table parties (e ∷ past) run;
+      exclusive = writer_lock_exclusive _ (holds_of rw_writer_table (e ∷ past)) (is_marked_after (e ∷ past)) word.kept.counts;
+      cause = event_cause z parties past e run;
+      law = record { counts = word.kept.counts; mark = setter_is_under_way z parties (e ∷ past) run; keeps_out = word.keeps_out; counted = no_wake_is_lost z parties (e ∷ past) run; woken = readers_are_woken z parties (e ∷ past) run };
+    }

@@ -1,0 +1,826 @@
+-- No wake is lost: whoever frees the lock for a waiting writer owes a counter step until it has made it.
+use Rattle.std.proofs.Common.{◌≡◌, ◌≢◌, ℕ, ◌+◌, ◌-◌, ◌%◌, ◌^◌, ◌<◌, ◌==◌, refl, sym, ◌∙◌, ap, subst, Bool, true, false, cond, ◌&&◌, ◌||◌, List, [], ◌∷◌, Option, Some, None, ◌⊎◌, inl, inr, arith}
+use Rattle.std.specs.Prelude.{nat_lt, not}
+use Rattle.std.proofs.lemmas.Bool.{eqb-true, eqb-false, eq-eqb}
+use Rattle.std.proofs.lemmas.Bool.Decides.{nat_tests, eqb_tells}
+use Rattle.steps_events.specs.declared.WaitAction.{WaitAction}
+use Rattle.steps_events.specs.declared.event.Word.{Word}
+use Rattle.steps_events.specs.declared.event.Word.TheVariants as words
+use Rattle.steps_events.specs.declared.event.Call.{Call}
+use Rattle.steps_events.specs.declared.event.Call.TheVariants as calls
+use Rattle.steps_events.specs.declared.event.Act.{Act}
+use Rattle.steps_events.specs.declared.event.Act.TheVariants as acts
+use Rattle.steps_events.specs.declared.event.Answer.TheVariants as answers
+use Rattle.steps_events.specs.declared.event.Event.{Event}
+use Rattle.steps_events.specs.declared.event.Input.{Input}
+use Rattle.steps_events.specs.declared.event.Input.TheVariants as inputs
+use Rattle.steps_events.specs.declared.event.Then.{Then}
+use Rattle.steps_events.specs.declared.event.Then.TheVariants as thens
+use Rattle.steps_events.specs.declared.hold.HoldKind.{HoldKind}
+use Rattle.steps_events.specs.declared.hold.HoldKind.TheVariants as kinds
+use Rattle.steps_events.specs.declared.patience.Patience.{Patience}
+use Rattle.steps_events.specs.declared.row.After.{After}
+use Rattle.steps_events.specs.declared.row.After.TheVariants as afters
+use Rattle.steps_events.specs.Arithmetic.{Arithmetic}
+use Rattle.steps_events.specs.Rows.{carried_out, value_told, outcome_of, place_after}
+use Rattle.steps_events.specs.Past.{PendingCall, call_of, call_after, call_going_on, Hold, holds_of, hold_of, word_in, word_after, event, latest_outcome}
+use Rattle.steps_events.specs.HoldCounts.{reads_in, writes_in}
+use Rattle.steps_events.specs.Sights.{is_beginning}
+use Rattle.steps_events.specs.Moves.{Move, step_at, stage_of, next_stage, fault_at}
+use Rattle.steps_events.specs.Runs.{IsPast}
+use Rattle.steps_events.proofs.Holds.{call_of_same, call_of_other}
+use Rattle.steps_events.proofs.Steps.{by_move, carried_goes_on, carried_stage}
+use Rattle.steps_events.proofs.Parties.{fault_at_none}
+use Rattle.steps_events.proofs.LastSights.{longer}
+use Rattle.steps_rw_writer.specs.declared.Leaver.{Leaver}
+use Rattle.steps_rw_writer.specs.declared.Leaver.TheVariants as leavers
+use Rattle.steps_rw_writer.specs.declared.RwWriterPlace.{RwWriterPlace}
+use Rattle.steps_rw_writer.specs.declared.RwWriterPlace.TheVariants as places
+use Rattle.steps_rw_writer.specs.Table.{is_odd, lets_writer_in, lets_mark, is_marked, is_blocked, spins, marks_or_spins, unmarks_or_leaves, write_refused, write_look, last_look, rw_writer_table, rw_writer_begins, rw_writer_answered}
+use Rattle.steps_rw_writer.specs.Marks.{is_marked_after}
+use Rattle.steps_rw_writer.specs.Law.{CountsHolds}
+use Rattle.steps_rw_writer.specs.Debts.{blocks, is_blocked_after, is_answer, adds_count, owes_count, loads_count, counts_since_load, StandsWith, NoWakeIsLost}
+use Rattle.steps_rw_writer.proofs.PlaceLaws.{AtRwWriter, here}
+use Rattle.steps_rw_writer.proofs.Laws.{writer_lock_word}
+
+-- What the word says: the lock is blocked exactly where it is odd and above 1.
+
+blocked_by : (odd above : Bool) → odd ≡ true → above ≡ true → (odd && above) ≡ true
+blocked_by odd above is also = rw (is, also) refl
+
+odd_above : (w : ℕ) → w % 2 ≡ 1 → 1 < w → is_blocked w ≡ true
+odd_above w odd above = blocked_by (is_odd w) (nat_lt 1 w) (eq-eqb (w % 2) 1 odd) (grind (arith, nat_tests))
+
+not_odd : (w : ℕ) → w % 2 ≡ 0 → is_blocked w ≡ false
+not_odd w even = rw even refl
+
+small : (odd above : Bool) → above ≡ false → (odd && above) ≡ false
+small true above is = is
+small false above is = refl
+
+not_above : (w : ℕ) → w < 2 → is_blocked w ≡ false
+not_above w below = small (is_odd w) (nat_lt 1 w) (grind (arith, nat_tests))
+
+none_below : (n : ℕ) → n ≡ 0 → nat_lt 0 n ≡ false
+none_below n is = rw is refl
+
+some_above : (n : ℕ) → 0 < n → nat_lt 0 n ≡ true
+some_above n above = grind (arith, nat_tests)
+
+word_blocks : (w : ℕ) (holds : List Hold) (marked : Bool) → CountsHolds w holds marked → blocks holds marked ≡ is_blocked w
+word_blocks w holds true (inl read) = by_reads (reads_in holds) refl
+  where
+    by_reads : (n : ℕ) → n ≡ reads_in holds → blocks holds true ≡ is_blocked w
+    by_reads n is = by_test (eqb_tells n 0)
+      where
+        by_test : (((n == 0) ≡ true) × (n ≡ 0)) ⊎ (((n == 0) ≡ false) × (n ≢ 0)) → blocks holds true ≡ is_blocked w
+        by_test (inl free) = rw (none_below (writes_in holds) read.unwritten, none_below (reads_in holds) (sym is ∙ free.1)) (sym (not_above w (omega (arith, read.counts, is, free.1))))
+        by_test (inr held) =
+            let some : 0 < reads_in holds = omega (arith, is, held.1) in
+            rw (none_below (writes_in holds) read.unwritten, some_above (reads_in holds) some) (sym (odd_above w (omega (arith, read.counts)) (omega (arith, read.counts, some))))
+word_blocks w holds false (inl read) = rw (none_below (writes_in holds) read.unwritten) (sym (not_odd w (omega (arith, read.counts))))
+word_blocks w holds marked (inr written) = rw written.alone (sym (odd_above w (omega (arith, written.is_full)) (omega (arith, written.is_full))))
+
+pub blocked_at : {T : Type 0} (z : Arithmetic T) (parties : ℕ) (past : List (Event T)) → IsPast z rw_writer_table parties past → is_blocked_after past ≡ is_blocked (word_in rw_writer_table past words.State)
+blocked_at z parties past run = word_blocks (word_in rw_writer_table past words.State) (holds_of rw_writer_table past) (is_marked_after past) (writer_lock_word z parties past run).counts
+
+-- A step that ends that the lock is blocked leads to the counter.
+
+pub record LeadsToCount {T : Type 0} (act : Act T) (a : After T RwWriterPlace) : Type 0 where
+  pub who : Leaver
+  pub counts : a ≡ afters.At (places.Count who)
+  pub is_before : adds_count act ≡ false
+
+clash : {A : Type 0} (b : Bool) → b ≡ true → b ≡ false → A
+clash b is also = let no : true ≡ false = sym is ∙ also in absurd cc
+
+even_done :
+    (T A : Type 0) (w from to : ℕ) (b : Bool) → (w == from) ≡ b → is_blocked from ≡ false → is_blocked w ≡ true → is_blocked (word_after {T = T} words.State (acts.Exchange words.State from to w b) w) ≡ false → A
+even_done T A w from to true done free was ended = clash (is_blocked w) was (ap is_blocked (eqb-true w from done) ∙ free)
+even_done T A w from to false done free was ended = clash (is_blocked w) was ended
+
+unmark_ends :
+    {T : Type 0} (w seen to : ℕ) (b : Bool) → is_blocked w ≡ true → is_blocked (word_after {T = T} words.State (acts.Exchange words.State seen to w b) w) ≡ false →
+    LeadsToCount {T = T} (acts.Exchange words.State seen to w b) (cond b (afters.At (places.Count leavers.GivenUp)) (unmarks_or_leaves w))
+unmark_ends w seen to true was ended = record { who = leavers.GivenUp; counts = refl; is_before = refl }
+unmark_ends w seen to false was ended = clash (is_blocked w) was ended
+
+odd_of_blocked : (odd above : Bool) → (odd && above) ≡ true → (odd ≡ true) × (above ≡ true)
+odd_of_blocked true above is = (refl, is)
+odd_of_blocked false above is = absurd cc
+
+reader_ends :
+    {T : Type 0} (w put : ℕ) (b : Bool) → put ≡ (w + (2 ^ 64 - 2)) % 2 ^ 64 → w < 2 ^ 64 → (w == 3) ≡ b → is_blocked w ≡ true → is_blocked put ≡ false →
+    LeadsToCount {T = T} (acts.Add words.State w put) (cond b (afters.At (places.Count leavers.Reader)) (afters.Ends answers.Done))
+reader_ends w put true is fits last was ended = record { who = leavers.Reader; counts = refl; is_before = refl }
+reader_ends {T} w put false is fits last was ended =
+    let tests = odd_of_blocked (is_odd w) (nat_lt 1 w) was in
+    let odd : w % 2 ≡ 1 = eqb-true (w % 2) 1 tests.0 in
+    let above : 1 < w = above_one w tests.1 in
+    let other : w ≢ 3 = eqb-false w 3 last in
+    let still : is_blocked put ≡ true = odd_above put (omega (arith, is, fits, odd, above, other)) (omega (arith, is, fits, odd, above, other)) in
+    clash (is_blocked put) still ended
+  where
+    above_one : (n : ℕ) → nat_lt 1 n ≡ true → 1 < n
+    above_one n is_above = grind (arith, nat_tests)
+
+ends_blocked :
+    {T : Type 0} (place : RwWriterPlace) (c : PendingCall T) (hold : Option HoldKind) (memory : Word → ℕ) → AtRwWriter place c hold → memory words.State < 2 ^ 64 → is_blocked (memory words.State) ≡ true →
+    is_blocked (word_after words.State (step_at {T = T} rw_writer_table place hold memory).act (memory words.State)) ≡ false →
+    LeadsToCount (step_at {T = T} rw_writer_table place hold memory).act (rw_writer_table.after place (value_told {T = T} (carried_out (rw_writer_table.intent place hold) memory)))
+ends_blocked places.TryReadLook c hold memory at fits was ended = clash _ was ended
+ends_blocked {T} (places.TryRead seen to) c hold memory at fits was ended = even_done T _ (memory words.State) seen to (memory words.State == seen) refl (not_odd seen at.2.0) was ended
+ends_blocked (places.ReadLook patience) c hold memory at fits was ended = clash _ was ended
+ends_blocked {T} (places.Read seen to patience) c hold memory at fits was ended = even_done T _ (memory words.State) seen to (memory words.State == seen) refl (not_odd seen at.3.0) was ended
+ends_blocked {T} places.TryWrite c hold memory at fits was ended = even_done T _ (memory words.State) 0 (2 ^ 64 - 1) (memory words.State == 0) refl refl was ended
+ends_blocked (places.WriteLook patience) c hold memory at fits was ended = clash _ was ended
+ends_blocked {T} (places.Enter seen patience) c hold memory at fits was ended = even_done T _ (memory words.State) seen (2 ^ 64 - 1) (memory words.State == seen) refl (not_above seen at.3) was ended
+ends_blocked {T} (places.Mark seen to patience) c hold memory at fits was ended = even_done T _ (memory words.State) seen to (memory words.State == seen) refl (not_odd seen at.3.0) was ended
+ends_blocked (places.Unmark seen to) c hold memory at fits was ended = unmark_ends (memory words.State) seen to (memory words.State == seen) was ended
+ends_blocked (places.LoadCounter patience) c hold memory at fits was ended = clash _ was ended
+ends_blocked (places.LastLook count patience) c hold memory at fits was ended = clash _ was ended
+ends_blocked places.Release c None memory at fits was ended = absurd cc
+ends_blocked places.Release c (Some kinds.Read) memory at fits was ended = reader_ends (memory words.State) _ (memory words.State == 3) refl fits refl was ended
+ends_blocked places.Release c (Some kinds.Write) memory at fits was ended = record { who = leavers.Writer; counts = refl; is_before = refl }
+ends_blocked (places.Count who) c hold memory at fits was ended = clash _ was ended
+ends_blocked (places.WakeOne who) c hold memory at fits was ended = clash _ was ended
+ends_blocked (places.WakeAll who) c hold memory at fits was ended = clash _ was ended
+
+-- the word fits its type
+fits_word : {T : Type 0} (z : Arithmetic T) (parties : ℕ) (past : List (Event T)) → IsPast z rw_writer_table parties past → word_in rw_writer_table past words.State < 2 ^ 64
+fits_word {T} z parties past run = by_counts (word_in rw_writer_table past words.State) (is_marked_after past) (writer_lock_word z parties past run).counts
+  where
+    by_counts : (w : ℕ) (marked : Bool) → CountsHolds w (holds_of rw_writer_table past) marked → w < 2 ^ 64
+    by_counts w true (inl read) = omega (arith, read.counts, read.fits)
+    by_counts w false (inl read) = omega (arith, read.counts, read.fits)
+    by_counts w marked (inr written) = omega (arith, written.is_full)
+
+-- Who owes a counter step is about to make it.
+
+pub record OwesAt {T : Type 0} (pending : Option (PendingCall T)) : Type 0 where
+  pub call : PendingCall T
+  pub under_way : pending ≡ Some call
+  pub who : Leaver
+  pub stage : stage_of rw_writer_table call ≡ Some (places.Count who)
+
+same_call : {T : Type 0} (c d : PendingCall T) → Some c ≡ Some d → c ≡ d
+same_call c d is = cc
+
+same_place : (p q : RwWriterPlace) → Some p ≡ Some q → p ≡ q
+same_place p q is = cc
+
+begun_not : {T : Type 0} (pending : Option (PendingCall T)) (hold : Option HoldKind) (call : Call T) (input : Input T) → OwesAt pending → fault_at rw_writer_table pending hold input ≡ None → input ≡ inputs.Begin call → ⊥
+begun_not {T} pending hold call input owes allowed is =
+    let P : Option (PendingCall T) → Type 0 = λ k. fault_at rw_writer_table k hold input ≡ None in
+    let Q : Input T → Type 0 = λ i. fault_at rw_writer_table (Some owes.call) hold i ≡ None in
+    let busy : fault_at rw_writer_table (Some owes.call) hold (inputs.Begin call) ≡ None = subst Q is (subst P owes.under_way allowed) in
+    absurd cc
+
+answered_owes : {T : Type 0} (r : ℕ) (action : WaitAction) (pending : Option (PendingCall T)) → OwesAt pending → OwesAt (call_going_on (acts.Answered action) (event r (acts.Answered action) thens.GoesOn) pending)
+answered_owes {T} r action pending owes =
+    let e : Event T = event r (acts.Answered action) thens.GoesOn in
+    record {
+      call = record { call = owes.call.call; own = e ∷ owes.call.own };
+      under_way = ap (call_going_on (acts.Answered action) e) owes.under_way;
+      who = owes.who;
+      stage = ap (next_stage {T = T} rw_writer_table (acts.Answered action)) owes.stage;
+    }
+
+chosen_owes : {T : Type 0} (r : ℕ) (choice : Option T) (pending : Option (PendingCall T)) → OwesAt pending → OwesAt (call_going_on (acts.Chosen choice) (event r (acts.Chosen choice) thens.GoesOn) pending)
+chosen_owes {T} r choice pending owes =
+    let e : Event T = event r (acts.Chosen choice) thens.GoesOn in
+    record {
+      call = record { call = owes.call.call; own = e ∷ owes.call.own };
+      under_way = ap (call_going_on (acts.Chosen choice) e) owes.under_way;
+      who = owes.who;
+      stage = ap (next_stage {T = T} rw_writer_table (acts.Chosen choice)) owes.stage;
+    }
+
+-- a step that leads to the counter
+stepped_owes :
+    {T : Type 0} (r : ℕ) (c : PendingCall T) (place : RwWriterPlace) (hold : Option HoldKind) (memory : Word → ℕ) → stage_of rw_writer_table c ≡ Some place →
+    LeadsToCount (step_at {T = T} rw_writer_table place hold memory).act (rw_writer_table.after place (value_told {T = T} (carried_out (rw_writer_table.intent place hold) memory))) →
+    OwesAt (call_after (step_at rw_writer_table place hold memory).outcome (event r (step_at rw_writer_table place hold memory).act (step_at rw_writer_table place hold memory).outcome) (Some c))
+stepped_owes {T} r c place hold memory stage led = subst Goal (sym led.counts) owes
+  where
+    act : Act T
+    act = (step_at {T = T} rw_writer_table place hold memory).act
+
+    Goal : After T RwWriterPlace → Type 0
+    Goal a = OwesAt (call_after (outcome_of a) (event r act (outcome_of a)) (Some c))
+
+    owes : Goal (afters.At (places.Count led.who))
+    owes =
+        let e : Event T = event r act thens.GoesOn in
+        let leads : next_stage rw_writer_table act (stage_of rw_writer_table c) ≡ Some (places.Count led.who) =
+        ap (next_stage rw_writer_table act) stage ∙ carried_stage rw_writer_table place (rw_writer_table.intent place hold) memory ∙ ap place_after led.counts in
+        record { call = record { call = c.call; own = e ∷ c.own }; under_way = carried_goes_on (rw_writer_table.intent place hold) memory e c; who = led.who; stage = leads }
+
+-- at the counter's place the step is the add
+count_adds : (T : Type 0) (place : RwWriterPlace) (hold : Option HoldKind) (memory : Word → ℕ) (who : Leaver) → place ≡ places.Count who → adds_count (step_at {T = T} rw_writer_table place hold memory).act ≡ true
+count_adds T place hold memory who is = ap (λ p. adds_count (step_at {T = T} rw_writer_table p hold memory).act) is
+
+place_owes : {T : Type 0} (c : PendingCall T) (place : RwWriterPlace) → stage_of rw_writer_table c ≡ Some place → (owes : OwesAt (Some c)) → place ≡ places.Count owes.who
+place_owes {T} c place stage owes =
+    same_place place (places.Count owes.who) (sym stage ∙ ap (λ (k : PendingCall T). stage_of rw_writer_table k) (same_call c owes.call owes.under_way) ∙ owes.stage)
+
+-- what is owed after an event of the party itself: where it neither answered nor counted, and owed before or ended that the lock was blocked
+abbrev Ended : {T : Type 0} → ℕ → Act T → Type 0
+Ended w act = (is_blocked w ≡ true) × (is_blocked (word_after words.State act w) ≡ false)
+
+own_owes :
+    {T : Type 0} (z : Arithmetic T) (parties : ℕ) (past : List (Event T)) (e : Event T) → IsPast z rw_writer_table parties (e ∷ past) → (OwesAt (call_of e.party past)) ⊎ Ended (word_in rw_writer_table past words.State) e.act →
+    adds_count e.act ≡ false → OwesAt (call_after e.then e (call_of e.party past))
+own_owes {T} z parties past e run why quiet =
+    by_move rw_writer_table (call_of e.party past) (hold_of rw_writer_table e.party past) (word_in rw_writer_table past)
+    (λ (k : Option (PendingCall T)) (x : Move T). OwesAt k ⊎ Ended (word_in rw_writer_table past words.State) x.act → adds_count x.act ≡ false → OwesAt (call_after x.outcome (event e.party x.act x.outcome) k))
+    run.0.0 (record { act = e.act; outcome = e.then })
+    (λ call is was no_add. begun call is was)
+    (λ action _ was no_add. answered action was)
+    (λ choice _ was no_add. chosen choice was)
+    (λ c place _ called stage was no_add. stepped c place called stage was no_add)
+    run.0.1.moved why quiet
+  where
+    w : ℕ
+    w = word_in rw_writer_table past words.State
+
+    begun : (call : Call T) → run.0.0 ≡ inputs.Begin call → OwesAt (call_of e.party past) ⊎ Ended w (acts.Begun call) → OwesAt (call_going_on (acts.Begun call) (event e.party (acts.Begun call) thens.GoesOn) (call_of e.party past))
+    begun call is (inl owes) = absurd (begun_not (call_of e.party past) (hold_of rw_writer_table e.party past) call run.0.0 owes (fault_at_none rw_writer_table parties past e.party run.0.0 run.0.1.allowed) is)
+    begun call is (inr ended) = clash (is_blocked w) ended.0 ended.1
+
+    answered : (action : WaitAction) → OwesAt (call_of e.party past) ⊎ Ended {T = T} w (acts.Answered action) → OwesAt (call_going_on (acts.Answered action) (event e.party (acts.Answered action) thens.GoesOn) (call_of e.party past))
+    answered action (inl owes) = answered_owes e.party action (call_of e.party past) owes
+    answered action (inr ended) = clash (is_blocked w) ended.0 ended.1
+
+    chosen : (choice : Option T) → OwesAt (call_of e.party past) ⊎ Ended w (acts.Chosen choice) → OwesAt (call_going_on (acts.Chosen choice) (event e.party (acts.Chosen choice) thens.GoesOn) (call_of e.party past))
+    chosen choice (inl owes) = chosen_owes e.party choice (call_of e.party past) owes
+    chosen choice (inr ended) = clash (is_blocked w) ended.0 ended.1
+
+    stepped : (c : PendingCall T) (place : RwWriterPlace) → call_of e.party past ≡ Some c → stage_of rw_writer_table c ≡ Some place →
+        OwesAt (Some c) ⊎ Ended {T = T} w (step_at {T = T} rw_writer_table place (hold_of rw_writer_table e.party past) (word_in rw_writer_table past)).act →
+        adds_count (step_at {T = T} rw_writer_table place (hold_of rw_writer_table e.party past) (word_in rw_writer_table past)).act ≡ false →
+        OwesAt (call_after (step_at rw_writer_table place (hold_of rw_writer_table e.party past) (word_in rw_writer_table past)).outcome (event e.party (step_at rw_writer_table place (hold_of rw_writer_table e.party past) (word_in rw_writer_table past)).act (step_at rw_writer_table place (hold_of rw_writer_table e.party past) (word_in rw_writer_table past)).outcome) (Some c))
+    stepped c place called stage (inl owes) no_add = clash _ (count_adds T place (hold_of rw_writer_table e.party past) (word_in rw_writer_table past) owes.who (place_owes c place stage owes)) no_add
+    stepped c place called stage (inr ended) no_add =
+        let at = here z parties past run.1 e.party c place called stage in
+        stepped_owes e.party c place (hold_of rw_writer_table e.party past) (word_in rw_writer_table past) stage (ends_blocked place c (hold_of rw_writer_table e.party past) (word_in rw_writer_table past) at (fits_word z parties past run.1) ended.0 ended.1)
+
+neither : (a b : Bool) (x : Bool) → cond (a || b) false x ≡ true → (b ≡ false) × (x ≡ true)
+neither true b x is = absurd cc
+neither false true x is = absurd cc
+neither false false x is = (refl, is)
+
+which : (a b owed : Bool) → cond (a && not b) true owed ≡ true → ((a ≡ true) × (b ≡ false)) ⊎ (owed ≡ true)
+which true false owed is = inl (refl, refl)
+which true true owed is = inr is
+which false b owed is = inr is
+
+pub owes_at : {T : Type 0} (z : Arithmetic T) (parties : ℕ) (past : List (Event T)) → IsPast z rw_writer_table parties past → (q : ℕ) → owes_count q past ≡ true → OwesAt (call_of q past)
+owes_at z parties [] run q owes = absurd cc
+owes_at {T} z parties (e ∷ past) run q owes = by_party (owes_at z parties past run.1) (eqb_tells e.party q)
+  where
+    Before : Type 0
+    Before = (p : ℕ) → owes_count p past ≡ true → OwesAt (call_of p past)
+
+    after_own : Bool
+    after_own = cond (is_answer e.then || adds_count e.act) false (cond (is_blocked_after past && not (is_blocked_after (e ∷ past))) true (owes_count q past))
+
+    mine : Before → e.party ≡ q → after_own ≡ true → OwesAt (call_of q (e ∷ past))
+    mine before is owed =
+        let so = neither (is_answer e.then) (adds_count e.act) (cond (is_blocked_after past && not (is_blocked_after (e ∷ past))) true (owes_count q past)) owed in
+        let after : OwesAt (call_of e.party (e ∷ past)) = subst (λ (k : Option (PendingCall T)). OwesAt k) (sym (call_of_same e.party e.act e.then past)) (own_owes z parties past e run (why before is (which (is_blocked_after past) (is_blocked_after (e ∷ past)) (owes_count q past) so.1)) so.0) in
+        subst (λ p. OwesAt (call_of p (e ∷ past))) is after
+      where
+        why : Before → e.party ≡ q → ((is_blocked_after past ≡ true) × (is_blocked_after (e ∷ past) ≡ false)) ⊎ (owes_count q past ≡ true) → OwesAt (call_of e.party past) ⊎ Ended (word_in rw_writer_table past words.State) e.act
+        why earlier same (inl ended) = inr (sym (blocked_at z parties past run.1) ∙ ended.0, sym (blocked_at z parties (e ∷ past) run) ∙ ended.1)
+        why earlier same (inr owed_before) = inl (subst (λ p. OwesAt (call_of p past)) (sym same) (earlier q owed_before))
+
+    by_party : Before → (((e.party == q) ≡ true) × (e.party ≡ q)) ⊎ (((e.party == q) ≡ false) × (e.party ≢ q)) → OwesAt (call_of q (e ∷ past))
+    by_party before (inl is) = mine before is.1 (subst (λ b. cond b after_own (owes_count q past) ≡ true) is.0 owes)
+    by_party before (inr other) =
+        let owed : owes_count q past ≡ true = subst (λ b. cond b after_own (owes_count q past) ≡ true) other.0 owes in
+        subst (λ (k : Option (PendingCall T)). OwesAt k) (sym (call_of_other e.party q e.act e.then past (λ same. other.1 (sym same)))) (before q owed)
+
+-- What an event does to the counter.
+
+step_counts :
+    (T : Type 0) (place : RwWriterPlace) (hold : Option HoldKind) (memory : Word → ℕ) →
+    word_after words.Counter (step_at {T = T} rw_writer_table place hold memory).act (memory words.Counter) ≡ cond (adds_count (step_at {T = T} rw_writer_table place hold memory).act) ((memory words.Counter + 1) % 2 ^ 64) (memory words.Counter)
+step_counts T places.TryReadLook hold memory = refl
+step_counts T (places.TryRead seen to) hold memory = refl
+step_counts T (places.ReadLook patience) hold memory = refl
+step_counts T (places.Read seen to patience) hold memory = refl
+step_counts T places.TryWrite hold memory = refl
+step_counts T (places.WriteLook patience) hold memory = refl
+step_counts T (places.Enter seen patience) hold memory = refl
+step_counts T (places.Mark seen to patience) hold memory = refl
+step_counts T (places.Unmark seen to) hold memory = refl
+step_counts T (places.LoadCounter patience) hold memory = refl
+step_counts T (places.LastLook count patience) hold memory = refl
+step_counts T places.Release None memory = refl
+step_counts T places.Release (Some kinds.Read) memory = refl
+step_counts T places.Release (Some kinds.Write) memory = refl
+step_counts T (places.Count who) hold memory = refl
+step_counts T (places.WakeOne who) hold memory = refl
+step_counts T (places.WakeAll who) hold memory = refl
+
+event_counts :
+    {T : Type 0} (z : Arithmetic T) (parties : ℕ) (past : List (Event T)) (e : Event T) → IsPast z rw_writer_table parties (e ∷ past) →
+    word_in rw_writer_table (e ∷ past) words.Counter ≡ cond (adds_count e.act) ((word_in rw_writer_table past words.Counter + 1) % 2 ^ 64) (word_in rw_writer_table past words.Counter)
+event_counts {T} z parties past e run =
+    by_move rw_writer_table (call_of e.party past) (hold_of rw_writer_table e.party past) (word_in rw_writer_table past)
+    (λ (k : Option (PendingCall T)) (x : Move T).
+    word_after words.Counter x.act (word_in rw_writer_table past words.Counter) ≡ cond (adds_count x.act) ((word_in rw_writer_table past words.Counter + 1) % 2 ^ 64) (word_in rw_writer_table past words.Counter))
+    run.0.0 (record { act = e.act; outcome = e.then }) (λ call _. refl) (λ action _. refl) (λ choice _. refl)
+    (λ c place _ called stage. step_counts T place (hold_of rw_writer_table e.party past) (word_in rw_writer_table past))
+    run.0.1.moved
+
+fits_counter : {T : Type 0} (z : Arithmetic T) (parties : ℕ) (past : List (Event T)) → IsPast z rw_writer_table parties past → word_in rw_writer_table past words.Counter < 2 ^ 64
+fits_counter z parties [] run = omega arith
+fits_counter {T} z parties (e ∷ past) run = rw (event_counts z parties past e run) (by_test (adds_count e.act) (fits_counter z parties past run.1))
+  where
+    by_test : (b : Bool) → word_in rw_writer_table past words.Counter < 2 ^ 64 → cond b ((word_in rw_writer_table past words.Counter + 1) % 2 ^ 64) (word_in rw_writer_table past words.Counter) < 2 ^ 64
+    by_test true fits = omega arith
+    by_test false fits = fits
+
+-- How a writer comes to stand: it loads the counter, and looks.
+
+abbrev is_last : RwWriterPlace → Bool
+is_last (places.LastLook count patience) = true
+is_last place = false
+
+-- it neither stands nor is at its last look
+abbrev IsPlain : {T : Type 0} → After T RwWriterPlace → Type 0
+IsPlain (afters.At place) = is_last place ≡ false
+IsPlain (afters.Waits place seen) = ⊥
+IsPlain (afters.Chooses place old) = ⊥
+IsPlain (afters.Ends answer) = Unit {0}
+
+plain_spins : (T : Type 0) (patience : Patience) → IsPlain {T = T} (spins patience)
+plain_spins T patience = by_test (nat_lt patience.spins 10000)
+  where
+    by_test : (b : Bool) → IsPlain {T = T} (cond b (afters.At (places.WriteLook (record { spins = patience.spins + 1; keep = patience.keep }))) (afters.At (places.LoadCounter patience)))
+    by_test true = refl
+    by_test false = refl
+
+plain_marks : (T : Type 0) (patience : Patience) (v : ℕ) → IsPlain {T = T} (marks_or_spins patience v)
+plain_marks T patience v = by_test (lets_mark v)
+  where
+    by_test : (b : Bool) → IsPlain {T = T} (cond b (afters.At (places.Mark v (v + 1) patience)) (spins patience))
+    by_test true = refl
+    by_test false = plain_spins T patience
+
+plain_unmarks : (T : Type 0) (v : ℕ) → IsPlain {T = T} (unmarks_or_leaves v)
+plain_unmarks T v = by_test (is_marked v)
+  where
+    by_test : (b : Bool) → IsPlain {T = T} (cond b (afters.At (places.Unmark v (v - 1))) (afters.Ends answers.Interrupted))
+    by_test true = refl
+    by_test false = tt
+
+plain_refused : (T : Type 0) (patience : Patience) (v : ℕ) → IsPlain {T = T} (write_refused patience v)
+plain_refused T patience v = by_test patience.keep
+  where
+    by_test : (b : Bool) → IsPlain {T = T} (cond b (marks_or_spins patience v) (unmarks_or_leaves v))
+    by_test true = plain_marks T patience v
+    by_test false = plain_unmarks T v
+
+plain_look : (T : Type 0) (patience : Patience) (v : ℕ) → IsPlain {T = T} (write_look patience v)
+plain_look T patience v = by_test (lets_writer_in v)
+  where
+    by_test : (b : Bool) → IsPlain {T = T} (cond b (afters.At (places.Enter v patience)) (write_refused patience v))
+    by_test true = refl
+    by_test false = plain_refused T patience v
+
+plain_if : {T : Type 0} (b : Bool) (done failed : After T RwWriterPlace) → IsPlain done → IsPlain failed → IsPlain (cond b done failed)
+plain_if true done failed one other = one
+plain_if false done failed one other = other
+
+-- the load of the counter, and the look at which it stands
+pub record LoadsCount {T : Type 0} (counter : ℕ) (act : Act T) (a : After T RwWriterPlace) : Type 0 where
+  pub patience : Patience
+  pub leads : a ≡ afters.At (places.LastLook counter patience)
+  pub loads : act ≡ acts.Load words.Counter counter
+
+pub record StandsNow {T : Type 0} (w : ℕ) (place : RwWriterPlace) (act : Act T) (a : After T RwWriterPlace) : Type 0 where
+  pub count : ℕ
+  pub patience : Patience
+  pub from : place ≡ places.LastLook count patience
+  pub leads : a ≡ afters.Waits (places.WriteLook patience) count
+  pub looks : act ≡ acts.Load words.State w
+  pub blocked : is_blocked w ≡ true
+
+last_look_stands :
+    (T : Type 0) (count w : ℕ) (patience : Patience) → IsPlain {T = T} (last_look count patience w) ⊎ StandsNow {T = T} w (places.LastLook count patience) (acts.Load words.State w) (last_look count patience w)
+last_look_stands T count w patience = by_test (is_blocked w) refl
+  where
+    by_test : (b : Bool) → is_blocked w ≡ b →
+        IsPlain {T = T} (cond b (afters.Waits (places.WriteLook patience) count) (write_look patience w)) ⊎ StandsNow {T = T} w (places.LastLook count patience) (acts.Load words.State w) (cond b (afters.Waits (places.WriteLook patience) count) (write_look patience w))
+    by_test true is = inr (record { count = count; patience = patience; from = refl; leads = refl; looks = refl; blocked = is })
+    by_test false is = inl (plain_look T patience w)
+
+unlike : {T : Type 0} (A : Type 0) (call other : Call T) → call ≡ other → call ≡ calls.WriteLock → (other ≡ calls.WriteLock → ⊥) → A
+unlike A call other is write apart = absurd (apart (sym is ∙ write))
+
+write_step :
+    {T : Type 0} (place : RwWriterPlace) (c : PendingCall T) (hold : Option HoldKind) (memory : Word → ℕ) → AtRwWriter place c hold → c.call ≡ calls.WriteLock →
+    IsPlain {T = T} (rw_writer_table.after place (value_told {T = T} (carried_out (rw_writer_table.intent place hold) memory)))
+    ⊎ (LoadsCount (memory words.Counter) (step_at {T = T} rw_writer_table place hold memory).act (rw_writer_table.after place (value_told {T = T} (carried_out (rw_writer_table.intent place hold) memory)))
+    ⊎ StandsNow (memory words.State) place (step_at {T = T} rw_writer_table place hold memory).act (rw_writer_table.after place (value_told {T = T} (carried_out (rw_writer_table.intent place hold) memory))))
+write_step places.TryReadLook c hold memory at write = unlike _ c.call calls.TryReadLock at.0 write (λ same. absurd cc)
+write_step (places.TryRead seen to) c hold memory at write = unlike _ c.call calls.TryReadLock at.0 write (λ same. absurd cc)
+write_step (places.ReadLook patience) c hold memory at write = unlike _ c.call calls.ReadLock at.0 write (λ same. absurd cc)
+write_step (places.Read seen to patience) c hold memory at write = unlike _ c.call calls.ReadLock at.0 write (λ same. absurd cc)
+write_step places.TryWrite c hold memory at write = unlike _ c.call calls.TryWriteLock at.0 write (λ same. absurd cc)
+write_step {T} (places.WriteLook patience) c hold memory at write = inl (plain_look T patience (memory words.State))
+write_step {T} (places.Enter seen patience) c hold memory at write = inl (plain_if (memory words.State == seen) (afters.Ends answers.Success) (write_refused patience (memory words.State)) tt (plain_refused T patience (memory words.State)))
+write_step {T} (places.Mark seen to patience) c hold memory at write = inl (plain_if (memory words.State == seen) (spins patience) (write_look patience (memory words.State)) (plain_spins T patience) (plain_look T patience (memory words.State)))
+write_step {T} (places.Unmark seen to) c hold memory at write = inl (plain_if (memory words.State == seen) (afters.At (places.Count leavers.GivenUp)) (unmarks_or_leaves (memory words.State)) refl (plain_unmarks T (memory words.State)))
+write_step (places.LoadCounter patience) c hold memory at write = inr (inl (record { patience = patience; leads = refl; loads = refl }))
+write_step {T} (places.LastLook count patience) c hold memory at write = by_look (last_look_stands T count (memory words.State) patience)
+  where
+    by_look : IsPlain {T = T} (last_look count patience (memory words.State)) ⊎ StandsNow {T = T} (memory words.State) (places.LastLook count patience) (acts.Load words.State (memory words.State)) (last_look count patience (memory words.State)) →
+        IsPlain {T = T} (last_look count patience (memory words.State))
+        ⊎ (LoadsCount {T = T} (memory words.Counter) (acts.Load words.State (memory words.State)) (last_look count patience (memory words.State))
+        ⊎ StandsNow {T = T} (memory words.State) (places.LastLook count patience) (acts.Load words.State (memory words.State)) (last_look count patience (memory words.State)))
+    by_look (inl plain) = inl plain
+    by_look (inr stands) = inr (inr stands)
+write_step places.Release c hold memory at write = unlike _ c.call calls.Unlock at.0 write (λ same. absurd cc)
+write_step (places.Count who) c hold memory at write = inl refl
+write_step (places.WakeOne leavers.Reader) c hold memory at write = inl tt
+write_step (places.WakeOne leavers.Writer) c hold memory at write = inl refl
+write_step (places.WakeOne leavers.GivenUp) c hold memory at write = inl refl
+write_step (places.WakeAll leavers.Reader) c hold memory at write = inl tt
+write_step (places.WakeAll leavers.Writer) c hold memory at write = inl tt
+write_step (places.WakeAll leavers.GivenUp) c hold memory at write = inl tt
+
+plain_stands : {T : Type 0} (count : ℕ) (a : After T RwWriterPlace) → IsPlain a → outcome_of a ≡ thens.Waits count → ⊥
+plain_stands count (afters.At place) plain is = absurd cc
+plain_stands count (afters.Waits place seen) plain is = absurd plain
+plain_stands count (afters.Chooses place old) plain is = absurd plain
+plain_stands count (afters.Ends answer) plain is = absurd cc
+
+plain_last : {T : Type 0} (count : ℕ) (patience : Patience) (a : After T RwWriterPlace) → IsPlain a → place_after a ≡ Some (places.LastLook count patience) → ⊥
+plain_last count patience (afters.At place) plain is =
+    let at : place ≡ places.LastLook count patience = same_place place (places.LastLook count patience) is in
+    let no : true ≡ false = sym (ap is_last at) ∙ plain in
+    absurd cc
+plain_last count patience (afters.Waits place seen) plain is = absurd plain
+plain_last count patience (afters.Chooses place old) plain is = absurd plain
+plain_last count patience (afters.Ends answer) plain is = absurd cc
+
+-- While a writer has loaded the counter for its stand, the counter is what it loaded and the adds since.
+
+pub record HasLoaded {T : Type 0} (count : ℕ) (pending : Option (PendingCall T)) : Type 0 where
+  pub call : PendingCall T
+  pub under_way : pending ≡ Some call
+  pub writes : call.call ≡ calls.WriteLock
+  pub loaded : ((patience : Patience) × (stage_of rw_writer_table call ≡ Some (places.LastLook count patience))) ⊎ (latest_outcome call.own ≡ thens.Waits count)
+
+IsSum : ℕ → ℕ → ℕ → Type 0
+IsSum counter count since = counter ≡ (count + since) % 2 ^ 64
+
+sum_later : (counter count since : ℕ) (adds : Bool) → IsSum counter count since → IsSum (cond adds ((counter + 1) % 2 ^ 64) counter) count (cond adds 1 0 + since)
+unfolding IsSum
+sum_later counter count since true is = omega (arith, is)
+sum_later counter count since false is = omega (arith, is)
+
+sum_of : (counter count since : ℕ) → IsSum counter count since → counter ≡ (count + since) % 2 ^ 64
+unfolding IsSum
+sum_of counter count since is = is
+
+sum_first : (counter : ℕ) → counter < 2 ^ 64 → IsSum counter counter 0
+unfolding IsSum
+sum_first counter fits = omega (arith, fits)
+
+-- the adds since the load, after an event of the party
+abbrev since_own : {T : Type 0} → Act T → ℕ → ℕ
+since_own act since = cond (loads_count act) 0 (cond (adds_count act) 1 0 + since)
+
+-- the counter after an act
+abbrev counter_by : {T : Type 0} → Act T → ℕ → ℕ
+counter_by act counter = cond (adds_count act) ((counter + 1) % 2 ^ 64) counter
+
+-- an answer of a closure leads to no last look
+answered_last : (place : RwWriterPlace) (action : WaitAction) (count : ℕ) (patience : Patience) → rw_writer_answered place action ≡ places.LastLook count patience → place ≡ places.LastLook count patience
+answered_last (places.ReadLook p) action count patience is = absurd cc
+answered_last (places.WriteLook p) action count patience is = absurd cc
+answered_last place action count patience is = is
+
+begun_none : {T : Type 0} (count : ℕ) (call : Call T) → HasLoaded count (Some (record { call = call; own = [] })) → ⊥
+begun_none {T} count call has = by_loaded has.loaded
+  where
+    begun : PendingCall T
+    begun = record { call = call; own = [] }
+
+    same : begun ≡ has.call
+    same = same_call begun has.call has.under_way
+
+    writes : call ≡ calls.WriteLock
+    writes = ap (λ (k : PendingCall T). k.call) same ∙ has.writes
+
+    by_loaded : ((patience : Patience) × (stage_of rw_writer_table has.call ≡ Some (places.LastLook count patience))) ⊎ (latest_outcome has.call.own ≡ thens.Waits count) → ⊥
+    by_loaded (inl last) =
+        let stage : stage_of rw_writer_table begun ≡ Some (places.LastLook count last.0) = ap (λ (k : PendingCall T). stage_of rw_writer_table k) same ∙ last.1 in
+        let first : rw_writer_begins {T = T} calls.WriteLock ≡ Some (places.LastLook count last.0) = subst (λ (k : Call T). rw_writer_begins k ≡ Some (places.LastLook count last.0)) writes stage in
+        absurd cc
+    by_loaded (inr waits) =
+        let first : ◌≡◌ {A = Then T} thens.GoesOn (thens.Waits count) = ap (λ (k : PendingCall T). latest_outcome k.own) same ∙ waits in
+        absurd cc
+
+answered_before :
+    {T : Type 0} (r count : ℕ) (action : WaitAction) (pending : Option (PendingCall T)) → HasLoaded count (call_going_on (acts.Answered action) (event r (acts.Answered action) thens.GoesOn) pending) → HasLoaded count pending
+answered_before r count action None has = let nothing = has.under_way in absurd cc
+answered_before {T} r count action (Some d) has = by_loaded has.loaded
+  where
+    grown : PendingCall T
+    grown = record { call = d.call; own = event r (acts.Answered action) thens.GoesOn ∷ d.own }
+
+    same : grown ≡ has.call
+    same = same_call grown has.call has.under_way
+
+    by_stage : (patience : Patience) (stage : Option RwWriterPlace) → stage_of rw_writer_table d ≡ stage → next_stage {T = T} rw_writer_table (acts.Answered action) stage ≡ Some (places.LastLook count patience) → HasLoaded count (Some d)
+    by_stage patience None is to = absurd cc
+    by_stage patience (Some place) is to =
+        let at : place ≡ places.LastLook count patience = answered_last place action count patience (same_place (rw_writer_answered place action) (places.LastLook count patience) to) in
+        record { call = d; under_way = refl; writes = ap (λ (k : PendingCall T). k.call) same ∙ has.writes; loaded = inl (patience, is ∙ ap (λ q. Some q) at) }
+
+    by_loaded : ((patience : Patience) × (stage_of rw_writer_table has.call ≡ Some (places.LastLook count patience))) ⊎ (latest_outcome has.call.own ≡ thens.Waits count) → HasLoaded count (Some d)
+    by_loaded (inl last) = by_stage last.0 (stage_of rw_writer_table d) refl (ap (λ (k : PendingCall T). stage_of rw_writer_table k) same ∙ last.1)
+    by_loaded (inr waits) =
+        let first : ◌≡◌ {A = Then T} thens.GoesOn (thens.Waits count) = ap (λ (k : PendingCall T). latest_outcome k.own) same ∙ waits in
+        absurd cc
+
+chosen_before :
+    {T : Type 0} (r count : ℕ) (choice : Option T) (pending : Option (PendingCall T)) → HasLoaded count (call_going_on (acts.Chosen choice) (event r (acts.Chosen choice) thens.GoesOn) pending) → HasLoaded count pending
+chosen_before r count choice None has = let nothing = has.under_way in absurd cc
+chosen_before {T} r count choice (Some d) has = by_loaded has.loaded
+  where
+    grown : PendingCall T
+    grown = record { call = d.call; own = event r (acts.Chosen choice) thens.GoesOn ∷ d.own }
+
+    same : grown ≡ has.call
+    same = same_call grown has.call has.under_way
+
+    by_stage : (patience : Patience) (stage : Option RwWriterPlace) → stage_of rw_writer_table d ≡ stage → next_stage {T = T} rw_writer_table (acts.Chosen choice) stage ≡ Some (places.LastLook count patience) → HasLoaded count (Some d)
+    by_stage patience None is to = absurd cc
+    by_stage patience (Some place) is to = record { call = d; under_way = refl; writes = ap (λ (k : PendingCall T). k.call) same ∙ has.writes; loaded = inl (patience, is ∙ to) }
+
+    by_loaded : ((patience : Patience) × (stage_of rw_writer_table has.call ≡ Some (places.LastLook count patience))) ⊎ (latest_outcome has.call.own ≡ thens.Waits count) → HasLoaded count (Some d)
+    by_loaded (inl last) = by_stage last.0 (stage_of rw_writer_table d) refl (ap (λ (k : PendingCall T). stage_of rw_writer_table k) same ∙ last.1)
+    by_loaded (inr waits) =
+        let first : ◌≡◌ {A = Then T} thens.GoesOn (thens.Waits count) = ap (λ (k : PendingCall T). latest_outcome k.own) same ∙ waits in
+        absurd cc
+
+-- of a step after which the writer has loaded: whose call it is, and where it led
+abbrev Led : {T : Type 0} → ℕ → PendingCall T → After T RwWriterPlace → Type 0
+Led count c a = (c.call ≡ calls.WriteLock) × (((patience : Patience) × (place_after a ≡ Some (places.LastLook count patience))) ⊎ (outcome_of a ≡ thens.Waits count))
+
+stepped_before :
+    {T : Type 0} (r count : ℕ) (c : PendingCall T) (place : RwWriterPlace) (hold : Option HoldKind) (memory : Word → ℕ) → stage_of rw_writer_table c ≡ Some place →
+    HasLoaded count (call_after (step_at {T = T} rw_writer_table place hold memory).outcome (event r (step_at {T = T} rw_writer_table place hold memory).act (step_at {T = T} rw_writer_table place hold memory).outcome) (Some c)) →
+    Led count c (rw_writer_table.after place (value_told {T = T} (carried_out (rw_writer_table.intent place hold) memory)))
+stepped_before {T} r count c place hold memory stage has = by_after (rw_writer_table.after place (value_told act)) refl has
+  where
+    act : Act T
+    act = (step_at {T = T} rw_writer_table place hold memory).act
+
+    on : (a : After T RwWriterPlace) → rw_writer_table.after place (value_told act) ≡ a → HasLoaded count (call_going_on act (event r act (outcome_of a)) (Some c)) → Led count c a
+    on a is loaded = by_loaded loaded.loaded
+      where
+        grown : PendingCall T
+        grown = record { call = c.call; own = event r act (outcome_of a) ∷ c.own }
+
+        same : grown ≡ loaded.call
+        same = same_call grown loaded.call (sym (carried_goes_on (rw_writer_table.intent place hold) memory (event r act (outcome_of a)) c) ∙ loaded.under_way)
+
+        writes : c.call ≡ calls.WriteLock
+        writes = ap (λ (k : PendingCall T). k.call) same ∙ loaded.writes
+
+        by_loaded : ((patience : Patience) × (stage_of rw_writer_table loaded.call ≡ Some (places.LastLook count patience))) ⊎ (latest_outcome loaded.call.own ≡ thens.Waits count) → Led count c a
+        by_loaded (inl last) =
+            let leads : next_stage rw_writer_table act (stage_of rw_writer_table c) ≡ place_after a =
+            ap (next_stage rw_writer_table act) stage ∙ carried_stage rw_writer_table place (rw_writer_table.intent place hold) memory ∙ ap place_after is in
+            (writes, inl (last.0, sym leads ∙ ap (λ (k : PendingCall T). stage_of rw_writer_table k) same ∙ last.1))
+        by_loaded (inr waits) = (writes, inr (ap (λ (k : PendingCall T). latest_outcome k.own) same ∙ waits))
+
+    by_after : (a : After T RwWriterPlace) → rw_writer_table.after place (value_told act) ≡ a → HasLoaded count (call_after (outcome_of a) (event r act (outcome_of a)) (Some c)) → Led count c a
+    by_after (afters.At next) is loaded = on (afters.At next) is loaded
+    by_after (afters.Waits next seen) is loaded = on (afters.Waits next seen) is loaded
+    by_after (afters.Chooses next old) is loaded = on (afters.Chooses next old) is loaded
+    by_after (afters.Ends answer) is loaded = let nothing = loaded.under_way in absurd cc
+
+not_plain : {T : Type 0} (A : Type 0) (count : ℕ) (a : After T RwWriterPlace) → IsPlain a → ((patience : Patience) × (place_after a ≡ Some (places.LastLook count patience))) ⊎ (outcome_of a ≡ thens.Waits count) → A
+not_plain A count a plain (inl last) = absurd (plain_last count last.0 a plain last.1)
+not_plain A count a plain (inr waits) = absurd (plain_stands count a plain waits)
+
+-- a load of the counter begins the sum anew; the last look adds nothing
+
+first_sum : {T : Type 0} (counter count since : ℕ) (act : Act T) (a : After T RwWriterPlace) → LoadsCount counter act a → counter < 2 ^ 64 →
+    ((patience : Patience) × (place_after a ≡ Some (places.LastLook count patience))) ⊎ (outcome_of a ≡ thens.Waits count) → IsSum (counter_by act counter) count (since_own act since)
+first_sum {T} counter count since act a loads fits led = subst (λ (x : Act T). IsSum (counter_by x counter) count (since_own x since)) (sym loads.loads) (by_led led)
+  where
+    count_is : (p q : Patience) (n m : ℕ) → places.LastLook n p ≡ places.LastLook m q → n ≡ m
+    count_is p q n m is = cc
+
+    by_led : ((patience : Patience) × (place_after a ≡ Some (places.LastLook count patience))) ⊎ (outcome_of a ≡ thens.Waits count) → IsSum counter count 0
+    by_led (inl last) =
+        let at : Some (places.LastLook counter loads.patience) ≡ Some (places.LastLook count last.0) = sym (ap place_after loads.leads) ∙ last.1 in
+        let same : counter ≡ count = count_is loads.patience last.0 counter count (same_place (places.LastLook counter loads.patience) (places.LastLook count last.0) at) in
+        subst (λ n. IsSum counter n 0) same (sum_first counter fits)
+    by_led (inr waits) = let no : ◌≡◌ {A = Then T} thens.GoesOn (thens.Waits count) = sym (ap outcome_of loads.leads) ∙ waits in absurd cc
+
+same_sum :
+    {T : Type 0} (counter count since w : ℕ) (c : PendingCall T) (place : RwWriterPlace) (act : Act T) (a : After T RwWriterPlace) → StandsNow w place act a → c.call ≡ calls.WriteLock → stage_of rw_writer_table c ≡ Some place →
+    (HasLoaded count (Some c) → IsSum counter count since) → ((patience : Patience) × (place_after a ≡ Some (places.LastLook count patience))) ⊎ (outcome_of a ≡ thens.Waits count) → IsSum (counter_by act counter) count (since_own act since)
+same_sum {T} counter count since w c place act a stands writes stage before led = subst (λ (x : Act T). IsSum (counter_by x counter) count (since_own x since)) (sym stands.looks) (by_led led)
+  where
+    count_is : (n m : ℕ) → ◌≡◌ {A = Then T} (thens.Waits n) (thens.Waits m) → n ≡ m
+    count_is n m is = cc
+
+    by_led : ((patience : Patience) × (place_after a ≡ Some (places.LastLook count patience))) ⊎ (outcome_of a ≡ thens.Waits count) → IsSum counter count (0 + since)
+    by_led (inl last) = let no : Some (places.WriteLook stands.patience) ≡ Some (places.LastLook count last.0) = sym (ap place_after stands.leads) ∙ last.1 in absurd cc
+    by_led (inr waits) =
+        let same : stands.count ≡ count = count_is stands.count count (sym (ap outcome_of stands.leads) ∙ waits) in
+        let at : stage_of rw_writer_table c ≡ Some (places.LastLook count stands.patience) = stage ∙ ap (λ q. Some q) stands.from ∙ ap (λ n. Some (places.LastLook n stands.patience)) same in
+        sum_later counter count since false (before (record { call = c; under_way = refl; writes = writes; loaded = inl (stands.patience, at) }))
+
+own_sum :
+    {T : Type 0} (z : Arithmetic T) (parties count since : ℕ) (past : List (Event T)) (e : Event T) → IsPast z rw_writer_table parties (e ∷ past) → HasLoaded count (call_after e.then e (call_of e.party past)) →
+    (HasLoaded count (call_of e.party past) → IsSum (word_in rw_writer_table past words.Counter) count since) → IsSum (counter_by e.act (word_in rw_writer_table past words.Counter)) count (since_own e.act since)
+own_sum {T} z parties count since past e run has before =
+    by_move rw_writer_table (call_of e.party past) (hold_of rw_writer_table e.party past) (word_in rw_writer_table past)
+    (λ (k : Option (PendingCall T)) (x : Move T).
+    HasLoaded count (call_after x.outcome (event e.party x.act x.outcome) k) → (HasLoaded count k → IsSum counter count since) → IsSum (counter_by x.act counter) count (since_own x.act since))
+    run.0.0 (record { act = e.act; outcome = e.then })
+    (λ call _ loaded was. absurd (begun_none count call loaded))
+    (λ action _ loaded was. sum_later counter count since false (was (answered_before e.party count action (call_of e.party past) loaded)))
+    (λ choice _ loaded was. sum_later counter count since false (was (chosen_before e.party count choice (call_of e.party past) loaded)))
+    (λ c place _ called stage loaded was. stepped c place called stage was (stepped_before e.party count c place (hold_of rw_writer_table e.party past) (word_in rw_writer_table past) stage loaded))
+    run.0.1.moved has before
+  where
+    counter : ℕ
+    counter = word_in rw_writer_table past words.Counter
+
+    stepped : (c : PendingCall T) (place : RwWriterPlace) → call_of e.party past ≡ Some c → stage_of rw_writer_table c ≡ Some place → (HasLoaded count (Some c) → IsSum counter count since) →
+        Led count c (rw_writer_table.after place (value_told {T = T} (carried_out (rw_writer_table.intent place (hold_of rw_writer_table e.party past)) (word_in rw_writer_table past)))) →
+        IsSum (counter_by (step_at {T = T} rw_writer_table place (hold_of rw_writer_table e.party past) (word_in rw_writer_table past)).act counter) count (since_own (step_at {T = T} rw_writer_table place (hold_of rw_writer_table e.party past) (word_in rw_writer_table past)).act since)
+    stepped c place called stage was led = by_step (write_step place c (hold_of rw_writer_table e.party past) (word_in rw_writer_table past) (here z parties past run.1 e.party c place called stage) led.0)
+      where
+        act : Act T
+        act = (step_at {T = T} rw_writer_table place (hold_of rw_writer_table e.party past) (word_in rw_writer_table past)).act
+
+        a : After T RwWriterPlace
+        a = rw_writer_table.after place (value_told {T = T} (carried_out (rw_writer_table.intent place (hold_of rw_writer_table e.party past)) (word_in rw_writer_table past)))
+
+        by_step : IsPlain a ⊎ (LoadsCount counter act a ⊎ StandsNow (word_in rw_writer_table past words.State) place act a) → IsSum (counter_by act counter) count (since_own act since)
+        by_step (inl plain) = not_plain _ count a plain led.1
+        by_step (inr (inl loads)) = first_sum counter count since act a loads (fits_counter z parties past run.1) led.1
+        by_step (inr (inr stands)) = same_sum counter count since (word_in rw_writer_table past words.State) c place act a stands led.0 stage was led.1
+
+loaded_sum :
+    {T : Type 0} (z : Arithmetic T) (parties : ℕ) (past : List (Event T)) → IsPast z rw_writer_table parties past → (party count : ℕ) → HasLoaded count (call_of party past) →
+    IsSum (word_in rw_writer_table past words.Counter) count (counts_since_load party past)
+loaded_sum z parties [] run party count has = let nothing = has.under_way in absurd cc
+loaded_sum {T} z parties (e ∷ past) run party count has =
+    rw (event_counts z parties past e run) (by_party (loaded_sum z parties past run.1 party count) (eqb_tells e.party party))
+  where
+    Goal : Bool → Type 0
+    Goal b = IsSum (counter_by e.act (word_in rw_writer_table past words.Counter)) count (cond (b && loads_count e.act) 0 (cond (adds_count e.act) 1 0 + counts_since_load party past))
+
+    by_party : (HasLoaded count (call_of party past) → IsSum (word_in rw_writer_table past words.Counter) count (counts_since_load party past)) →
+        (((e.party == party) ≡ true) × (e.party ≡ party)) ⊎ (((e.party == party) ≡ false) × (e.party ≢ party)) → Goal (e.party == party)
+    by_party before (inl mine) =
+        let has_own : HasLoaded count (call_of e.party (e ∷ past)) = subst (λ q. HasLoaded count (call_of q (e ∷ past))) (sym mine.1) has in
+        let later : HasLoaded count (call_after e.then e (call_of e.party past)) = subst (λ (k : Option (PendingCall T)). HasLoaded count k) (call_of_same e.party e.act e.then past) has_own in
+        let was : HasLoaded count (call_of e.party past) → IsSum (word_in rw_writer_table past words.Counter) count (counts_since_load party past) = λ loaded. before (subst (λ q. HasLoaded count (call_of q past)) mine.1 loaded) in
+        subst Goal (sym mine.0) (own_sum z parties count (counts_since_load party past) past e run later was)
+    by_party before (inr other) =
+        let earlier : HasLoaded count (call_of party past) = subst (λ (k : Option (PendingCall T)). HasLoaded count k) (call_of_other e.party party e.act e.then past (λ same. other.1 (sym same))) has in
+        subst Goal (sym other.0) (sum_later (word_in rw_writer_table past words.Counter) count (counts_since_load party past) (adds_count e.act) (before earlier))
+
+-- While a writer stands, the lock is blocked, or some party owes a counter step, or an add came on the counter since its load.
+
+abbrev IsHeard : {T : Type 0} → ℕ → List (Event T) → Type 0
+IsHeard party past = (is_blocked (word_in rw_writer_table past words.State) ≡ true) ⊎ (((q : ℕ) × (owes_count q past ≡ true)) ⊎ (0 < counts_since_load party past))
+
+-- the writer stood now: its last look saw a blocked lock
+own_stands :
+    {T : Type 0} (z : Arithmetic T) (parties count : ℕ) (past : List (Event T)) (e : Event T) → IsPast z rw_writer_table parties (e ∷ past) → (c : PendingCall T) → call_after e.then e (call_of e.party past) ≡ Some c → c.call ≡ calls.WriteLock →
+    latest_outcome c.own ≡ thens.Waits count → is_blocked (word_in rw_writer_table (e ∷ past) words.State) ≡ true
+own_stands {T} z parties count past e run c is writes waits =
+    by_move rw_writer_table (call_of e.party past) (hold_of rw_writer_table e.party past) (word_in rw_writer_table past)
+    (λ (k : Option (PendingCall T)) (x : Move T). HasLoaded count (call_after x.outcome (event e.party x.act x.outcome) k) → x.outcome ≡ thens.Waits count → is_blocked (word_after words.State x.act w) ≡ true)
+    run.0.0 (record { act = e.act; outcome = e.then }) (λ call _ has stands. absurd cc) (λ action _ has stands. absurd cc) (λ choice _ has stands. absurd cc)
+    (λ d place _ called stage has stands. stepped d place called stage (stepped_before e.party count d place (hold_of rw_writer_table e.party past) (word_in rw_writer_table past) stage has) stands)
+    run.0.1.moved (record { call = c; under_way = is; writes = writes; loaded = inr waits }) (outcome_is (longer e.then e (call_of e.party past) c is))
+  where
+    w : ℕ
+    w = word_in rw_writer_table past words.State
+
+    outcome_is : (c.own ≡ []) ⊎ ((own : List (Event T)) × (call_of e.party past ≡ Some (record { call = c.call; own = own })) × (c.own ≡ e ∷ own) × (is_beginning e.act ≡ false)) → e.then ≡ thens.Waits count
+    outcome_is (inl nothing) = let no : ◌≡◌ {A = Then T} thens.GoesOn (thens.Waits count) = subst (λ (o : List (Event T)). latest_outcome o ≡ thens.Waits count) nothing waits in absurd cc
+    outcome_is (inr more) = subst (λ (o : List (Event T)). latest_outcome o ≡ thens.Waits count) more.2 waits
+
+    stepped : (d : PendingCall T) (place : RwWriterPlace) → call_of e.party past ≡ Some d → stage_of rw_writer_table d ≡ Some place →
+        Led count d (rw_writer_table.after place (value_told {T = T} (carried_out (rw_writer_table.intent place (hold_of rw_writer_table e.party past)) (word_in rw_writer_table past)))) →
+        (step_at {T = T} rw_writer_table place (hold_of rw_writer_table e.party past) (word_in rw_writer_table past)).outcome ≡ thens.Waits count →
+        is_blocked (word_after words.State (step_at {T = T} rw_writer_table place (hold_of rw_writer_table e.party past) (word_in rw_writer_table past)).act w) ≡ true
+    stepped d place called stage led stands = by_step (write_step place d (hold_of rw_writer_table e.party past) (word_in rw_writer_table past) (here z parties past run.1 e.party d place called stage) led.0)
+      where
+        act : Act T
+        act = (step_at {T = T} rw_writer_table place (hold_of rw_writer_table e.party past) (word_in rw_writer_table past)).act
+
+        a : After T RwWriterPlace
+        a = rw_writer_table.after place (value_told {T = T} (carried_out (rw_writer_table.intent place (hold_of rw_writer_table e.party past)) (word_in rw_writer_table past)))
+
+        by_step : IsPlain a ⊎ (LoadsCount (word_in rw_writer_table past words.Counter) act a ⊎ StandsNow w place act a) → is_blocked (word_after words.State act w) ≡ true
+        by_step (inl plain) = absurd (plain_stands count a plain stands)
+        by_step (inr (inl loads)) = let no : ◌≡◌ {A = Then T} thens.GoesOn (thens.Waits count) = sym (ap outcome_of loads.leads) ∙ stands in absurd cc
+        by_step (inr (inr now)) = subst (λ (x : Act T). is_blocked (word_after words.State x w) ≡ true) (sym now.looks) now.blocked
+
+-- an event that ends that the lock is blocked is no answer and no add
+ended_owes :
+    {T : Type 0} (z : Arithmetic T) (parties : ℕ) (past : List (Event T)) (e : Event T) → IsPast z rw_writer_table parties (e ∷ past) → Ended (word_in rw_writer_table past words.State) e.act → (is_answer e.then ≡ false) × (adds_count e.act ≡ false)
+ended_owes {T} z parties past e run ended =
+    by_move rw_writer_table (call_of e.party past) (hold_of rw_writer_table e.party past) (word_in rw_writer_table past)
+    (λ (k : Option (PendingCall T)) (x : Move T). Ended (word_in rw_writer_table past words.State) x.act → (is_answer x.outcome ≡ false) × (adds_count x.act ≡ false))
+    run.0.0 (record { act = e.act; outcome = e.then }) (λ call _ so. (refl, refl)) (λ action _ so. (refl, refl)) (λ choice _ so. (refl, refl))
+    (λ c place _ called stage so.
+    let led = ends_blocked place c (hold_of rw_writer_table e.party past) (word_in rw_writer_table past) (here z parties past run.1 e.party c place called stage) (fits_word z parties past run.1) so.0 so.1 in
+    (ap (λ (b : After T RwWriterPlace). is_answer (outcome_of b)) led.counts, led.is_before))
+    run.0.1.moved ended
+
+-- the event of a party that owes is its add, or an answer of a closure, after which it still owes
+owing_adds :
+    {T : Type 0} (z : Arithmetic T) (parties : ℕ) (past : List (Event T)) (e : Event T) → IsPast z rw_writer_table parties (e ∷ past) → OwesAt (call_of e.party past) → (adds_count e.act ≡ true) ⊎ (is_answer e.then ≡ false)
+owing_adds {T} z parties past e run owes =
+    by_move rw_writer_table (call_of e.party past) (hold_of rw_writer_table e.party past) (word_in rw_writer_table past)
+    (λ (k : Option (PendingCall T)) (x : Move T). OwesAt k → (adds_count x.act ≡ true) ⊎ (is_answer x.outcome ≡ false))
+    run.0.0 (record { act = e.act; outcome = e.then }) (λ call _ so. inr refl) (λ action _ so. inr refl) (λ choice _ so. inr refl)
+    (λ c place _ called stage so. inl (count_adds T place (hold_of rw_writer_table e.party past) (word_in rw_writer_table past) so.who (place_owes c place stage so)))
+    run.0.1.moved owes
+
+still_heard :
+    {T : Type 0} (z : Arithmetic T) (parties party : ℕ) (past : List (Event T)) (e : Event T) → IsPast z rw_writer_table parties (e ∷ past) → (e.party == party) ≡ false → IsHeard party past → IsHeard party (e ∷ past)
+still_heard {T} z parties party past e run other (inr (inr adds)) = inr (inr (rw other (omega (arith, adds))))
+still_heard {T} z parties party past e run other (inl blocked) = by_word (is_blocked (word_in rw_writer_table (e ∷ past) words.State)) refl
+  where
+    by_word : (b : Bool) → is_blocked (word_in rw_writer_table (e ∷ past) words.State) ≡ b → IsHeard party (e ∷ past)
+    by_word true is = inl is
+    by_word false is =
+        let so = ended_owes z parties past e run (blocked, is) in
+        let before : is_blocked_after past ≡ true = blocked_at z parties past run.1 ∙ blocked in
+        let after : is_blocked_after (e ∷ past) ≡ false = blocked_at z parties (e ∷ past) run ∙ is in
+        inr (inl (e.party, new_debt (eq-eqb e.party e.party refl) so.0 so.1 before after))
+      where
+        new_debt : (e.party == e.party) ≡ true → is_answer e.then ≡ false → adds_count e.act ≡ false → is_blocked_after past ≡ true → is_blocked_after (e ∷ past) ≡ false → owes_count e.party (e ∷ past) ≡ true
+        new_debt same quiet no_add was now = owed (e.party == e.party) (is_answer e.then) (adds_count e.act) (is_blocked_after past) (is_blocked_after (e ∷ past)) (owes_count e.party past) same quiet no_add was now
+          where
+            owed : (b answer add was now rest : Bool) → b ≡ true → answer ≡ false → add ≡ false → was ≡ true → now ≡ false → cond b (cond (answer || add) false (cond (was && not now) true rest)) rest ≡ true
+            owed b answer add was now rest p q r s t = rw (p, q, r, s, t) refl
+still_heard {T} z parties party past e run other (inr (inl debt)) = by_debtor (e.party == debt.0) refl
+  where
+    kept : (b answer add ended rest : Bool) → rest ≡ true → b ≡ false → cond b (cond (answer || add) false (cond ended true rest)) rest ≡ true
+    kept b answer add ended rest is apart = rw apart is
+
+    own : (b answer add ended rest : Bool) → rest ≡ true → answer ≡ false → add ≡ false → cond b (cond (answer || add) false (cond ended true rest)) rest ≡ true
+    own true answer add true rest is quiet no_add = rw (quiet, no_add) refl
+    own true answer add false rest is quiet no_add = rw (quiet, no_add) is
+    own false answer add ended rest is quiet no_add = is
+
+    by_add : (b : Bool) → adds_count e.act ≡ b → (adds_count e.act ≡ true) ⊎ (is_answer e.then ≡ false) → IsHeard party (e ∷ past)
+    by_add true adds why = inr (inr (rw (other, adds) (omega arith)))
+    by_add false adds (inl now) = clash (adds_count e.act) now adds
+    by_add false adds (inr quiet) =
+        inr (inl (debt.0, own (e.party == debt.0) (is_answer e.then) (adds_count e.act) (is_blocked_after past && not (is_blocked_after (e ∷ past))) (owes_count debt.0 past) debt.1 quiet adds))
+
+    by_debtor : (b : Bool) → (e.party == debt.0) ≡ b → IsHeard party (e ∷ past)
+    by_debtor false apart = inr (inl (debt.0, kept (e.party == debt.0) (is_answer e.then) (adds_count e.act) (is_blocked_after past && not (is_blocked_after (e ∷ past))) (owes_count debt.0 past) debt.1 apart))
+    by_debtor true same =
+        let is : e.party ≡ debt.0 = eqb-true e.party debt.0 same in
+        let owes : OwesAt (call_of e.party past) = owes_at z parties past run.1 e.party (subst (λ q. owes_count q past ≡ true) (sym is) debt.1) in
+        by_add (adds_count e.act) refl (owing_adds z parties past e run owes)
+
+heard : {T : Type 0} (z : Arithmetic T) (parties : ℕ) (past : List (Event T)) → IsPast z rw_writer_table parties past → (party count : ℕ) → StandsWith party count past → IsHeard party past
+heard z parties [] run party count stands = let nothing = stands.under_way in absurd cc
+heard {T} z parties (e ∷ past) run party count stands = by_party (heard z parties past run.1 party count) (eqb_tells e.party party)
+  where
+    by_party : (StandsWith party count past → IsHeard party past) → (((e.party == party) ≡ true) × (e.party ≡ party)) ⊎ (((e.party == party) ≡ false) × (e.party ≢ party)) → IsHeard party (e ∷ past)
+    by_party before (inl mine) =
+        let under_way : call_of e.party (e ∷ past) ≡ Some stands.call = subst (λ q. call_of q (e ∷ past) ≡ Some stands.call) (sym mine.1) stands.under_way in
+        inl (own_stands z parties count past e run stands.call (sym (call_of_same e.party e.act e.then past) ∙ under_way) stands.writes stands.stands)
+    by_party before (inr other) =
+        let was : call_of party past ≡ Some stands.call = sym (call_of_other e.party party e.act e.then past (λ same. other.1 (sym same))) ∙ stands.under_way in
+        still_heard z parties party past e run other.0 (before (record { call = stands.call; under_way = was; writes = stands.writes; stands = stands.stands }))
+
+pub no_wake_is_lost : {T : Type 0} (z : Arithmetic T) (parties : ℕ) (past : List (Event T)) → IsPast z rw_writer_table parties past → NoWakeIsLost past
+no_wake_is_lost {T} z parties past run party count stands few same free = by_heard (heard z parties past run party count stands)
+  where
+    sum : word_in rw_writer_table past words.Counter ≡ (count + counts_since_load party past) % 2 ^ 64
+    sum = sum_of (word_in rw_writer_table past words.Counter) count (counts_since_load party past)
+        (loaded_sum z parties past run party count (record { call = stands.call; under_way = stands.under_way; writes = stands.writes; loaded = inr stands.stands }))
+
+    by_heard : IsHeard party past → (q : ℕ) × (owes_count q past ≡ true)
+    by_heard (inl blocked) = clash (is_blocked_after past) (blocked_at z parties past run ∙ blocked) free
+    by_heard (inr (inl debt)) = debt
+    by_heard (inr (inr adds)) = absurd (omega (arith, sum, same, few, adds, fits_counter z parties past run))

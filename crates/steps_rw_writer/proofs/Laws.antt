@@ -1,0 +1,419 @@
+-- A writer-preferring lock keeps its law at every front of every run.
+use Rattle.std.proofs.Common.{◌≡◌, ◌≢◌, ℕ, ◌+◌, ◌-◌, ◌%◌, ◌^◌, ◌<◌, ◌==◌, refl, sym, ◌∙◌, ap, subst, Bool, true, false, cond, is_some, List, [], ◌∷◌, Option, Some, None, ◌⊎◌, inl, inr, arith}
+use Rattle.std.specs.Prelude.{MatchOption, nat_lt, not}
+use Rattle.std.proofs.lemmas.Bool.{eq-eqb}
+use Rattle.std.proofs.lemmas.Bool.Decides.{eqb_tells}
+use Rattle.steps_events.specs.declared.WaitAction.{WaitAction}
+use Rattle.steps_events.specs.declared.event.Word.{Word}
+use Rattle.steps_events.specs.declared.event.Word.TheVariants as words
+use Rattle.steps_events.specs.declared.event.Call.{Call}
+use Rattle.steps_events.specs.declared.event.Call.TheVariants as calls
+use Rattle.steps_events.specs.declared.event.Act.{Act}
+use Rattle.steps_events.specs.declared.event.Act.TheVariants as acts
+use Rattle.steps_events.specs.declared.event.Answer.TheVariants as answers
+use Rattle.steps_events.specs.declared.event.Event.{Event}
+use Rattle.steps_events.specs.declared.event.Input.{Input}
+use Rattle.steps_events.specs.declared.event.Input.TheVariants as inputs
+use Rattle.steps_events.specs.declared.event.Then.TheVariants as thens
+use Rattle.steps_events.specs.declared.hold.HoldKind.{HoldKind}
+use Rattle.steps_events.specs.declared.hold.HoldKind.TheVariants as kinds
+use Rattle.steps_events.specs.declared.patience.Patience.{Patience}
+use Rattle.steps_events.specs.declared.row.After.{After}
+use Rattle.steps_events.specs.declared.row.After.TheVariants as afters
+use Rattle.steps_events.specs.Arithmetic.{Arithmetic}
+use Rattle.steps_events.specs.Rows.{carried_out, value_told, outcome_of, place_after}
+use Rattle.steps_events.specs.Past.{same_word, PendingCall, call_of, call_after, call_going_on, Hold, holds_of, hold_of, word_in, word_after, event}
+use Rattle.steps_events.specs.Moves.{Move, step_at, stage_of, next_stage, fault_at}
+use Rattle.steps_events.specs.Runs.{IsPast}
+use Rattle.steps_events.specs.Laws.{Lacks}
+use Rattle.steps_events.proofs.Holds.{eqb_other, call_of_same, call_of_other}
+use Rattle.steps_events.proofs.Locks.{holds_after}
+use Rattle.steps_events.proofs.Steps.{by_move, carried_goes_on, carried_stage}
+use Rattle.steps_events.proofs.Parties.{fault_at_none}
+use Rattle.steps_rw_writer.specs.declared.Leaver.TheVariants as leavers
+use Rattle.steps_rw_writer.specs.declared.RwWriterPlace.{RwWriterPlace}
+use Rattle.steps_rw_writer.specs.declared.RwWriterPlace.TheVariants as places
+use Rattle.steps_rw_writer.specs.Table.{lets_writer_in, lets_mark, is_marked, is_blocked, is_mark, spins, marks_or_spins, unmarks_or_leaves, write_refused, write_look, last_look, rw_writer_table, rw_writer_answered}
+use Rattle.steps_rw_writer.specs.Marks.{is_writing, setter_after, setter_of, sets_mark, has_marked}
+use Rattle.steps_rw_writer.specs.Law.{CountsHolds, IsSetter, SetterIsUnderWay}
+use Rattle.steps_rw_writer.proofs.WordLaws.{IsKeptWord, Keeps, nobody, unchanged, step_keeps, no_mark}
+use Rattle.steps_rw_writer.proofs.PlaceLaws.{AtRwWriter, writer_intent, here}
+
+-- The word counts the holds and the mark.
+
+pub event_keeps :
+    {T : Type 0} (z : Arithmetic T) (parties : ℕ) (past : List (Event T)) (e : Event T) → IsPast z rw_writer_table parties (e ∷ past) →
+    IsKeptWord (word_in rw_writer_table past words.State) (holds_of rw_writer_table past) (is_some (setter_of past)) →
+    Keeps (holds_of rw_writer_table past) (is_some (setter_of past)) (word_in rw_writer_table (e ∷ past) words.State) (holds_of rw_writer_table (e ∷ past)) (is_some (setter_of (e ∷ past)))
+event_keeps {T} z parties past e run before =
+    let same = unchanged (word_in rw_writer_table past words.State) (holds_of rw_writer_table past) (is_some (setter_of past)) before in
+    by_move rw_writer_table (call_of e.party past) (hold_of rw_writer_table e.party past) (word_in rw_writer_table past)
+    (λ (k : Option (PendingCall T)) (x : Move T).
+    Keeps (holds_of rw_writer_table past) (is_some (setter_of past)) (word_after words.State x.act (word_in rw_writer_table past words.State)) (holds_after rw_writer_table e.party k x.act (holds_of rw_writer_table past))
+    (is_some (setter_after e.party x.act k (setter_of past))))
+    run.0.0 (record { act = e.act; outcome = e.then }) (λ call _. same) (λ action _. same) (λ choice _. same)
+    (λ c place _ called stage.
+    step_keeps e.party c (word_in rw_writer_table past) (holds_of rw_writer_table past) (setter_of past) (rw_writer_table.intent place (hold_of rw_writer_table e.party past)) before
+    (writer_intent place c (hold_of rw_writer_table e.party past) (here z parties past run.1 e.party c place called stage)))
+    run.0.1.moved
+
+pub writer_lock_word :
+    {T : Type 0} (z : Arithmetic T) (parties : ℕ) (past : List (Event T)) → IsPast z rw_writer_table parties past →
+    IsKeptWord (word_in rw_writer_table past words.State) (holds_of rw_writer_table past) (is_some (setter_of past))
+writer_lock_word z parties [] run = nobody
+writer_lock_word z parties (e ∷ past) run = (event_keeps z parties past e run (writer_lock_word z parties past run.1)).kept
+
+-- where the mark is set, the word tells so
+marked_word : (w : ℕ) (holds : List Hold) → CountsHolds w holds true → is_marked w ≡ true
+marked_word w holds (inl read) =
+    let odd : w % 2 ≡ 1 = omega (arith, read.counts) in
+    rw (eq-eqb (w % 2) 1 odd, eqb_other w (2 ^ 64 - 1) (λ full. absurd (omega (arith, full, read.counts, read.fits)))) refl
+marked_word w holds (inr written) = let no : true ≡ false = written.unmarked in absurd cc
+
+pub marked_at : {T : Type 0} (past : List (Event T)) (w : ℕ) (holds : List Hold) → CountsHolds w holds (is_some (setter_of past)) → is_some (setter_of past) ≡ true → is_marked w ≡ true
+marked_at past w holds law set = marked_word w holds (subst (λ m. CountsHolds w holds m) set law)
+
+-- Who set the mark last is under way, and at a place from where it takes its mark away before it ends.
+
+abbrev pub is_live : RwWriterPlace → Bool
+is_live (places.WriteLook patience) = true
+is_live (places.Enter seen patience) = true
+is_live (places.Mark seen to patience) = true
+is_live (places.Unmark seen to) = true
+is_live (places.LoadCounter patience) = true
+is_live (places.LastLook count patience) = true
+is_live place = false
+
+abbrev IsLiveAfter : {T : Type 0} → After T RwWriterPlace → Type 0
+IsLiveAfter (afters.At place) = is_live place ≡ true
+IsLiveAfter (afters.Waits place seen) = is_live place ≡ true
+IsLiveAfter (afters.Chooses place old) = is_live place ≡ true
+IsLiveAfter (afters.Ends answer) = ⊥
+
+live_spins : (T : Type 0) (patience : Patience) → IsLiveAfter {T = T} (spins patience)
+live_spins T patience = by_test (nat_lt patience.spins 10000)
+  where
+    by_test : (b : Bool) → IsLiveAfter {T = T} (cond b (afters.At (places.WriteLook (record { spins = patience.spins + 1; keep = patience.keep }))) (afters.At (places.LoadCounter patience)))
+    by_test true = refl
+    by_test false = refl
+
+live_marks : (T : Type 0) (patience : Patience) (v : ℕ) → IsLiveAfter {T = T} (marks_or_spins patience v)
+live_marks T patience v = by_test (lets_mark v)
+  where
+    by_test : (b : Bool) → IsLiveAfter {T = T} (cond b (afters.At (places.Mark v (v + 1) patience)) (spins patience))
+    by_test true = refl
+    by_test false = live_spins T patience
+
+-- while the mark is set, a writer that gives up takes it away
+live_unmarks : (T : Type 0) (v : ℕ) → is_marked v ≡ true → IsLiveAfter {T = T} (unmarks_or_leaves v)
+live_unmarks T v marked = by_test (is_marked v) marked
+  where
+    by_test : (b : Bool) → b ≡ true → IsLiveAfter {T = T} (cond b (afters.At (places.Unmark v (v - 1))) (afters.Ends answers.Interrupted))
+    by_test true is = refl
+    by_test false is = absurd cc
+
+live_refused : (T : Type 0) (patience : Patience) (v : ℕ) → is_marked v ≡ true → IsLiveAfter {T = T} (write_refused patience v)
+live_refused T patience v marked = by_test patience.keep
+  where
+    by_test : (b : Bool) → IsLiveAfter {T = T} (cond b (marks_or_spins patience v) (unmarks_or_leaves v))
+    by_test true = live_marks T patience v
+    by_test false = live_unmarks T v marked
+
+live_look : (T : Type 0) (patience : Patience) (v : ℕ) → is_marked v ≡ true → IsLiveAfter {T = T} (write_look patience v)
+live_look T patience v marked = by_test (lets_writer_in v)
+  where
+    by_test : (b : Bool) → IsLiveAfter {T = T} (cond b (afters.At (places.Enter v patience)) (write_refused patience v))
+    by_test true = refl
+    by_test false = live_refused T patience v marked
+
+live_last_look : (T : Type 0) (count : ℕ) (patience : Patience) (v : ℕ) → is_marked v ≡ true → IsLiveAfter {T = T} (last_look count patience v)
+live_last_look T count patience v marked = by_test (is_blocked v)
+  where
+    by_test : (b : Bool) → IsLiveAfter {T = T} (cond b (afters.Waits (places.WriteLook patience) count) (write_look patience v))
+    by_test true = refl
+    by_test false = live_look T patience v marked
+
+-- What an act does to the mark.
+
+some_party : (p q : ℕ) → Some p ≡ Some q → p ≡ q
+some_party p q is = cc
+
+setter_by : (writes marks : Bool) (r : ℕ) (setter : Option ℕ) → Option ℕ
+setter_by writes marks r setter = cond writes (cond marks (Some r) None) setter
+
+other_by : (writes marks : Bool) (r p : ℕ) (setter : Option ℕ) → p ≢ r → setter_by writes marks r setter ≡ Some p → setter ≡ Some p
+unfolding setter_by
+other_by true true r p setter other is = absurd (other (sym (some_party r p is)))
+other_by true false r p setter other is = absurd cc
+other_by false marks r p setter other is = is
+
+-- the mark of another is as it was
+setter_other : {T : Type 0} (r p : ℕ) (act : Act T) (pending : Option (PendingCall T)) (setter : Option ℕ) → p ≢ r → setter_after r act pending setter ≡ Some p → setter ≡ Some p
+unfolding setter_by
+setter_other r p (acts.Exchange words.State from to found true) (Some c) setter other is = other_by (is_writing c.call) (is_mark from to) r p setter other is
+setter_other r p act pending setter other is = is
+
+new_by : (writes marks : Bool) (r : ℕ) (setter : Option ℕ) → setter_by writes marks r setter ≡ Some r → (setter ≡ Some r) ⊎ (marks ≡ true)
+unfolding setter_by
+new_by true true r setter is = inr refl
+new_by true false r setter is = absurd cc
+new_by false marks r setter is = inl is
+
+-- one's own was set before, or by this act
+setter_new : {T : Type 0} (r : ℕ) (act : Act T) (pending : Option (PendingCall T)) (setter : Option ℕ) → setter_after r act pending setter ≡ Some r → (setter ≡ Some r) ⊎ (sets_mark act ≡ true)
+unfolding setter_by
+setter_new r (acts.Exchange words.State from to found true) (Some c) setter is = new_by (is_writing c.call) (is_mark from to) r setter is
+setter_new r act pending setter is = inl is
+
+-- the exchange of a writing call for anything but one more takes the mark away
+cleared : {T : Type 0} (r from to found : ℕ) (c : PendingCall T) (setter : Option ℕ) → is_writing c.call ≡ true → is_mark from to ≡ false → setter_after {T = T} r (acts.Exchange words.State from to found true) (Some c) setter ≡ Some r → ⊥
+cleared {T} r from to found c setter writes other is =
+    let gone : setter_after {T = T} r (acts.Exchange words.State from to found true) (Some c) setter ≡ None = rw (writes, other) refl in
+    let no : None ≡ Some r = sym gone ∙ is in
+    absurd cc
+
+-- A step of the party that set the mark leads to a place where it is still bound to take it away.
+
+write_calls : {T : Type 0} (c : PendingCall T) → c.call ≡ calls.WriteLock → is_writing c.call ≡ true
+write_calls {T} c call = ap (λ (k : Call T). is_writing k) call
+
+entered_live :
+    {T : Type 0} (r seen w : ℕ) (c : PendingCall T) (patience : Patience) (setter : Option ℕ) (b : Bool) → c.call ≡ calls.WriteLock → seen < 2 → (setter ≡ Some r → is_marked w ≡ true) →
+    setter_after {T = T} r (acts.Exchange words.State seen (2 ^ 64 - 1) w b) (Some c) setter ≡ Some r → IsLiveAfter {T = T} (cond b (afters.Ends answers.Success) (write_refused patience w))
+entered_live {T} r seen w c patience setter true call unheld marked is =
+    absurd (cleared r seen (2 ^ 64 - 1) w c setter (write_calls c call) (no_mark seen (2 ^ 64 - 1) (λ more. absurd (omega (arith, more, unheld)))) is)
+entered_live {T} r seen w c patience setter false call unheld marked is = live_refused T patience w (marked is)
+
+marked_live :
+    {T : Type 0} (r seen to w : ℕ) (c : PendingCall T) (patience : Patience) (setter : Option ℕ) (b : Bool) → (setter ≡ Some r → is_marked w ≡ true) →
+    setter_after {T = T} r (acts.Exchange words.State seen to w b) (Some c) setter ≡ Some r → IsLiveAfter {T = T} (cond b (spins patience) (write_look patience w))
+marked_live {T} r seen to w c patience setter true marked is = live_spins T patience
+marked_live {T} r seen to w c patience setter false marked is = live_look T patience w (marked is)
+
+unmarked_live :
+    {T : Type 0} (r seen to w : ℕ) (c : PendingCall T) (setter : Option ℕ) (b : Bool) → c.call ≡ calls.WriteLock → seen ≡ to + 1 → (setter ≡ Some r → is_marked w ≡ true) →
+    setter_after {T = T} r (acts.Exchange words.State seen to w b) (Some c) setter ≡ Some r → IsLiveAfter {T = T} (cond b (afters.At (places.Count leavers.GivenUp)) (unmarks_or_leaves w))
+unmarked_live {T} r seen to w c setter true call less marked is =
+    absurd (cleared r seen to w c setter (write_calls c call) (no_mark seen to (λ more. absurd (omega (arith, more, less)))) is)
+unmarked_live {T} r seen to w c setter false call less marked is = live_unmarks T w (marked is)
+
+-- at a place that is not live nothing sets the mark
+once_by :
+    {T : Type 0} (r from to w : ℕ) (c : PendingCall T) (setter : Option ℕ) (b : Bool) → (is_writing c.call ≡ false) ⊎ (is_mark from to ≡ false) → setter_after {T = T} r (acts.Exchange words.State from to w b) (Some c) setter ≡ Some r → setter ≡ Some r
+once_by {T} r from to w c setter true (inl reads) is =
+    let kept : setter_after {T = T} r (acts.Exchange words.State from to w true) (Some c) setter ≡ setter = rw reads refl in
+    sym kept ∙ is
+once_by {T} r from to w c setter true (inr other) is = by_test (is_writing c.call) (subst (λ m. cond (is_writing c.call) (cond m (Some r) None) setter ≡ Some r) other is)
+  where
+    by_test : (writes : Bool) → cond writes None setter ≡ Some r → setter ≡ Some r
+    by_test true gone = absurd cc
+    by_test false kept = kept
+once_by r from to w c setter false kind is = is
+
+not_live : {A : Type 0} (b : Bool) → b ≡ false → b ≡ true → A
+not_live b is_false is_true = let no : true ≡ false = sym is_true ∙ is_false in absurd cc
+
+step_live :
+    {T : Type 0} (r : ℕ) (place : RwWriterPlace) (c : PendingCall T) (hold : Option HoldKind) (memory : Word → ℕ) (setter : Option ℕ) → AtRwWriter place c hold → (setter ≡ Some r → is_live place ≡ true) → (setter ≡ Some r → is_marked (memory words.State) ≡ true) →
+    setter_after r (step_at rw_writer_table place hold memory).act (Some c) setter ≡ Some r → IsLiveAfter {T = T} (rw_writer_table.after place (value_told {T = T} (carried_out (rw_writer_table.intent place hold) memory)))
+step_live {T} r places.TryReadLook c hold memory setter at live marked is = not_live false refl (live is)
+step_live {T} r (places.TryRead seen to) c hold memory setter at live marked is =
+    not_live false refl (live (once_by r seen to (memory words.State) c setter (memory words.State == seen) (inl (ap (λ (k : Call T). is_writing k) at.0)) is))
+step_live {T} r (places.ReadLook patience) c hold memory setter at live marked is = not_live false refl (live is)
+step_live {T} r (places.Read seen to patience) c hold memory setter at live marked is =
+    not_live false refl (live (once_by r seen to (memory words.State) c setter (memory words.State == seen) (inl (ap (λ (k : Call T). is_writing k) at.0)) is))
+step_live {T} r places.TryWrite c hold memory setter at live marked is =
+    not_live false refl (live (once_by r 0 (2 ^ 64 - 1) (memory words.State) c setter (memory words.State == 0) (inr refl) is))
+step_live {T} r (places.WriteLook patience) c hold memory setter at live marked is = live_look T patience (memory words.State) (marked is)
+step_live {T} r (places.Enter seen patience) c hold memory setter at live marked is = entered_live r seen (memory words.State) c patience setter (memory words.State == seen) at.0 at.3 marked is
+step_live {T} r (places.Mark seen to patience) c hold memory setter at live marked is = marked_live r seen to (memory words.State) c patience setter (memory words.State == seen) marked is
+step_live {T} r (places.Unmark seen to) c hold memory setter at live marked is = unmarked_live r seen to (memory words.State) c setter (memory words.State == seen) at.0 at.3.2 marked is
+step_live {T} r (places.LoadCounter patience) c hold memory setter at live marked is = refl
+step_live {T} r (places.LastLook count patience) c hold memory setter at live marked is = live_last_look T count patience (memory words.State) (marked is)
+step_live {T} r places.Release c None memory setter at live marked is = not_live false refl (live is)
+step_live {T} r places.Release c (Some kinds.Read) memory setter at live marked is = not_live false refl (live is)
+step_live {T} r places.Release c (Some kinds.Write) memory setter at live marked is = not_live false refl (live is)
+step_live {T} r (places.Count who) c hold memory setter at live marked is = not_live false refl (live is)
+step_live {T} r (places.WakeOne who) c hold memory setter at live marked is = not_live false refl (live is)
+step_live {T} r (places.WakeAll who) c hold memory setter at live marked is = not_live false refl (live is)
+
+-- the party's call is under way at such a place, and has set the mark
+pub record SetterAt {T : Type 0} (pending : Option (PendingCall T)) : Type 0 where
+  pub call : PendingCall T
+  pub under_way : pending ≡ Some call
+  pub place : RwWriterPlace
+  pub stage : stage_of rw_writer_table call ≡ Some place
+  pub live : is_live place ≡ true
+  pub marked : has_marked call.own ≡ true
+
+answered_live : (place : RwWriterPlace) (action : WaitAction) → is_live place ≡ true → is_live (rw_writer_answered place action) ≡ true
+answered_live (places.WriteLook patience) action live = refl
+answered_live (places.ReadLook patience) action live = absurd cc
+answered_live place action live = live
+
+marked_still : {T : Type 0} (e : Event T) (own : List (Event T)) → has_marked own ≡ true → has_marked (e ∷ own) ≡ true
+marked_still {T} e own marked = by_test (sets_mark e.act)
+  where
+    by_test : (b : Bool) → cond b true (has_marked own) ≡ true
+    by_test true = refl
+    by_test false = marked
+
+marked_now : {T : Type 0} (e : Event T) (own : List (Event T)) → sets_mark e.act ≡ true → has_marked (e ∷ own) ≡ true
+marked_now e own sets = rw sets refl
+
+same_call : {T : Type 0} (c d : PendingCall T) → Some c ≡ Some d → c ≡ d
+same_call c d is = cc
+
+same_place : (p q : RwWriterPlace) → Some p ≡ Some q → p ≡ q
+same_place p q is = cc
+
+-- after a step of the call
+stepped_setter :
+    {T : Type 0} (r : ℕ) (c : PendingCall T) (place : RwWriterPlace) (hold : Option HoldKind) (memory : Word → ℕ) → stage_of rw_writer_table c ≡ Some place →
+    ((e : Event T) → e.act ≡ (step_at rw_writer_table place hold memory).act → has_marked (e ∷ c.own) ≡ true) →
+    IsLiveAfter {T = T} (rw_writer_table.after place (value_told {T = T} (carried_out (rw_writer_table.intent place hold) memory))) →
+    SetterAt (call_after (step_at rw_writer_table place hold memory).outcome (event r (step_at rw_writer_table place hold memory).act (step_at rw_writer_table place hold memory).outcome) (Some c))
+stepped_setter {T} r c place hold memory stage marked live = by_after (rw_writer_table.after place (value_told act)) refl live
+  where
+    act : Act T
+    act = (step_at {T = T} rw_writer_table place hold memory).act
+
+    on : (a : After T RwWriterPlace) (next : RwWriterPlace) → rw_writer_table.after place (value_told act) ≡ a → place_after a ≡ Some next → is_live next ≡ true → SetterAt (call_going_on act (event r act (outcome_of a)) (Some c))
+    on a next is to lives =
+        let e : Event T = event r act (outcome_of a) in
+        let leads : next_stage rw_writer_table act (stage_of rw_writer_table c) ≡ Some next = ap (next_stage rw_writer_table act) stage ∙ carried_stage rw_writer_table place (rw_writer_table.intent place hold) memory ∙ ap place_after is ∙ to in
+        record { call = record { call = c.call; own = e ∷ c.own }; under_way = carried_goes_on (rw_writer_table.intent place hold) memory e c; place = next; stage = leads; live = lives; marked = marked e refl }
+
+    by_after : (a : After T RwWriterPlace) → rw_writer_table.after place (value_told act) ≡ a → IsLiveAfter a → SetterAt (call_after (outcome_of a) (event r act (outcome_of a)) (Some c))
+    by_after (afters.At next) is lives = on (afters.At next) next is refl lives
+    by_after (afters.Waits next seen) is lives = on (afters.Waits next seen) next is refl lives
+    by_after (afters.Chooses next old) is lives = on (afters.Chooses next old) next is refl lives
+    by_after (afters.Ends answer) is lives = absurd lives
+
+-- after an answer of a closure
+answered_setter :
+    {T : Type 0} (r : ℕ) (action : WaitAction) (pending : Option (PendingCall T)) → SetterAt pending → SetterAt (call_going_on (acts.Answered action) (event r (acts.Answered action) thens.GoesOn) pending)
+answered_setter {T} r action pending setter =
+    let e : Event T = event r (acts.Answered action) thens.GoesOn in
+    record {
+      call = record { call = setter.call.call; own = e ∷ setter.call.own };
+      under_way = ap (call_going_on (acts.Answered action) e) setter.under_way;
+      place = rw_writer_answered setter.place action;
+      stage = ap (next_stage {T = T} rw_writer_table (acts.Answered action)) setter.stage;
+      live = answered_live setter.place action setter.live;
+      marked = marked_still e setter.call.own setter.marked;
+    }
+
+chosen_setter :
+    {T : Type 0} (r : ℕ) (choice : Option T) (pending : Option (PendingCall T)) → SetterAt pending → SetterAt (call_going_on (acts.Chosen choice) (event r (acts.Chosen choice) thens.GoesOn) pending)
+chosen_setter {T} r choice pending setter =
+    let e : Event T = event r (acts.Chosen choice) thens.GoesOn in
+    record {
+      call = record { call = setter.call.call; own = e ∷ setter.call.own };
+      under_way = ap (call_going_on (acts.Chosen choice) e) setter.under_way;
+      place = setter.place;
+      stage = ap (next_stage {T = T} rw_writer_table (acts.Chosen choice)) setter.stage;
+      live = setter.live;
+      marked = marked_still e setter.call.own setter.marked;
+    }
+
+-- a party with a call under way begins none
+begun_setter : {T : Type 0} (pending : Option (PendingCall T)) (hold : Option HoldKind) (call : Call T) (input : Input T) → SetterAt pending → fault_at rw_writer_table pending hold input ≡ None → input ≡ inputs.Begin call → ⊥
+begun_setter {T} pending hold call input setter allowed is =
+    let P : Option (PendingCall T) → Type 0 = λ k. fault_at rw_writer_table k hold input ≡ None in
+    let Q : Input T → Type 0 = λ i. fault_at rw_writer_table (Some setter.call) hold i ≡ None in
+    let busy : fault_at rw_writer_table (Some setter.call) hold (inputs.Begin call) ≡ None = subst Q is (subst P setter.under_way allowed) in
+    absurd cc
+
+live_here : {T : Type 0} (c : PendingCall T) (place : RwWriterPlace) → stage_of rw_writer_table c ≡ Some place → SetterAt (Some c) → is_live place ≡ true
+live_here {T} c place stage setter =
+    let same : c ≡ setter.call = same_call c setter.call setter.under_way in
+    let at : Some place ≡ Some setter.place = sym stage ∙ ap (λ (k : PendingCall T). stage_of rw_writer_table k) same ∙ setter.stage in
+    subst (λ p. is_live p ≡ true) (sym (same_place place setter.place at)) setter.live
+
+marked_here : {T : Type 0} (c : PendingCall T) → SetterAt (Some c) → has_marked c.own ≡ true
+marked_here {T} c setter = subst (λ (k : PendingCall T). has_marked k.own ≡ true) (sym (same_call c setter.call setter.under_way)) setter.marked
+
+marked_by : {T : Type 0} (act : Act T) (e : Event T) (c : PendingCall T) (SetBefore : Type 0) → e.act ≡ act → (SetBefore → has_marked c.own ≡ true) → SetBefore ⊎ (sets_mark act ≡ true) → has_marked (e ∷ c.own) ≡ true
+marked_by act e c SetBefore is was (inl set_before) = marked_still e c.own (was set_before)
+marked_by {T} act e c SetBefore is was (inr now) = marked_now e c.own (ap (λ (a : Act T). sets_mark a) is ∙ now)
+
+own_setter :
+    {T : Type 0} (z : Arithmetic T) (parties : ℕ) (past : List (Event T)) (e : Event T) → IsPast z rw_writer_table parties (e ∷ past) → (setter_of past ≡ Some e.party → SetterAt (call_of e.party past)) →
+    setter_after e.party e.act (call_of e.party past) (setter_of past) ≡ Some e.party → SetterAt (call_after e.then e (call_of e.party past))
+own_setter {T} z parties past e run before set =
+    by_move rw_writer_table (call_of e.party past) (hold_of rw_writer_table e.party past) (word_in rw_writer_table past)
+    (λ (k : Option (PendingCall T)) (x : Move T).
+    (setter_of past ≡ Some e.party → SetterAt k) → setter_after e.party x.act k (setter_of past) ≡ Some e.party → SetterAt (call_after x.outcome (event e.party x.act x.outcome) k))
+    run.0.0 (record { act = e.act; outcome = e.then })
+    (λ call is was sets. absurd (begun_setter (call_of e.party past) (hold_of rw_writer_table e.party past) call run.0.0 (was sets) (fault_at_none rw_writer_table parties past e.party run.0.0 run.0.1.allowed) is))
+    (λ action _ was sets. answered_setter e.party action (call_of e.party past) (was sets))
+    (λ choice _ was sets. chosen_setter e.party choice (call_of e.party past) (was sets))
+    (λ c place _ called stage was sets. stepped c place called stage was sets)
+    run.0.1.moved before set
+  where
+    stepped : (c : PendingCall T) (place : RwWriterPlace) → call_of e.party past ≡ Some c → stage_of rw_writer_table c ≡ Some place → (setter_of past ≡ Some e.party → SetterAt (Some c)) →
+        setter_after e.party (step_at rw_writer_table place (hold_of rw_writer_table e.party past) (word_in rw_writer_table past)).act (Some c) (setter_of past) ≡ Some e.party →
+        SetterAt (call_after (step_at rw_writer_table place (hold_of rw_writer_table e.party past) (word_in rw_writer_table past)).outcome (event e.party (step_at rw_writer_table place (hold_of rw_writer_table e.party past) (word_in rw_writer_table past)).act (step_at rw_writer_table place (hold_of rw_writer_table e.party past) (word_in rw_writer_table past)).outcome) (Some c))
+    stepped c place called stage was sets =
+        let hold = hold_of rw_writer_table e.party past in
+        let memory = word_in rw_writer_table past in
+        let act : Act T = (step_at rw_writer_table place hold memory).act in
+        let word = writer_lock_word z parties past run.1 in
+        stepped_setter e.party c place hold memory stage
+        (λ d is. marked_by act d c (setter_of past ≡ Some e.party) is (λ set_before. marked_here c (was set_before)) (setter_new e.party act (Some c) (setter_of past) sets))
+        (step_live e.party place c hold memory (setter_of past) (here z parties past run.1 e.party c place called stage) (λ set_before. live_here c place stage (was set_before))
+        (λ set_before. marked_at past (memory words.State) (holds_of rw_writer_table past) word.counts (ap is_some set_before)) sets)
+
+setter_at : {T : Type 0} (z : Arithmetic T) (parties : ℕ) (past : List (Event T)) → IsPast z rw_writer_table parties past → (p : ℕ) → setter_of past ≡ Some p → SetterAt (call_of p past)
+setter_at z parties [] run p is = absurd cc
+setter_at {T} z parties (e ∷ past) run p is = by_party (setter_at z parties past run.1) (eqb_tells e.party p)
+  where
+    by_party : ((q : ℕ) → setter_of past ≡ Some q → SetterAt (call_of q past)) → (((e.party == p) ≡ true) × (e.party ≡ p)) ⊎ (((e.party == p) ≡ false) × (e.party ≢ p)) → SetterAt (call_of p (e ∷ past))
+    by_party before (inl mine) =
+        let own : setter_of (e ∷ past) ≡ Some e.party = is ∙ ap (λ q. Some q) (sym mine.1) in
+        let after : SetterAt (call_of e.party (e ∷ past)) = subst (λ (k : Option (PendingCall T)). SetterAt k) (sym (call_of_same e.party e.act e.then past)) (own_setter z parties past e run (before e.party) own) in
+        subst (λ q. SetterAt (call_of q (e ∷ past))) mine.1 after
+    by_party before (inr other) =
+        let apart : p ≢ e.party = λ same. other.1 (sym same) in
+        let was : SetterAt (call_of p past) = before p (setter_other e.party p e.act (call_of e.party past) (setter_of past) apart is) in
+        subst (λ (k : Option (PendingCall T)). SetterAt k) (sym (call_of_other e.party p e.act e.then past apart)) was
+
+live_calls : {T : Type 0} (place : RwWriterPlace) (c : PendingCall T) (hold : Option HoldKind) → is_live place ≡ true → AtRwWriter place c hold → c.call ≡ calls.WriteLock
+live_calls (places.WriteLook patience) c hold live at = at.0
+live_calls (places.Enter seen patience) c hold live at = at.0
+live_calls (places.Mark seen to patience) c hold live at = at.0
+live_calls (places.Unmark seen to) c hold live at = at.0
+live_calls (places.LoadCounter patience) c hold live at = at.0
+live_calls (places.LastLook count patience) c hold live at = at.0
+live_calls place c hold live at = absurd cc
+
+pub setter_is_under_way : {T : Type 0} (z : Arithmetic T) (parties : ℕ) (past : List (Event T)) → IsPast z rw_writer_table parties past → SetterIsUnderWay past
+setter_is_under_way {T} z parties past run = by_setter (setter_of past) refl
+  where
+    by_setter : (setter : Option ℕ) → setter_of past ≡ setter → MatchOption setter (Unit {0}) (λ party. IsSetter party past)
+    by_setter None is = tt
+    by_setter (Some p) is =
+        let setter = setter_at z parties past run p is in
+        let writes : setter.call.call ≡ calls.WriteLock = live_calls setter.place setter.call (hold_of rw_writer_table p past) setter.live (here z parties past run p setter.call setter.place setter.under_way setter.stage) in
+        rw setter.under_way (writes, setter.marked)
+
+-- a writer-preferring lock has no words but its own and its wake counter
+pub rw_writer_lacks : (T : Type 0) (word : Word) → same_word words.State word ≡ false → same_word words.Counter word ≡ false → Lacks {T = T} rw_writer_table word
+rw_writer_lacks T word other apart places.TryReadLook hold = ap not other
+rw_writer_lacks T word other apart (places.TryRead seen to) hold = ap not other
+rw_writer_lacks T word other apart (places.ReadLook patience) hold = ap not other
+rw_writer_lacks T word other apart (places.Read seen to patience) hold = ap not other
+rw_writer_lacks T word other apart places.TryWrite hold = ap not other
+rw_writer_lacks T word other apart (places.WriteLook patience) hold = ap not other
+rw_writer_lacks T word other apart (places.Enter seen patience) hold = ap not other
+rw_writer_lacks T word other apart (places.Mark seen to patience) hold = ap not other
+rw_writer_lacks T word other apart (places.Unmark seen to) hold = ap not other
+rw_writer_lacks T word other apart (places.LoadCounter patience) hold = ap not apart
+rw_writer_lacks T word other apart (places.LastLook count patience) hold = ap not other
+rw_writer_lacks T word other apart places.Release None = ap not other
+rw_writer_lacks T word other apart places.Release (Some kinds.Read) = ap not other
+rw_writer_lacks T word other apart places.Release (Some kinds.Write) = ap not other
+rw_writer_lacks T word other apart (places.Count who) hold = ap not apart
+rw_writer_lacks T word other apart (places.WakeOne who) hold = refl
+rw_writer_lacks T word other apart (places.WakeAll who) hold = refl

@@ -1,0 +1,6 @@
+pub mod WordLaws
+pub mod PlaceLaws
+pub mod Laws
+pub mod DebtLaws
+pub mod WakeLaws
+pub mod Causes

@@ -1,0 +1,510 @@
+-- Readers are woken: whoever makes the word even owes a wake of all until it has called it.
+use Rattle.std.proofs.Common.{◌≡◌, ◌≢◌, ℕ, ◌+◌, ◌-◌, ◌%◌, ◌^◌, ◌==◌, refl, sym, ◌∙◌, ap, subst, Bool, true, false, cond, ◌&&◌, ◌||◌, List, [], ◌∷◌, Option, Some, None, ◌⊎◌, inl, inr, arith}
+use Rattle.std.specs.Prelude.{nat_lt, not}
+use Rattle.std.proofs.lemmas.Bool.{eqb-true, eq-eqb}
+use Rattle.std.proofs.lemmas.Bool.Decides.{eqb_tells}
+use Rattle.steps_events.specs.declared.WaitAction.{WaitAction}
+use Rattle.steps_events.specs.declared.event.Word.{Word}
+use Rattle.steps_events.specs.declared.event.Word.TheVariants as words
+use Rattle.steps_events.specs.declared.event.Call.{Call}
+use Rattle.steps_events.specs.declared.event.Call.TheVariants as calls
+use Rattle.steps_events.specs.declared.event.Act.{Act}
+use Rattle.steps_events.specs.declared.event.Act.TheVariants as acts
+use Rattle.steps_events.specs.declared.event.Answer.TheVariants as answers
+use Rattle.steps_events.specs.declared.event.Event.{Event}
+use Rattle.steps_events.specs.declared.event.Input.{Input}
+use Rattle.steps_events.specs.declared.event.Input.TheVariants as inputs
+use Rattle.steps_events.specs.declared.event.Then.{Then}
+use Rattle.steps_events.specs.declared.event.Then.TheVariants as thens
+use Rattle.steps_events.specs.declared.hold.HoldKind.{HoldKind}
+use Rattle.steps_events.specs.declared.hold.HoldKind.TheVariants as kinds
+use Rattle.steps_events.specs.declared.patience.Patience.{Patience}
+use Rattle.steps_events.specs.declared.row.After.{After}
+use Rattle.steps_events.specs.declared.row.After.TheVariants as afters
+use Rattle.steps_events.specs.Arithmetic.{Arithmetic}
+use Rattle.steps_events.specs.Rows.{carried_out, value_told, outcome_of, place_after, within, refused}
+use Rattle.steps_events.specs.Past.{PendingCall, call_of, call_after, call_going_on, Hold, holds_of, hold_of, word_in, word_after, event, latest_outcome}
+use Rattle.steps_events.specs.HoldCounts.{writes_in}
+use Rattle.steps_events.specs.Sights.{is_beginning}
+use Rattle.steps_events.specs.Moves.{Move, step_at, stage_of, next_stage, fault_at}
+use Rattle.steps_events.specs.Runs.{IsPast}
+use Rattle.steps_events.proofs.Holds.{call_of_same, call_of_other}
+use Rattle.steps_events.proofs.Steps.{by_move, carried_goes_on, carried_stage}
+use Rattle.steps_events.proofs.Parties.{fault_at_none}
+use Rattle.steps_events.proofs.LastSights.{longer}
+use Rattle.steps_rw_writer.specs.declared.Leaver.{Leaver}
+use Rattle.steps_rw_writer.specs.declared.Leaver.TheVariants as leavers
+use Rattle.steps_rw_writer.specs.declared.RwWriterPlace.{RwWriterPlace}
+use Rattle.steps_rw_writer.specs.declared.RwWriterPlace.TheVariants as places
+use Rattle.steps_rw_writer.specs.Table.{is_odd, lets_readers_in, unmarks_or_leaves, read_look, rw_writer_table, rw_writer_answered}
+use Rattle.steps_rw_writer.specs.Marks.{is_marked_after}
+use Rattle.steps_rw_writer.specs.Law.{CountsHolds}
+use Rattle.steps_rw_writer.specs.Debts.{is_answer, is_even_after, makes_even, wakes_all, owes_wake, Evener, evener_after, evener_of, ReaderStands, ReadersAreWoken}
+use Rattle.steps_rw_writer.proofs.PlaceLaws.{AtRwWriter, IsLeaver, here}
+use Rattle.steps_rw_writer.proofs.Laws.{writer_lock_word}
+
+-- What the word says: it is even exactly where neither a write hold stands nor the mark is set.
+
+even_by : (a b odd : Bool) → a ≡ false → b ≡ odd → not (a || b) ≡ not odd
+even_by a b odd none is = rw (none, is) refl
+
+none_below : (n : ℕ) → n ≡ 0 → nat_lt 0 n ≡ false
+none_below n is = rw is refl
+
+odd_word : (w : ℕ) → w % 2 ≡ 1 → is_odd w ≡ true
+odd_word w odd = eq-eqb (w % 2) 1 odd
+
+even_word : (w : ℕ) → w % 2 ≡ 0 → is_odd w ≡ false
+even_word w even = rw even refl
+
+word_evens : (w : ℕ) (holds : List Hold) (marked : Bool) → CountsHolds w holds marked → not (nat_lt 0 (writes_in holds) || marked) ≡ not (is_odd w)
+word_evens w holds true (inl read) = even_by (nat_lt 0 (writes_in holds)) true (is_odd w) (none_below (writes_in holds) read.unwritten) (sym (odd_word w (omega (arith, read.counts))))
+word_evens w holds false (inl read) = even_by (nat_lt 0 (writes_in holds)) false (is_odd w) (none_below (writes_in holds) read.unwritten) (sym (even_word w (omega (arith, read.counts))))
+word_evens w holds marked (inr written) = rw (written.alone, odd_word w (omega (arith, written.is_full))) refl
+
+even_at : {T : Type 0} (z : Arithmetic T) (parties : ℕ) (past : List (Event T)) → IsPast z rw_writer_table parties past → is_even_after past ≡ not (is_odd (word_in rw_writer_table past words.State))
+even_at z parties past run = word_evens (word_in rw_writer_table past words.State) (holds_of rw_writer_table past) (is_marked_after past) (writer_lock_word z parties past run).counts
+
+-- an event makes the word even
+abbrev Evens : {T : Type 0} → ℕ → Act T → Type 0
+Evens w act = (is_odd w ≡ true) × (is_odd (word_after words.State act w) ≡ false)
+
+clash : {A : Type 0} (b : Bool) → b ≡ true → b ≡ false → A
+clash b is also = let no : true ≡ false = sym is ∙ also in absurd cc
+
+-- who leaves and wakes all
+abbrev WakesAll : Leaver → Type 0
+WakesAll leavers.Reader = ⊥
+WakesAll leavers.Writer = Unit {0}
+WakesAll leavers.GivenUp = Unit {0}
+
+-- on the way to the wake of all
+abbrev IsWaking : RwWriterPlace → Type 0
+IsWaking (places.Count who) = WakesAll who
+IsWaking (places.WakeOne who) = WakesAll who
+IsWaking (places.WakeAll who) = WakesAll who
+IsWaking place = ⊥
+
+pub record LeadsToWake {T : Type 0} (act : Act T) (a : After T RwWriterPlace) : Type 0 where
+  pub next : RwWriterPlace
+  pub leads : a ≡ afters.At next
+  pub waking : IsWaking next
+  pub is_before : wakes_all act ≡ false
+
+even_done : (T A : Type 0) (w from to : ℕ) (b : Bool) → (w == from) ≡ b → is_odd from ≡ false → is_odd w ≡ true → is_odd (word_after {T = T} words.State (acts.Exchange words.State from to w b) w) ≡ false → A
+even_done T A w from to true done even was now = clash (is_odd w) was (ap is_odd (eqb-true w from done) ∙ even)
+even_done T A w from to false done even was now = clash (is_odd w) was now
+
+odd_done : (T A : Type 0) (w from to : ℕ) (b : Bool) → is_odd to ≡ true → is_odd w ≡ true → is_odd (word_after {T = T} words.State (acts.Exchange words.State from to w b) w) ≡ false → A
+odd_done T A w from to true odd was now = clash (is_odd to) odd now
+odd_done T A w from to false odd was now = clash (is_odd w) was now
+
+unmark_evens :
+    {T : Type 0} (w seen to : ℕ) (b : Bool) → is_odd w ≡ true → is_odd (word_after {T = T} words.State (acts.Exchange words.State seen to w b) w) ≡ false →
+    LeadsToWake {T = T} (acts.Exchange words.State seen to w b) (cond b (afters.At (places.Count leavers.GivenUp)) (unmarks_or_leaves w))
+unmark_evens w seen to true was now = record { next = places.Count leavers.GivenUp; leads = refl; waking = tt; is_before = refl }
+unmark_evens w seen to false was now = clash (is_odd w) was now
+
+evens :
+    {T : Type 0} (place : RwWriterPlace) (c : PendingCall T) (hold : Option HoldKind) (memory : Word → ℕ) → AtRwWriter place c hold → Evens (memory words.State) (step_at {T = T} rw_writer_table place hold memory).act →
+    LeadsToWake (step_at {T = T} rw_writer_table place hold memory).act (rw_writer_table.after place (value_told {T = T} (carried_out (rw_writer_table.intent place hold) memory)))
+evens places.TryReadLook c hold memory at so = clash _ so.0 so.1
+evens {T} (places.TryRead seen to) c hold memory at so = even_done T _ (memory words.State) seen to (memory words.State == seen) refl (even_word seen at.2.0) so.0 so.1
+evens (places.ReadLook patience) c hold memory at so = clash _ so.0 so.1
+evens {T} (places.Read seen to patience) c hold memory at so = even_done T _ (memory words.State) seen to (memory words.State == seen) refl (even_word seen at.3.0) so.0 so.1
+evens {T} places.TryWrite c hold memory at so = odd_done T _ (memory words.State) 0 (2 ^ 64 - 1) (memory words.State == 0) refl so.0 so.1
+evens (places.WriteLook patience) c hold memory at so = clash _ so.0 so.1
+evens {T} (places.Enter seen patience) c hold memory at so = odd_done T _ (memory words.State) seen (2 ^ 64 - 1) (memory words.State == seen) refl so.0 so.1
+evens {T} (places.Mark seen to patience) c hold memory at so = even_done T _ (memory words.State) seen to (memory words.State == seen) refl (even_word seen at.3.0) so.0 so.1
+evens (places.Unmark seen to) c hold memory at so = unmark_evens (memory words.State) seen to (memory words.State == seen) so.0 so.1
+evens (places.LoadCounter patience) c hold memory at so = clash _ so.0 so.1
+evens (places.LastLook count patience) c hold memory at so = clash _ so.0 so.1
+evens places.Release c None memory at so = absurd cc
+evens places.Release c (Some kinds.Read) memory at so = clash _ (still_odd (memory words.State) so.0) so.1
+  where
+    still_odd : (w : ℕ) → is_odd w ≡ true → is_odd ((w + (2 ^ 64 - 2)) % 2 ^ 64) ≡ true
+    still_odd w is = let odd : w % 2 ≡ 1 = eqb-true (w % 2) 1 is in odd_word ((w + (2 ^ 64 - 2)) % 2 ^ 64) (omega (arith, odd))
+evens places.Release c (Some kinds.Write) memory at so = record { next = places.Count leavers.Writer; leads = refl; waking = tt; is_before = refl }
+evens (places.Count who) c hold memory at so = clash _ so.0 so.1
+evens (places.WakeOne who) c hold memory at so = clash _ so.0 so.1
+evens (places.WakeAll who) c hold memory at so = clash _ so.0 so.1
+
+-- from there each step leads on, up to the wake
+waking_step :
+    {T : Type 0} (place : RwWriterPlace) (hold : Option HoldKind) (memory : Word → ℕ) → IsWaking place →
+    (wakes_all (step_at {T = T} rw_writer_table place hold memory).act ≡ true) ⊎ LeadsToWake (step_at {T = T} rw_writer_table place hold memory).act (rw_writer_table.after place (value_told {T = T} (carried_out (rw_writer_table.intent place hold) memory)))
+waking_step (places.Count who) hold memory waking = inr (record { next = places.WakeOne who; leads = refl; waking = waking; is_before = refl })
+waking_step (places.WakeOne leavers.Reader) hold memory waking = absurd waking
+waking_step (places.WakeOne leavers.Writer) hold memory waking = inr (record { next = places.WakeAll leavers.Writer; leads = refl; waking = tt; is_before = refl })
+waking_step (places.WakeOne leavers.GivenUp) hold memory waking = inr (record { next = places.WakeAll leavers.GivenUp; leads = refl; waking = tt; is_before = refl })
+waking_step (places.WakeAll who) hold memory waking = inl refl
+waking_step place hold memory waking = absurd waking
+
+-- Who owes a wake of all is on the way to it.
+
+pub record OwesWakeAt {T : Type 0} (pending : Option (PendingCall T)) : Type 0 where
+  pub call : PendingCall T
+  pub under_way : pending ≡ Some call
+  pub place : RwWriterPlace
+  pub stage : stage_of rw_writer_table call ≡ Some place
+  pub waking : IsWaking place
+
+same_call : {T : Type 0} (c d : PendingCall T) → Some c ≡ Some d → c ≡ d
+same_call c d is = cc
+
+same_place : (p q : RwWriterPlace) → Some p ≡ Some q → p ≡ q
+same_place p q is = cc
+
+waking_place : {T : Type 0} (c : PendingCall T) (place : RwWriterPlace) → stage_of rw_writer_table c ≡ Some place → OwesWakeAt (Some c) → IsWaking place
+waking_place {T} c place stage owes =
+    let at : place ≡ owes.place = same_place place owes.place (sym stage ∙ ap (λ (k : PendingCall T). stage_of rw_writer_table k) (same_call c owes.call owes.under_way) ∙ owes.stage) in
+    subst IsWaking (sym at) owes.waking
+
+begun_not : {T : Type 0} (pending : Option (PendingCall T)) (hold : Option HoldKind) (call : Call T) (input : Input T) → OwesWakeAt pending → fault_at rw_writer_table pending hold input ≡ None → input ≡ inputs.Begin call → ⊥
+begun_not {T} pending hold call input owes allowed is =
+    let P : Option (PendingCall T) → Type 0 = λ k. fault_at rw_writer_table k hold input ≡ None in
+    let Q : Input T → Type 0 = λ i. fault_at rw_writer_table (Some owes.call) hold i ≡ None in
+    let busy : fault_at rw_writer_table (Some owes.call) hold (inputs.Begin call) ≡ None = subst Q is (subst P owes.under_way allowed) in
+    absurd cc
+
+answered_waking : (place : RwWriterPlace) (action : WaitAction) → IsWaking place → IsWaking (rw_writer_answered place action)
+answered_waking (places.Count who) action waking = waking
+answered_waking (places.WakeOne who) action waking = waking
+answered_waking (places.WakeAll who) action waking = waking
+answered_waking place action waking = absurd waking
+
+answered_owes : {T : Type 0} (r : ℕ) (action : WaitAction) (pending : Option (PendingCall T)) → OwesWakeAt pending → OwesWakeAt (call_going_on (acts.Answered action) (event r (acts.Answered action) thens.GoesOn) pending)
+answered_owes {T} r action pending owes =
+    let e : Event T = event r (acts.Answered action) thens.GoesOn in
+    record {
+      call = record { call = owes.call.call; own = e ∷ owes.call.own };
+      under_way = ap (call_going_on (acts.Answered action) e) owes.under_way;
+      place = rw_writer_answered owes.place action;
+      stage = ap (next_stage {T = T} rw_writer_table (acts.Answered action)) owes.stage;
+      waking = answered_waking owes.place action owes.waking;
+    }
+
+chosen_owes : {T : Type 0} (r : ℕ) (choice : Option T) (pending : Option (PendingCall T)) → OwesWakeAt pending → OwesWakeAt (call_going_on (acts.Chosen choice) (event r (acts.Chosen choice) thens.GoesOn) pending)
+chosen_owes {T} r choice pending owes =
+    let e : Event T = event r (acts.Chosen choice) thens.GoesOn in
+    record {
+      call = record { call = owes.call.call; own = e ∷ owes.call.own };
+      under_way = ap (call_going_on (acts.Chosen choice) e) owes.under_way;
+      place = owes.place;
+      stage = ap (next_stage {T = T} rw_writer_table (acts.Chosen choice)) owes.stage;
+      waking = owes.waking;
+    }
+
+stepped_owes :
+    {T : Type 0} (r : ℕ) (c : PendingCall T) (place : RwWriterPlace) (hold : Option HoldKind) (memory : Word → ℕ) → stage_of rw_writer_table c ≡ Some place →
+    LeadsToWake (step_at {T = T} rw_writer_table place hold memory).act (rw_writer_table.after place (value_told {T = T} (carried_out (rw_writer_table.intent place hold) memory))) →
+    OwesWakeAt (call_after (step_at rw_writer_table place hold memory).outcome (event r (step_at rw_writer_table place hold memory).act (step_at rw_writer_table place hold memory).outcome) (Some c))
+stepped_owes {T} r c place hold memory stage led = subst Goal (sym led.leads) owes
+  where
+    act : Act T
+    act = (step_at {T = T} rw_writer_table place hold memory).act
+
+    Goal : After T RwWriterPlace → Type 0
+    Goal a = OwesWakeAt (call_after (outcome_of a) (event r act (outcome_of a)) (Some c))
+
+    owes : Goal (afters.At led.next)
+    owes =
+        let e : Event T = event r act thens.GoesOn in
+        let to : next_stage rw_writer_table act (stage_of rw_writer_table c) ≡ Some led.next =
+        ap (next_stage rw_writer_table act) stage ∙ carried_stage rw_writer_table place (rw_writer_table.intent place hold) memory ∙ ap place_after led.leads in
+        record { call = record { call = c.call; own = e ∷ c.own }; under_way = carried_goes_on (rw_writer_table.intent place hold) memory e c; place = led.next; stage = to; waking = led.waking }
+
+-- what an event leaves of a party that owes, or has just made the word even: it owes on, and has not answered, unless it woke all
+own_owes :
+    {T : Type 0} (z : Arithmetic T) (parties : ℕ) (past : List (Event T)) (e : Event T) → IsPast z rw_writer_table parties (e ∷ past) → OwesWakeAt (call_of e.party past) ⊎ Evens (word_in rw_writer_table past words.State) e.act →
+    (wakes_all e.act ≡ true) ⊎ (OwesWakeAt (call_after e.then e (call_of e.party past)) × (is_answer e.then ≡ false) × (wakes_all e.act ≡ false))
+own_owes {T} z parties past e run why =
+    by_move rw_writer_table (call_of e.party past) (hold_of rw_writer_table e.party past) (word_in rw_writer_table past)
+    (λ (k : Option (PendingCall T)) (x : Move T). OwesWakeAt k ⊎ Evens w x.act → (wakes_all x.act ≡ true) ⊎ (OwesWakeAt (call_after x.outcome (event e.party x.act x.outcome) k) × (is_answer x.outcome ≡ false) × (wakes_all x.act ≡ false)))
+    run.0.0 (record { act = e.act; outcome = e.then })
+    (λ call is was. begun call is was)
+    (λ action _ was. inr (answered action was, refl, refl))
+    (λ choice _ was. inr (chosen choice was, refl, refl))
+    (λ c place _ called stage was. stepped c place called stage was)
+    run.0.1.moved why
+  where
+    w : ℕ
+    w = word_in rw_writer_table past words.State
+
+    begun : (call : Call T) → run.0.0 ≡ inputs.Begin call → OwesWakeAt (call_of e.party past) ⊎ Evens w (acts.Begun call) →
+        (wakes_all (acts.Begun call) ≡ true) ⊎ (OwesWakeAt (call_going_on (acts.Begun call) (event e.party (acts.Begun call) thens.GoesOn) (call_of e.party past)) × (false ≡ false) × (false ≡ false))
+    begun call is (inl owes) = absurd (begun_not (call_of e.party past) (hold_of rw_writer_table e.party past) call run.0.0 owes (fault_at_none rw_writer_table parties past e.party run.0.0 run.0.1.allowed) is)
+    begun call is (inr so) = clash (is_odd w) so.0 so.1
+
+    answered : (action : WaitAction) → OwesWakeAt (call_of e.party past) ⊎ Evens {T = T} w (acts.Answered action) → OwesWakeAt (call_going_on (acts.Answered action) (event e.party (acts.Answered action) thens.GoesOn) (call_of e.party past))
+    answered action (inl owes) = answered_owes e.party action (call_of e.party past) owes
+    answered action (inr so) = clash (is_odd w) so.0 so.1
+
+    chosen : (choice : Option T) → OwesWakeAt (call_of e.party past) ⊎ Evens w (acts.Chosen choice) → OwesWakeAt (call_going_on (acts.Chosen choice) (event e.party (acts.Chosen choice) thens.GoesOn) (call_of e.party past))
+    chosen choice (inl owes) = chosen_owes e.party choice (call_of e.party past) owes
+    chosen choice (inr so) = clash (is_odd w) so.0 so.1
+
+    stepped : (c : PendingCall T) (place : RwWriterPlace) → call_of e.party past ≡ Some c → stage_of rw_writer_table c ≡ Some place →
+        OwesWakeAt (Some c) ⊎ Evens {T = T} w (step_at {T = T} rw_writer_table place (hold_of rw_writer_table e.party past) (word_in rw_writer_table past)).act →
+        (wakes_all (step_at {T = T} rw_writer_table place (hold_of rw_writer_table e.party past) (word_in rw_writer_table past)).act ≡ true)
+        ⊎ (OwesWakeAt (call_after (step_at {T = T} rw_writer_table place (hold_of rw_writer_table e.party past) (word_in rw_writer_table past)).outcome (event e.party (step_at {T = T} rw_writer_table place (hold_of rw_writer_table e.party past) (word_in rw_writer_table past)).act (step_at {T = T} rw_writer_table place (hold_of rw_writer_table e.party past) (word_in rw_writer_table past)).outcome) (Some c))
+        × (is_answer (step_at {T = T} rw_writer_table place (hold_of rw_writer_table e.party past) (word_in rw_writer_table past)).outcome ≡ false) × (wakes_all (step_at {T = T} rw_writer_table place (hold_of rw_writer_table e.party past) (word_in rw_writer_table past)).act ≡ false))
+    stepped c place called stage (inl owes) = by_step (waking_step {T = T} place (hold_of rw_writer_table e.party past) (word_in rw_writer_table past) (waking_place c place stage owes))
+      where
+        by_step : (wakes_all (step_at {T = T} rw_writer_table place (hold_of rw_writer_table e.party past) (word_in rw_writer_table past)).act ≡ true) ⊎ LeadsToWake (step_at {T = T} rw_writer_table place (hold_of rw_writer_table e.party past) (word_in rw_writer_table past)).act (rw_writer_table.after place (value_told {T = T} (carried_out (rw_writer_table.intent place (hold_of rw_writer_table e.party past)) (word_in rw_writer_table past)))) →
+            (wakes_all (step_at {T = T} rw_writer_table place (hold_of rw_writer_table e.party past) (word_in rw_writer_table past)).act ≡ true)
+            ⊎ (OwesWakeAt (call_after (step_at {T = T} rw_writer_table place (hold_of rw_writer_table e.party past) (word_in rw_writer_table past)).outcome (event e.party (step_at {T = T} rw_writer_table place (hold_of rw_writer_table e.party past) (word_in rw_writer_table past)).act (step_at {T = T} rw_writer_table place (hold_of rw_writer_table e.party past) (word_in rw_writer_table past)).outcome) (Some c))
+            × (is_answer (step_at {T = T} rw_writer_table place (hold_of rw_writer_table e.party past) (word_in rw_writer_table past)).outcome ≡ false) × (wakes_all (step_at {T = T} rw_writer_table place (hold_of rw_writer_table e.party past) (word_in rw_writer_table past)).act ≡ false))
+        by_step (inl wakes) = inl wakes
+        by_step (inr led) = inr (stepped_owes e.party c place (hold_of rw_writer_table e.party past) (word_in rw_writer_table past) stage led, ap (λ (b : After T RwWriterPlace). is_answer (outcome_of b)) led.leads, led.is_before)
+    stepped c place called stage (inr so) =
+        let led = evens place c (hold_of rw_writer_table e.party past) (word_in rw_writer_table past) (here z parties past run.1 e.party c place called stage) so in
+        inr (stepped_owes e.party c place (hold_of rw_writer_table e.party past) (word_in rw_writer_table past) stage led, ap (λ (b : After T RwWriterPlace). is_answer (outcome_of b)) led.leads, led.is_before)
+
+neither : (a b x : Bool) → cond (a || b) false x ≡ true → (b ≡ false) × (x ≡ true)
+neither true b x is = absurd cc
+neither false true x is = absurd cc
+neither false false x is = (refl, is)
+
+which : (evens_now owed : Bool) → cond evens_now true owed ≡ true → (evens_now ≡ true) ⊎ (owed ≡ true)
+which true owed is = inl refl
+which false owed is = inr is
+
+both : (a b : Bool) → (not a && b) ≡ true → (a ≡ false) × (b ≡ true)
+both true b is = absurd cc
+both false b is = (refl, is)
+
+flipped : (a b : Bool) → a ≡ not b → a ≡ true → b ≡ false
+flipped a true is now = clash a now is
+flipped a false is now = refl
+
+flipped_back : (a b : Bool) → a ≡ not b → a ≡ false → b ≡ true
+flipped_back a true is now = refl
+flipped_back a false is now = clash a is now
+
+evens_word : {T : Type 0} (z : Arithmetic T) (parties : ℕ) (past : List (Event T)) (e : Event T) → IsPast z rw_writer_table parties (e ∷ past) → makes_even e past ≡ true → Evens (word_in rw_writer_table past words.State) e.act
+evens_word z parties past e run makes =
+    let so = both (is_even_after past) (is_even_after (e ∷ past)) makes in (
+      flipped_back (is_even_after past) (is_odd (word_in rw_writer_table past words.State)) (even_at z parties past run.1) so.0,
+      flipped (is_even_after (e ∷ past)) (is_odd (word_in rw_writer_table (e ∷ past) words.State)) (even_at z parties (e ∷ past) run) so.1,
+    )
+
+owes_wake_at : {T : Type 0} (z : Arithmetic T) (parties : ℕ) (past : List (Event T)) → IsPast z rw_writer_table parties past → (q : ℕ) → owes_wake q past ≡ true → OwesWakeAt (call_of q past)
+owes_wake_at z parties [] run q owes = absurd cc
+owes_wake_at {T} z parties (e ∷ past) run q owes = by_party (owes_wake_at z parties past run.1) (eqb_tells e.party q)
+  where
+    Before : Type 0
+    Before = (p : ℕ) → owes_wake p past ≡ true → OwesWakeAt (call_of p past)
+
+    after_own : Bool
+    after_own = cond (is_answer e.then || wakes_all e.act) false (cond (makes_even e past) true (owes_wake q past))
+
+    mine : Before → e.party ≡ q → after_own ≡ true → OwesWakeAt (call_of q (e ∷ past))
+    mine before is owed = on (neither (is_answer e.then) (wakes_all e.act) (cond (makes_even e past) true (owes_wake q past)) owed)
+      where
+        why : Before → e.party ≡ q → (makes_even e past ≡ true) ⊎ (owes_wake q past ≡ true) → OwesWakeAt (call_of e.party past) ⊎ Evens (word_in rw_writer_table past words.State) e.act
+        why earlier same (inl makes) = inr (evens_word z parties past e run makes)
+        why earlier same (inr owed_before) = inl (subst (λ p. OwesWakeAt (call_of p past)) (sym same) (earlier q owed_before))
+
+        by_own : (wakes_all e.act ≡ false) → (wakes_all e.act ≡ true) ⊎ (OwesWakeAt (call_after e.then e (call_of e.party past)) × (is_answer e.then ≡ false) × (wakes_all e.act ≡ false)) → OwesWakeAt (call_of q (e ∷ past))
+        by_own quiet (inl woke) = clash (wakes_all e.act) woke quiet
+        by_own quiet (inr after) =
+            let later : OwesWakeAt (call_of e.party (e ∷ past)) = subst (λ (k : Option (PendingCall T)). OwesWakeAt k) (sym (call_of_same e.party e.act e.then past)) after.0 in
+            subst (λ p. OwesWakeAt (call_of p (e ∷ past))) is later
+
+        on : (wakes_all e.act ≡ false) × (cond (makes_even e past) true (owes_wake q past) ≡ true) → OwesWakeAt (call_of q (e ∷ past))
+        on so = by_own so.0 (own_owes z parties past e run (why before is (which (makes_even e past) (owes_wake q past) so.1)))
+
+    by_party : Before → (((e.party == q) ≡ true) × (e.party ≡ q)) ⊎ (((e.party == q) ≡ false) × (e.party ≢ q)) → OwesWakeAt (call_of q (e ∷ past))
+    by_party before (inl is) = mine before is.1 (subst (λ b. cond b after_own (owes_wake q past) ≡ true) is.0 owes)
+    by_party before (inr other) =
+        let owed : owes_wake q past ≡ true = subst (λ b. cond b after_own (owes_wake q past) ≡ true) other.0 owes in
+        subst (λ (k : Option (PendingCall T)). OwesWakeAt k) (sym (call_of_other e.party q e.act e.then past (λ same. other.1 (sym same)))) (before q owed)
+
+-- Who made the word even last has woken all since, or owes it.
+
+abbrev IsEvener : {T : Type 0} → List (Event T) → Evener → Type 0
+IsEvener past evener = (evener.woke ≡ true) ⊎ (owes_wake evener.party past ≡ true)
+
+some_evener : (a b : Evener) → Some a ≡ Some b → a ≡ b
+some_evener a b is = cc
+
+made_now : (b answer wake now rest : Bool) → b ≡ true → answer ≡ false → wake ≡ false → now ≡ true → cond b (cond (answer || wake) false (cond now true rest)) rest ≡ true
+made_now b answer wake now rest p q r s = rw (p, q, r, s) refl
+
+kept_apart : (b answer wake now rest : Bool) → rest ≡ true → b ≡ false → cond b (cond (answer || wake) false (cond now true rest)) rest ≡ true
+kept_apart b answer wake now rest is apart = rw apart is
+
+kept_own : (b answer wake now rest : Bool) → rest ≡ true → answer ≡ false → wake ≡ false → cond b (cond (answer || wake) false (cond now true rest)) rest ≡ true
+kept_own true answer wake true rest is quiet silent = rw (quiet, silent) refl
+kept_own true answer wake false rest is quiet silent = rw (quiet, silent) is
+kept_own false answer wake now rest is quiet silent = is
+
+woke_still : (a b : Bool) → a ≡ true → (a || b) ≡ true
+woke_still a b is = rw is refl
+
+woke_now : (a b c : Bool) → b ≡ true → c ≡ true → (a || (b && c)) ≡ true
+woke_now true b c is also = refl
+woke_now false b c is also = rw (is, also) refl
+
+evener_law : {T : Type 0} (z : Arithmetic T) (parties : ℕ) (past : List (Event T)) → IsPast z rw_writer_table parties past → (evener : Evener) → evener_of past ≡ Some evener → IsEvener past evener
+evener_law z parties [] run evener is = absurd cc
+evener_law {T} z parties (e ∷ past) run evener is = by_makes (evener_law z parties past run.1) (makes_even e past) refl is
+  where
+    Before : Type 0
+    Before = (ev : Evener) → evener_of past ≡ Some ev → IsEvener past ev
+
+    fresh : makes_even e past ≡ true → (wakes_all e.act ≡ true) ⊎ (OwesWakeAt (call_after e.then e (call_of e.party past)) × (is_answer e.then ≡ false) × (wakes_all e.act ≡ false)) → wakes_all e.act ≡ false → owes_wake e.party (e ∷ past) ≡ true
+    fresh makes (inl woke) silent = clash (wakes_all e.act) woke silent
+    fresh makes (inr owes) silent = made_now (e.party == e.party) (is_answer e.then) (wakes_all e.act) (makes_even e past) (owes_wake e.party past) (eq-eqb e.party e.party refl) owes.1 silent makes
+
+    -- a wake changes no word
+    silent_evens : (b : Bool) → wakes_all e.act ≡ b → Evens (word_in rw_writer_table past words.State) e.act → wakes_all e.act ≡ false
+    silent_evens false woke so = woke
+    silent_evens true woke so = by_act e.act woke so
+      where
+        by_act : (act : Act T) → wakes_all act ≡ true → Evens (word_in rw_writer_table past words.State) act → wakes_all e.act ≡ false
+        by_act (acts.Woke wake) is_wake evens_so = clash (is_odd (word_in rw_writer_table past words.State)) evens_so.0 evens_so.1
+        by_act act is_wake evens_so = absurd cc
+
+    by_wake : (ev : Evener) → (b : Bool) → wakes_all e.act ≡ b → (e.party == ev.party) ≡ true → IsEvener past ev → IsEvener (e ∷ past) (record { party = ev.party; woke = ev.woke || ((e.party == ev.party) && wakes_all e.act) })
+    by_wake ev b wakes same (inl woke) = inl (woke_still ev.woke ((e.party == ev.party) && wakes_all e.act) woke)
+    by_wake ev true wakes same (inr owes) = inl (woke_now ev.woke (e.party == ev.party) (wakes_all e.act) same wakes)
+    by_wake ev false wakes same (inr owes) =
+        let party_is : e.party ≡ ev.party = eqb-true e.party ev.party same in
+        let owing : OwesWakeAt (call_of e.party past) = owes_wake_at z parties past run.1 e.party (subst (λ q. owes_wake q past ≡ true) (sym party_is) owes) in
+        on (own_owes z parties past e run (inl owing))
+      where
+        on : (wakes_all e.act ≡ true) ⊎ (OwesWakeAt (call_after e.then e (call_of e.party past)) × (is_answer e.then ≡ false) × (wakes_all e.act ≡ false)) → IsEvener (e ∷ past) (record { party = ev.party; woke = ev.woke || ((e.party == ev.party) && wakes_all e.act) })
+        on (inl woke) = clash (wakes_all e.act) woke wakes
+        on (inr after) = inr (kept_own (e.party == ev.party) (is_answer e.then) (wakes_all e.act) (makes_even e past) (owes_wake ev.party past) owes after.1 wakes)
+
+    by_evener : (ev : Evener) (b : Bool) → (e.party == ev.party) ≡ b → IsEvener past ev → IsEvener (e ∷ past) (record { party = ev.party; woke = ev.woke || ((e.party == ev.party) && wakes_all e.act) })
+    by_evener ev true same law = by_wake ev (wakes_all e.act) refl same law
+    by_evener ev false apart (inl woke) = inl (woke_still ev.woke ((e.party == ev.party) && wakes_all e.act) woke)
+    by_evener ev false apart (inr owes) = inr (kept_apart (e.party == ev.party) (is_answer e.then) (wakes_all e.act) (makes_even e past) (owes_wake ev.party past) owes apart)
+
+    by_old : Before → (old : Option Evener) → evener_of past ≡ old → evener_after e old ≡ Some evener → IsEvener (e ∷ past) evener
+    by_old before None was now = absurd cc
+    by_old before (Some ev) was now =
+        let later : Evener = record { party = ev.party; woke = ev.woke || ((e.party == ev.party) && wakes_all e.act) } in
+        subst (λ v. IsEvener (e ∷ past) v) (some_evener later evener now) (by_evener ev (e.party == ev.party) refl (before ev was))
+
+    by_makes : Before → (b : Bool) → makes_even e past ≡ b → cond b (Some (record { party = e.party; woke = false })) (evener_after e (evener_of past)) ≡ Some evener → IsEvener (e ∷ past) evener
+    by_makes before true makes now =
+        let so = evens_word z parties past e run makes in
+        let silent = silent_evens (wakes_all e.act) refl so in
+        let first : Evener = record { party = e.party; woke = false } in
+        subst (λ v. IsEvener (e ∷ past) v) (some_evener first evener now) (inr (fresh makes (own_owes z parties past e run (inr so)) silent))
+    by_makes before false makes now = by_old before (evener_of past) refl now
+
+-- Where a reader stood that saw an odd word, the word is odd, or somebody has made it even since.
+
+waits_value : {T : Type 0} (n m : ℕ) → ◌≡◌ {A = Then T} (thens.Waits n) (thens.Waits m) → n ≡ m
+waits_value n m is = cc
+
+refused_waits : (T : Type 0) (patience : Patience) (v seen : ℕ) → outcome_of {T = T} (within places.ReadLook (refused patience v)) ≡ thens.Waits seen → v ≡ seen
+refused_waits T patience v seen = by_tests patience.keep (nat_lt patience.spins 10000)
+  where
+    by_tests : (keep left : Bool) →
+        outcome_of {T = T} (within places.ReadLook (cond keep (cond left (afters.At (record { spins = patience.spins + 1; keep = patience.keep })) (afters.Waits patience v)) (afters.Ends answers.Interrupted))) ≡ thens.Waits seen → v ≡ seen
+    by_tests true true is = absurd cc
+    by_tests true false is = waits_value v seen is
+    by_tests false left is = absurd cc
+
+look_waits : (T : Type 0) (patience : Patience) (v seen : ℕ) → outcome_of {T = T} (read_look patience v) ≡ thens.Waits seen → v ≡ seen
+look_waits T patience v seen = by_test (lets_readers_in v)
+  where
+    by_test : (b : Bool) → outcome_of {T = T} (cond b (afters.At (places.Read v (v + 2) patience)) (within places.ReadLook (refused patience v))) ≡ thens.Waits seen → v ≡ seen
+    by_test true is = absurd cc
+    by_test false is = refused_waits T patience v seen is
+
+enter_waits :
+    (T : Type 0) (patience : Patience) (seen_at to w seen : ℕ) (b : Bool) → outcome_of {T = T} (cond b (afters.Ends answers.Success) (read_look patience w)) ≡ thens.Waits seen →
+    (w ≡ seen) × (word_after {T = T} words.State (acts.Exchange words.State seen_at to w b) w ≡ w)
+enter_waits T patience seen_at to w seen true is = absurd cc
+enter_waits T patience seen_at to w seen false is = (look_waits T patience w seen is, refl)
+
+unlike : {T : Type 0} (A : Type 0) (call other : Call T) → call ≡ other → call ≡ calls.ReadLock → (other ≡ calls.ReadLock → ⊥) → A
+unlike A call other is read apart = absurd (apart (sym is ∙ read))
+
+leaver_reads : {T : Type 0} (A : Type 0) (who : Leaver) (c : PendingCall T) → IsLeaver who c → c.call ≡ calls.ReadLock → A
+leaver_reads A leavers.Reader c at read = unlike A c.call calls.Unlock at read (λ same. absurd cc)
+leaver_reads A leavers.Writer c at read = unlike A c.call calls.Unlock at read (λ same. absurd cc)
+leaver_reads A leavers.GivenUp c at read = unlike A c.call calls.WriteLock at.0 read (λ same. absurd cc)
+
+read_step :
+    {T : Type 0} (place : RwWriterPlace) (c : PendingCall T) (hold : Option HoldKind) (memory : Word → ℕ) (seen : ℕ) → AtRwWriter place c hold → c.call ≡ calls.ReadLock → (step_at {T = T} rw_writer_table place hold memory).outcome ≡ thens.Waits seen →
+    (memory words.State ≡ seen) × (word_after words.State (step_at {T = T} rw_writer_table place hold memory).act (memory words.State) ≡ memory words.State)
+read_step {T} (places.ReadLook patience) c hold memory seen at read is = (look_waits T patience (memory words.State) seen is, refl)
+read_step {T} (places.Read seen_at to patience) c hold memory seen at read is = enter_waits T patience seen_at to (memory words.State) seen (memory words.State == seen_at) is
+read_step places.TryReadLook c hold memory seen at read is = unlike _ c.call calls.TryReadLock at.0 read (λ same. absurd cc)
+read_step (places.TryRead seen_at to) c hold memory seen at read is = unlike _ c.call calls.TryReadLock at.0 read (λ same. absurd cc)
+read_step places.TryWrite c hold memory seen at read is = unlike _ c.call calls.TryWriteLock at.0 read (λ same. absurd cc)
+read_step (places.WriteLook patience) c hold memory seen at read is = unlike _ c.call calls.WriteLock at.0 read (λ same. absurd cc)
+read_step (places.Enter seen_at patience) c hold memory seen at read is = unlike _ c.call calls.WriteLock at.0 read (λ same. absurd cc)
+read_step (places.Mark seen_at to patience) c hold memory seen at read is = unlike _ c.call calls.WriteLock at.0 read (λ same. absurd cc)
+read_step (places.Unmark seen_at to) c hold memory seen at read is = unlike _ c.call calls.WriteLock at.0 read (λ same. absurd cc)
+read_step (places.LoadCounter patience) c hold memory seen at read is = unlike _ c.call calls.WriteLock at.0 read (λ same. absurd cc)
+read_step (places.LastLook count patience) c hold memory seen at read is = unlike _ c.call calls.WriteLock at.0 read (λ same. absurd cc)
+read_step places.Release c hold memory seen at read is = unlike _ c.call calls.Unlock at.0 read (λ same. absurd cc)
+read_step (places.Count who) c hold memory seen at read is = leaver_reads _ who c at read
+read_step (places.WakeOne who) c hold memory seen at read is = leaver_reads _ who c at read
+read_step (places.WakeAll who) c hold memory seen at read is = leaver_reads _ who c at read
+
+own_reads :
+    {T : Type 0} (z : Arithmetic T) (parties seen : ℕ) (past : List (Event T)) (e : Event T) → IsPast z rw_writer_table parties (e ∷ past) → (c : PendingCall T) → call_of e.party past ≡ Some c → c.call ≡ calls.ReadLock → e.then ≡ thens.Waits seen →
+    (word_in rw_writer_table past words.State ≡ seen) × (word_in rw_writer_table (e ∷ past) words.State ≡ word_in rw_writer_table past words.State)
+own_reads {T} z parties seen past e run c called reads waits =
+    by_move rw_writer_table (call_of e.party past) (hold_of rw_writer_table e.party past) (word_in rw_writer_table past)
+    (λ (k : Option (PendingCall T)) (x : Move T). k ≡ Some c → x.outcome ≡ thens.Waits seen → (word_in rw_writer_table past words.State ≡ seen) × (word_after words.State x.act (word_in rw_writer_table past words.State) ≡ word_in rw_writer_table past words.State))
+    run.0.0 (record { act = e.act; outcome = e.then }) (λ call _ is stands. absurd cc) (λ action _ is stands. absurd cc) (λ choice _ is stands. absurd cc)
+    (λ d place _ here_called stage is stands.
+    read_step place d (hold_of rw_writer_table e.party past) (word_in rw_writer_table past) seen (here z parties past run.1 e.party d place here_called stage) (subst (λ (k : PendingCall T). k.call ≡ calls.ReadLock) (sym (same_call d c is)) reads) stands)
+    run.0.1.moved called waits
+
+abbrev WasEvened : {T : Type 0} → List (Event T) → Type 0
+WasEvened past = (is_odd (word_in rw_writer_table past words.State) ≡ true) ⊎ ((evener : Evener) × (evener_of past ≡ Some evener))
+
+still_evened : {T : Type 0} (z : Arithmetic T) (parties : ℕ) (past : List (Event T)) (e : Event T) → IsPast z rw_writer_table parties (e ∷ past) → WasEvened past → WasEvened (e ∷ past)
+still_evened {T} z parties past e run (inr was) = by_makes (makes_even e past) refl
+  where
+    by_makes : (b : Bool) → makes_even e past ≡ b → WasEvened (e ∷ past)
+    by_makes true makes = inr (record { party = e.party; woke = false }, rw makes refl)
+    by_makes false makes = inr (record { party = was.0.party; woke = was.0.woke || ((e.party == was.0.party) && wakes_all e.act) }, rw (makes, was.1) refl)
+still_evened {T} z parties past e run (inl odd) = by_word (is_odd (word_in rw_writer_table (e ∷ past) words.State)) refl
+  where
+    turned : (a b odd_before odd_after : Bool) → a ≡ not odd_before → b ≡ not odd_after → odd_before ≡ true → odd_after ≡ false → (not a && b) ≡ true
+    turned a b odd_before odd_after p q r s = rw (p, q, r, s) refl
+
+    by_word : (b : Bool) → is_odd (word_in rw_writer_table (e ∷ past) words.State) ≡ b → WasEvened (e ∷ past)
+    by_word true is = inl is
+    by_word false is =
+        let makes : makes_even e past ≡ true = turned (is_even_after past) (is_even_after (e ∷ past)) (is_odd (word_in rw_writer_table past words.State)) (is_odd (word_in rw_writer_table (e ∷ past) words.State)) (even_at z parties past run.1) (even_at z parties (e ∷ past) run) odd is in
+        inr (record { party = e.party; woke = false }, rw makes refl)
+
+evened : {T : Type 0} (z : Arithmetic T) (parties : ℕ) (past : List (Event T)) → IsPast z rw_writer_table parties past → (party seen : ℕ) → ReaderStands party seen past → is_odd seen ≡ true → WasEvened past
+evened z parties [] run party seen stands odd = let nothing = stands.under_way in absurd cc
+evened {T} z parties (e ∷ past) run party seen stands odd = by_party (evened z parties past run.1 party seen) (eqb_tells e.party party)
+  where
+    mine : e.party ≡ party → (stands.call.own ≡ []) ⊎ ((own : List (Event T)) × (call_of e.party past ≡ Some (record { call = stands.call.call; own = own })) × (stands.call.own ≡ e ∷ own) × (is_beginning e.act ≡ false)) → WasEvened (e ∷ past)
+    mine is (inl nothing) = let no : ◌≡◌ {A = Then T} thens.GoesOn (thens.Waits seen) = subst (λ (o : List (Event T)). latest_outcome o ≡ thens.Waits seen) nothing stands.stands in absurd cc
+    mine is (inr more) =
+        let waits : e.then ≡ thens.Waits seen = subst (λ (o : List (Event T)). latest_outcome o ≡ thens.Waits seen) more.2 stands.stands in
+        let told = own_reads z parties seen past e run (record { call = stands.call.call; own = more.0 }) more.1 stands.reads waits in
+        inl (ap is_odd (told.1 ∙ told.0) ∙ odd)
+
+    by_party : (ReaderStands party seen past → is_odd seen ≡ true → WasEvened past) → (((e.party == party) ≡ true) × (e.party ≡ party)) ⊎ (((e.party == party) ≡ false) × (e.party ≢ party)) → WasEvened (e ∷ past)
+    by_party before (inl is) =
+        let under_way : call_of e.party (e ∷ past) ≡ Some stands.call = subst (λ q. call_of q (e ∷ past) ≡ Some stands.call) (sym is.1) stands.under_way in
+        mine is.1 (longer e.then e (call_of e.party past) stands.call (sym (call_of_same e.party e.act e.then past) ∙ under_way))
+    by_party before (inr other) =
+        let was : call_of party past ≡ Some stands.call = sym (call_of_other e.party party e.act e.then past (λ same. other.1 (sym same))) ∙ stands.under_way in
+        still_evened z parties past e run (before (record { call = stands.call; under_way = was; reads = stands.reads; stands = stands.stands }) odd)
+
+pub readers_are_woken : {T : Type 0} (z : Arithmetic T) (parties : ℕ) (past : List (Event T)) → IsPast z rw_writer_table parties past → ReadersAreWoken past
+readers_are_woken {T} z parties past run party seen stands odd even = by_evened (evened z parties past run party seen stands odd)
+  where
+    by_evened : WasEvened past → (evener : Evener) × (evener_of past ≡ Some evener) × ((evener.woke ≡ true) ⊎ (owes_wake evener.party past ≡ true))
+    by_evened (inl still) = clash (is_odd (word_in rw_writer_table past words.State)) still (flipped (is_even_after past) (is_odd (word_in rw_writer_table past words.State)) (even_at z parties past run) even)
+    by_evened (inr was) = (was.0, was.1, evener_law z parties past run was.0 was.1)

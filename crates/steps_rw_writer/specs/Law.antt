@@ -1,0 +1,106 @@
+-- What a writer-preferring lock keeps at every front of every run: one writer or only readers, which its word counts beside the mark; a mark
+-- of a call that is under way, which keeps readers out; and a cause for each refusal.
+use Rattle.std.specs.Prelude.{◌≡◌, ℕ, ◌+◌, ◌*◌, ◌-◌, ◌^◌, ◌<◌, ◌==◌, ◌⊎◌, ◌&&◌, Bool, true, false, if◌then◌else◌, List, [], ◌∷◌, MatchBool, MatchOption}
+use Rattle.steps_events.specs.declared.event.Word.TheVariants as words
+use Rattle.steps_events.specs.declared.event.Call.{Call}
+use Rattle.steps_events.specs.declared.event.Call.TheVariants as calls
+use Rattle.steps_events.specs.declared.event.Event.{Event}
+use Rattle.steps_events.specs.declared.hold.HoldKind.TheVariants as kinds
+use Rattle.steps_events.specs.Past.{Hold, call_of, holds_of, word_in, is_failure}
+use Rattle.steps_events.specs.HoldCounts.{reads_in, writes_in}
+use Rattle.steps_events.specs.Sights.{is_sight, is_beginning, AtLastSight, HasAborted, HasMissed, OtherWroteSinceSight}
+use Rattle.steps_events.specs.Laws.{TellsMemory, IsExclusive, IsLocked, HasCause}
+use Rattle.steps_rw_writer.specs.Table.{rw_writer_table}
+use Rattle.steps_rw_writer.specs.Marks.{setter_of, is_marked_after, has_marked}
+use Rattle.steps_rw_writer.specs.Debts.{NoWakeIsLost, ReadersAreWoken}
+
+-- The word, the holds and the mark.
+
+-- the word is twice the number of read holds, and one more where the mark is set; there is no other hold
+pub record IsRead (w : ℕ) (holds : List Hold) (marked : Bool) : Type 0 where
+  pub counts : w ≡ 2 * reads_in holds + (if marked then 1 else 0)
+  pub unwritten : writes_in holds ≡ 0
+  pub fits : reads_in holds < 2 ^ 63 - 1
+
+-- the word is 2^64 - 1, and one party has the one hold, for writing; the mark is not set
+pub record IsWritten (w : ℕ) (holds : List Hold) (marked : Bool) : Type 0 where
+  pub is_full : w ≡ 2 ^ 64 - 1
+  pub writer : ℕ
+  pub alone : holds ≡ (writer, kinds.Write) ∷ []
+  pub unmarked : marked ≡ false
+
+abbrev pub CountsHolds : ℕ → List Hold → Bool → Type 0
+CountsHolds w holds marked = IsRead w holds marked ⊎ IsWritten w holds marked
+
+-- The mark.
+
+-- the call under way of the party has set the mark
+abbrev pub IsSetter : {T : Type 0} → ℕ → List (Event T) → Type 0
+IsSetter party past = MatchOption (call_of party past) ⊥ (λ c. (c.call ≡ calls.WriteLock) × (has_marked c.own ≡ true))
+
+-- where the mark is set, the call that set it last is under way
+abbrev pub SetterIsUnderWay : {T : Type 0} → List (Event T) → Type 0
+SetterIsUnderWay past = MatchOption (setter_of past) (Unit {0}) (λ party. IsSetter party past)
+
+-- the latest event granted a read hold
+abbrev pub GrantsRead : {T : Type 0} → List (Event T) → Type 0
+GrantsRead [] = ⊥
+GrantsRead (e ∷ past) = reads_in (holds_of rw_writer_table past) < reads_in (holds_of rw_writer_table (e ∷ past))
+
+-- a read hold is granted only where the mark was not set before it
+abbrev pub MarkKeepsReadersOut : {T : Type 0} → List (Event T) → Type 0
+MarkKeepsReadersOut [] = Unit {0}
+MarkKeepsReadersOut (e ∷ past) = GrantsRead (e ∷ past) → is_marked_after past ≡ false
+
+-- Why a call is refused.
+
+-- no reader may enter: a write hold stands, the mark is set, or 2^63 - 2 read holds stand
+abbrev pub IsShut : {T : Type 0} → List (Event T) → Type 0
+IsShut past = (0 < writes_in (holds_of rw_writer_table past)) ⊎ ((is_marked_after past ≡ true) ⊎ (reads_in (holds_of rw_writer_table past) ≡ 2 ^ 63 - 2))
+
+-- a hold stands, or the mark is set
+abbrev pub IsTaken : {T : Type 0} → List (Event T) → Type 0
+IsTaken past = IsLocked rw_writer_table past ⊎ (is_marked_after past ≡ true)
+
+-- the latest exchange of the party's latest call that failed did so after its own closure had answered Abort, and another party had
+-- written the word since the call's sight before it
+abbrev pub HasMissedAfterAbort : {T : Type 0} → ℕ → List (Event T) → Type 0
+HasMissedAfterAbort party [] = ⊥
+HasMissedAfterAbort party (e ∷ past) =
+    MatchBool (e.party == party)
+    (MatchBool (is_sight words.State e.act && is_failure e.act) (HasAborted party past × OtherWroteSinceSight words.State party past)
+    (MatchBool (is_beginning e.act) ⊥ (HasMissedAfterAbort party past)))
+    (HasMissedAfterAbort party past)
+
+-- `TryReadLock`: no reader might enter at its last sight, or another party wrote the word between its two sights. `ReadLock`: the first
+-- of these, after its own closure had answered Abort. `TryWriteLock`: a hold stood at its last sight, or the mark was set. `WriteLock`: its
+-- own closure had answered Abort, and after that a hold stood at its last sight, or it missed.
+abbrev pub RwWriterCause : {T : Type 0} → Call T → ℕ → List (Event T) → Type 0
+RwWriterCause calls.TryReadLock party events = AtLastSight words.State IsShut party events ⊎ HasMissed words.State party events
+RwWriterCause calls.ReadLock party events = AtLastSight words.State (λ before. HasAborted party before × IsShut before) party events
+RwWriterCause calls.TryWriteLock party events = AtLastSight words.State IsTaken party events
+RwWriterCause calls.WriteLock party events =
+    AtLastSight words.State (λ before. HasAborted party before × IsLocked rw_writer_table before) party events ⊎ HasMissedAfterAbort party events
+RwWriterCause other party events = ⊥
+
+-- What a writer-preferring lock keeps beside what every object does.
+pub record RwWriterLaw {T : Type 0} (past : List (Event T)) : Type 0 where
+  -- the word is twice the number of read holds and the mark, or 2^64 - 1 with one write hold and no other
+  pub counts : CountsHolds (word_in rw_writer_table past words.State) (holds_of rw_writer_table past) (is_marked_after past)
+  -- the mark is of a call that is under way
+  pub mark : SetterIsUnderWay past
+  -- and no read hold is granted while it is set
+  pub keeps_out : MarkKeepsReadersOut past
+  -- while a writer stands, whoever frees the lock owes a counter step until it has made it
+  pub counted : NoWakeIsLost past
+  -- while a reader stands that saw an odd word, whoever makes the word even owes a wake of all until it has made it
+  pub woken : ReadersAreWoken past
+
+pub record KeepsRwWriter {T : Type 0} (past : List (Event T)) : Type 0 where
+  -- each act that tells a word's value tells what the memory holds there
+  pub told : TellsMemory rw_writer_table past
+  -- one writer, or only readers
+  pub exclusive : IsExclusive (holds_of rw_writer_table past)
+  -- each refusal has its cause
+  pub cause : HasCause RwWriterCause past
+  pub law : RwWriterLaw past

@@ -1,0 +1,4 @@
+pub mod Table
+pub mod Marks
+pub mod Debts
+pub mod Law
