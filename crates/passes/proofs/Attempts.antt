@@ -60,8 +60,8 @@ module _ {F W T : Type 0} (g : Shared F (Bor W × (Bor ℕ × Unit {0})) WaitAct
 
   pub has_asked : (p q r : Pass T) → HasGoneOn g wait P p q → (sights_of r).count ≡ (sights_of q).count + 1 → HasAsked g wait P 0 p r
   has_asked p q r gone once = record {
-    answers = gone.answers + 1;
+    more = gone.answers + 1;
     looked = omega (arith, gone.looked, once);
     some = omega arith;
-    before = λ more. gone.before (omega (arith, more));
+    again = λ often. gone.before (omega (arith, often));
   }

@@ -50,15 +50,15 @@ MayAnswerAbort g wait P = MayAnswer g wait P actions.Abort
 abbrev pub MayAnswerContinue : {F W : Type 0} → Shared F (Bor W × (Bor ℕ × Unit {0})) WaitAction → F → (ℕ → Type 0) → Type 0
 MayAnswerContinue g wait P = MayAnswer g wait P actions.Continue
 
--- A call that gave up looked so often by itself, and then once after each answer of the wait closure. Of these answers the last is
--- Abort, and each one before it is Continue.
+-- A call that gave up looked so often by itself, and then once more at least; a second time only where the wait closure may answer
+-- Continue. So where it never does, the looks are counted exactly.
 pub record HasAsked {F W T : Type 0} (g : Shared F (Bor W × (Bor ℕ × Unit {0})) WaitAction) (wait : F) (P : ℕ → Type 0) (looks : ℕ) (p q : Pass T) : Type 0 where
-  pub answers : ℕ
-  pub looked : (sights_of q).count ≡ (sights_of p).count + looks + answers
-  pub some : 1 ≤ answers
-  pub before : 2 ≤ answers → MayAnswerContinue g wait P
+  pub more : ℕ
+  pub looked : (sights_of q).count ≡ (sights_of p).count + looks + more
+  pub some : 1 ≤ more
+  pub again : 2 ≤ more → MayAnswerContinue g wait P
 
--- The waiting call was refused with the value, and its sights are its own looks, which are 10001, and one after each answer.
+-- The waiting call was refused with the value, after 10001 looks by itself and those that it made once it had asked.
 abbrev pub HasGivenUp : {F W T : Type 0} → Shared F (Bor W × (Bor ℕ × Unit {0})) WaitAction → F → (ℕ → Type 0) → Pass T → Pass T → Type 0
 HasGivenUp g wait P p q = WasRefused P 10002 p q × HasAsked g wait P 10001 p q
 

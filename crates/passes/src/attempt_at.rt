@@ -60,7 +60,8 @@ fn spin_at<T, M: AttemptAt<T>, R: Wait>(
 }
 
 /// The wait closure before each further try, until one is not refused, or is refused after the closure answered `Abort`. The closure
-/// is called with the word, and with the value that refused the try before; `seen` is the first of these.
+/// is called with the word, and with the value that refused the try before (its contract says: with one that refuses); `seen` is the
+/// first of these.
 #[tactic(auto, using(crate::proofs::Attempts::moved_later, crate::proofs::Attempts::seen_twice, crate::proofs::Attempts::not_asked))]
 fn ask_at<T, M: AttemptAt<T>, X, R: Wait, W: Fn(&X, &u64) -> WaitAction>(
     rt: &R,

@@ -93,7 +93,7 @@ impl Deed<(), Held<()>> for LeaveWriting {
 impl<A: Allocator> RwLockReaderPreference<A> {
     ghost use Rattle.std.specs.Borrow.{sem, unit};
     ghost use Rattle.std.specs.Prelude.{true, false, ◌+◌, ◌<◌, ◌≢◌, MatchBool, IfErr, is_ok};
-    ghost use Rattle.passes.specs.Answers.{IfSuccess, IfInterrupted, IsSuccess, RestsIfInterrupted, MayAnswerAbort, HasGivenUp, HasWoken};
+    ghost use Rattle.passes.specs.Answers.{IfSuccess, IfInterrupted, IsSuccess, RestsIfInterrupted, MayAnswerAbort, HasAsked, HasGivenUp, HasWoken};
     ghost use Rattle.passes.specs.Parts.{IsWhole};
     ghost use Rattle.passes.specs.Passes.{view, part_of, sights_of, tally_of, HasSeen, HasMissed, HasDone, WasRefused, WasRefusedAt};
     ghost use Rattle.passes.specs.Views.{first_view};
@@ -146,7 +146,7 @@ impl<A: Allocator> RwLockReaderPreference<A> {
     ) -> WaitResult<RwHold<'p, RwReaderPass>>
         requires own { IsRwReaderPass this.now pass.old }
         requires may { W.IsAlwaysCallable wait }
-        ensures* refused { sem 𝓛 (RestsIfInterrupted (the_row (held_row.the_row unit)) pass.entry borrow_of result (WasRefused IsShut 10002 pass.old)) }
+        ensures* refused { sem 𝓛 (RestsIfInterrupted (the_row (held_row.the_row unit)) pass.entry borrow_of result (λ q. WasRefused IsShut 10002 pass.old q × (IsWhole (part_of pass.old) → HasAsked W.Fn wait IsShut 10001 pass.old q))) }
         ensures same_borrow { IfSuccess result (λ hold. borrow_of hold ≡ pass.entry.ghost_name) }
         ensures kind { IfSuccess result IsReadHold }
         ensures granted { IfSuccess result (λ hold. HasEnteredToRead pass.old (pass_of hold)) }
@@ -287,6 +287,7 @@ impl<A: Allocator> RwLockReaderPreference<A> {
         ensures entered { MatchBool result (HasEnteredToRead pass.old pass.new) (WasRefused IsShut 10002 pass.old pass.new) }
         ensures exact { IsAlone pass.old → result ≡ true }
         ensures aborted { result ≡ false → MayAnswerAbort W.Fn wait.now IsShut }
+        ensures asked { IsWhole (part_of pass.old) → result ≡ false → HasAsked W.Fn wait.now IsShut 10001 pass.old pass.new }
     {
         match self.read_unless_shut(rt, pass) {
             Ok(()) => true,

@@ -5,7 +5,7 @@ use Rattle.iceoryx2_pal_concurrency_sync.proofs.strategy.rwlock.reader_preferenc
 pub returns : goal.returns
 returns g c =
     let gave_up = MatchBool-at_false _ _ c.if-wait_to_read.false c.wait_to_read.ensures.entered in (
-      (refl, λ _. tt, gave_up),
+      (refl, λ _. tt, (gave_up, λ whole. c.wait_to_read.ensures.asked whole c.if-wait_to_read.false)),
       record {
         refused = tt;
         same_borrow = tt;
