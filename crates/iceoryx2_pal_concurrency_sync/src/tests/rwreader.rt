@@ -575,3 +575,106 @@ fn two_calls_meet_and_success_after_abort(rt: HostRuntime) -> Result<(), Fail> {
     }
     Ok(())
 }
+
+/// Locks twice for reading. The second hold goes back when it is asked for, the first once the other thread's call is over. Tells of
+/// both.
+fn leave_one_by_one(
+    lock: &RwLockReaderPreference,
+    one: &mut RwReaderPass,
+    three: &mut RwReaderPass,
+    signals: (&Signal, &Signal, &Signal),
+) -> bool
+    requires { IsRwReaderPass lock.now one.old × IsRwReaderPass lock.now three.old }
+{
+    let (locked, asked, over) = signals;
+    match RwLockReaderPreference::try_read_lock(one, lock) {
+        WaitResult::Success(hold) => {
+            let was_asked = read_until_asked(lock, three, locked, asked);
+            let was_over = over.awaited();
+            lock.unlock(hold, |_| ());
+            was_asked && was_over
+        }
+        WaitResult::Interrupted => false,
+    }
+}
+
+/// Locks for reading, and unlocks once the other thread asks for it. Tells whether it did.
+fn read_until_asked(
+    lock: &RwLockReaderPreference,
+    pass: &mut RwReaderPass,
+    locked: &Signal,
+    asked: &Signal,
+) -> bool
+    requires { IsRwReaderPass lock.now pass.old }
+{
+    match RwLockReaderPreference::try_read_lock(pass, lock) {
+        WaitResult::Success(hold) => {
+            locked.give();
+            let was_asked = asked.awaited();
+            lock.unlock(hold, |_| ());
+            was_asked
+        }
+        WaitResult::Interrupted => false,
+    }
+}
+
+/// What the closure of a `write_lock` is told first and last. It goes on until it is told 1, a million times at most.
+fn write_until_told_one<R: Wait>(
+    rt: &R,
+    lock: &RwLockReaderPreference,
+    pass: &mut RwReaderPass,
+    signals: (&Signal, &Signal, &Signal),
+) -> Option<(u64, u64)>
+    requires { IsRwReaderPass lock.now pass.old }
+{
+    let (locked, asked, over) = signals;
+    let calls = AtomicU64::new(0);
+    let first = AtomicU64::new(0);
+    let last = AtomicU64::new(0);
+    locked.awaited();
+    let answer = RwLockReaderPreference::write_lock(pass, lock, rt, |_, seen| {
+        let before = calls.fetch_add(1, Ordering::SeqCst);
+        if before == 0 {
+            first.store(*seen, Ordering::SeqCst);
+            asked.give();
+        }
+        last.store(*seen, Ordering::SeqCst);
+        thread::yield_now();
+        if *seen == 1 || before > 1_000_000 {
+            WaitAction::Abort
+        } else {
+            WaitAction::Continue
+        }
+    });
+    over.give();
+    match answer {
+        WaitResult::Success(hold) => {
+            lock.unlock(hold, |_| ());
+            None
+        }
+        WaitResult::Interrupted => {
+            Some((first.load(Ordering::SeqCst), last.load(Ordering::SeqCst)))
+        }
+    }
+}
+
+/// Of two readers one leaves while the writer waits: its closure is told 2, and then 1.
+#[test]
+fn a_waiting_writer_is_told_what_refused_it_last(rt: HostRuntime) -> Result<(), Fail> {
+    let (lock, pass) = RwLockReaderPreference::new(rt.alloc())?;
+    let Ok((mut one, rest)) = pass.split(&lock) else {
+        unreachable!()
+    };
+    let Ok((mut two, mut three)) = rest.split(&lock) else {
+        unreachable!()
+    };
+    let (locked, asked, over) = (Signal::new(), Signal::new(), Signal::new());
+    let (left, told) = thread::join(
+        &rt,
+        || leave_one_by_one(&lock, &mut one, &mut three, (&locked, &asked, &over)),
+        || write_until_told_one(&rt, &lock, &mut two, (&locked, &asked, &over)),
+    );
+    assert!(rt; left);
+    assert_eq!(rt; told, Some((2, 1)));
+    Ok(())
+}
