@@ -185,6 +185,7 @@ impl<A: Allocator> Once<A> {
     {
         self.look(&mut pass.pass) == COMPLETE
     }
+
     /// Looks until the word says that a closure has ended.
     fn stay<R: Wait>(&self, rt: &R, pass: &mut Pass<Runs>)
         requires own { IsPassOf self.now.words pass.old }

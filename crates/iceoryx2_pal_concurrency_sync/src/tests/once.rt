@@ -2,9 +2,7 @@
 ghost use Rattle.std.specs.Prelude.{◌≡◌};
 ghost use Rattle.passes.specs.Parts.{IsWhole};
 ghost use Rattle.passes.specs.Passes.{IsSamePass};
-ghost use Rattle.passes.specs.Views.{first_view};
-ghost use Rattle.iceoryx2_pal_concurrency_sync.specs.OnceRule.{no_runs};
-ghost use Rattle.iceoryx2_pal_concurrency_sync.specs.OnceShown.{IsOncePass, IsComplete, ended_of, known_by, part_of_once, pass_in};
+ghost use Rattle.iceoryx2_pal_concurrency_sync.specs.OnceShown.{IsOncePass, IsComplete, ended_of, part_of_once, pass_in};
 
 use crate::once::{Once, OncePass};
 use crate::tests::signal::Signal;
@@ -163,7 +161,6 @@ fn of_four_threads_one_runs_its_closure(rt: HostRuntime) -> Result<(), Fail> {
 /// Calls in one part of a new once's pass, and joins the parts: the joined pass knows of the end, and has it.
 fn call_in_a_part<R: Wait>(rt: &R, once: &Once, pass: OncePass) -> OncePass
     requires own { IsOncePass once.now pass }
-    requires new { known_by pass ≡ first_view no_runs }
     ensures own { IsOncePass once.now result }
     ensures complete { IsComplete result }
 {
