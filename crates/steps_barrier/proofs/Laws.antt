@@ -35,7 +35,7 @@ use Rattle.steps_barrier.specs.declared.BarrierPlace.{BarrierPlace}
 use Rattle.steps_barrier.specs.declared.BarrierPlace.TheVariants as places
 use Rattle.steps_barrier.specs.Rounds.{epoch_of, count_of, with_arrival, is_arrival, arrivals_in, round_of, IsFull, CountsArrivals}
 use Rattle.steps_barrier.specs.Table.{barrier_table, barrier_begins, barrier_intent, barrier_after}
-use Rattle.steps_barrier.specs.Law.{BarrierCause, is_ok, is_wake_of_all, since_arrival, KeepsBarrier}
+use Rattle.steps_barrier.specs.Law.{BarrierCause, is_ok, is_wake_of_all, since_arrival, EndsOkOrFull, KeepsBarrier}
 use Rattle.steps_barrier.proofs.Rounds.{count_is, counts_none, counts_more, later_epoch, filled_round, is_full}
 
 -- What is kept of a call at its place.
@@ -248,6 +248,7 @@ pub record EventLaw {T : Type 0} (n party : ℕ) (past : List (Event T)) (pendin
   pub wakes : MatchBool (is_ok m.outcome) (MatchBool (is_wake_of_all m.act) (Unit {0}) (AtLast is_arrival (λ before. arrivals_in before % n + 1 ≢ n) party past)) (Unit {0})
   pub exact : is_sight words.State m.act ≡ true → ((m.outcome ≡ thens.Answers answers.Full) ↔ (n ≡ 0))
   pub asks : MatchBool (stands_at_wait m.outcome) (MatchOption pending ⊥ (λ c. spins_in (is_sight words.State) (since_arrival c.own) ≡ 10000)) (Unit {0})
+  pub answers : EndsOkOrFull m.outcome
 
 none_of : (v n : ℕ) → count_of v < n → n ≡ 0 → ⊥
 none_of v n below none = omega (arith, below, none)
@@ -264,7 +265,7 @@ look_law :
     {T : Type 0} (n m party : ℕ) (past : List (Event T)) (c : PendingCall T) (act : Act T) (v : ℕ) (below : Bool) → n < 2 ^ 32 → c.call ≡ calls.Wait → m ≡ n → CountsArrivals n (arrivals_in past) v →
     is_arrival act ≡ false → nat_lt (count_of v) m ≡ below → EventLaw n party past (Some c) (record { act = act; outcome = outcome_of {T = T} (look_after m v below) })
 look_law n m party past c act v true fits wait same counts quiet below =
-    record { cause = tt; once = rw quiet tt; passes = tt; wakes = tt; exact = λ sees. (λ full. absurd cc, λ none. absurd (none_of v n (below_of v m n same below) none)); asks = tt }
+    record { cause = tt; once = rw quiet tt; passes = tt; wakes = tt; exact = λ sees. (λ full. absurd cc, λ none. absurd (none_of v n (below_of v m n same below) none)); asks = tt; answers = tt }
 look_law {T} n m party past c act v false fits wait same counts quiet below =
     let none : n ≡ 0 = nobody_fits n m (arrivals_in past) v fits counts same below in
     let refuses : Event T = event party act (thens.Answers answers.Full) in
@@ -275,13 +276,14 @@ look_law {T} n m party past c act v false fits wait same counts quiet below =
       wakes = tt;
       exact = λ sees. (λ full. none, λ is. refl);
       asks = tt;
+      answers = tt;
     }
 
 joined_law :
     {T : Type 0} (n party : ℕ) (past : List (Event T)) (c : PendingCall T) (seen to w : ℕ) (fills : Bool) → count_of seen < n → arrivals_in c.own ≡ 0 →
     EventLaw n party past (Some c) (record { act = acts.Exchange words.State seen to w true; outcome = outcome_of {T = T} (joined_after seen fills) })
-joined_law n party past c seen to w true below first = record { cause = tt; once = first; passes = tt; wakes = tt; exact = λ sees. (λ full. absurd cc, λ none. absurd (none_of seen n below none)); asks = tt }
-joined_law n party past c seen to w false below first = record { cause = tt; once = first; passes = tt; wakes = tt; exact = λ sees. (λ full. absurd cc, λ none. absurd (none_of seen n below none)); asks = tt }
+joined_law n party past c seen to w true below first = record { cause = tt; once = first; passes = tt; wakes = tt; exact = λ sees. (λ full. absurd cc, λ none. absurd (none_of seen n below none)); asks = tt; answers = tt }
+joined_law n party past c seen to w false below first = record { cause = tt; once = first; passes = tt; wakes = tt; exact = λ sees. (λ full. absurd cc, λ none. absurd (none_of seen n below none)); asks = tt; answers = tt }
 
 arrive_law :
     {T : Type 0} (n m party : ℕ) (past : List (Event T)) (c : PendingCall T) (seen to w : ℕ) (done : Bool) → n < 2 ^ 32 → c.call ≡ calls.Wait → m ≡ n → count_of seen < n → arrivals_in c.own ≡ 0 → CountsArrivals n (arrivals_in past) w →
@@ -305,11 +307,12 @@ stay_law z n parties fits party past run c called hold epoch spins w false left 
       wakes = own_not_last z n parties fits party past run c called v at.1.1 at.1.3;
       exact = λ sight. (λ full. absurd cc, λ none. absurd (none_of v n below none));
       asks = tt;
+      answers = tt;
     }
 stay_law z n parties fits party past run c called hold epoch spins w true true at counts sees spun =
-    record { cause = tt; once = tt; passes = tt; wakes = tt; exact = λ sight. (λ full. absurd cc, λ none. absurd (none_of at.1.0 n at.1.1.3 none)); asks = tt }
+    record { cause = tt; once = tt; passes = tt; wakes = tt; exact = λ sight. (λ full. absurd cc, λ none. absurd (none_of at.1.0 n at.1.1.3 none)); asks = tt; answers = tt }
 stay_law z n parties fits party past run c called hold epoch spins w true false at counts sees spun =
-    record { cause = tt; once = tt; passes = tt; wakes = tt; exact = λ sight. (λ full. absurd cc, λ none. absurd (none_of at.1.0 n at.1.1.3 none)); asks = at.2 ∙ spins_spent spins at.3 spun }
+    record { cause = tt; once = tt; passes = tt; wakes = tt; exact = λ sight. (λ full. absurd cc, λ none. absurd (none_of at.1.0 n at.1.1.3 none)); asks = at.2 ∙ spins_spent spins at.3 spun; answers = tt }
 
 step_law :
     {T : Type 0} (z : Arithmetic T) (n parties : ℕ) → n < 2 ^ 32 → (party : ℕ) (past : List (Event T)) → IsPast z (barrier_table n) parties past → (c : PendingCall T) → call_of party past ≡ Some c →
@@ -330,6 +333,7 @@ step_law z n parties fits party past run c called places.Wake hold memory at cou
       wakes = tt;
       exact = λ sees. absurd cc;
       asks = tt;
+      answers = tt;
     }
 step_law z n parties fits party past run c called (places.Stay epoch spins) hold memory at counts =
     let w = memory words.State in
@@ -340,23 +344,23 @@ event_law {T} z n parties fits past e run =
     by_move (barrier_table n) (call_of e.party past) (hold_of (barrier_table n) e.party past) (word_in (barrier_table n) past)
     (λ (k : Option (PendingCall T)) (m : Move T). EventLaw n e.party past k m)
     run.0.0 (record { act = e.act; outcome = e.then })
-    (λ call _. record { cause = tt; once = tt; passes = tt; wakes = tt; exact = λ sees. absurd cc; asks = tt })
-    (λ action _. record { cause = tt; once = tt; passes = tt; wakes = tt; exact = λ sees. absurd cc; asks = tt })
-    (λ choice _. record { cause = tt; once = tt; passes = tt; wakes = tt; exact = λ sees. absurd cc; asks = tt })
+    (λ call _. record { cause = tt; once = tt; passes = tt; wakes = tt; exact = λ sees. absurd cc; asks = tt; answers = tt })
+    (λ action _. record { cause = tt; once = tt; passes = tt; wakes = tt; exact = λ sees. absurd cc; asks = tt; answers = tt })
+    (λ choice _. record { cause = tt; once = tt; passes = tt; wakes = tt; exact = λ sees. absurd cc; asks = tt; answers = tt })
     (λ c place _ called stage.
     step_law z n parties fits e.party past run.1 c called place (hold_of (barrier_table n) e.party past) (word_in (barrier_table n) past)
     (at_place z (barrier_table n) parties (AtBarrier n) (barrier_kept n) past run.1 e.party c place called stage) (barrier_counts z n parties fits past run.1))
     run.0.1.moved
 
 pub keeps_barrier : {T : Type 0} (z : Arithmetic T) (n parties : ℕ) (past : List (Event T)) → n < 2 ^ 32 → IsPast z (barrier_table n) parties past → KeepsBarrier n past
-keeps_barrier z n parties [] fits run = record { told = tt; unheld = refl; cause = tt; law = record { counts = barrier_counts z n parties fits [] run; once = tt; passes = tt; wakes = tt; exact = tt; asks = tt } }
+keeps_barrier z n parties [] fits run = record { told = tt; unheld = refl; cause = tt; law = record { counts = barrier_counts z n parties fits [] run; once = tt; passes = tt; wakes = tt; exact = tt; asks = tt; answers = tt } }
 keeps_barrier z n parties (e ∷ past) fits run =
     let event = event_law z n parties fits past e run in
     record {
       told = tells_memory z (barrier_table n) parties (e ∷ past) run;
       unheld = no_holds (barrier_table n) (λ call from to. refl) (e ∷ past);
       cause = event.cause;
-      law = record { counts = barrier_counts z n parties fits (e ∷ past) run; once = event.once; passes = event.passes; wakes = event.wakes; exact = event.exact; asks = event.asks };
+      law = record { counts = barrier_counts z n parties fits (e ∷ past) run; once = event.once; passes = event.passes; wakes = event.wakes; exact = event.exact; asks = event.asks; answers = event.answers };
     }
 
 -- a barrier has no other word

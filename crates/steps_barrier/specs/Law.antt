@@ -47,6 +47,18 @@ FillerWakesAll n (e ∷ past) =
     (MatchBool (is_wake_of_all e.act) (Unit {0}) (AtLast is_arrival (λ before. arrivals_in before % n + 1 ≢ n) e.party past))
     (Unit {0})
 
+-- `Ok` or `Full`, where it is an answer
+abbrev pub EndsOkOrFull : {T : Type 0} → Then T → Type 0
+EndsOkOrFull (thens.Answers answers.Ok) = Unit {0}
+EndsOkOrFull (thens.Answers answers.Full) = Unit {0}
+EndsOkOrFull (thens.Answers other) = ⊥
+EndsOkOrFull outcome = Unit {0}
+
+-- a call comes back with `Ok` or `Full` alone: the latest event answers one of them, if it answers
+abbrev pub AnswersOkOrFull : {T : Type 0} → List (Event T) → Type 0
+AnswersOkOrFull [] = Unit {0}
+AnswersOkOrFull (e ∷ past) = EndsOkOrFull e.then
+
 -- Exact: an event that sees the word is refused exactly where n is 0.
 abbrev pub IsExactRefusal : {T : Type 0} → ℕ → List (Event T) → Type 0
 IsExactRefusal n [] = Unit {0}
@@ -79,6 +91,8 @@ pub record BarrierLaw {T : Type 0} (n : ℕ) (past : List (Event T)) : Type 0 wh
   pub exact : IsExactRefusal n past
   -- a wait closure is asked after 10000 spins, which are looks since the call's arrival
   pub asks : AsksAfterStaying past
+  -- a call comes back with `Ok` or `Full` alone
+  pub answers : AnswersOkOrFull past
 
 pub record KeepsBarrier {T : Type 0} (n : ℕ) (past : List (Event T)) : Type 0 where
   -- each act that tells a word's value tells what the memory holds there
