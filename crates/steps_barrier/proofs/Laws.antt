@@ -160,6 +160,9 @@ barrier_kept n =
 
 -- What a step does to the word: nothing, or it counts one arrival.
 
+none_of : (v n : ℕ) → count_of v < n → n ≡ 0 → ⊥
+none_of v n below none = omega (arith, below, none)
+
 abbrev Effect : {T : Type 0} → ℕ → ℕ → Act T → Type 0
 Effect n w act = ((word_after words.State act w ≡ w) × (is_arrival act ≡ false)) ⊎ ((count_of w < n) × (word_after words.State act w ≡ with_arrival n w) × (is_arrival act ≡ true))
 
@@ -197,6 +200,16 @@ counted n arrivals w word arrives fits counts (inr more) =
 pub barrier_counts : {T : Type 0} (z : Arithmetic T) (n parties : ℕ) → n < 2 ^ 32 → (past : List (Event T)) → IsPast z (barrier_table n) parties past → CountsArrivals n (arrivals_in past) (word_in (barrier_table n) past words.State)
 barrier_counts z n parties fits [] run = counts_none n
 barrier_counts z n parties fits (e ∷ past) run = counted n _ _ _ (is_arrival e.act) fits (barrier_counts z n parties fits past run.1) (event_effect z n parties past e run)
+
+-- at a barrier of 0 no event is an arrival, since no count is below 0
+none_more : (n arrivals w word : ℕ) (arrives : Bool) → n ≡ 0 → (arrivals ≡ 0) × (w ≡ 0) →
+    ((word ≡ w) × (arrives ≡ false)) ⊎ ((count_of w < n) × (word ≡ with_arrival n w) × (arrives ≡ true)) → (cond arrives 1 0 + arrivals ≡ 0) × (word ≡ 0)
+none_more n arrivals w word arrives none was (inl quiet) = (rw quiet.1 (omega (arith, was.0)), quiet.0 ∙ was.1)
+none_more n arrivals w word arrives none was (inr more) = absurd (none_of w n more.0 none)
+
+nobody_arrives : {T : Type 0} (z : Arithmetic T) (n parties : ℕ) (past : List (Event T)) → IsPast z (barrier_table n) parties past → n ≡ 0 → (arrivals_in past ≡ 0) × (word_in (barrier_table n) past words.State ≡ 0)
+nobody_arrives z n parties [] run none = (refl, refl)
+nobody_arrives z n parties (e ∷ past) run none = none_more n _ _ _ (is_arrival e.act) none (nobody_arrives z n parties past run.1 none) (event_effect z n parties past e run)
 
 -- A call that has arrived stands in a full round, where its own round is before the present one.
 
@@ -249,9 +262,6 @@ pub record EventLaw {T : Type 0} (n party : ℕ) (past : List (Event T)) (pendin
   pub exact : is_sight words.State m.act ≡ true → ((m.outcome ≡ thens.Answers answers.Full) ↔ (n ≡ 0))
   pub asks : MatchBool (stands_at_wait m.outcome) (MatchOption pending ⊥ (λ c. spins_in (is_sight words.State) (since_arrival c.own) ≡ 10000)) (Unit {0})
   pub answers : EndsOkOrFull m.outcome
-
-none_of : (v n : ℕ) → count_of v < n → n ≡ 0 → ⊥
-none_of v n below none = omega (arith, below, none)
 
 -- only a barrier of 0 refuses
 nobody_fits : (n m arrivals v : ℕ) → n < 2 ^ 32 → CountsArrivals n arrivals v → m ≡ n → nat_lt (count_of v) m ≡ false → n ≡ 0
@@ -353,14 +363,14 @@ event_law {T} z n parties fits past e run =
     run.0.1.moved
 
 pub keeps_barrier : {T : Type 0} (z : Arithmetic T) (n parties : ℕ) (past : List (Event T)) → n < 2 ^ 32 → IsPast z (barrier_table n) parties past → KeepsBarrier n past
-keeps_barrier z n parties [] fits run = record { told = tt; unheld = refl; cause = tt; law = record { counts = barrier_counts z n parties fits [] run; once = tt; passes = tt; wakes = tt; exact = tt; asks = tt; answers = tt } }
+keeps_barrier z n parties [] fits run = record { told = tt; unheld = refl; cause = tt; law = record { counts = barrier_counts z n parties fits [] run; nobody = nobody_arrives z n parties [] run; once = tt; passes = tt; wakes = tt; exact = tt; asks = tt; answers = tt } }
 keeps_barrier z n parties (e ∷ past) fits run =
     let event = event_law z n parties fits past e run in
     record {
       told = tells_memory z (barrier_table n) parties (e ∷ past) run;
       unheld = no_holds (barrier_table n) (λ call from to. refl) (e ∷ past);
       cause = event.cause;
-      law = record { counts = barrier_counts z n parties fits (e ∷ past) run; once = event.once; passes = event.passes; wakes = event.wakes; exact = event.exact; asks = event.asks; answers = event.answers };
+      law = record { counts = barrier_counts z n parties fits (e ∷ past) run; nobody = nobody_arrives z n parties (e ∷ past) run; once = event.once; passes = event.passes; wakes = event.wakes; exact = event.exact; asks = event.asks; answers = event.answers };
     }
 
 -- a barrier has no other word

@@ -25,6 +25,10 @@ abbrev pub is_ok : {T : Type 0} → Then T → Bool
 is_ok (thens.Answers answers.Ok) = true
 is_ok other = false
 
+-- at a barrier of 0 nobody has arrived, and the word is 0
+abbrev pub NobodyAtZero : ℕ → ℕ → ℕ → Type 0
+NobodyAtZero n arrivals word = n ≡ 0 → (arrivals ≡ 0) × (word ≡ 0)
+
 -- a call arrives once at most: the latest event is an arrival only where its call had not arrived before
 abbrev pub ArrivesOnce : {T : Type 0} → List (Event T) → Type 0
 ArrivesOnce [] = Unit {0}
@@ -81,6 +85,8 @@ AsksAfterStaying (e ∷ past) =
 pub record BarrierLaw {T : Type 0} (n : ℕ) (past : List (Event T)) : Type 0 where
   -- the word tells the rounds that are full, modulo 2 ^ 32, and the arrivals of the next one
   pub counts : CountsArrivals n (arrivals_in past) (word_in (barrier_table n) past words.State)
+  -- nobody arrives at a barrier of 0, and its word stays 0
+  pub nobody : NobodyAtZero n (arrivals_in past) (word_in (barrier_table n) past words.State)
   -- a call arrives once at most
   pub once : ArrivesOnce past
   -- `Ok` comes after the call's own round is full
