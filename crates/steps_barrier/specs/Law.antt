@@ -1,5 +1,5 @@
 -- What a barrier keeps at every front of every run: rounds of n arrivals, each of which is full before one of its calls answers `Ok`.
-use Rattle.std.specs.Prelude.{◌≡◌, ◌≢◌, ℕ, ◌+◌, ◌%◌, ◌↔◌, Bool, true, false, if◌then◌else◌, List, [], ◌∷◌, MatchBool, MatchOption}
+use Rattle.std.specs.Prelude.{◌≡◌, ◌≢◌, ℕ, ◌+◌, ◌%◌, ◌^◌, ◌<◌, ◌↔◌, Bool, true, false, if◌then◌else◌, List, [], ◌∷◌, MatchBool, MatchOption}
 use Rattle.steps_events.specs.declared.event.Word.TheVariants as words
 use Rattle.steps_events.specs.declared.event.Call.{Call}
 use Rattle.steps_events.specs.declared.event.Call.TheVariants as calls
@@ -13,7 +13,7 @@ use Rattle.steps_events.specs.declared.event.Event.{Event}
 use Rattle.steps_events.specs.Past.{call_of, holds_of, word_in}
 use Rattle.steps_events.specs.Sights.{is_sight, AtLast, spins_in, stands_at_wait}
 use Rattle.steps_events.specs.Laws.{TellsMemory, HasCause}
-use Rattle.steps_barrier.specs.Rounds.{is_arrival, arrivals_in, round_of, IsFull, CountsArrivals}
+use Rattle.steps_barrier.specs.Rounds.{is_arrival, arrivals_in, round_of, full_rounds, IsFull, CountsArrivals}
 use Rattle.steps_barrier.specs.Table.{barrier_table}
 
 -- `Wait`: n is 0.
@@ -38,6 +38,18 @@ ArrivesOnce (e ∷ past) = MatchBool (is_arrival e.act) (MatchOption (call_of e.
 abbrev pub OkAfterFullRound : {T : Type 0} → ℕ → List (Event T) → Type 0
 OkAfterFullRound n [] = Unit {0}
 OkAfterFullRound n (e ∷ past) = MatchBool (is_ok e.then) (AtLast is_arrival (λ before. IsFull n (round_of n (arrivals_in before)) past) e.party past) (Unit {0})
+
+-- the party's call under way has arrived
+abbrev pub HasArrived : {T : Type 0} → ℕ → List (Event T) → Type 0
+HasArrived party past = MatchOption (call_of party past) ⊥ (λ c. 0 < arrivals_in c.own)
+
+-- Exact: a look of a call that has arrived answers `Ok` exactly where the number of full rounds is, modulo 2 ^ 32, another than that of the call's own round.
+abbrev pub LeavesByItsLook : {T : Type 0} → ℕ → List (Event T) → Type 0
+LeavesByItsLook n [] = Unit {0}
+LeavesByItsLook n (e ∷ past) =
+    is_sight words.State e.act ≡ true →
+    HasArrived e.party past →
+    AtLast is_arrival (λ before. (e.then ≡ thens.Answers answers.Ok) ↔ (full_rounds n past % 2 ^ 32 ≢ round_of n (arrivals_in before) % 2 ^ 32)) e.party past
 
 abbrev pub is_wake_of_all : {T : Type 0} → Act T → Bool
 is_wake_of_all (acts.Woke wakes.All) = true
@@ -91,6 +103,8 @@ pub record BarrierLaw {T : Type 0} (n : ℕ) (past : List (Event T)) : Type 0 wh
   pub once : ArrivesOnce past
   -- `Ok` comes after the call's own round is full
   pub passes : OkAfterFullRound n past
+  -- a look of a call that has arrived answers `Ok` exactly where it sees another epoch than that of its arrival
+  pub leaves : LeavesByItsLook n past
   -- the call that filled a round answers as it wakes all
   pub wakes : FillerWakesAll n past
   -- a barrier of 0 refuses each call, and no other refuses any
