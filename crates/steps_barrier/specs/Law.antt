@@ -1,5 +1,5 @@
 -- What a barrier keeps at every front of every run: rounds of n arrivals, each of which is full before one of its calls answers `Ok`.
-use Rattle.std.specs.Prelude.{◌≡◌, ◌≢◌, ℕ, ◌+◌, ◌%◌, ◌^◌, ◌<◌, ◌↔◌, Bool, true, false, if◌then◌else◌, List, [], ◌∷◌, MatchBool, MatchOption}
+use Rattle.std.specs.Prelude.{◌≡◌, ◌≢◌, ℕ, ◌+◌, ◌%◌, ◌^◌, ◌<◌, ◌↔◌, Bool, true, false, if◌then◌else◌, List, [], ◌∷◌, Some, MatchBool, MatchOption}
 use Rattle.steps_events.specs.declared.event.Word.TheVariants as words
 use Rattle.steps_events.specs.declared.event.Call.{Call}
 use Rattle.steps_events.specs.declared.event.Call.TheVariants as calls
@@ -11,7 +11,7 @@ use Rattle.steps_events.specs.declared.event.Then.{Then}
 use Rattle.steps_events.specs.declared.event.Then.TheVariants as thens
 use Rattle.steps_events.specs.declared.event.Event.{Event}
 use Rattle.steps_events.specs.Past.{call_of, holds_of, word_in}
-use Rattle.steps_events.specs.Sights.{is_sight, AtLast, spins_in, stands_at_wait}
+use Rattle.steps_events.specs.Sights.{sight_of, is_sight, AtLast, spins_in, stands_at_wait}
 use Rattle.steps_events.specs.Laws.{TellsMemory, HasCause}
 use Rattle.steps_barrier.specs.Rounds.{is_arrival, arrivals_in, round_of, full_rounds, IsFull, CountsArrivals}
 use Rattle.steps_barrier.specs.Table.{barrier_table}
@@ -93,6 +93,16 @@ AsksAfterStaying (e ∷ past) =
     (MatchOption (call_of e.party past) ⊥ (λ c. spins_in (is_sight words.State) (since_arrival c.own) ≡ 10000))
     (Unit {0})
 
+-- where a call is left at its wait closure, the closure is told what the act saw of the word
+abbrev pub IsToldSight : {T : Type 0} → Act T → Then T → Type 0
+IsToldSight act (thens.Waits told) = sight_of words.State act ≡ Some told
+IsToldSight act outcome = Unit {0}
+
+-- a wait closure that the latest event asks is told the whole word that the event saw
+abbrev pub TellsSight : {T : Type 0} → List (Event T) → Type 0
+TellsSight [] = Unit {0}
+TellsSight (e ∷ past) = IsToldSight e.act e.then
+
 -- What a barrier keeps beside what every object does.
 pub record BarrierLaw {T : Type 0} (n : ℕ) (past : List (Event T)) : Type 0 where
   -- the word tells the rounds that are full, modulo 2 ^ 32, and the arrivals of the next one
@@ -111,6 +121,8 @@ pub record BarrierLaw {T : Type 0} (n : ℕ) (past : List (Event T)) : Type 0 wh
   pub exact : IsExactRefusal n past
   -- a wait closure is asked after 10000 spins, which are looks since the call's arrival
   pub asks : AsksAfterStaying past
+  -- and told the whole word that the latest look saw
+  pub tells : TellsSight past
   -- a call comes back with `Ok` or `Full` alone
   pub answers : AnswersOkOrFull past
 
