@@ -33,23 +33,23 @@ use Rattle.steps_events.proofs.Parties.{IsKept, at_place}
 use Rattle.steps_events.proofs.Own.{IsToldOf, own_at_last, at_last_maps}
 use Rattle.steps_barrier.specs.declared.BarrierPlace.{BarrierPlace}
 use Rattle.steps_barrier.specs.declared.BarrierPlace.TheVariants as places
-use Rattle.steps_barrier.specs.Rounds.{epoch_of, count_of, with_arrival, is_arrival, arrivals_in, round_of, IsFull, CountsArrivals}
+use Rattle.steps_barrier.specs.Rounds.{epoch_of, count_of, with_arrival, is_arrival, arrivals_in, round_of, full_rounds, IsFull, CountsArrivals}
 use Rattle.steps_barrier.specs.Table.{barrier_table, barrier_begins, barrier_intent, barrier_after}
-use Rattle.steps_barrier.specs.Law.{BarrierCause, is_ok, is_wake_of_all, since_arrival, KeepsBarrier}
-use Rattle.steps_barrier.proofs.Rounds.{count_is, counts_none, counts_more, later_epoch, filled_round, is_full}
+use Rattle.steps_barrier.specs.Law.{BarrierCause, is_ok, is_wake_of_all, since_arrival, EndsOkOrFull, IsToldSight, KeepsBarrier}
+use Rattle.steps_barrier.proofs.Rounds.{count_is, epoch_is, counts_none, counts_more, later_epoch, filled_round, is_full}
 
 -- What is kept of a call at its place.
 
 -- the call's own arrival was from this value, where fewer than n had arrived
-abbrev pub HasArrived : {T : Type 0} → ℕ → ℕ → List (Event T) → Type 0
-HasArrived n v own = (to : ℕ) × (found : ℕ) × (last_of is_arrival own ≡ Some (acts.Exchange words.State v to found true)) × (count_of v < n)
+abbrev pub ArrivedFrom : {T : Type 0} → ℕ → ℕ → List (Event T) → Type 0
+ArrivedFrom n v own = (to : ℕ) × (found : ℕ) × (last_of is_arrival own ≡ Some (acts.Exchange words.State v to found true)) × (count_of v < n)
 
 abbrev pub AtBarrier : {T : Type 0} → ℕ → BarrierPlace → PendingCall T → Option HoldKind → Type 0
 AtBarrier n (places.Look m) c hold = (c.call ≡ calls.Wait) × (m ≡ n) × (arrivals_in c.own ≡ 0)
 AtBarrier n (places.Arrive m seen to) c hold = (c.call ≡ calls.Wait) × (m ≡ n) × (count_of seen < n) × (to ≡ with_arrival n seen) × (arrivals_in c.own ≡ 0)
-AtBarrier n places.Wake c hold = (c.call ≡ calls.Wait) × ((v : ℕ) × HasArrived n v c.own × (count_of v + 1 ≡ n))
+AtBarrier n places.Wake c hold = (c.call ≡ calls.Wait) × ((v : ℕ) × ArrivedFrom n v c.own × (count_of v + 1 ≡ n))
 AtBarrier n (places.Stay epoch spins) c hold =
-    (c.call ≡ calls.Wait) × ((v : ℕ) × HasArrived n v c.own × (epoch_of v ≡ epoch) × (count_of v + 1 ≢ n)) × (spins_in (is_sight words.State) (since_arrival c.own) ≡ spins) × (spins ≤ 10000)
+    (c.call ≡ calls.Wait) × ((v : ℕ) × ArrivedFrom n v c.own × (epoch_of v ≡ epoch) × (count_of v + 1 ≢ n)) × (spins_in (is_sight words.State) (since_arrival c.own) ≡ spins) × (spins ≤ 10000)
 
 -- Where a call begins.
 
@@ -160,6 +160,9 @@ barrier_kept n =
 
 -- What a step does to the word: nothing, or it counts one arrival.
 
+none_of : (v n : ℕ) → count_of v < n → n ≡ 0 → ⊥
+none_of v n below none = omega (arith, below, none)
+
 abbrev Effect : {T : Type 0} → ℕ → ℕ → Act T → Type 0
 Effect n w act = ((word_after words.State act w ≡ w) × (is_arrival act ≡ false)) ⊎ ((count_of w < n) × (word_after words.State act w ≡ with_arrival n w) × (is_arrival act ≡ true))
 
@@ -198,6 +201,16 @@ pub barrier_counts : {T : Type 0} (z : Arithmetic T) (n parties : ℕ) → n < 2
 barrier_counts z n parties fits [] run = counts_none n
 barrier_counts z n parties fits (e ∷ past) run = counted n _ _ _ (is_arrival e.act) fits (barrier_counts z n parties fits past run.1) (event_effect z n parties past e run)
 
+-- at a barrier of 0 no event is an arrival, since no count is below 0
+none_more : (n arrivals w word : ℕ) (arrives : Bool) → n ≡ 0 → (arrivals ≡ 0) × (w ≡ 0) →
+    ((word ≡ w) × (arrives ≡ false)) ⊎ ((count_of w < n) × (word ≡ with_arrival n w) × (arrives ≡ true)) → (cond arrives 1 0 + arrivals ≡ 0) × (word ≡ 0)
+none_more n arrivals w word arrives none was (inl quiet) = (rw quiet.1 (omega (arith, was.0)), quiet.0 ∙ was.1)
+none_more n arrivals w word arrives none was (inr more) = absurd (none_of w n more.0 none)
+
+nobody_arrives : {T : Type 0} (z : Arithmetic T) (n parties : ℕ) (past : List (Event T)) → IsPast z (barrier_table n) parties past → n ≡ 0 → (arrivals_in past ≡ 0) × (word_in (barrier_table n) past words.State ≡ 0)
+nobody_arrives z n parties [] run none = (refl, refl)
+nobody_arrives z n parties (e ∷ past) run none = none_more n _ _ _ (is_arrival e.act) none (nobody_arrives z n parties past run.1 none) (event_effect z n parties past e run)
+
 -- A call that has arrived stands in a full round, where its own round is before the present one.
 
 abbrev pub StandsInFullRound : {T : Type 0} → ℕ → ℕ → List (Event T) → Type 0
@@ -206,7 +219,7 @@ StandsInFullRound n party past = AtLast is_arrival (λ before. IsFull n (round_o
 -- the call's own arrival among all: before it the word was this, and fewer had arrived than have by now
 own_arrival :
     {T : Type 0} (z : Arithmetic T) (n parties : ℕ) → n < 2 ^ 32 → (party : ℕ) (past : List (Event T)) → IsPast z (barrier_table n) parties past → (c : PendingCall T) → call_of party past ≡ Some c →
-    (v : ℕ) → HasArrived n v c.own → AtLast is_arrival (λ before. (arrivals_in before < arrivals_in past) × CountsArrivals n (arrivals_in before) v) party past
+    (v : ℕ) → ArrivedFrom n v c.own → AtLast is_arrival (λ before. (arrivals_in before < arrivals_in past) × CountsArrivals n (arrivals_in before) v) party past
 own_arrival {T} z n parties fits party past run c called v arrived =
     at_last_maps is_arrival (IsToldOf z (barrier_table n) parties is_arrival act past) (λ before. (arrivals_in before < arrivals_in past) × CountsArrivals n (arrivals_in before) v) counted_at party past
     (own_at_last z (barrier_table n) parties is_arrival party act past run c called arrived.2)
@@ -222,7 +235,7 @@ own_arrival {T} z n parties fits party past run c called v arrived =
 
 own_round_full :
     {T : Type 0} (z : Arithmetic T) (n parties : ℕ) → n < 2 ^ 32 → (party : ℕ) (past : List (Event T)) → IsPast z (barrier_table n) parties past → (c : PendingCall T) → call_of party past ≡ Some c →
-    (v : ℕ) → HasArrived n v c.own → ((own : ℕ) → own < arrivals_in past → CountsArrivals n own v → own / n < arrivals_in past / n) → StandsInFullRound n party past
+    (v : ℕ) → ArrivedFrom n v c.own → ((own : ℕ) → own < arrivals_in past → CountsArrivals n own v → own / n < arrivals_in past / n) → StandsInFullRound n party past
 own_round_full z n parties fits party past run c called v arrived passed =
     let some : 0 < n = omega (arith, arrived.3) in
     at_last_maps is_arrival (λ before. (arrivals_in before < arrivals_in past) × CountsArrivals n (arrivals_in before) v) (λ before. IsFull n (round_of n (arrivals_in before)) past)
@@ -232,12 +245,32 @@ own_round_full z n parties fits party past run c called v arrived passed =
 -- and did not fill its round, where it did not make n
 own_not_last :
     {T : Type 0} (z : Arithmetic T) (n parties : ℕ) → n < 2 ^ 32 → (party : ℕ) (past : List (Event T)) → IsPast z (barrier_table n) parties past → (c : PendingCall T) → call_of party past ≡ Some c →
-    (v : ℕ) → HasArrived n v c.own → count_of v + 1 ≢ n → AtLast is_arrival (λ before. arrivals_in before % n + 1 ≢ n) party past
+    (v : ℕ) → ArrivedFrom n v c.own → count_of v + 1 ≢ n → AtLast is_arrival (λ before. arrivals_in before % n + 1 ≢ n) party past
 own_not_last z n parties fits party past run c called v arrived other =
     let some : 0 < n = omega (arith, arrived.3) in
     at_last_maps is_arrival (λ before. (arrivals_in before < arrivals_in past) × CountsArrivals n (arrivals_in before) v) (λ before. arrivals_in before % n + 1 ≢ n)
     (λ before own is. other (omega (arith, is, count_is n (arrivals_in before) v some fits own.1)))
     party past (own_arrival z n parties fits party past run c called v arrived)
+
+-- It leaves exactly where it sees another epoch than that of its arrival.
+
+abbrev pub LeavesAt : {T : Type 0} → ℕ → ℕ → List (Event T) → Then T → Type 0
+LeavesAt n party past outcome = AtLast is_arrival (λ before. (outcome ≡ thens.Answers answers.Ok) ↔ (full_rounds n past % 2 ^ 32 ≢ round_of n (arrivals_in before) % 2 ^ 32)) party past
+
+leaves_by_epoch :
+    {T : Type 0} (z : Arithmetic T) (n parties : ℕ) → n < 2 ^ 32 → (party : ℕ) (past : List (Event T)) → IsPast z (barrier_table n) parties past → (c : PendingCall T) → call_of party past ≡ Some c →
+    (v w : ℕ) → ArrivedFrom n v c.own → CountsArrivals n (arrivals_in past) w → (outcome : Then T) → ((outcome ≡ thens.Answers answers.Ok) ↔ (epoch_of w ≢ epoch_of v)) → LeavesAt n party past outcome
+leaves_by_epoch {T} z n parties fits party past run c called v w arrived counts outcome exact =
+    at_last_maps is_arrival (λ before. (arrivals_in before < arrivals_in past) × CountsArrivals n (arrivals_in before) v)
+    (λ before. (outcome ≡ thens.Answers answers.Ok) ↔ (full_rounds n past % 2 ^ 32 ≢ round_of n (arrivals_in before) % 2 ^ 32))
+    (λ before own. by_rounds (arrivals_in before) own.1) party past (own_arrival z n parties fits party past run c called v arrived)
+  where
+    by_rounds : (own : ℕ) → CountsArrivals n own v → (outcome ≡ thens.Answers answers.Ok) ↔ (arrivals_in past / n % 2 ^ 32 ≢ own / n % 2 ^ 32)
+    by_rounds own counted =
+        let some : 0 < n = omega (arith, arrived.3) in
+        let now : epoch_of w ≡ arrivals_in past / n % 2 ^ 32 = epoch_is n (arrivals_in past) w some fits counts in
+        let own_epoch : epoch_of v ≡ own / n % 2 ^ 32 = epoch_is n own v some fits counted in
+        (λ ok is. exact.0 ok (now ∙ is ∙ sym own_epoch), λ other. exact.1 (λ is. other (sym now ∙ is ∙ own_epoch)))
 
 -- What one more event tells.
 
@@ -248,9 +281,9 @@ pub record EventLaw {T : Type 0} (n party : ℕ) (past : List (Event T)) (pendin
   pub wakes : MatchBool (is_ok m.outcome) (MatchBool (is_wake_of_all m.act) (Unit {0}) (AtLast is_arrival (λ before. arrivals_in before % n + 1 ≢ n) party past)) (Unit {0})
   pub exact : is_sight words.State m.act ≡ true → ((m.outcome ≡ thens.Answers answers.Full) ↔ (n ≡ 0))
   pub asks : MatchBool (stands_at_wait m.outcome) (MatchOption pending ⊥ (λ c. spins_in (is_sight words.State) (since_arrival c.own) ≡ 10000)) (Unit {0})
-
-none_of : (v n : ℕ) → count_of v < n → n ≡ 0 → ⊥
-none_of v n below none = omega (arith, below, none)
+  pub answers : EndsOkOrFull m.outcome
+  pub tells : IsToldSight m.act m.outcome
+  pub leaves : is_sight words.State m.act ≡ true → MatchOption pending ⊥ (λ c. 0 < arrivals_in c.own) → LeavesAt n party past m.outcome
 
 -- only a barrier of 0 refuses
 nobody_fits : (n m arrivals v : ℕ) → n < 2 ^ 32 → CountsArrivals n arrivals v → m ≡ n → nat_lt (count_of v) m ≡ false → n ≡ 0
@@ -261,11 +294,11 @@ nobody_fits (suc k) m arrivals v fits counts same below =
     absurd (omega (arith, reached, same, count_is (suc k) arrivals v some fits counts, mod_below arrivals (suc k) some))
 
 look_law :
-    {T : Type 0} (n m party : ℕ) (past : List (Event T)) (c : PendingCall T) (act : Act T) (v : ℕ) (below : Bool) → n < 2 ^ 32 → c.call ≡ calls.Wait → m ≡ n → CountsArrivals n (arrivals_in past) v →
+    {T : Type 0} (n m party : ℕ) (past : List (Event T)) (c : PendingCall T) (act : Act T) (v : ℕ) (below : Bool) → n < 2 ^ 32 → c.call ≡ calls.Wait → m ≡ n → arrivals_in c.own ≡ 0 → CountsArrivals n (arrivals_in past) v →
     is_arrival act ≡ false → nat_lt (count_of v) m ≡ below → EventLaw n party past (Some c) (record { act = act; outcome = outcome_of {T = T} (look_after m v below) })
-look_law n m party past c act v true fits wait same counts quiet below =
-    record { cause = tt; once = rw quiet tt; passes = tt; wakes = tt; exact = λ sees. (λ full. absurd cc, λ none. absurd (none_of v n (below_of v m n same below) none)); asks = tt }
-look_law {T} n m party past c act v false fits wait same counts quiet below =
+look_law n m party past c act v true fits wait same first counts quiet below =
+    record { cause = tt; once = rw quiet tt; passes = tt; wakes = tt; exact = λ sees. (λ full. absurd cc, λ none. absurd (none_of v n (below_of v m n same below) none)); asks = tt; answers = tt; tells = tt; leaves = λ sees arrived. absurd (omega (arith, first, arrived)) }
+look_law {T} n m party past c act v false fits wait same first counts quiet below =
     let none : n ≡ 0 = nobody_fits n m (arrivals_in past) v fits counts same below in
     let refuses : Event T = event party act (thens.Answers answers.Full) in
     record {
@@ -275,20 +308,23 @@ look_law {T} n m party past c act v false fits wait same counts quiet below =
       wakes = tt;
       exact = λ sees. (λ full. none, λ is. refl);
       asks = tt;
+      answers = tt;
+      tells = tt;
+      leaves = λ sees arrived. absurd (omega (arith, first, arrived));
     }
 
 joined_law :
     {T : Type 0} (n party : ℕ) (past : List (Event T)) (c : PendingCall T) (seen to w : ℕ) (fills : Bool) → count_of seen < n → arrivals_in c.own ≡ 0 →
     EventLaw n party past (Some c) (record { act = acts.Exchange words.State seen to w true; outcome = outcome_of {T = T} (joined_after seen fills) })
-joined_law n party past c seen to w true below first = record { cause = tt; once = first; passes = tt; wakes = tt; exact = λ sees. (λ full. absurd cc, λ none. absurd (none_of seen n below none)); asks = tt }
-joined_law n party past c seen to w false below first = record { cause = tt; once = first; passes = tt; wakes = tt; exact = λ sees. (λ full. absurd cc, λ none. absurd (none_of seen n below none)); asks = tt }
+joined_law n party past c seen to w true below first = record { cause = tt; once = first; passes = tt; wakes = tt; exact = λ sees. (λ full. absurd cc, λ none. absurd (none_of seen n below none)); asks = tt; answers = tt; tells = tt; leaves = λ sees arrived. absurd (omega (arith, first, arrived)) }
+joined_law n party past c seen to w false below first = record { cause = tt; once = first; passes = tt; wakes = tt; exact = λ sees. (λ full. absurd cc, λ none. absurd (none_of seen n below none)); asks = tt; answers = tt; tells = tt; leaves = λ sees arrived. absurd (omega (arith, first, arrived)) }
 
 arrive_law :
     {T : Type 0} (n m party : ℕ) (past : List (Event T)) (c : PendingCall T) (seen to w : ℕ) (done : Bool) → n < 2 ^ 32 → c.call ≡ calls.Wait → m ≡ n → count_of seen < n → arrivals_in c.own ≡ 0 → CountsArrivals n (arrivals_in past) w →
     EventLaw n party past (Some c)
     (record { act = acts.Exchange words.State seen to w done; outcome = outcome_of {T = T} (cond done (joined_after seen (count_of seen + 1 == m)) (look_after m w (nat_lt (count_of w) m))) })
 arrive_law n m party past c seen to w true fits wait same below first counts = joined_law n party past c seen to w (count_of seen + 1 == m) below first
-arrive_law n m party past c seen to w false fits wait same below first counts = look_law n m party past c (acts.Exchange words.State seen to w false) w (nat_lt (count_of w) m) fits wait same counts refl refl
+arrive_law n m party past c seen to w false fits wait same below first counts = look_law n m party past c (acts.Exchange words.State seen to w false) w (nat_lt (count_of w) m) fits wait same first counts refl refl
 
 stay_law :
     {T : Type 0} (z : Arithmetic T) (n parties : ℕ) → n < 2 ^ 32 → (party : ℕ) (past : List (Event T)) → IsPast z (barrier_table n) parties past → (c : PendingCall T) → call_of party past ≡ Some c →
@@ -305,11 +341,16 @@ stay_law z n parties fits party past run c called hold epoch spins w false left 
       wakes = own_not_last z n parties fits party past run c called v at.1.1 at.1.3;
       exact = λ sight. (λ full. absurd cc, λ none. absurd (none_of v n below none));
       asks = tt;
+      answers = tt;
+      tells = tt;
+      leaves = λ sight arrived. leaves_by_epoch z n parties fits party past run c called v w at.1.1 counts (thens.Answers answers.Ok) (λ ok. other, λ other. refl);
     }
 stay_law z n parties fits party past run c called hold epoch spins w true true at counts sees spun =
-    record { cause = tt; once = tt; passes = tt; wakes = tt; exact = λ sight. (λ full. absurd cc, λ none. absurd (none_of at.1.0 n at.1.1.3 none)); asks = tt }
+    let epoch_seen : epoch_of w ≡ epoch_of at.1.0 = eqb-true (epoch_of w) epoch sees ∙ sym at.1.2 in
+    record { cause = tt; once = tt; passes = tt; wakes = tt; exact = λ sight. (λ full. absurd cc, λ none. absurd (none_of at.1.0 n at.1.1.3 none)); asks = tt; answers = tt; tells = tt; leaves = λ sight arrived. leaves_by_epoch z n parties fits party past run c called at.1.0 w at.1.1 counts thens.GoesOn (λ ok. absurd cc, λ other. absurd (other epoch_seen)) }
 stay_law z n parties fits party past run c called hold epoch spins w true false at counts sees spun =
-    record { cause = tt; once = tt; passes = tt; wakes = tt; exact = λ sight. (λ full. absurd cc, λ none. absurd (none_of at.1.0 n at.1.1.3 none)); asks = at.2 ∙ spins_spent spins at.3 spun }
+    let epoch_seen : epoch_of w ≡ epoch_of at.1.0 = eqb-true (epoch_of w) epoch sees ∙ sym at.1.2 in
+    record { cause = tt; once = tt; passes = tt; wakes = tt; exact = λ sight. (λ full. absurd cc, λ none. absurd (none_of at.1.0 n at.1.1.3 none)); asks = at.2 ∙ spins_spent spins at.3 spun; answers = tt; tells = refl; leaves = λ sight arrived. leaves_by_epoch z n parties fits party past run c called at.1.0 w at.1.1 counts (thens.Waits w) (λ ok. absurd cc, λ other. absurd (other epoch_seen)) }
 
 step_law :
     {T : Type 0} (z : Arithmetic T) (n parties : ℕ) → n < 2 ^ 32 → (party : ℕ) (past : List (Event T)) → IsPast z (barrier_table n) parties past → (c : PendingCall T) → call_of party past ≡ Some c →
@@ -317,7 +358,7 @@ step_law :
     EventLaw n party past (Some c) (step_at (barrier_table n) place hold memory)
 step_law z n parties fits party past run c called (places.Look m) hold memory at counts =
     let w = memory words.State in
-    look_law n m party past c (acts.Load words.State w) w (nat_lt (count_of w) m) fits at.0 at.1 counts refl refl
+    look_law n m party past c (acts.Load words.State w) w (nat_lt (count_of w) m) fits at.0 at.1 at.2 counts refl refl
 step_law z n parties fits party past run c called (places.Arrive m seen to) hold memory at counts =
     let w = memory words.State in
     arrive_law n m party past c seen to w (w == seen) fits at.0 at.1 at.2 at.4 counts
@@ -330,6 +371,9 @@ step_law z n parties fits party past run c called places.Wake hold memory at cou
       wakes = tt;
       exact = λ sees. absurd cc;
       asks = tt;
+      answers = tt;
+      tells = tt;
+      leaves = λ sees arrived. absurd cc;
     }
 step_law z n parties fits party past run c called (places.Stay epoch spins) hold memory at counts =
     let w = memory words.State in
@@ -340,23 +384,23 @@ event_law {T} z n parties fits past e run =
     by_move (barrier_table n) (call_of e.party past) (hold_of (barrier_table n) e.party past) (word_in (barrier_table n) past)
     (λ (k : Option (PendingCall T)) (m : Move T). EventLaw n e.party past k m)
     run.0.0 (record { act = e.act; outcome = e.then })
-    (λ call _. record { cause = tt; once = tt; passes = tt; wakes = tt; exact = λ sees. absurd cc; asks = tt })
-    (λ action _. record { cause = tt; once = tt; passes = tt; wakes = tt; exact = λ sees. absurd cc; asks = tt })
-    (λ choice _. record { cause = tt; once = tt; passes = tt; wakes = tt; exact = λ sees. absurd cc; asks = tt })
+    (λ call _. record { cause = tt; once = tt; passes = tt; wakes = tt; exact = λ sees. absurd cc; asks = tt; answers = tt; tells = tt; leaves = λ sees arrived. absurd cc })
+    (λ action _. record { cause = tt; once = tt; passes = tt; wakes = tt; exact = λ sees. absurd cc; asks = tt; answers = tt; tells = tt; leaves = λ sees arrived. absurd cc })
+    (λ choice _. record { cause = tt; once = tt; passes = tt; wakes = tt; exact = λ sees. absurd cc; asks = tt; answers = tt; tells = tt; leaves = λ sees arrived. absurd cc })
     (λ c place _ called stage.
     step_law z n parties fits e.party past run.1 c called place (hold_of (barrier_table n) e.party past) (word_in (barrier_table n) past)
     (at_place z (barrier_table n) parties (AtBarrier n) (barrier_kept n) past run.1 e.party c place called stage) (barrier_counts z n parties fits past run.1))
     run.0.1.moved
 
 pub keeps_barrier : {T : Type 0} (z : Arithmetic T) (n parties : ℕ) (past : List (Event T)) → n < 2 ^ 32 → IsPast z (barrier_table n) parties past → KeepsBarrier n past
-keeps_barrier z n parties [] fits run = record { told = tt; unheld = refl; cause = tt; law = record { counts = barrier_counts z n parties fits [] run; once = tt; passes = tt; wakes = tt; exact = tt; asks = tt } }
+keeps_barrier z n parties [] fits run = record { told = tt; unheld = refl; cause = tt; law = record { counts = barrier_counts z n parties fits [] run; nobody = nobody_arrives z n parties [] run; once = tt; passes = tt; wakes = tt; leaves = tt; exact = tt; asks = tt; tells = tt; answers = tt } }
 keeps_barrier z n parties (e ∷ past) fits run =
     let event = event_law z n parties fits past e run in
     record {
       told = tells_memory z (barrier_table n) parties (e ∷ past) run;
       unheld = no_holds (barrier_table n) (λ call from to. refl) (e ∷ past);
       cause = event.cause;
-      law = record { counts = barrier_counts z n parties fits (e ∷ past) run; once = event.once; passes = event.passes; wakes = event.wakes; exact = event.exact; asks = event.asks };
+      law = record { counts = barrier_counts z n parties fits (e ∷ past) run; nobody = nobody_arrives z n parties (e ∷ past) run; once = event.once; passes = event.passes; leaves = event.leaves; wakes = event.wakes; exact = event.exact; asks = event.asks; tells = event.tells; answers = event.answers };
     }
 
 -- a barrier has no other word

@@ -1,5 +1,5 @@
 -- What a barrier keeps at every front of every run: rounds of n arrivals, each of which is full before one of its calls answers `Ok`.
-use Rattle.std.specs.Prelude.{◌≡◌, ◌≢◌, ℕ, ◌+◌, ◌%◌, ◌↔◌, Bool, true, false, if◌then◌else◌, List, [], ◌∷◌, MatchBool, MatchOption}
+use Rattle.std.specs.Prelude.{◌≡◌, ◌≢◌, ℕ, ◌+◌, ◌%◌, ◌^◌, ◌<◌, ◌↔◌, Bool, true, false, if◌then◌else◌, List, [], ◌∷◌, Some, MatchBool, MatchOption}
 use Rattle.steps_events.specs.declared.event.Word.TheVariants as words
 use Rattle.steps_events.specs.declared.event.Call.{Call}
 use Rattle.steps_events.specs.declared.event.Call.TheVariants as calls
@@ -11,9 +11,9 @@ use Rattle.steps_events.specs.declared.event.Then.{Then}
 use Rattle.steps_events.specs.declared.event.Then.TheVariants as thens
 use Rattle.steps_events.specs.declared.event.Event.{Event}
 use Rattle.steps_events.specs.Past.{call_of, holds_of, word_in}
-use Rattle.steps_events.specs.Sights.{is_sight, AtLast, spins_in, stands_at_wait}
+use Rattle.steps_events.specs.Sights.{sight_of, is_sight, AtLast, spins_in, stands_at_wait}
 use Rattle.steps_events.specs.Laws.{TellsMemory, HasCause}
-use Rattle.steps_barrier.specs.Rounds.{is_arrival, arrivals_in, round_of, IsFull, CountsArrivals}
+use Rattle.steps_barrier.specs.Rounds.{is_arrival, arrivals_in, round_of, full_rounds, IsFull, CountsArrivals}
 use Rattle.steps_barrier.specs.Table.{barrier_table}
 
 -- `Wait`: n is 0.
@@ -25,6 +25,10 @@ abbrev pub is_ok : {T : Type 0} → Then T → Bool
 is_ok (thens.Answers answers.Ok) = true
 is_ok other = false
 
+-- at a barrier of 0 nobody has arrived, and the word is 0
+abbrev pub NobodyAtZero : ℕ → ℕ → ℕ → Type 0
+NobodyAtZero n arrivals word = n ≡ 0 → (arrivals ≡ 0) × (word ≡ 0)
+
 -- a call arrives once at most: the latest event is an arrival only where its call had not arrived before
 abbrev pub ArrivesOnce : {T : Type 0} → List (Event T) → Type 0
 ArrivesOnce [] = Unit {0}
@@ -34,6 +38,18 @@ ArrivesOnce (e ∷ past) = MatchBool (is_arrival e.act) (MatchOption (call_of e.
 abbrev pub OkAfterFullRound : {T : Type 0} → ℕ → List (Event T) → Type 0
 OkAfterFullRound n [] = Unit {0}
 OkAfterFullRound n (e ∷ past) = MatchBool (is_ok e.then) (AtLast is_arrival (λ before. IsFull n (round_of n (arrivals_in before)) past) e.party past) (Unit {0})
+
+-- the party's call under way has arrived
+abbrev pub HasArrived : {T : Type 0} → ℕ → List (Event T) → Type 0
+HasArrived party past = MatchOption (call_of party past) ⊥ (λ c. 0 < arrivals_in c.own)
+
+-- Exact: a look of a call that has arrived answers `Ok` exactly where the number of full rounds is, modulo 2 ^ 32, another than that of the call's own round.
+abbrev pub LeavesByItsLook : {T : Type 0} → ℕ → List (Event T) → Type 0
+LeavesByItsLook n [] = Unit {0}
+LeavesByItsLook n (e ∷ past) =
+    is_sight words.State e.act ≡ true →
+    HasArrived e.party past →
+    AtLast is_arrival (λ before. (e.then ≡ thens.Answers answers.Ok) ↔ (full_rounds n past % 2 ^ 32 ≢ round_of n (arrivals_in before) % 2 ^ 32)) e.party past
 
 abbrev pub is_wake_of_all : {T : Type 0} → Act T → Bool
 is_wake_of_all (acts.Woke wakes.All) = true
@@ -46,6 +62,18 @@ FillerWakesAll n (e ∷ past) =
     MatchBool (is_ok e.then)
     (MatchBool (is_wake_of_all e.act) (Unit {0}) (AtLast is_arrival (λ before. arrivals_in before % n + 1 ≢ n) e.party past))
     (Unit {0})
+
+-- `Ok` or `Full`, where it is an answer
+abbrev pub EndsOkOrFull : {T : Type 0} → Then T → Type 0
+EndsOkOrFull (thens.Answers answers.Ok) = Unit {0}
+EndsOkOrFull (thens.Answers answers.Full) = Unit {0}
+EndsOkOrFull (thens.Answers other) = ⊥
+EndsOkOrFull outcome = Unit {0}
+
+-- a call comes back with `Ok` or `Full` alone: the latest event answers one of them, if it answers
+abbrev pub AnswersOkOrFull : {T : Type 0} → List (Event T) → Type 0
+AnswersOkOrFull [] = Unit {0}
+AnswersOkOrFull (e ∷ past) = EndsOkOrFull e.then
 
 -- Exact: an event that sees the word is refused exactly where n is 0.
 abbrev pub IsExactRefusal : {T : Type 0} → ℕ → List (Event T) → Type 0
@@ -65,20 +93,38 @@ AsksAfterStaying (e ∷ past) =
     (MatchOption (call_of e.party past) ⊥ (λ c. spins_in (is_sight words.State) (since_arrival c.own) ≡ 10000))
     (Unit {0})
 
+-- where a call is left at its wait closure, the closure is told what the act saw of the word
+abbrev pub IsToldSight : {T : Type 0} → Act T → Then T → Type 0
+IsToldSight act (thens.Waits told) = sight_of words.State act ≡ Some told
+IsToldSight act outcome = Unit {0}
+
+-- a wait closure that the latest event asks is told the whole word that the event saw
+abbrev pub TellsSight : {T : Type 0} → List (Event T) → Type 0
+TellsSight [] = Unit {0}
+TellsSight (e ∷ past) = IsToldSight e.act e.then
+
 -- What a barrier keeps beside what every object does.
 pub record BarrierLaw {T : Type 0} (n : ℕ) (past : List (Event T)) : Type 0 where
   -- the word tells the rounds that are full, modulo 2 ^ 32, and the arrivals of the next one
   pub counts : CountsArrivals n (arrivals_in past) (word_in (barrier_table n) past words.State)
+  -- nobody arrives at a barrier of 0, and its word stays 0
+  pub nobody : NobodyAtZero n (arrivals_in past) (word_in (barrier_table n) past words.State)
   -- a call arrives once at most
   pub once : ArrivesOnce past
   -- `Ok` comes after the call's own round is full
   pub passes : OkAfterFullRound n past
+  -- a look of a call that has arrived answers `Ok` exactly where it sees another epoch than that of its arrival
+  pub leaves : LeavesByItsLook n past
   -- the call that filled a round answers as it wakes all
   pub wakes : FillerWakesAll n past
   -- a barrier of 0 refuses each call, and no other refuses any
   pub exact : IsExactRefusal n past
   -- a wait closure is asked after 10000 spins, which are looks since the call's arrival
   pub asks : AsksAfterStaying past
+  -- and told the whole word that the latest look saw
+  pub tells : TellsSight past
+  -- a call comes back with `Ok` or `Full` alone
+  pub answers : AnswersOkOrFull past
 
 pub record KeepsBarrier {T : Type 0} (n : ℕ) (past : List (Event T)) : Type 0 where
   -- each act that tells a word's value tells what the memory holds there

@@ -41,6 +41,10 @@ round_of n arrival = arrival / n
 abbrev pub IsFull : {T : Type 0} → ℕ → ℕ → List (Event T) → Type 0
 IsFull n round past = (arrival : ℕ) → round_of n arrival ≡ round → arrival < arrivals_in past
 
+-- how many rounds are full
+abbrev pub full_rounds : {T : Type 0} → ℕ → List (Event T) → ℕ
+full_rounds n past = arrivals_in past / n
+
 -- the word counts the rounds that are full, modulo 2 ^ 32, and the arrivals of the next one
 abbrev pub CountsArrivals : ℕ → ℕ → ℕ → Type 0
 CountsArrivals n arrivals word = word ≡ arrivals / n % 2 ^ 32 * 2 ^ 32 + arrivals % n
