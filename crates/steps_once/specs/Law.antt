@@ -1,14 +1,16 @@
 -- What a once keeps at every front of every run: one closure runs, once, and ends before any call tells of it.
-use Rattle.std.specs.Prelude.{◌≡◌, ◌≤◌, ℕ, ◌==◌, ◌↔◌, Bool, true, false, Option, Some, None, IfSome, List, [], ◌∷◌, MatchBool}
+use Rattle.std.specs.Prelude.{◌≡◌, ◌≤◌, ℕ, ◌==◌, ◌↔◌, Bool, true, false, Option, Some, None, IfSome, List, [], ◌∷◌, MatchBool, MatchOption}
 use Rattle.steps_events.specs.declared.event.Word.TheVariants as words
 use Rattle.steps_events.specs.declared.event.Act.{Act}
 use Rattle.steps_events.specs.declared.event.Act.TheVariants as acts
+use Rattle.steps_events.specs.declared.event.Answer.{Answer}
 use Rattle.steps_events.specs.declared.event.Answer.TheVariants as answers
 use Rattle.steps_events.specs.declared.event.Call.{Call}
+use Rattle.steps_events.specs.declared.event.Call.TheVariants as calls
 use Rattle.steps_events.specs.declared.event.Then.{Then}
 use Rattle.steps_events.specs.declared.event.Then.TheVariants as thens
 use Rattle.steps_events.specs.declared.event.Event.{Event}
-use Rattle.steps_events.specs.Past.{holds_of, word_in}
+use Rattle.steps_events.specs.Past.{call_of, holds_of, word_in}
 use Rattle.steps_events.specs.Sights.{AtLast, is_done_exchange, acts_in}
 use Rattle.steps_events.specs.Laws.{TellsMemory, HasCause}
 use Rattle.steps_once.specs.Table.{once_table}
@@ -39,6 +41,21 @@ EndsItsOwn [] = Unit {0}
 EndsItsOwn (e ∷ past) = MatchBool (is_end e.act) (AtLast is_begin (λ before. begins_in before ≡ 0) e.party past) (Unit {0})
 
 -- The answers.
+
+-- `CallOnce` answers `Done` alone, and `IsCompleted` a flag
+abbrev pub IsAnswerOf : {T : Type 0} → Call T → Answer T → Type 0
+IsAnswerOf calls.CallOnce answer = answer ≡ answers.Done
+IsAnswerOf calls.IsCompleted answer = (flag : Bool) × (answer ≡ answers.Flag flag)
+IsAnswerOf other answer = ⊥
+
+abbrev pub answer_of : {T : Type 0} → Then T → Option (Answer T)
+answer_of (thens.Answers answer) = Some answer
+answer_of other = None
+
+-- the latest event answers as its call does, if it answers
+abbrev pub AnswersItsCall : {T : Type 0} → List (Event T) → Type 0
+AnswersItsCall [] = Unit {0}
+AnswersItsCall (e ∷ past) = IfSome (answer_of e.then) (λ answer. MatchOption (call_of e.party past) ⊥ (λ c. IsAnswerOf c.call answer))
 
 -- `Done` and `true` tell that the closure has ended
 abbrev pub tells_end : {T : Type 0} → Then T → Bool
@@ -73,6 +90,8 @@ pub record OnceLaw {T : Type 0} (past : List (Event T)) : Type 0 where
   pub ends : ends_in past ≤ begins_in past
   -- it ends in the call that began it
   pub own : EndsItsOwn past
+  -- `CallOnce` answers `Done` alone, and `IsCompleted` a flag
+  pub suits : AnswersItsCall past
   -- `Done` and `true` come after its end
   pub answers : AnswersAfterEnd past
   -- `IsCompleted` answers whether the word is 2
