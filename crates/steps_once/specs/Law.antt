@@ -76,6 +76,20 @@ abbrev pub TellsCompletion : {T : Type 0} → List (Event T) → Type 0
 TellsCompletion [] = Unit {0}
 TellsCompletion (e ∷ past) = IfSome (flag_of e.then) (λ flag. flag ≡ (word_in once_table past words.State == 2))
 
+abbrev pub is_done : {T : Type 0} → Then T → Bool
+is_done (thens.Answers answers.Done) = true
+is_done other = false
+
+-- the latest event answers `Done` only where it leaves the word at 2
+abbrev pub DoneAtTwo : {T : Type 0} → List (Event T) → Type 0
+DoneAtTwo [] = Unit {0}
+DoneAtTwo (e ∷ past) = MatchBool (is_done e.then) (word_in once_table (e ∷ past) words.State ≡ 2) (Unit {0})
+
+-- a word that is 2 is so for good: the latest event leaves it
+abbrev pub StaysTwo : {T : Type 0} → List (Event T) → Type 0
+StaysTwo [] = Unit {0}
+StaysTwo (e ∷ past) = word_in once_table past words.State ≡ 2 → word_in once_table (e ∷ past) words.State ≡ 2
+
 -- The word: 0 until a closure begins, and 2 only once it has ended.
 pub record TellsState {T : Type 0} (past : List (Event T)) : Type 0 where
   pub begun : (word_in once_table past words.State ≡ 0) ↔ (begins_in past ≡ 0)
@@ -96,6 +110,10 @@ pub record OnceLaw {T : Type 0} (past : List (Event T)) : Type 0 where
   pub answers : AnswersAfterEnd past
   -- `IsCompleted` answers whether the word is 2
   pub tells : TellsCompletion past
+  -- once `Done` has been answered the word is 2
+  pub done : DoneAtTwo past
+  -- and 2 it stays
+  pub stays : StaysTwo past
   pub state : TellsState past
 
 pub record KeepsOnce {T : Type 0} (past : List (Event T)) : Type 0 where
