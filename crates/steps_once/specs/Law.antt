@@ -90,6 +90,22 @@ abbrev pub StaysTwo : {T : Type 0} → List (Event T) → Type 0
 StaysTwo [] = Unit {0}
 StaysTwo (e ∷ past) = word_in once_table past words.State ≡ 2 → word_in once_table (e ∷ past) words.State ≡ 2
 
+-- How a call waits.
+
+abbrev pub stands : {T : Type 0} → Then T → Bool
+stands (thens.Waits seen) = true
+stands (thens.Chooses old) = true
+stands other = false
+
+abbrev pub is_wake : {T : Type 0} → Act T → Bool
+is_wake (acts.Woke wake) = true
+is_wake act = false
+
+-- the latest event leaves its call at no wait or choice closure, and wakes nobody
+abbrev pub OnlySpins : {T : Type 0} → List (Event T) → Type 0
+OnlySpins [] = Unit {0}
+OnlySpins (e ∷ past) = (stands e.then ≡ false) × (is_wake e.act ≡ false)
+
 -- The word: 0 until a closure begins, and 2 only once it has ended.
 pub record TellsState {T : Type 0} (past : List (Event T)) : Type 0 where
   pub begun : (word_in once_table past words.State ≡ 0) ↔ (begins_in past ≡ 0)
@@ -114,6 +130,8 @@ pub record OnceLaw {T : Type 0} (past : List (Event T)) : Type 0 where
   pub done : DoneAtTwo past
   -- and 2 it stays
   pub stays : StaysTwo past
+  -- a call that waits spins: none stands at a closure, and none wakes
+  pub spins : OnlySpins past
   pub state : TellsState past
 
 pub record KeepsOnce {T : Type 0} (past : List (Event T)) : Type 0 where
