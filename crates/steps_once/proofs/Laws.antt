@@ -9,6 +9,7 @@ use Rattle.steps_events.specs.declared.event.Call.{Call}
 use Rattle.steps_events.specs.declared.event.Call.TheVariants as calls
 use Rattle.steps_events.specs.declared.event.Act.{Act}
 use Rattle.steps_events.specs.declared.event.Act.TheVariants as acts
+use Rattle.steps_events.specs.declared.event.Answer.{Answer}
 use Rattle.steps_events.specs.declared.event.Answer.TheVariants as answers
 use Rattle.steps_events.specs.declared.event.Event.{Event}
 use Rattle.steps_events.specs.declared.event.Then.{Then}
@@ -29,8 +30,8 @@ use Rattle.steps_events.proofs.Parties.{IsKept, at_place}
 use Rattle.steps_events.proofs.Own.{IsCallAfter, call_was, own_among, IsToldOf, own_at_last, at_last_maps}
 use Rattle.steps_once.specs.declared.OncePlace.{OncePlace}
 use Rattle.steps_once.specs.declared.OncePlace.TheVariants as places
-use Rattle.steps_once.specs.Table.{once_table, once_begins, once_intent, once_after}
-use Rattle.steps_once.specs.Law.{OnceCause, is_begin, is_end, begins_in, ends_in, tells_end, flag_of, TellsState, KeepsOnce}
+use Rattle.steps_once.specs.Table.{once_table, once_begins, once_intent, found_after, once_after}
+use Rattle.steps_once.specs.Law.{OnceCause, is_begin, is_end, begins_in, ends_in, IsAnswerOf, answer_of, tells_end, flag_of, is_done, stands, is_wake, TellsState, KeepsOnce}
 
 -- What is kept of a call at its place.
 
@@ -135,6 +136,46 @@ once_kept =
       chooses = λ place c hold choice number at stands. chooses_at place c hold choice number at;
     }
 
+-- Which call has which place.
+
+abbrev pub call_at : {T : Type 0} → OncePlace → Call T
+call_at places.IsCompleted = calls.IsCompleted
+call_at other = calls.CallOnce
+
+abbrev pub IsItsCall : {T : Type 0} → OncePlace → PendingCall T → Option HoldKind → Type 0
+IsItsCall place c hold = c.call ≡ call_at place
+
+begins_its_call : {T : Type 0} (call : Call T) (place : OncePlace) → once_begins call ≡ Some place → call ≡ call_at place
+begins_its_call {T} calls.IsCompleted place is = ap (call_at {T = T}) (some_same places.IsCompleted place is)
+begins_its_call {T} calls.CallOnce place is = ap (call_at {T = T}) (some_same places.Look place is)
+begins_its_call other place is = absurd cc
+
+-- a look and an exchange lead to a place of the same call
+looks_on : {T : Type 0} (on next : OncePlace) (complete : Bool) → place_after {T = T} (seen_after on complete) ≡ Some next → call_at {T = T} on ≡ call_at next
+looks_on on next true is = absurd cc
+looks_on {T} on next false is = ap (call_at {T = T}) (some_same on next is)
+
+begins_on : {T : Type 0} (next : OncePlace) (done : Bool) → place_after {T = T} (begin_after done) ≡ Some next → calls.CallOnce ≡ call_at {T = T} next
+begins_on {T} next true is = ap (call_at {T = T}) (some_same places.Run next is)
+begins_on {T} next false is = ap (call_at {T = T}) (some_same places.Stay next is)
+
+steps_its_call : {T : Type 0} (place next : OncePlace) (found : ℕ) → place_after {T = T} (found_after place found) ≡ Some next → call_at {T = T} place ≡ call_at next
+steps_its_call places.IsCompleted next found is = absurd cc
+steps_its_call places.Look next found is = looks_on places.Begin next (found == 2) is
+steps_its_call places.Begin next found is = begins_on next (found == 0) is
+steps_its_call {T} places.Run next found is = ap (call_at {T = T}) (some_same places.Complete next is)
+steps_its_call places.Complete next found is = absurd cc
+steps_its_call places.Stay next found is = looks_on places.Stay next (found == 2) is
+
+pub its_call_kept : {T : Type 0} → IsKept {T = T} once_table IsItsCall
+its_call_kept =
+    record {
+      begins = λ call place hold is allowed. begins_its_call call place is;
+      steps = λ place c hold memory number next at free is. at ∙ steps_its_call place next _ is;
+      answers = λ place c hold action number at stands. at;
+      chooses = λ place c hold choice number at stands. at;
+    }
+
 -- What a step does: nothing to the word and the closure; it begins the closure, where the word is 0; it ends its own, which runs; or it puts 2, where its own has ended.
 
 abbrev Effect : {T : Type 0} → Option (PendingCall T) → ℕ → ℕ → Bool → Bool → Type 0
@@ -168,6 +209,16 @@ event_effect {T} z parties past e run =
     (λ c place _ called stage.
     step_effect c place (hold_of once_table e.party past) (word_in once_table past) (at_place z once_table parties AtOnce once_kept past run.1 e.party c place called stage))
     run.0.1.moved
+
+-- a word that is 2 is left so
+stays_complete : {T : Type 0} (z : Arithmetic T) (parties : ℕ) (past : List (Event T)) (e : Event T) → IsPast z once_table parties (e ∷ past) → word_in once_table past words.State ≡ 2 → word_in once_table (e ∷ past) words.State ≡ 2
+stays_complete {T} z parties past e run complete = by_effect (call_of e.party past) (event_effect z parties past e run)
+  where
+    by_effect : (pending : Option (PendingCall T)) → EffectOf pending (word_in once_table past words.State) e.act → word_in once_table (e ∷ past) words.State ≡ 2
+    by_effect pending (inl quiet) = quiet.0 ∙ complete
+    by_effect pending (inr (inl first)) = absurd (omega (arith, first.0, complete))
+    by_effect pending (inr (inr (inl last))) = last.0 ∙ complete
+    by_effect pending (inr (inr (inr puts))) = puts.0
 
 -- At every front.
 
@@ -303,27 +354,34 @@ tells_state past state = record { begun = begun state; ended = complete_ended _ 
 pub record EventLaw {T : Type 0} (party : ℕ) (past : List (Event T)) (w : ℕ) (pending : Option (PendingCall T)) (m : Move T) : Type 0 where
   pub cause : MatchBool (is_refusal m.outcome) (MatchOption pending ⊥ (λ c. OnceCause c.call party (event party m.act m.outcome ∷ past))) (Unit {0})
   pub own : MatchBool (is_end m.act) (AtLast is_begin (λ before. begins_in before ≡ 0) party past) (Unit {0})
+  pub suits : IfSome (answer_of m.outcome) (λ answer. MatchOption pending ⊥ (λ c. IsAnswerOf c.call answer))
   pub answers : MatchBool (tells_end m.outcome) (ends_in past ≡ 1) (Unit {0})
   pub tells : IfSome (flag_of m.outcome) (λ flag. flag ≡ (w == 2))
+  pub done : MatchBool (is_done m.outcome) (word_after words.State m.act w ≡ 2) (Unit {0})
+  pub spins : (stands m.outcome ≡ false) × (is_wake m.act ≡ false)
+
+-- an answer of the call whose place it is
+suits_at : {T : Type 0} (c : PendingCall T) (place : OncePlace) (answer : Answer T) → c.call ≡ call_at place → IsAnswerOf (call_at place) answer → IsAnswerOf c.call answer
+suits_at {T} c place answer its suits = subst (λ (call : Call T). IsAnswerOf call answer) (sym its) suits
 
 -- of a load
 flag_law :
-    {T : Type 0} (party : ℕ) (past : List (Event T)) (c : PendingCall T) (w : ℕ) (flag : Bool) → IsState w (begins_in past) (ends_in past) → (w == 2) ≡ flag →
+    {T : Type 0} (party : ℕ) (past : List (Event T)) (c : PendingCall T) (w : ℕ) (flag : Bool) → c.call ≡ calls.IsCompleted → IsState w (begins_in past) (ends_in past) → (w == 2) ≡ flag →
     EventLaw party past w (Some c) (record { act = acts.Load words.State w; outcome = thens.Answers (answers.Flag flag) })
-flag_law party past c w true state sees = record { cause = tt; own = tt; answers = complete_ended _ _ _ state (eqb-true w 2 sees); tells = sym sees }
-flag_law party past c w false state sees = record { cause = tt; own = tt; answers = tt; tells = sym sees }
+flag_law party past c w true its state sees = record { cause = tt; own = tt; suits = suits_at c places.IsCompleted _ its (true, refl); answers = complete_ended _ _ _ state (eqb-true w 2 sees); tells = sym sees; done = tt; spins = (refl, refl) }
+flag_law party past c w false its state sees = record { cause = tt; own = tt; suits = suits_at c places.IsCompleted _ its (false, refl); answers = tt; tells = sym sees; done = tt; spins = (refl, refl) }
 
 seen_law :
-    {T : Type 0} (party : ℕ) (past : List (Event T)) (c : PendingCall T) (w : ℕ) (on : OncePlace) (complete : Bool) → IsState w (begins_in past) (ends_in past) → (w == 2) ≡ complete →
+    {T : Type 0} (party : ℕ) (past : List (Event T)) (c : PendingCall T) (w : ℕ) (on : OncePlace) (complete : Bool) → c.call ≡ calls.CallOnce → IsState w (begins_in past) (ends_in past) → (w == 2) ≡ complete →
     EventLaw party past w (Some c) (record { act = acts.Load words.State w; outcome = outcome_of {T = T} (seen_after on complete) })
-seen_law party past c w on true state sees = record { cause = tt; own = tt; answers = complete_ended _ _ _ state (eqb-true w 2 sees); tells = tt }
-seen_law party past c w on false state sees = record { cause = tt; own = tt; answers = tt; tells = tt }
+seen_law party past c w on true its state sees = record { cause = tt; own = tt; suits = suits_at c places.Look _ its refl; answers = complete_ended _ _ _ state (eqb-true w 2 sees); tells = tt; done = eqb-true w 2 sees; spins = (refl, refl) }
+seen_law party past c w on false its state sees = record { cause = tt; own = tt; suits = tt; answers = tt; tells = tt; done = tt; spins = (refl, refl) }
 
 begin_law :
     {T : Type 0} (party : ℕ) (past : List (Event T)) (c : PendingCall T) (w : ℕ) (done : Bool) →
     EventLaw party past w (Some c) (record { act = acts.Exchange words.State 0 1 w done; outcome = outcome_of {T = T} (begin_after done) })
-begin_law party past c w true = record { cause = tt; own = tt; answers = tt; tells = tt }
-begin_law party past c w false = record { cause = tt; own = tt; answers = tt; tells = tt }
+begin_law party past c w true = record { cause = tt; own = tt; suits = tt; answers = tt; tells = tt; done = tt; spins = (refl, refl) }
+begin_law party past c w false = record { cause = tt; own = tt; suits = tt; answers = tt; tells = tt; done = tt; spins = (refl, refl) }
 
 -- the closure that ends is the call's own, and was the first to begin
 own_began :
@@ -335,16 +393,16 @@ own_began z parties party past run c called begun most =
 
 step_law :
     {T : Type 0} (z : Arithmetic T) (parties party : ℕ) (past : List (Event T)) → IsPast z once_table parties past → (c : PendingCall T) → call_of party past ≡ Some c →
-    (place : OncePlace) (hold : Option HoldKind) (memory : Word → ℕ) → AtOnce place c hold → IsState (memory words.State) (begins_in past) (ends_in past) →
+    (place : OncePlace) (hold : Option HoldKind) (memory : Word → ℕ) → AtOnce place c hold → c.call ≡ call_at place → IsState (memory words.State) (begins_in past) (ends_in past) →
     EventLaw party past (memory words.State) (Some c) (step_at once_table place hold memory)
-step_law z parties party past run c called places.IsCompleted hold memory at state = flag_law party past c (memory words.State) (memory words.State == 2) state refl
-step_law z parties party past run c called places.Look hold memory at state = seen_law party past c (memory words.State) places.Begin (memory words.State == 2) state refl
-step_law z parties party past run c called places.Begin hold memory at state = begin_law party past c (memory words.State) (memory words.State == 0)
-step_law z parties party past run c called places.Run hold memory at state =
-    record { cause = tt; own = own_began z parties party past run c called at.0 (at_most_one _ _ _ state).0; answers = tt; tells = tt }
-step_law z parties party past run c called places.Complete hold memory at state =
-    record { cause = tt; own = tt; answers = omega (arith, at, own_among is_end past party c called, (at_most_one _ _ _ state).1); tells = tt }
-step_law z parties party past run c called places.Stay hold memory at state = seen_law party past c (memory words.State) places.Stay (memory words.State == 2) state refl
+step_law z parties party past run c called places.IsCompleted hold memory at its state = flag_law party past c (memory words.State) (memory words.State == 2) its state refl
+step_law z parties party past run c called places.Look hold memory at its state = seen_law party past c (memory words.State) places.Begin (memory words.State == 2) its state refl
+step_law z parties party past run c called places.Begin hold memory at its state = begin_law party past c (memory words.State) (memory words.State == 0)
+step_law z parties party past run c called places.Run hold memory at its state =
+    record { cause = tt; own = own_began z parties party past run c called at.0 (at_most_one _ _ _ state).0; suits = tt; answers = tt; tells = tt; done = tt; spins = (refl, refl) }
+step_law z parties party past run c called places.Complete hold memory at its state =
+    record { cause = tt; own = tt; suits = suits_at c places.Complete _ its refl; answers = omega (arith, at, own_among is_end past party c called, (at_most_one _ _ _ state).1); tells = tt; done = refl; spins = (refl, refl) }
+step_law z parties party past run c called places.Stay hold memory at its state = seen_law party past c (memory words.State) places.Stay (memory words.State == 2) its state refl
 
 event_law :
     {T : Type 0} (z : Arithmetic T) (parties : ℕ) (past : List (Event T)) (e : Event T) → IsPast z once_table parties (e ∷ past) →
@@ -353,17 +411,18 @@ event_law {T} z parties past e run =
     by_move once_table (call_of e.party past) (hold_of once_table e.party past) (word_in once_table past)
     (λ (k : Option (PendingCall T)) (m : Move T). EventLaw e.party past (word_in once_table past words.State) k m)
     run.0.0 (record { act = e.act; outcome = e.then })
-    (λ call _. record { cause = tt; own = tt; answers = tt; tells = tt })
-    (λ action _. record { cause = tt; own = tt; answers = tt; tells = tt })
-    (λ choice _. record { cause = tt; own = tt; answers = tt; tells = tt })
+    (λ call _. record { cause = tt; own = tt; suits = tt; answers = tt; tells = tt; done = tt; spins = (refl, refl) })
+    (λ action _. record { cause = tt; own = tt; suits = tt; answers = tt; tells = tt; done = tt; spins = (refl, refl) })
+    (λ choice _. record { cause = tt; own = tt; suits = tt; answers = tt; tells = tt; done = tt; spins = (refl, refl) })
     (λ c place _ called stage.
     step_law z parties e.party past run.1 c called place (hold_of once_table e.party past) (word_in once_table past)
-    (at_place z once_table parties AtOnce once_kept past run.1 e.party c place called stage) (once_front z parties past run.1).state)
+    (at_place z once_table parties AtOnce once_kept past run.1 e.party c place called stage) (at_place z once_table parties IsItsCall its_call_kept past run.1 e.party c place called stage)
+    (once_front z parties past run.1).state)
     run.0.1.moved
 
 pub keeps_once : {T : Type 0} (z : Arithmetic T) (parties : ℕ) (past : List (Event T)) → IsPast z once_table parties past → KeepsOnce past
 keeps_once z parties [] run =
-    record { told = tt; unheld = refl; cause = tt; law = record { one = omega arith; ends = omega arith; own = tt; answers = tt; tells = tt; state = tells_state [] (once_front z parties [] run).state } }
+    record { told = tt; unheld = refl; cause = tt; law = record { one = omega arith; ends = omega arith; own = tt; suits = tt; answers = tt; tells = tt; done = tt; stays = tt; spins = tt; state = tells_state [] (once_front z parties [] run).state } }
 keeps_once z parties (e ∷ past) run =
     let event = event_law z parties past e run in
     let front = once_front z parties (e ∷ past) run in
@@ -372,7 +431,7 @@ keeps_once z parties (e ∷ past) run =
       told = tells_memory z once_table parties (e ∷ past) run;
       unheld = no_holds once_table (λ call from to. refl) (e ∷ past);
       cause = event.cause;
-      law = record { one = most.0; ends = most.2; own = event.own; answers = event.answers; tells = event.tells; state = tells_state (e ∷ past) front.state };
+      law = record { one = most.0; ends = most.2; own = event.own; suits = event.suits; answers = event.answers; tells = event.tells; done = event.done; stays = stays_complete z parties past e run; spins = event.spins; state = tells_state (e ∷ past) front.state };
     }
 
 -- a once has no other word

@@ -1,14 +1,16 @@
 -- What a once keeps at every front of every run: one closure runs, once, and ends before any call tells of it.
-use Rattle.std.specs.Prelude.{◌≡◌, ◌≤◌, ℕ, ◌==◌, ◌↔◌, Bool, true, false, Option, Some, None, IfSome, List, [], ◌∷◌, MatchBool}
+use Rattle.std.specs.Prelude.{◌≡◌, ◌≤◌, ℕ, ◌==◌, ◌↔◌, Bool, true, false, Option, Some, None, IfSome, List, [], ◌∷◌, MatchBool, MatchOption}
 use Rattle.steps_events.specs.declared.event.Word.TheVariants as words
 use Rattle.steps_events.specs.declared.event.Act.{Act}
 use Rattle.steps_events.specs.declared.event.Act.TheVariants as acts
+use Rattle.steps_events.specs.declared.event.Answer.{Answer}
 use Rattle.steps_events.specs.declared.event.Answer.TheVariants as answers
 use Rattle.steps_events.specs.declared.event.Call.{Call}
+use Rattle.steps_events.specs.declared.event.Call.TheVariants as calls
 use Rattle.steps_events.specs.declared.event.Then.{Then}
 use Rattle.steps_events.specs.declared.event.Then.TheVariants as thens
 use Rattle.steps_events.specs.declared.event.Event.{Event}
-use Rattle.steps_events.specs.Past.{holds_of, word_in}
+use Rattle.steps_events.specs.Past.{call_of, holds_of, word_in}
 use Rattle.steps_events.specs.Sights.{AtLast, is_done_exchange, acts_in}
 use Rattle.steps_events.specs.Laws.{TellsMemory, HasCause}
 use Rattle.steps_once.specs.Table.{once_table}
@@ -40,6 +42,21 @@ EndsItsOwn (e ∷ past) = MatchBool (is_end e.act) (AtLast is_begin (λ before. 
 
 -- The answers.
 
+-- `CallOnce` answers `Done` alone, and `IsCompleted` a flag
+abbrev pub IsAnswerOf : {T : Type 0} → Call T → Answer T → Type 0
+IsAnswerOf calls.CallOnce answer = answer ≡ answers.Done
+IsAnswerOf calls.IsCompleted answer = (flag : Bool) × (answer ≡ answers.Flag flag)
+IsAnswerOf other answer = ⊥
+
+abbrev pub answer_of : {T : Type 0} → Then T → Option (Answer T)
+answer_of (thens.Answers answer) = Some answer
+answer_of other = None
+
+-- the latest event answers as its call does, if it answers
+abbrev pub AnswersItsCall : {T : Type 0} → List (Event T) → Type 0
+AnswersItsCall [] = Unit {0}
+AnswersItsCall (e ∷ past) = IfSome (answer_of e.then) (λ answer. MatchOption (call_of e.party past) ⊥ (λ c. IsAnswerOf c.call answer))
+
 -- `Done` and `true` tell that the closure has ended
 abbrev pub tells_end : {T : Type 0} → Then T → Bool
 tells_end (thens.Answers answers.Done) = true
@@ -59,6 +76,36 @@ abbrev pub TellsCompletion : {T : Type 0} → List (Event T) → Type 0
 TellsCompletion [] = Unit {0}
 TellsCompletion (e ∷ past) = IfSome (flag_of e.then) (λ flag. flag ≡ (word_in once_table past words.State == 2))
 
+abbrev pub is_done : {T : Type 0} → Then T → Bool
+is_done (thens.Answers answers.Done) = true
+is_done other = false
+
+-- the latest event answers `Done` only where it leaves the word at 2
+abbrev pub DoneAtTwo : {T : Type 0} → List (Event T) → Type 0
+DoneAtTwo [] = Unit {0}
+DoneAtTwo (e ∷ past) = MatchBool (is_done e.then) (word_in once_table (e ∷ past) words.State ≡ 2) (Unit {0})
+
+-- a word that is 2 is so for good: the latest event leaves it
+abbrev pub StaysTwo : {T : Type 0} → List (Event T) → Type 0
+StaysTwo [] = Unit {0}
+StaysTwo (e ∷ past) = word_in once_table past words.State ≡ 2 → word_in once_table (e ∷ past) words.State ≡ 2
+
+-- How a call waits.
+
+abbrev pub stands : {T : Type 0} → Then T → Bool
+stands (thens.Waits seen) = true
+stands (thens.Chooses old) = true
+stands other = false
+
+abbrev pub is_wake : {T : Type 0} → Act T → Bool
+is_wake (acts.Woke wake) = true
+is_wake act = false
+
+-- the latest event leaves its call at no wait or choice closure, and wakes nobody
+abbrev pub OnlySpins : {T : Type 0} → List (Event T) → Type 0
+OnlySpins [] = Unit {0}
+OnlySpins (e ∷ past) = (stands e.then ≡ false) × (is_wake e.act ≡ false)
+
 -- The word: 0 until a closure begins, and 2 only once it has ended.
 pub record TellsState {T : Type 0} (past : List (Event T)) : Type 0 where
   pub begun : (word_in once_table past words.State ≡ 0) ↔ (begins_in past ≡ 0)
@@ -73,10 +120,18 @@ pub record OnceLaw {T : Type 0} (past : List (Event T)) : Type 0 where
   pub ends : ends_in past ≤ begins_in past
   -- it ends in the call that began it
   pub own : EndsItsOwn past
+  -- `CallOnce` answers `Done` alone, and `IsCompleted` a flag
+  pub suits : AnswersItsCall past
   -- `Done` and `true` come after its end
   pub answers : AnswersAfterEnd past
   -- `IsCompleted` answers whether the word is 2
   pub tells : TellsCompletion past
+  -- once `Done` has been answered the word is 2
+  pub done : DoneAtTwo past
+  -- and 2 it stays
+  pub stays : StaysTwo past
+  -- a call that waits spins: none stands at a closure, and none wakes
+  pub spins : OnlySpins past
   pub state : TellsState past
 
 pub record KeepsOnce {T : Type 0} (past : List (Event T)) : Type 0 where
