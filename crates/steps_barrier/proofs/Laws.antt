@@ -24,7 +24,7 @@ use Rattle.steps_events.specs.Rows.{carried_out, value_told, outcome_of, place_a
 use Rattle.steps_events.specs.Past.{same_word, PendingCall, call_of, hold_of, word_in, word_after, event}
 use Rattle.steps_events.specs.Moves.{Move, step_at}
 use Rattle.steps_events.specs.Runs.{IsPast}
-use Rattle.steps_events.specs.Sights.{is_sight, AtLast, spins_in, stands_at_wait, last_of}
+use Rattle.steps_events.specs.Sights.{is_sight, AtLast, goes_on, spins_in, stands_at_wait, last_of}
 use Rattle.steps_events.specs.Laws.{Lacks, is_refusal}
 use Rattle.steps_events.proofs.Holds.{no_holds}
 use Rattle.steps_events.proofs.Steps.{by_move, tells_memory}
@@ -283,7 +283,12 @@ pub record EventLaw {T : Type 0} (n party : ℕ) (past : List (Event T)) (pendin
   pub asks : MatchBool (stands_at_wait m.outcome) (MatchOption pending ⊥ (λ c. spins_in (is_sight words.State) (since_arrival c.own) ≡ 10000)) (Unit {0})
   pub answers : EndsOkOrFull m.outcome
   pub tells : IsToldSight m.act m.outcome
+  pub spins : is_sight words.State m.act ≡ true → MatchOption pending ⊥ (λ c. 0 < arrivals_in c.own) →
+      MatchBool (goes_on m.outcome) (MatchOption pending ⊥ (λ c. spins_in (is_sight words.State) (since_arrival c.own) < 10000)) (Unit {0})
   pub leaves : is_sight words.State m.act ≡ true → MatchOption pending ⊥ (λ c. 0 < arrivals_in c.own) → LeavesAt n party past m.outcome
+
+spins_fewer : (spins spun : ℕ) → spun ≡ spins → nat_lt spins 10000 ≡ true → spun < 10000
+spins_fewer spins spun is left = omega (arith, is, spins_left spins left)
 
 -- only a barrier of 0 refuses
 nobody_fits : (n m arrivals v : ℕ) → n < 2 ^ 32 → CountsArrivals n arrivals v → m ≡ n → nat_lt (count_of v) m ≡ false → n ≡ 0
@@ -297,7 +302,7 @@ look_law :
     {T : Type 0} (n m party : ℕ) (past : List (Event T)) (c : PendingCall T) (act : Act T) (v : ℕ) (below : Bool) → n < 2 ^ 32 → c.call ≡ calls.Wait → m ≡ n → arrivals_in c.own ≡ 0 → CountsArrivals n (arrivals_in past) v →
     is_arrival act ≡ false → nat_lt (count_of v) m ≡ below → EventLaw n party past (Some c) (record { act = act; outcome = outcome_of {T = T} (look_after m v below) })
 look_law n m party past c act v true fits wait same first counts quiet below =
-    record { cause = tt; once = rw quiet tt; passes = tt; wakes = tt; exact = λ sees. (λ full. absurd cc, λ none. absurd (none_of v n (below_of v m n same below) none)); asks = tt; answers = tt; tells = tt; leaves = λ sees arrived. absurd (omega (arith, first, arrived)) }
+    record { cause = tt; once = rw quiet tt; passes = tt; wakes = tt; exact = λ sees. (λ full. absurd cc, λ none. absurd (none_of v n (below_of v m n same below) none)); asks = tt; answers = tt; tells = tt; spins = λ sees arrived. absurd (omega (arith, first, arrived)); leaves = λ sees arrived. absurd (omega (arith, first, arrived)) }
 look_law {T} n m party past c act v false fits wait same first counts quiet below =
     let none : n ≡ 0 = nobody_fits n m (arrivals_in past) v fits counts same below in
     let refuses : Event T = event party act (thens.Answers answers.Full) in
@@ -310,14 +315,15 @@ look_law {T} n m party past c act v false fits wait same first counts quiet belo
       asks = tt;
       answers = tt;
       tells = tt;
+      spins = λ sees arrived. absurd (omega (arith, first, arrived));
       leaves = λ sees arrived. absurd (omega (arith, first, arrived));
     }
 
 joined_law :
     {T : Type 0} (n party : ℕ) (past : List (Event T)) (c : PendingCall T) (seen to w : ℕ) (fills : Bool) → count_of seen < n → arrivals_in c.own ≡ 0 →
     EventLaw n party past (Some c) (record { act = acts.Exchange words.State seen to w true; outcome = outcome_of {T = T} (joined_after seen fills) })
-joined_law n party past c seen to w true below first = record { cause = tt; once = first; passes = tt; wakes = tt; exact = λ sees. (λ full. absurd cc, λ none. absurd (none_of seen n below none)); asks = tt; answers = tt; tells = tt; leaves = λ sees arrived. absurd (omega (arith, first, arrived)) }
-joined_law n party past c seen to w false below first = record { cause = tt; once = first; passes = tt; wakes = tt; exact = λ sees. (λ full. absurd cc, λ none. absurd (none_of seen n below none)); asks = tt; answers = tt; tells = tt; leaves = λ sees arrived. absurd (omega (arith, first, arrived)) }
+joined_law n party past c seen to w true below first = record { cause = tt; once = first; passes = tt; wakes = tt; exact = λ sees. (λ full. absurd cc, λ none. absurd (none_of seen n below none)); asks = tt; answers = tt; tells = tt; spins = λ sees arrived. absurd (omega (arith, first, arrived)); leaves = λ sees arrived. absurd (omega (arith, first, arrived)) }
+joined_law n party past c seen to w false below first = record { cause = tt; once = first; passes = tt; wakes = tt; exact = λ sees. (λ full. absurd cc, λ none. absurd (none_of seen n below none)); asks = tt; answers = tt; tells = tt; spins = λ sees arrived. absurd (omega (arith, first, arrived)); leaves = λ sees arrived. absurd (omega (arith, first, arrived)) }
 
 arrive_law :
     {T : Type 0} (n m party : ℕ) (past : List (Event T)) (c : PendingCall T) (seen to w : ℕ) (done : Bool) → n < 2 ^ 32 → c.call ≡ calls.Wait → m ≡ n → count_of seen < n → arrivals_in c.own ≡ 0 → CountsArrivals n (arrivals_in past) w →
@@ -343,14 +349,15 @@ stay_law z n parties fits party past run c called hold epoch spins w false left 
       asks = tt;
       answers = tt;
       tells = tt;
+      spins = λ sight arrived. tt;
       leaves = λ sight arrived. leaves_by_epoch z n parties fits party past run c called v w at.1.1 counts (thens.Answers answers.Ok) (λ ok. other, λ other. refl);
     }
 stay_law z n parties fits party past run c called hold epoch spins w true true at counts sees spun =
     let epoch_seen : epoch_of w ≡ epoch_of at.1.0 = eqb-true (epoch_of w) epoch sees ∙ sym at.1.2 in
-    record { cause = tt; once = tt; passes = tt; wakes = tt; exact = λ sight. (λ full. absurd cc, λ none. absurd (none_of at.1.0 n at.1.1.3 none)); asks = tt; answers = tt; tells = tt; leaves = λ sight arrived. leaves_by_epoch z n parties fits party past run c called at.1.0 w at.1.1 counts thens.GoesOn (λ ok. absurd cc, λ other. absurd (other epoch_seen)) }
+    record { cause = tt; once = tt; passes = tt; wakes = tt; exact = λ sight. (λ full. absurd cc, λ none. absurd (none_of at.1.0 n at.1.1.3 none)); asks = tt; answers = tt; tells = tt; spins = λ sight arrived. spins_fewer spins (spins_in (is_sight words.State) (since_arrival c.own)) at.2 spun; leaves = λ sight arrived. leaves_by_epoch z n parties fits party past run c called at.1.0 w at.1.1 counts thens.GoesOn (λ ok. absurd cc, λ other. absurd (other epoch_seen)) }
 stay_law z n parties fits party past run c called hold epoch spins w true false at counts sees spun =
     let epoch_seen : epoch_of w ≡ epoch_of at.1.0 = eqb-true (epoch_of w) epoch sees ∙ sym at.1.2 in
-    record { cause = tt; once = tt; passes = tt; wakes = tt; exact = λ sight. (λ full. absurd cc, λ none. absurd (none_of at.1.0 n at.1.1.3 none)); asks = at.2 ∙ spins_spent spins at.3 spun; answers = tt; tells = refl; leaves = λ sight arrived. leaves_by_epoch z n parties fits party past run c called at.1.0 w at.1.1 counts (thens.Waits w) (λ ok. absurd cc, λ other. absurd (other epoch_seen)) }
+    record { cause = tt; once = tt; passes = tt; wakes = tt; exact = λ sight. (λ full. absurd cc, λ none. absurd (none_of at.1.0 n at.1.1.3 none)); asks = at.2 ∙ spins_spent spins at.3 spun; answers = tt; tells = refl; spins = λ sight arrived. tt; leaves = λ sight arrived. leaves_by_epoch z n parties fits party past run c called at.1.0 w at.1.1 counts (thens.Waits w) (λ ok. absurd cc, λ other. absurd (other epoch_seen)) }
 
 step_law :
     {T : Type 0} (z : Arithmetic T) (n parties : ℕ) → n < 2 ^ 32 → (party : ℕ) (past : List (Event T)) → IsPast z (barrier_table n) parties past → (c : PendingCall T) → call_of party past ≡ Some c →
@@ -373,6 +380,7 @@ step_law z n parties fits party past run c called places.Wake hold memory at cou
       asks = tt;
       answers = tt;
       tells = tt;
+      spins = λ sees arrived. absurd cc;
       leaves = λ sees arrived. absurd cc;
     }
 step_law z n parties fits party past run c called (places.Stay epoch spins) hold memory at counts =
@@ -384,23 +392,23 @@ event_law {T} z n parties fits past e run =
     by_move (barrier_table n) (call_of e.party past) (hold_of (barrier_table n) e.party past) (word_in (barrier_table n) past)
     (λ (k : Option (PendingCall T)) (m : Move T). EventLaw n e.party past k m)
     run.0.0 (record { act = e.act; outcome = e.then })
-    (λ call _. record { cause = tt; once = tt; passes = tt; wakes = tt; exact = λ sees. absurd cc; asks = tt; answers = tt; tells = tt; leaves = λ sees arrived. absurd cc })
-    (λ action _. record { cause = tt; once = tt; passes = tt; wakes = tt; exact = λ sees. absurd cc; asks = tt; answers = tt; tells = tt; leaves = λ sees arrived. absurd cc })
-    (λ choice _. record { cause = tt; once = tt; passes = tt; wakes = tt; exact = λ sees. absurd cc; asks = tt; answers = tt; tells = tt; leaves = λ sees arrived. absurd cc })
+    (λ call _. record { cause = tt; once = tt; passes = tt; wakes = tt; exact = λ sees. absurd cc; asks = tt; answers = tt; tells = tt; spins = λ sees arrived. absurd cc; leaves = λ sees arrived. absurd cc })
+    (λ action _. record { cause = tt; once = tt; passes = tt; wakes = tt; exact = λ sees. absurd cc; asks = tt; answers = tt; tells = tt; spins = λ sees arrived. absurd cc; leaves = λ sees arrived. absurd cc })
+    (λ choice _. record { cause = tt; once = tt; passes = tt; wakes = tt; exact = λ sees. absurd cc; asks = tt; answers = tt; tells = tt; spins = λ sees arrived. absurd cc; leaves = λ sees arrived. absurd cc })
     (λ c place _ called stage.
     step_law z n parties fits e.party past run.1 c called place (hold_of (barrier_table n) e.party past) (word_in (barrier_table n) past)
     (at_place z (barrier_table n) parties (AtBarrier n) (barrier_kept n) past run.1 e.party c place called stage) (barrier_counts z n parties fits past run.1))
     run.0.1.moved
 
 pub keeps_barrier : {T : Type 0} (z : Arithmetic T) (n parties : ℕ) (past : List (Event T)) → n < 2 ^ 32 → IsPast z (barrier_table n) parties past → KeepsBarrier n past
-keeps_barrier z n parties [] fits run = record { told = tt; unheld = refl; cause = tt; law = record { counts = barrier_counts z n parties fits [] run; nobody = nobody_arrives z n parties [] run; once = tt; passes = tt; wakes = tt; leaves = tt; exact = tt; asks = tt; tells = tt; answers = tt } }
+keeps_barrier z n parties [] fits run = record { told = tt; unheld = refl; cause = tt; law = record { counts = barrier_counts z n parties fits [] run; nobody = nobody_arrives z n parties [] run; once = tt; passes = tt; wakes = tt; leaves = tt; exact = tt; asks = tt; spins = tt; tells = tt; answers = tt } }
 keeps_barrier z n parties (e ∷ past) fits run =
     let event = event_law z n parties fits past e run in
     record {
       told = tells_memory z (barrier_table n) parties (e ∷ past) run;
       unheld = no_holds (barrier_table n) (λ call from to. refl) (e ∷ past);
       cause = event.cause;
-      law = record { counts = barrier_counts z n parties fits (e ∷ past) run; nobody = nobody_arrives z n parties (e ∷ past) run; once = event.once; passes = event.passes; leaves = event.leaves; wakes = event.wakes; exact = event.exact; asks = event.asks; tells = event.tells; answers = event.answers };
+      law = record { counts = barrier_counts z n parties fits (e ∷ past) run; nobody = nobody_arrives z n parties (e ∷ past) run; once = event.once; passes = event.passes; leaves = event.leaves; wakes = event.wakes; exact = event.exact; asks = event.asks; spins = event.spins; tells = event.tells; answers = event.answers };
     }
 
 -- a barrier has no other word

@@ -11,7 +11,7 @@ use Rattle.steps_events.specs.declared.event.Then.{Then}
 use Rattle.steps_events.specs.declared.event.Then.TheVariants as thens
 use Rattle.steps_events.specs.declared.event.Event.{Event}
 use Rattle.steps_events.specs.Past.{call_of, holds_of, word_in}
-use Rattle.steps_events.specs.Sights.{sight_of, is_sight, AtLast, spins_in, stands_at_wait}
+use Rattle.steps_events.specs.Sights.{sight_of, is_sight, AtLast, goes_on, spins_in, stands_at_wait}
 use Rattle.steps_events.specs.Laws.{TellsMemory, HasCause}
 use Rattle.steps_barrier.specs.Rounds.{is_arrival, arrivals_in, round_of, full_rounds, IsFull, CountsArrivals}
 use Rattle.steps_barrier.specs.Table.{barrier_table}
@@ -93,6 +93,14 @@ AsksAfterStaying (e ∷ past) =
     (MatchOption (call_of e.party past) ⊥ (λ c. spins_in (is_sight words.State) (since_arrival c.own) ≡ 10000))
     (Unit {0})
 
+-- a call that has arrived spins 10000 times at most: a look by which it goes on by itself comes after fewer
+abbrev pub SpinsNoMore : {T : Type 0} → List (Event T) → Type 0
+SpinsNoMore [] = Unit {0}
+SpinsNoMore (e ∷ past) =
+    is_sight words.State e.act ≡ true →
+    HasArrived e.party past →
+    MatchBool (goes_on e.then) (MatchOption (call_of e.party past) ⊥ (λ c. spins_in (is_sight words.State) (since_arrival c.own) < 10000)) (Unit {0})
+
 -- where a call is left at its wait closure, the closure is told what the act saw of the word
 abbrev pub IsToldSight : {T : Type 0} → Act T → Then T → Type 0
 IsToldSight act (thens.Waits told) = sight_of words.State act ≡ Some told
@@ -121,6 +129,8 @@ pub record BarrierLaw {T : Type 0} (n : ℕ) (past : List (Event T)) : Type 0 wh
   pub exact : IsExactRefusal n past
   -- a wait closure is asked after 10000 spins, which are looks since the call's arrival
   pub asks : AsksAfterStaying past
+  -- a call that has arrived spins 10000 times at most
+  pub spins : SpinsNoMore past
   -- and told the whole word that the latest look saw
   pub tells : TellsSight past
   -- a call comes back with `Ok` or `Full` alone
