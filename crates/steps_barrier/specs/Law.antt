@@ -63,6 +63,18 @@ FillerWakesAll n (e ∷ past) =
     (MatchBool (is_wake_of_all e.act) (Unit {0}) (AtLast is_arrival (λ before. arrivals_in before % n + 1 ≢ n) e.party past))
     (Unit {0})
 
+abbrev pub is_wake : {T : Type 0} → Act T → Bool
+is_wake (acts.Woke wake) = true
+is_wake act = false
+
+-- only who fills a round wakes: the latest event is a wake only where the call's own arrival made n, and then it wakes all and the call answers `Ok`
+abbrev pub WakesAsFiller : {T : Type 0} → ℕ → List (Event T) → Type 0
+WakesAsFiller n [] = Unit {0}
+WakesAsFiller n (e ∷ past) =
+    MatchBool (is_wake e.act)
+    ((is_wake_of_all e.act ≡ true) × (e.then ≡ thens.Answers answers.Ok) × AtLast is_arrival (λ before. arrivals_in before % n + 1 ≡ n) e.party past)
+    (Unit {0})
+
 -- `Ok` or `Full`, where it is an answer
 abbrev pub EndsOkOrFull : {T : Type 0} → Then T → Type 0
 EndsOkOrFull (thens.Answers answers.Ok) = Unit {0}
@@ -125,12 +137,14 @@ pub record BarrierLaw {T : Type 0} (n : ℕ) (past : List (Event T)) : Type 0 wh
   pub leaves : LeavesByItsLook n past
   -- the call that filled a round answers as it wakes all
   pub wakes : FillerWakesAll n past
+  -- and no other call wakes
+  pub alone : WakesAsFiller n past
   -- a barrier of 0 refuses each call, and no other refuses any
   pub exact : IsExactRefusal n past
-  -- a wait closure is asked after 10000 spins, which are looks since the call's arrival
-  pub asks : AsksAfterStaying past
   -- a call that has arrived spins 10000 times at most
   pub spins : SpinsNoMore past
+  -- a wait closure is asked after 10000 spins, which are looks since the call's arrival
+  pub asks : AsksAfterStaying past
   -- and told the whole word that the latest look saw
   pub tells : TellsSight past
   -- a call comes back with `Ok` or `Full` alone
