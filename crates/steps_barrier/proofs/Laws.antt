@@ -24,7 +24,7 @@ use Rattle.steps_events.specs.Rows.{carried_out, value_told, outcome_of, place_a
 use Rattle.steps_events.specs.Past.{same_word, PendingCall, call_of, hold_of, word_in, word_after, event}
 use Rattle.steps_events.specs.Moves.{Move, step_at}
 use Rattle.steps_events.specs.Runs.{IsPast}
-use Rattle.steps_events.specs.Sights.{is_sight, AtLast, spins_in, stands_at_wait, last_of}
+use Rattle.steps_events.specs.Sights.{is_sight, AtLast, goes_on, spins_in, stands_at_wait, last_of}
 use Rattle.steps_events.specs.Laws.{Lacks, is_refusal}
 use Rattle.steps_events.proofs.Holds.{no_holds}
 use Rattle.steps_events.proofs.Steps.{by_move, tells_memory}
@@ -35,7 +35,7 @@ use Rattle.steps_barrier.specs.declared.BarrierPlace.{BarrierPlace}
 use Rattle.steps_barrier.specs.declared.BarrierPlace.TheVariants as places
 use Rattle.steps_barrier.specs.Rounds.{epoch_of, count_of, with_arrival, is_arrival, arrivals_in, round_of, full_rounds, IsFull, CountsArrivals}
 use Rattle.steps_barrier.specs.Table.{barrier_table, barrier_begins, barrier_intent, barrier_after}
-use Rattle.steps_barrier.specs.Law.{BarrierCause, is_ok, is_wake_of_all, since_arrival, EndsOkOrFull, IsToldSight, KeepsBarrier}
+use Rattle.steps_barrier.specs.Law.{BarrierCause, is_ok, is_wake_of_all, is_wake, since_arrival, EndsOkOrFull, IsToldSight, KeepsBarrier}
 use Rattle.steps_barrier.proofs.Rounds.{count_is, epoch_is, counts_none, counts_more, later_epoch, filled_round, is_full}
 
 -- What is kept of a call at its place.
@@ -252,6 +252,16 @@ own_not_last z n parties fits party past run c called v arrived other =
     (λ before own is. other (omega (arith, is, count_is n (arrivals_in before) v some fits own.1)))
     party past (own_arrival z n parties fits party past run c called v arrived)
 
+-- and filled it, where it did
+own_is_last :
+    {T : Type 0} (z : Arithmetic T) (n parties : ℕ) → n < 2 ^ 32 → (party : ℕ) (past : List (Event T)) → IsPast z (barrier_table n) parties past → (c : PendingCall T) → call_of party past ≡ Some c →
+    (v : ℕ) → ArrivedFrom n v c.own → count_of v + 1 ≡ n → AtLast is_arrival (λ before. arrivals_in before % n + 1 ≡ n) party past
+own_is_last z n parties fits party past run c called v arrived last =
+    let some : 0 < n = omega (arith, arrived.3) in
+    at_last_maps is_arrival (λ before. (arrivals_in before < arrivals_in past) × CountsArrivals n (arrivals_in before) v) (λ before. arrivals_in before % n + 1 ≡ n)
+    (λ before own. omega (arith, last, count_is n (arrivals_in before) v some fits own.1))
+    party past (own_arrival z n parties fits party past run c called v arrived)
+
 -- It leaves exactly where it sees another epoch than that of its arrival.
 
 abbrev pub LeavesAt : {T : Type 0} → ℕ → ℕ → List (Event T) → Then T → Type 0
@@ -281,9 +291,15 @@ pub record EventLaw {T : Type 0} (n party : ℕ) (past : List (Event T)) (pendin
   pub wakes : MatchBool (is_ok m.outcome) (MatchBool (is_wake_of_all m.act) (Unit {0}) (AtLast is_arrival (λ before. arrivals_in before % n + 1 ≢ n) party past)) (Unit {0})
   pub exact : is_sight words.State m.act ≡ true → ((m.outcome ≡ thens.Answers answers.Full) ↔ (n ≡ 0))
   pub asks : MatchBool (stands_at_wait m.outcome) (MatchOption pending ⊥ (λ c. spins_in (is_sight words.State) (since_arrival c.own) ≡ 10000)) (Unit {0})
+  pub alone : MatchBool (is_wake m.act) ((is_wake_of_all m.act ≡ true) × (m.outcome ≡ thens.Answers answers.Ok) × AtLast is_arrival (λ before. arrivals_in before % n + 1 ≡ n) party past) (Unit {0})
   pub answers : EndsOkOrFull m.outcome
   pub tells : IsToldSight m.act m.outcome
+  pub spins : is_sight words.State m.act ≡ true → MatchOption pending ⊥ (λ c. 0 < arrivals_in c.own) →
+      MatchBool (goes_on m.outcome) (MatchOption pending ⊥ (λ c. spins_in (is_sight words.State) (since_arrival c.own) < 10000)) (Unit {0})
   pub leaves : is_sight words.State m.act ≡ true → MatchOption pending ⊥ (λ c. 0 < arrivals_in c.own) → LeavesAt n party past m.outcome
+
+spins_fewer : (spins spun : ℕ) → spun ≡ spins → nat_lt spins 10000 ≡ true → spun < 10000
+spins_fewer spins spun is left = omega (arith, is, spins_left spins left)
 
 -- only a barrier of 0 refuses
 nobody_fits : (n m arrivals v : ℕ) → n < 2 ^ 32 → CountsArrivals n arrivals v → m ≡ n → nat_lt (count_of v) m ≡ false → n ≡ 0
@@ -295,10 +311,10 @@ nobody_fits (suc k) m arrivals v fits counts same below =
 
 look_law :
     {T : Type 0} (n m party : ℕ) (past : List (Event T)) (c : PendingCall T) (act : Act T) (v : ℕ) (below : Bool) → n < 2 ^ 32 → c.call ≡ calls.Wait → m ≡ n → arrivals_in c.own ≡ 0 → CountsArrivals n (arrivals_in past) v →
-    is_arrival act ≡ false → nat_lt (count_of v) m ≡ below → EventLaw n party past (Some c) (record { act = act; outcome = outcome_of {T = T} (look_after m v below) })
-look_law n m party past c act v true fits wait same first counts quiet below =
-    record { cause = tt; once = rw quiet tt; passes = tt; wakes = tt; exact = λ sees. (λ full. absurd cc, λ none. absurd (none_of v n (below_of v m n same below) none)); asks = tt; answers = tt; tells = tt; leaves = λ sees arrived. absurd (omega (arith, first, arrived)) }
-look_law {T} n m party past c act v false fits wait same first counts quiet below =
+    is_arrival act ≡ false → is_wake act ≡ false → nat_lt (count_of v) m ≡ below → EventLaw n party past (Some c) (record { act = act; outcome = outcome_of {T = T} (look_after m v below) })
+look_law n m party past c act v true fits wait same first counts quiet asleep below =
+    record { cause = tt; once = rw quiet tt; passes = tt; wakes = tt; alone = rw asleep tt; exact = λ sees. (λ full. absurd cc, λ none. absurd (none_of v n (below_of v m n same below) none)); asks = tt; answers = tt; tells = tt; spins = λ sees arrived. absurd (omega (arith, first, arrived)); leaves = λ sees arrived. absurd (omega (arith, first, arrived)) }
+look_law {T} n m party past c act v false fits wait same first counts quiet asleep below =
     let none : n ≡ 0 = nobody_fits n m (arrivals_in past) v fits counts same below in
     let refuses : Event T = event party act (thens.Answers answers.Full) in
     record {
@@ -306,25 +322,27 @@ look_law {T} n m party past c act v false fits wait same first counts quiet belo
       once = rw quiet tt;
       passes = tt;
       wakes = tt;
+      alone = rw asleep tt;
       exact = λ sees. (λ full. none, λ is. refl);
       asks = tt;
       answers = tt;
       tells = tt;
+      spins = λ sees arrived. absurd (omega (arith, first, arrived));
       leaves = λ sees arrived. absurd (omega (arith, first, arrived));
     }
 
 joined_law :
     {T : Type 0} (n party : ℕ) (past : List (Event T)) (c : PendingCall T) (seen to w : ℕ) (fills : Bool) → count_of seen < n → arrivals_in c.own ≡ 0 →
     EventLaw n party past (Some c) (record { act = acts.Exchange words.State seen to w true; outcome = outcome_of {T = T} (joined_after seen fills) })
-joined_law n party past c seen to w true below first = record { cause = tt; once = first; passes = tt; wakes = tt; exact = λ sees. (λ full. absurd cc, λ none. absurd (none_of seen n below none)); asks = tt; answers = tt; tells = tt; leaves = λ sees arrived. absurd (omega (arith, first, arrived)) }
-joined_law n party past c seen to w false below first = record { cause = tt; once = first; passes = tt; wakes = tt; exact = λ sees. (λ full. absurd cc, λ none. absurd (none_of seen n below none)); asks = tt; answers = tt; tells = tt; leaves = λ sees arrived. absurd (omega (arith, first, arrived)) }
+joined_law n party past c seen to w true below first = record { cause = tt; once = first; passes = tt; wakes = tt; alone = tt; exact = λ sees. (λ full. absurd cc, λ none. absurd (none_of seen n below none)); asks = tt; answers = tt; tells = tt; spins = λ sees arrived. absurd (omega (arith, first, arrived)); leaves = λ sees arrived. absurd (omega (arith, first, arrived)) }
+joined_law n party past c seen to w false below first = record { cause = tt; once = first; passes = tt; wakes = tt; alone = tt; exact = λ sees. (λ full. absurd cc, λ none. absurd (none_of seen n below none)); asks = tt; answers = tt; tells = tt; spins = λ sees arrived. absurd (omega (arith, first, arrived)); leaves = λ sees arrived. absurd (omega (arith, first, arrived)) }
 
 arrive_law :
     {T : Type 0} (n m party : ℕ) (past : List (Event T)) (c : PendingCall T) (seen to w : ℕ) (done : Bool) → n < 2 ^ 32 → c.call ≡ calls.Wait → m ≡ n → count_of seen < n → arrivals_in c.own ≡ 0 → CountsArrivals n (arrivals_in past) w →
     EventLaw n party past (Some c)
     (record { act = acts.Exchange words.State seen to w done; outcome = outcome_of {T = T} (cond done (joined_after seen (count_of seen + 1 == m)) (look_after m w (nat_lt (count_of w) m))) })
 arrive_law n m party past c seen to w true fits wait same below first counts = joined_law n party past c seen to w (count_of seen + 1 == m) below first
-arrive_law n m party past c seen to w false fits wait same below first counts = look_law n m party past c (acts.Exchange words.State seen to w false) w (nat_lt (count_of w) m) fits wait same first counts refl refl
+arrive_law n m party past c seen to w false fits wait same below first counts = look_law n m party past c (acts.Exchange words.State seen to w false) w (nat_lt (count_of w) m) fits wait same first counts refl refl refl
 
 stay_law :
     {T : Type 0} (z : Arithmetic T) (n parties : ℕ) → n < 2 ^ 32 → (party : ℕ) (past : List (Event T)) → IsPast z (barrier_table n) parties past → (c : PendingCall T) → call_of party past ≡ Some c →
@@ -339,18 +357,20 @@ stay_law z n parties fits party past run c called hold epoch spins w false left 
       once = tt;
       passes = own_round_full z n parties fits party past run c called v at.1.1 (λ own before counted. later_epoch n (arrivals_in past) own w v (omega (arith, below)) fits before counts counted other);
       wakes = own_not_last z n parties fits party past run c called v at.1.1 at.1.3;
+      alone = tt;
       exact = λ sight. (λ full. absurd cc, λ none. absurd (none_of v n below none));
       asks = tt;
       answers = tt;
       tells = tt;
+      spins = λ sight arrived. tt;
       leaves = λ sight arrived. leaves_by_epoch z n parties fits party past run c called v w at.1.1 counts (thens.Answers answers.Ok) (λ ok. other, λ other. refl);
     }
 stay_law z n parties fits party past run c called hold epoch spins w true true at counts sees spun =
     let epoch_seen : epoch_of w ≡ epoch_of at.1.0 = eqb-true (epoch_of w) epoch sees ∙ sym at.1.2 in
-    record { cause = tt; once = tt; passes = tt; wakes = tt; exact = λ sight. (λ full. absurd cc, λ none. absurd (none_of at.1.0 n at.1.1.3 none)); asks = tt; answers = tt; tells = tt; leaves = λ sight arrived. leaves_by_epoch z n parties fits party past run c called at.1.0 w at.1.1 counts thens.GoesOn (λ ok. absurd cc, λ other. absurd (other epoch_seen)) }
+    record { cause = tt; once = tt; passes = tt; wakes = tt; alone = tt; exact = λ sight. (λ full. absurd cc, λ none. absurd (none_of at.1.0 n at.1.1.3 none)); asks = tt; answers = tt; tells = tt; spins = λ sight arrived. spins_fewer spins (spins_in (is_sight words.State) (since_arrival c.own)) at.2 spun; leaves = λ sight arrived. leaves_by_epoch z n parties fits party past run c called at.1.0 w at.1.1 counts thens.GoesOn (λ ok. absurd cc, λ other. absurd (other epoch_seen)) }
 stay_law z n parties fits party past run c called hold epoch spins w true false at counts sees spun =
     let epoch_seen : epoch_of w ≡ epoch_of at.1.0 = eqb-true (epoch_of w) epoch sees ∙ sym at.1.2 in
-    record { cause = tt; once = tt; passes = tt; wakes = tt; exact = λ sight. (λ full. absurd cc, λ none. absurd (none_of at.1.0 n at.1.1.3 none)); asks = at.2 ∙ spins_spent spins at.3 spun; answers = tt; tells = refl; leaves = λ sight arrived. leaves_by_epoch z n parties fits party past run c called at.1.0 w at.1.1 counts (thens.Waits w) (λ ok. absurd cc, λ other. absurd (other epoch_seen)) }
+    record { cause = tt; once = tt; passes = tt; wakes = tt; alone = tt; exact = λ sight. (λ full. absurd cc, λ none. absurd (none_of at.1.0 n at.1.1.3 none)); asks = at.2 ∙ spins_spent spins at.3 spun; answers = tt; tells = refl; spins = λ sight arrived. tt; leaves = λ sight arrived. leaves_by_epoch z n parties fits party past run c called at.1.0 w at.1.1 counts (thens.Waits w) (λ ok. absurd cc, λ other. absurd (other epoch_seen)) }
 
 step_law :
     {T : Type 0} (z : Arithmetic T) (n parties : ℕ) → n < 2 ^ 32 → (party : ℕ) (past : List (Event T)) → IsPast z (barrier_table n) parties past → (c : PendingCall T) → call_of party past ≡ Some c →
@@ -358,7 +378,7 @@ step_law :
     EventLaw n party past (Some c) (step_at (barrier_table n) place hold memory)
 step_law z n parties fits party past run c called (places.Look m) hold memory at counts =
     let w = memory words.State in
-    look_law n m party past c (acts.Load words.State w) w (nat_lt (count_of w) m) fits at.0 at.1 at.2 counts refl refl
+    look_law n m party past c (acts.Load words.State w) w (nat_lt (count_of w) m) fits at.0 at.1 at.2 counts refl refl refl
 step_law z n parties fits party past run c called (places.Arrive m seen to) hold memory at counts =
     let w = memory words.State in
     arrive_law n m party past c seen to w (w == seen) fits at.0 at.1 at.2 at.4 counts
@@ -369,10 +389,12 @@ step_law z n parties fits party past run c called places.Wake hold memory at cou
       once = tt;
       passes = own_round_full z n parties fits party past run c called at.1.0 at.1.1 (λ own before counted. filled_round n (arrivals_in past) own at.1.0 some fits before counted at.1.2);
       wakes = tt;
+      alone = (refl, refl, own_is_last z n parties fits party past run c called at.1.0 at.1.1 at.1.2);
       exact = λ sees. absurd cc;
       asks = tt;
       answers = tt;
       tells = tt;
+      spins = λ sees arrived. absurd cc;
       leaves = λ sees arrived. absurd cc;
     }
 step_law z n parties fits party past run c called (places.Stay epoch spins) hold memory at counts =
@@ -384,23 +406,23 @@ event_law {T} z n parties fits past e run =
     by_move (barrier_table n) (call_of e.party past) (hold_of (barrier_table n) e.party past) (word_in (barrier_table n) past)
     (λ (k : Option (PendingCall T)) (m : Move T). EventLaw n e.party past k m)
     run.0.0 (record { act = e.act; outcome = e.then })
-    (λ call _. record { cause = tt; once = tt; passes = tt; wakes = tt; exact = λ sees. absurd cc; asks = tt; answers = tt; tells = tt; leaves = λ sees arrived. absurd cc })
-    (λ action _. record { cause = tt; once = tt; passes = tt; wakes = tt; exact = λ sees. absurd cc; asks = tt; answers = tt; tells = tt; leaves = λ sees arrived. absurd cc })
-    (λ choice _. record { cause = tt; once = tt; passes = tt; wakes = tt; exact = λ sees. absurd cc; asks = tt; answers = tt; tells = tt; leaves = λ sees arrived. absurd cc })
+    (λ call _. record { cause = tt; once = tt; passes = tt; wakes = tt; alone = tt; exact = λ sees. absurd cc; asks = tt; answers = tt; tells = tt; spins = λ sees arrived. absurd cc; leaves = λ sees arrived. absurd cc })
+    (λ action _. record { cause = tt; once = tt; passes = tt; wakes = tt; alone = tt; exact = λ sees. absurd cc; asks = tt; answers = tt; tells = tt; spins = λ sees arrived. absurd cc; leaves = λ sees arrived. absurd cc })
+    (λ choice _. record { cause = tt; once = tt; passes = tt; wakes = tt; alone = tt; exact = λ sees. absurd cc; asks = tt; answers = tt; tells = tt; spins = λ sees arrived. absurd cc; leaves = λ sees arrived. absurd cc })
     (λ c place _ called stage.
     step_law z n parties fits e.party past run.1 c called place (hold_of (barrier_table n) e.party past) (word_in (barrier_table n) past)
     (at_place z (barrier_table n) parties (AtBarrier n) (barrier_kept n) past run.1 e.party c place called stage) (barrier_counts z n parties fits past run.1))
     run.0.1.moved
 
 pub keeps_barrier : {T : Type 0} (z : Arithmetic T) (n parties : ℕ) (past : List (Event T)) → n < 2 ^ 32 → IsPast z (barrier_table n) parties past → KeepsBarrier n past
-keeps_barrier z n parties [] fits run = record { told = tt; unheld = refl; cause = tt; law = record { counts = barrier_counts z n parties fits [] run; nobody = nobody_arrives z n parties [] run; once = tt; passes = tt; wakes = tt; leaves = tt; exact = tt; asks = tt; tells = tt; answers = tt } }
+keeps_barrier z n parties [] fits run = record { told = tt; unheld = refl; cause = tt; law = record { counts = barrier_counts z n parties fits [] run; nobody = nobody_arrives z n parties [] run; once = tt; passes = tt; wakes = tt; alone = tt; leaves = tt; exact = tt; asks = tt; spins = tt; tells = tt; answers = tt } }
 keeps_barrier z n parties (e ∷ past) fits run =
     let event = event_law z n parties fits past e run in
     record {
       told = tells_memory z (barrier_table n) parties (e ∷ past) run;
       unheld = no_holds (barrier_table n) (λ call from to. refl) (e ∷ past);
       cause = event.cause;
-      law = record { counts = barrier_counts z n parties fits (e ∷ past) run; nobody = nobody_arrives z n parties (e ∷ past) run; once = event.once; passes = event.passes; leaves = event.leaves; wakes = event.wakes; exact = event.exact; asks = event.asks; tells = event.tells; answers = event.answers };
+      law = record { counts = barrier_counts z n parties fits (e ∷ past) run; nobody = nobody_arrives z n parties (e ∷ past) run; once = event.once; passes = event.passes; leaves = event.leaves; wakes = event.wakes; alone = event.alone; exact = event.exact; asks = event.asks; spins = event.spins; tells = event.tells; answers = event.answers };
     }
 
 -- a barrier has no other word

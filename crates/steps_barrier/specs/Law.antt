@@ -11,7 +11,7 @@ use Rattle.steps_events.specs.declared.event.Then.{Then}
 use Rattle.steps_events.specs.declared.event.Then.TheVariants as thens
 use Rattle.steps_events.specs.declared.event.Event.{Event}
 use Rattle.steps_events.specs.Past.{call_of, holds_of, word_in}
-use Rattle.steps_events.specs.Sights.{sight_of, is_sight, AtLast, spins_in, stands_at_wait}
+use Rattle.steps_events.specs.Sights.{sight_of, is_sight, AtLast, goes_on, spins_in, stands_at_wait}
 use Rattle.steps_events.specs.Laws.{TellsMemory, HasCause}
 use Rattle.steps_barrier.specs.Rounds.{is_arrival, arrivals_in, round_of, full_rounds, IsFull, CountsArrivals}
 use Rattle.steps_barrier.specs.Table.{barrier_table}
@@ -63,6 +63,18 @@ FillerWakesAll n (e ∷ past) =
     (MatchBool (is_wake_of_all e.act) (Unit {0}) (AtLast is_arrival (λ before. arrivals_in before % n + 1 ≢ n) e.party past))
     (Unit {0})
 
+abbrev pub is_wake : {T : Type 0} → Act T → Bool
+is_wake (acts.Woke wake) = true
+is_wake act = false
+
+-- only who fills a round wakes: the latest event is a wake only where the call's own arrival made n, and then it wakes all and the call answers `Ok`
+abbrev pub WakesAsFiller : {T : Type 0} → ℕ → List (Event T) → Type 0
+WakesAsFiller n [] = Unit {0}
+WakesAsFiller n (e ∷ past) =
+    MatchBool (is_wake e.act)
+    ((is_wake_of_all e.act ≡ true) × (e.then ≡ thens.Answers answers.Ok) × AtLast is_arrival (λ before. arrivals_in before % n + 1 ≡ n) e.party past)
+    (Unit {0})
+
 -- `Ok` or `Full`, where it is an answer
 abbrev pub EndsOkOrFull : {T : Type 0} → Then T → Type 0
 EndsOkOrFull (thens.Answers answers.Ok) = Unit {0}
@@ -93,6 +105,14 @@ AsksAfterStaying (e ∷ past) =
     (MatchOption (call_of e.party past) ⊥ (λ c. spins_in (is_sight words.State) (since_arrival c.own) ≡ 10000))
     (Unit {0})
 
+-- a call that has arrived spins 10000 times at most: a look by which it goes on by itself comes after fewer
+abbrev pub SpinsNoMore : {T : Type 0} → List (Event T) → Type 0
+SpinsNoMore [] = Unit {0}
+SpinsNoMore (e ∷ past) =
+    is_sight words.State e.act ≡ true →
+    HasArrived e.party past →
+    MatchBool (goes_on e.then) (MatchOption (call_of e.party past) ⊥ (λ c. spins_in (is_sight words.State) (since_arrival c.own) < 10000)) (Unit {0})
+
 -- where a call is left at its wait closure, the closure is told what the act saw of the word
 abbrev pub IsToldSight : {T : Type 0} → Act T → Then T → Type 0
 IsToldSight act (thens.Waits told) = sight_of words.State act ≡ Some told
@@ -117,8 +137,12 @@ pub record BarrierLaw {T : Type 0} (n : ℕ) (past : List (Event T)) : Type 0 wh
   pub leaves : LeavesByItsLook n past
   -- the call that filled a round answers as it wakes all
   pub wakes : FillerWakesAll n past
+  -- and no other call wakes
+  pub alone : WakesAsFiller n past
   -- a barrier of 0 refuses each call, and no other refuses any
   pub exact : IsExactRefusal n past
+  -- a call that has arrived spins 10000 times at most
+  pub spins : SpinsNoMore past
   -- a wait closure is asked after 10000 spins, which are looks since the call's arrival
   pub asks : AsksAfterStaying past
   -- and told the whole word that the latest look saw
