@@ -1,7 +1,7 @@
 -- A once keeps its law at every front of every run.
 use Rattle.std.proofs.Common.{◌≡◌, ◌≢◌, ℕ, ◌+◌, ◌≤◌, ◌==◌, refl, sym, ◌∙◌, ap, subst, Bool, true, false, cond, List, [], ◌∷◌, Option, Some, None, ◌⊎◌, inl, inr, ◌↔◌, arith}
 use Rattle.std.specs.Prelude.{IfSome, MatchBool, MatchOption, not}
-use Rattle.std.proofs.lemmas.Bool.{eqb-true}
+use Rattle.std.proofs.lemmas.Bool.{eqb-true, eq-eqb}
 use Rattle.steps_events.specs.declared.WaitAction.{WaitAction}
 use Rattle.steps_events.specs.declared.event.Word.{Word}
 use Rattle.steps_events.specs.declared.event.Word.TheVariants as words
@@ -31,7 +31,7 @@ use Rattle.steps_events.proofs.Own.{IsCallAfter, call_was, own_among, IsToldOf, 
 use Rattle.steps_once.specs.declared.OncePlace.{OncePlace}
 use Rattle.steps_once.specs.declared.OncePlace.TheVariants as places
 use Rattle.steps_once.specs.Table.{once_table, once_begins, once_intent, found_after, once_after}
-use Rattle.steps_once.specs.Law.{OnceCause, is_begin, is_end, begins_in, ends_in, IsAnswerOf, answer_of, tells_end, flag_of, is_done, stands, is_wake, TellsState, KeepsOnce}
+use Rattle.steps_once.specs.Law.{OnceCause, is_begin, is_end, begins_in, ends_in, IsAnswerOf, answer_of, tells_end, flag_of, IsLeftAt, load_of, is_done, stands, is_wake, TellsState, KeepsOnce}
 
 -- What is kept of a call at its place.
 
@@ -357,6 +357,7 @@ pub record EventLaw {T : Type 0} (party : ℕ) (past : List (Event T)) (w : ℕ)
   pub suits : IfSome (answer_of m.outcome) (λ answer. MatchOption pending ⊥ (λ c. IsAnswerOf c.call answer))
   pub answers : MatchBool (tells_end m.outcome) (ends_in past ≡ 1) (Unit {0})
   pub tells : IfSome (flag_of m.outcome) (λ flag. flag ≡ (w == 2))
+  pub leaves : IfSome (load_of m.act) (λ seen. MatchOption pending ⊥ (λ c. IsLeftAt c.call seen m.outcome))
   pub done : MatchBool (is_done m.outcome) (word_after words.State m.act w ≡ 2) (Unit {0})
   pub spins : (stands m.outcome ≡ false) × (is_wake m.act ≡ false)
 
@@ -364,24 +365,32 @@ pub record EventLaw {T : Type 0} (party : ℕ) (past : List (Event T)) (w : ℕ)
 suits_at : {T : Type 0} (c : PendingCall T) (place : OncePlace) (answer : Answer T) → c.call ≡ call_at place → IsAnswerOf (call_at place) answer → IsAnswerOf c.call answer
 suits_at {T} c place answer its suits = subst (λ (call : Call T). IsAnswerOf call answer) (sym its) suits
 
+-- and how its load leaves it
+left_at : {T : Type 0} (c : PendingCall T) (place : OncePlace) (seen : ℕ) (outcome : Then T) → c.call ≡ call_at place → IsLeftAt (call_at place) seen outcome → IsLeftAt c.call seen outcome
+left_at {T} c place seen outcome its left = subst (λ (call : Call T). IsLeftAt call seen outcome) (sym its) left
+
+-- a look that saw another value goes on
+goes_on_unless_2 : {T : Type 0} (w : ℕ) → (w == 2) ≡ false → IsLeftAt {T = T} calls.CallOnce w thens.GoesOn
+goes_on_unless_2 w sees = (λ is. absurd cc, λ is. let no : true ≡ false = sym (eq-eqb w 2 is) ∙ sees in absurd cc)
+
 -- of a load
 flag_law :
     {T : Type 0} (party : ℕ) (past : List (Event T)) (c : PendingCall T) (w : ℕ) (flag : Bool) → c.call ≡ calls.IsCompleted → IsState w (begins_in past) (ends_in past) → (w == 2) ≡ flag →
     EventLaw party past w (Some c) (record { act = acts.Load words.State w; outcome = thens.Answers (answers.Flag flag) })
-flag_law party past c w true its state sees = record { cause = tt; own = tt; suits = suits_at c places.IsCompleted _ its (true, refl); answers = complete_ended _ _ _ state (eqb-true w 2 sees); tells = sym sees; done = tt; spins = (refl, refl) }
-flag_law party past c w false its state sees = record { cause = tt; own = tt; suits = suits_at c places.IsCompleted _ its (false, refl); answers = tt; tells = sym sees; done = tt; spins = (refl, refl) }
+flag_law party past c w true its state sees = record { cause = tt; own = tt; suits = suits_at c places.IsCompleted _ its (true, refl); answers = complete_ended _ _ _ state (eqb-true w 2 sees); tells = sym sees; leaves = left_at c places.IsCompleted w _ its (ap (λ flag. thens.Answers (answers.Flag flag)) (sym sees)); done = tt; spins = (refl, refl) }
+flag_law party past c w false its state sees = record { cause = tt; own = tt; suits = suits_at c places.IsCompleted _ its (false, refl); answers = tt; tells = sym sees; leaves = left_at c places.IsCompleted w _ its (ap (λ flag. thens.Answers (answers.Flag flag)) (sym sees)); done = tt; spins = (refl, refl) }
 
 seen_law :
     {T : Type 0} (party : ℕ) (past : List (Event T)) (c : PendingCall T) (w : ℕ) (on : OncePlace) (complete : Bool) → c.call ≡ calls.CallOnce → IsState w (begins_in past) (ends_in past) → (w == 2) ≡ complete →
     EventLaw party past w (Some c) (record { act = acts.Load words.State w; outcome = outcome_of {T = T} (seen_after on complete) })
-seen_law party past c w on true its state sees = record { cause = tt; own = tt; suits = suits_at c places.Look _ its refl; answers = complete_ended _ _ _ state (eqb-true w 2 sees); tells = tt; done = eqb-true w 2 sees; spins = (refl, refl) }
-seen_law party past c w on false its state sees = record { cause = tt; own = tt; suits = tt; answers = tt; tells = tt; done = tt; spins = (refl, refl) }
+seen_law party past c w on true its state sees = record { cause = tt; own = tt; suits = suits_at c places.Look _ its refl; answers = complete_ended _ _ _ state (eqb-true w 2 sees); tells = tt; leaves = left_at c places.Look w _ its (λ _. eqb-true w 2 sees, λ _. refl); done = eqb-true w 2 sees; spins = (refl, refl) }
+seen_law party past c w on false its state sees = record { cause = tt; own = tt; suits = tt; answers = tt; tells = tt; leaves = left_at c places.Look w _ its (goes_on_unless_2 w sees); done = tt; spins = (refl, refl) }
 
 begin_law :
     {T : Type 0} (party : ℕ) (past : List (Event T)) (c : PendingCall T) (w : ℕ) (done : Bool) →
     EventLaw party past w (Some c) (record { act = acts.Exchange words.State 0 1 w done; outcome = outcome_of {T = T} (begin_after done) })
-begin_law party past c w true = record { cause = tt; own = tt; suits = tt; answers = tt; tells = tt; done = tt; spins = (refl, refl) }
-begin_law party past c w false = record { cause = tt; own = tt; suits = tt; answers = tt; tells = tt; done = tt; spins = (refl, refl) }
+begin_law party past c w true = record { cause = tt; own = tt; suits = tt; answers = tt; tells = tt; leaves = tt; done = tt; spins = (refl, refl) }
+begin_law party past c w false = record { cause = tt; own = tt; suits = tt; answers = tt; tells = tt; leaves = tt; done = tt; spins = (refl, refl) }
 
 -- the closure that ends is the call's own, and was the first to begin
 own_began :
@@ -399,9 +408,9 @@ step_law z parties party past run c called places.IsCompleted hold memory at its
 step_law z parties party past run c called places.Look hold memory at its state = seen_law party past c (memory words.State) places.Begin (memory words.State == 2) its state refl
 step_law z parties party past run c called places.Begin hold memory at its state = begin_law party past c (memory words.State) (memory words.State == 0)
 step_law z parties party past run c called places.Run hold memory at its state =
-    record { cause = tt; own = own_began z parties party past run c called at.0 (at_most_one _ _ _ state).0; suits = tt; answers = tt; tells = tt; done = tt; spins = (refl, refl) }
+    record { cause = tt; own = own_began z parties party past run c called at.0 (at_most_one _ _ _ state).0; suits = tt; answers = tt; tells = tt; leaves = tt; done = tt; spins = (refl, refl) }
 step_law z parties party past run c called places.Complete hold memory at its state =
-    record { cause = tt; own = tt; suits = suits_at c places.Complete _ its refl; answers = omega (arith, at, own_among is_end past party c called, (at_most_one _ _ _ state).1); tells = tt; done = refl; spins = (refl, refl) }
+    record { cause = tt; own = tt; suits = suits_at c places.Complete _ its refl; answers = omega (arith, at, own_among is_end past party c called, (at_most_one _ _ _ state).1); tells = tt; leaves = tt; done = refl; spins = (refl, refl) }
 step_law z parties party past run c called places.Stay hold memory at its state = seen_law party past c (memory words.State) places.Stay (memory words.State == 2) its state refl
 
 event_law :
@@ -411,9 +420,9 @@ event_law {T} z parties past e run =
     by_move once_table (call_of e.party past) (hold_of once_table e.party past) (word_in once_table past)
     (λ (k : Option (PendingCall T)) (m : Move T). EventLaw e.party past (word_in once_table past words.State) k m)
     run.0.0 (record { act = e.act; outcome = e.then })
-    (λ call _. record { cause = tt; own = tt; suits = tt; answers = tt; tells = tt; done = tt; spins = (refl, refl) })
-    (λ action _. record { cause = tt; own = tt; suits = tt; answers = tt; tells = tt; done = tt; spins = (refl, refl) })
-    (λ choice _. record { cause = tt; own = tt; suits = tt; answers = tt; tells = tt; done = tt; spins = (refl, refl) })
+    (λ call _. record { cause = tt; own = tt; suits = tt; answers = tt; tells = tt; leaves = tt; done = tt; spins = (refl, refl) })
+    (λ action _. record { cause = tt; own = tt; suits = tt; answers = tt; tells = tt; leaves = tt; done = tt; spins = (refl, refl) })
+    (λ choice _. record { cause = tt; own = tt; suits = tt; answers = tt; tells = tt; leaves = tt; done = tt; spins = (refl, refl) })
     (λ c place _ called stage.
     step_law z parties e.party past run.1 c called place (hold_of once_table e.party past) (word_in once_table past)
     (at_place z once_table parties AtOnce once_kept past run.1 e.party c place called stage) (at_place z once_table parties IsItsCall its_call_kept past run.1 e.party c place called stage)
@@ -422,7 +431,7 @@ event_law {T} z parties past e run =
 
 pub keeps_once : {T : Type 0} (z : Arithmetic T) (parties : ℕ) (past : List (Event T)) → IsPast z once_table parties past → KeepsOnce past
 keeps_once z parties [] run =
-    record { told = tt; unheld = refl; cause = tt; law = record { one = omega arith; ends = omega arith; own = tt; suits = tt; answers = tt; tells = tt; done = tt; stays = tt; spins = tt; state = tells_state [] (once_front z parties [] run).state } }
+    record { told = tt; unheld = refl; cause = tt; law = record { one = omega arith; ends = omega arith; own = tt; suits = tt; answers = tt; tells = tt; leaves = tt; done = tt; stays = tt; spins = tt; state = tells_state [] (once_front z parties [] run).state } }
 keeps_once z parties (e ∷ past) run =
     let event = event_law z parties past e run in
     let front = once_front z parties (e ∷ past) run in
@@ -431,7 +440,7 @@ keeps_once z parties (e ∷ past) run =
       told = tells_memory z once_table parties (e ∷ past) run;
       unheld = no_holds once_table (λ call from to. refl) (e ∷ past);
       cause = event.cause;
-      law = record { one = most.0; ends = most.2; own = event.own; suits = event.suits; answers = event.answers; tells = event.tells; done = event.done; stays = stays_complete z parties past e run; spins = event.spins; state = tells_state (e ∷ past) front.state };
+      law = record { one = most.0; ends = most.2; own = event.own; suits = event.suits; answers = event.answers; tells = event.tells; leaves = event.leaves; done = event.done; stays = stays_complete z parties past e run; spins = event.spins; state = tells_state (e ∷ past) front.state };
     }
 
 -- a once has no other word

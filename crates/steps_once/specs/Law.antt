@@ -76,6 +76,21 @@ abbrev pub TellsCompletion : {T : Type 0} → List (Event T) → Type 0
 TellsCompletion [] = Unit {0}
 TellsCompletion (e ∷ past) = IfSome (flag_of e.then) (λ flag. flag ≡ (word_in once_table past words.State == 2))
 
+-- how a load that saw this leaves its call: `IsCompleted` answers at once, and `CallOnce` exactly where it saw 2
+abbrev pub IsLeftAt : {T : Type 0} → Call T → ℕ → Then T → Type 0
+IsLeftAt calls.IsCompleted seen outcome = outcome ≡ thens.Answers (answers.Flag (seen == 2))
+IsLeftAt calls.CallOnce seen outcome = (outcome ≡ thens.Answers answers.Done) ↔ (seen ≡ 2)
+IsLeftAt other seen outcome = ⊥
+
+abbrev pub load_of : {T : Type 0} → Act T → Option ℕ
+load_of (acts.Load word seen) = Some seen
+load_of act = None
+
+-- exactness of one look: so the latest event leaves its call, if it is a load
+abbrev pub LeavesAtTwo : {T : Type 0} → List (Event T) → Type 0
+LeavesAtTwo [] = Unit {0}
+LeavesAtTwo (e ∷ past) = IfSome (load_of e.act) (λ seen. MatchOption (call_of e.party past) ⊥ (λ c. IsLeftAt c.call seen e.then))
+
 abbrev pub is_done : {T : Type 0} → Then T → Bool
 is_done (thens.Answers answers.Done) = true
 is_done other = false
@@ -126,6 +141,8 @@ pub record OnceLaw {T : Type 0} (past : List (Event T)) : Type 0 where
   pub answers : AnswersAfterEnd past
   -- `IsCompleted` answers whether the word is 2
   pub tells : TellsCompletion past
+  -- a load of `IsCompleted` answers, and one of `CallOnce` exactly where it saw 2
+  pub leaves : LeavesAtTwo past
   -- once `Done` has been answered the word is 2
   pub done : DoneAtTwo past
   -- and 2 it stays
