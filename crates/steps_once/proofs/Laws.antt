@@ -1,7 +1,7 @@
 -- A once keeps its law at every front of every run.
 use Rattle.std.proofs.Common.{◌≡◌, ◌≢◌, ℕ, ◌+◌, ◌≤◌, ◌==◌, refl, sym, ◌∙◌, ap, subst, Bool, true, false, cond, List, [], ◌∷◌, Option, Some, None, ◌⊎◌, inl, inr, ◌↔◌, arith}
 use Rattle.std.specs.Prelude.{IfSome, MatchBool, MatchOption, not}
-use Rattle.std.proofs.lemmas.Bool.{eqb-true}
+use Rattle.std.proofs.lemmas.Bool.{eqb-true, eq-eqb}
 use Rattle.steps_events.specs.declared.WaitAction.{WaitAction}
 use Rattle.steps_events.specs.declared.event.Word.{Word}
 use Rattle.steps_events.specs.declared.event.Word.TheVariants as words
@@ -20,18 +20,18 @@ use Rattle.steps_events.specs.declared.row.After.TheVariants as afters
 use Rattle.steps_events.specs.Arithmetic.{Arithmetic}
 use Rattle.steps_events.specs.Rows.{carried_out, value_told, outcome_of, place_after}
 use Rattle.steps_events.specs.Past.{same_word, PendingCall, call_of, hold_of, word_in, word_after, event}
-use Rattle.steps_events.specs.Moves.{Move, step_at}
+use Rattle.steps_events.specs.Moves.{Move, step_at, is_step}
 use Rattle.steps_events.specs.Runs.{IsPast}
 use Rattle.steps_events.specs.Sights.{AtLast, last_of}
 use Rattle.steps_events.specs.Laws.{Lacks, is_refusal}
 use Rattle.steps_events.proofs.Holds.{some_same, no_holds}
-use Rattle.steps_events.proofs.Steps.{by_move, tells_memory}
+use Rattle.steps_events.proofs.Steps.{by_move, carried_is_step, tells_memory}
 use Rattle.steps_events.proofs.Parties.{IsKept, at_place}
 use Rattle.steps_events.proofs.Own.{IsCallAfter, call_was, own_among, IsToldOf, own_at_last, at_last_maps}
 use Rattle.steps_once.specs.declared.OncePlace.{OncePlace}
 use Rattle.steps_once.specs.declared.OncePlace.TheVariants as places
 use Rattle.steps_once.specs.Table.{once_table, once_begins, once_intent, found_after, once_after}
-use Rattle.steps_once.specs.Law.{OnceCause, is_begin, is_end, begins_in, ends_in, IsAnswerOf, answer_of, tells_end, flag_of, is_done, stands, is_wake, TellsState, KeepsOnce}
+use Rattle.steps_once.specs.Law.{OnceCause, is_begin, is_end, begins_in, ends_in, IsNextStep, RunsToItsEnd, IsAnswerOf, answer_of, tells_end, flag_of, IsLeftAt, load_of, is_done, stands, is_wake, TellsState, KeepsOnce}
 
 -- What is kept of a call at its place.
 
@@ -175,6 +175,77 @@ its_call_kept =
       answers = λ place c hold action number at stands. at;
       chooses = λ place c hold choice number at stands. at;
     }
+
+-- Where a call is after the step that began its closure, and after that which ended it.
+
+abbrev pub IsWhereLed : {T : Type 0} → OncePlace → PendingCall T → Option HoldKind → Type 0
+IsWhereLed place c hold = IfSome (last_of is_step c.own) (λ before. (is_begin before ≡ true → place ≡ places.Run) × (is_end before ≡ true → place ≡ places.Complete))
+
+exchange_leads :
+    (T : Type 0) (next : OncePlace) (w : ℕ) (done : Bool) → place_after {T = T} (begin_after done) ≡ Some next →
+    (is_begin {T = T} (acts.Exchange words.State 0 1 w done) ≡ true → next ≡ places.Run) × (is_end {T = T} (acts.Exchange words.State 0 1 w done) ≡ true → next ≡ places.Complete)
+exchange_leads T next w true is = (λ _. sym (some_same places.Run next is), λ no. absurd cc)
+exchange_leads T next w false is = (λ no. absurd cc, λ no. absurd cc)
+
+step_leads :
+    {T : Type 0} (place : OncePlace) (c : PendingCall T) (hold : Option HoldKind) (memory : Word → ℕ) (number : ℕ) (next : OncePlace) →
+    place_after {T = T} (once_after place (value_told {T = T} (carried_out (once_intent words.State place) memory))) ≡ Some next →
+    IsWhereLed next (record { call = c.call; own = event number (step_at once_table place hold memory).act (step_at once_table place hold memory).outcome ∷ c.own }) hold
+step_leads places.IsCompleted c hold memory number next is = absurd cc
+step_leads places.Look c hold memory number next is = (λ no. absurd cc, λ no. absurd cc)
+step_leads {T} places.Begin c hold memory number next is = exchange_leads T next (memory words.State) (memory words.State == 0) is
+step_leads places.Run c hold memory number next is = (λ no. absurd cc, λ _. sym (some_same places.Complete next is))
+step_leads places.Complete c hold memory number next is = absurd cc
+step_leads places.Stay c hold memory number next is = (λ no. absurd cc, λ no. absurd cc)
+
+pub led_kept : {T : Type 0} → IsKept {T = T} once_table IsWhereLed
+led_kept =
+    record {
+      begins = λ call place hold is allowed. tt;
+      steps = λ place c hold memory number next at free is. step_leads place c hold memory number next is;
+      answers = λ place c hold action number at stands. at;
+      chooses = λ place c hold choice number at stands. at;
+    }
+
+-- so its next step is the closure's end, or the store of 2
+next_step :
+    {T : Type 0} (last : Option (Act T)) (place : OncePlace) (act : Act T) (outcome : Then T) →
+    IfSome last (λ before. (is_begin before ≡ true → place ≡ places.Run) × (is_end before ≡ true → place ≡ places.Complete)) →
+    (place ≡ places.Run → act ≡ acts.Ended) → (place ≡ places.Complete → (act ≡ acts.Store words.State 2) × (outcome ≡ thens.Answers answers.Done)) →
+    IfSome last (λ before. IsNextStep (is_begin before) (is_end before) act outcome)
+next_step None place act outcome led ends puts = tt
+next_step {T} (Some before) place act outcome led ends puts = by_test (is_begin before) (is_end before) led
+  where
+    by_test : (begun ended : Bool) → (begun ≡ true → place ≡ places.Run) × (ended ≡ true → place ≡ places.Complete) → IsNextStep {T = T} begun ended act outcome
+    by_test true ended led = ends (led.0 refl)
+    by_test false true led = puts (led.1 refl)
+    by_test false false led = tt
+
+step_runs :
+    {T : Type 0} (c : PendingCall T) (place : OncePlace) (hold : Option HoldKind) (memory : Word → ℕ) → IsWhereLed place c hold →
+    IfSome (last_of is_step c.own) (λ before. IsNextStep {T = T} (is_begin before) (is_end before) (step_at once_table place hold memory).act (step_at once_table place hold memory).outcome)
+step_runs c places.IsCompleted hold memory led = next_step (last_of is_step c.own) places.IsCompleted _ _ led (λ no. absurd cc) (λ no. absurd cc)
+step_runs c places.Look hold memory led = next_step (last_of is_step c.own) places.Look _ _ led (λ no. absurd cc) (λ no. absurd cc)
+step_runs c places.Begin hold memory led = next_step (last_of is_step c.own) places.Begin _ _ led (λ no. absurd cc) (λ no. absurd cc)
+step_runs c places.Run hold memory led = next_step (last_of is_step c.own) places.Run _ _ led (λ _. refl) (λ no. absurd cc)
+step_runs c places.Complete hold memory led = next_step (last_of is_step c.own) places.Complete _ _ led (λ no. absurd cc) (λ _. (refl, refl))
+step_runs c places.Stay hold memory led = next_step (last_of is_step c.own) places.Stay _ _ led (λ no. absurd cc) (λ no. absurd cc)
+
+abbrev MoveRuns : {T : Type 0} → Option (PendingCall T) → Move T → Type 0
+MoveRuns {T} pending m = MatchBool (is_step m.act) (MatchOption pending ⊥ (λ c. IfSome (last_of is_step c.own) (λ before. IsNextStep {T = T} (is_begin before) (is_end before) m.act m.outcome))) (Unit {0})
+
+move_runs : {T : Type 0} (c : PendingCall T) (place : OncePlace) (hold : Option HoldKind) (memory : Word → ℕ) → IsWhereLed place c hold → MoveRuns (Some c) (step_at once_table place hold memory)
+move_runs c place hold memory led = rw (carried_is_step (once_intent words.State place) memory) (step_runs c place hold memory led)
+
+runs_to_its_end : {T : Type 0} (z : Arithmetic T) (parties : ℕ) (past : List (Event T)) → IsPast z once_table parties past → RunsToItsEnd past
+runs_to_its_end z parties [] run = tt
+runs_to_its_end {T} z parties (e ∷ past) run =
+    by_move once_table (call_of e.party past) (hold_of once_table e.party past) (word_in once_table past) (λ (k : Option (PendingCall T)) (m : Move T). MoveRuns k m)
+    run.0.0 (record { act = e.act; outcome = e.then })
+    (λ call _. tt) (λ action _. tt) (λ choice _. tt)
+    (λ c place _ called stage.
+    move_runs c place (hold_of once_table e.party past) (word_in once_table past) (at_place z once_table parties IsWhereLed led_kept past run.1 e.party c place called stage))
+    run.0.1.moved
 
 -- What a step does: nothing to the word and the closure; it begins the closure, where the word is 0; it ends its own, which runs; or it puts 2, where its own has ended.
 
@@ -357,6 +428,7 @@ pub record EventLaw {T : Type 0} (party : ℕ) (past : List (Event T)) (w : ℕ)
   pub suits : IfSome (answer_of m.outcome) (λ answer. MatchOption pending ⊥ (λ c. IsAnswerOf c.call answer))
   pub answers : MatchBool (tells_end m.outcome) (ends_in past ≡ 1) (Unit {0})
   pub tells : IfSome (flag_of m.outcome) (λ flag. flag ≡ (w == 2))
+  pub leaves : IfSome (load_of m.act) (λ seen. MatchOption pending ⊥ (λ c. IsLeftAt c.call seen m.outcome))
   pub done : MatchBool (is_done m.outcome) (word_after words.State m.act w ≡ 2) (Unit {0})
   pub spins : (stands m.outcome ≡ false) × (is_wake m.act ≡ false)
 
@@ -364,24 +436,32 @@ pub record EventLaw {T : Type 0} (party : ℕ) (past : List (Event T)) (w : ℕ)
 suits_at : {T : Type 0} (c : PendingCall T) (place : OncePlace) (answer : Answer T) → c.call ≡ call_at place → IsAnswerOf (call_at place) answer → IsAnswerOf c.call answer
 suits_at {T} c place answer its suits = subst (λ (call : Call T). IsAnswerOf call answer) (sym its) suits
 
+-- and how its load leaves it
+left_at : {T : Type 0} (c : PendingCall T) (place : OncePlace) (seen : ℕ) (outcome : Then T) → c.call ≡ call_at place → IsLeftAt (call_at place) seen outcome → IsLeftAt c.call seen outcome
+left_at {T} c place seen outcome its left = subst (λ (call : Call T). IsLeftAt call seen outcome) (sym its) left
+
+-- a look that saw another value goes on
+goes_on_unless_2 : {T : Type 0} (w : ℕ) → (w == 2) ≡ false → IsLeftAt {T = T} calls.CallOnce w thens.GoesOn
+goes_on_unless_2 w sees = (λ is. absurd cc, λ is. let no : true ≡ false = sym (eq-eqb w 2 is) ∙ sees in absurd cc)
+
 -- of a load
 flag_law :
     {T : Type 0} (party : ℕ) (past : List (Event T)) (c : PendingCall T) (w : ℕ) (flag : Bool) → c.call ≡ calls.IsCompleted → IsState w (begins_in past) (ends_in past) → (w == 2) ≡ flag →
     EventLaw party past w (Some c) (record { act = acts.Load words.State w; outcome = thens.Answers (answers.Flag flag) })
-flag_law party past c w true its state sees = record { cause = tt; own = tt; suits = suits_at c places.IsCompleted _ its (true, refl); answers = complete_ended _ _ _ state (eqb-true w 2 sees); tells = sym sees; done = tt; spins = (refl, refl) }
-flag_law party past c w false its state sees = record { cause = tt; own = tt; suits = suits_at c places.IsCompleted _ its (false, refl); answers = tt; tells = sym sees; done = tt; spins = (refl, refl) }
+flag_law party past c w true its state sees = record { cause = tt; own = tt; suits = suits_at c places.IsCompleted _ its (true, refl); answers = complete_ended _ _ _ state (eqb-true w 2 sees); tells = sym sees; leaves = left_at c places.IsCompleted w _ its (ap (λ flag. thens.Answers (answers.Flag flag)) (sym sees)); done = tt; spins = (refl, refl) }
+flag_law party past c w false its state sees = record { cause = tt; own = tt; suits = suits_at c places.IsCompleted _ its (false, refl); answers = tt; tells = sym sees; leaves = left_at c places.IsCompleted w _ its (ap (λ flag. thens.Answers (answers.Flag flag)) (sym sees)); done = tt; spins = (refl, refl) }
 
 seen_law :
     {T : Type 0} (party : ℕ) (past : List (Event T)) (c : PendingCall T) (w : ℕ) (on : OncePlace) (complete : Bool) → c.call ≡ calls.CallOnce → IsState w (begins_in past) (ends_in past) → (w == 2) ≡ complete →
     EventLaw party past w (Some c) (record { act = acts.Load words.State w; outcome = outcome_of {T = T} (seen_after on complete) })
-seen_law party past c w on true its state sees = record { cause = tt; own = tt; suits = suits_at c places.Look _ its refl; answers = complete_ended _ _ _ state (eqb-true w 2 sees); tells = tt; done = eqb-true w 2 sees; spins = (refl, refl) }
-seen_law party past c w on false its state sees = record { cause = tt; own = tt; suits = tt; answers = tt; tells = tt; done = tt; spins = (refl, refl) }
+seen_law party past c w on true its state sees = record { cause = tt; own = tt; suits = suits_at c places.Look _ its refl; answers = complete_ended _ _ _ state (eqb-true w 2 sees); tells = tt; leaves = left_at c places.Look w _ its (λ _. eqb-true w 2 sees, λ _. refl); done = eqb-true w 2 sees; spins = (refl, refl) }
+seen_law party past c w on false its state sees = record { cause = tt; own = tt; suits = tt; answers = tt; tells = tt; leaves = left_at c places.Look w _ its (goes_on_unless_2 w sees); done = tt; spins = (refl, refl) }
 
 begin_law :
     {T : Type 0} (party : ℕ) (past : List (Event T)) (c : PendingCall T) (w : ℕ) (done : Bool) →
     EventLaw party past w (Some c) (record { act = acts.Exchange words.State 0 1 w done; outcome = outcome_of {T = T} (begin_after done) })
-begin_law party past c w true = record { cause = tt; own = tt; suits = tt; answers = tt; tells = tt; done = tt; spins = (refl, refl) }
-begin_law party past c w false = record { cause = tt; own = tt; suits = tt; answers = tt; tells = tt; done = tt; spins = (refl, refl) }
+begin_law party past c w true = record { cause = tt; own = tt; suits = tt; answers = tt; tells = tt; leaves = tt; done = tt; spins = (refl, refl) }
+begin_law party past c w false = record { cause = tt; own = tt; suits = tt; answers = tt; tells = tt; leaves = tt; done = tt; spins = (refl, refl) }
 
 -- the closure that ends is the call's own, and was the first to begin
 own_began :
@@ -399,9 +479,9 @@ step_law z parties party past run c called places.IsCompleted hold memory at its
 step_law z parties party past run c called places.Look hold memory at its state = seen_law party past c (memory words.State) places.Begin (memory words.State == 2) its state refl
 step_law z parties party past run c called places.Begin hold memory at its state = begin_law party past c (memory words.State) (memory words.State == 0)
 step_law z parties party past run c called places.Run hold memory at its state =
-    record { cause = tt; own = own_began z parties party past run c called at.0 (at_most_one _ _ _ state).0; suits = tt; answers = tt; tells = tt; done = tt; spins = (refl, refl) }
+    record { cause = tt; own = own_began z parties party past run c called at.0 (at_most_one _ _ _ state).0; suits = tt; answers = tt; tells = tt; leaves = tt; done = tt; spins = (refl, refl) }
 step_law z parties party past run c called places.Complete hold memory at its state =
-    record { cause = tt; own = tt; suits = suits_at c places.Complete _ its refl; answers = omega (arith, at, own_among is_end past party c called, (at_most_one _ _ _ state).1); tells = tt; done = refl; spins = (refl, refl) }
+    record { cause = tt; own = tt; suits = suits_at c places.Complete _ its refl; answers = omega (arith, at, own_among is_end past party c called, (at_most_one _ _ _ state).1); tells = tt; leaves = tt; done = refl; spins = (refl, refl) }
 step_law z parties party past run c called places.Stay hold memory at its state = seen_law party past c (memory words.State) places.Stay (memory words.State == 2) its state refl
 
 event_law :
@@ -411,9 +491,9 @@ event_law {T} z parties past e run =
     by_move once_table (call_of e.party past) (hold_of once_table e.party past) (word_in once_table past)
     (λ (k : Option (PendingCall T)) (m : Move T). EventLaw e.party past (word_in once_table past words.State) k m)
     run.0.0 (record { act = e.act; outcome = e.then })
-    (λ call _. record { cause = tt; own = tt; suits = tt; answers = tt; tells = tt; done = tt; spins = (refl, refl) })
-    (λ action _. record { cause = tt; own = tt; suits = tt; answers = tt; tells = tt; done = tt; spins = (refl, refl) })
-    (λ choice _. record { cause = tt; own = tt; suits = tt; answers = tt; tells = tt; done = tt; spins = (refl, refl) })
+    (λ call _. record { cause = tt; own = tt; suits = tt; answers = tt; tells = tt; leaves = tt; done = tt; spins = (refl, refl) })
+    (λ action _. record { cause = tt; own = tt; suits = tt; answers = tt; tells = tt; leaves = tt; done = tt; spins = (refl, refl) })
+    (λ choice _. record { cause = tt; own = tt; suits = tt; answers = tt; tells = tt; leaves = tt; done = tt; spins = (refl, refl) })
     (λ c place _ called stage.
     step_law z parties e.party past run.1 c called place (hold_of once_table e.party past) (word_in once_table past)
     (at_place z once_table parties AtOnce once_kept past run.1 e.party c place called stage) (at_place z once_table parties IsItsCall its_call_kept past run.1 e.party c place called stage)
@@ -422,7 +502,7 @@ event_law {T} z parties past e run =
 
 pub keeps_once : {T : Type 0} (z : Arithmetic T) (parties : ℕ) (past : List (Event T)) → IsPast z once_table parties past → KeepsOnce past
 keeps_once z parties [] run =
-    record { told = tt; unheld = refl; cause = tt; law = record { one = omega arith; ends = omega arith; own = tt; suits = tt; answers = tt; tells = tt; done = tt; stays = tt; spins = tt; state = tells_state [] (once_front z parties [] run).state } }
+    record { told = tt; unheld = refl; cause = tt; law = record { one = omega arith; ends = omega arith; own = tt; runs = tt; suits = tt; answers = tt; tells = tt; leaves = tt; done = tt; stays = tt; spins = tt; state = tells_state [] (once_front z parties [] run).state } }
 keeps_once z parties (e ∷ past) run =
     let event = event_law z parties past e run in
     let front = once_front z parties (e ∷ past) run in
@@ -431,7 +511,7 @@ keeps_once z parties (e ∷ past) run =
       told = tells_memory z once_table parties (e ∷ past) run;
       unheld = no_holds once_table (λ call from to. refl) (e ∷ past);
       cause = event.cause;
-      law = record { one = most.0; ends = most.2; own = event.own; suits = event.suits; answers = event.answers; tells = event.tells; done = event.done; stays = stays_complete z parties past e run; spins = event.spins; state = tells_state (e ∷ past) front.state };
+      law = record { one = most.0; ends = most.2; own = event.own; runs = runs_to_its_end z parties (e ∷ past) run; suits = event.suits; answers = event.answers; tells = event.tells; leaves = event.leaves; done = event.done; stays = stays_complete z parties past e run; spins = event.spins; state = tells_state (e ∷ past) front.state };
     }
 
 -- a once has no other word

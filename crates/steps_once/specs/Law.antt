@@ -11,7 +11,8 @@ use Rattle.steps_events.specs.declared.event.Then.{Then}
 use Rattle.steps_events.specs.declared.event.Then.TheVariants as thens
 use Rattle.steps_events.specs.declared.event.Event.{Event}
 use Rattle.steps_events.specs.Past.{call_of, holds_of, word_in}
-use Rattle.steps_events.specs.Sights.{AtLast, is_done_exchange, acts_in}
+use Rattle.steps_events.specs.Moves.{is_step}
+use Rattle.steps_events.specs.Sights.{AtLast, is_done_exchange, acts_in, last_of}
 use Rattle.steps_events.specs.Laws.{TellsMemory, HasCause}
 use Rattle.steps_once.specs.Table.{once_table}
 
@@ -39,6 +40,19 @@ ends_in past = acts_in is_end past
 abbrev pub EndsItsOwn : {T : Type 0} → List (Event T) → Type 0
 EndsItsOwn [] = Unit {0}
 EndsItsOwn (e ∷ past) = MatchBool (is_end e.act) (AtLast is_begin (λ before. begins_in before ≡ 0) e.party past) (Unit {0})
+
+-- what follows a step of a call, by whether that began its closure, or ended it: its end; or the store of 2, which answers `Done`
+abbrev pub IsNextStep : {T : Type 0} → Bool → Bool → Act T → Then T → Type 0
+IsNextStep begun ended act outcome =
+    MatchBool begun (act ≡ acts.Ended) (MatchBool ended ((act ≡ acts.Store words.State 2) × (outcome ≡ thens.Answers answers.Done)) (Unit {0}))
+
+-- who begins the closure ends it next, and then says so: the latest event, if it is a step, follows its call's step before
+abbrev pub RunsToItsEnd : {T : Type 0} → List (Event T) → Type 0
+RunsToItsEnd [] = Unit {0}
+RunsToItsEnd (e ∷ past) =
+    MatchBool (is_step e.act)
+    (MatchOption (call_of e.party past) ⊥ (λ c. IfSome (last_of is_step c.own) (λ before. IsNextStep (is_begin before) (is_end before) e.act e.then)))
+    (Unit {0})
 
 -- The answers.
 
@@ -75,6 +89,21 @@ flag_of other = None
 abbrev pub TellsCompletion : {T : Type 0} → List (Event T) → Type 0
 TellsCompletion [] = Unit {0}
 TellsCompletion (e ∷ past) = IfSome (flag_of e.then) (λ flag. flag ≡ (word_in once_table past words.State == 2))
+
+-- how a load that saw this leaves its call: `IsCompleted` answers at once, and `CallOnce` exactly where it saw 2
+abbrev pub IsLeftAt : {T : Type 0} → Call T → ℕ → Then T → Type 0
+IsLeftAt calls.IsCompleted seen outcome = outcome ≡ thens.Answers (answers.Flag (seen == 2))
+IsLeftAt calls.CallOnce seen outcome = (outcome ≡ thens.Answers answers.Done) ↔ (seen ≡ 2)
+IsLeftAt other seen outcome = ⊥
+
+abbrev pub load_of : {T : Type 0} → Act T → Option ℕ
+load_of (acts.Load word seen) = Some seen
+load_of act = None
+
+-- exactness of one look: so the latest event leaves its call, if it is a load
+abbrev pub LeavesAtTwo : {T : Type 0} → List (Event T) → Type 0
+LeavesAtTwo [] = Unit {0}
+LeavesAtTwo (e ∷ past) = IfSome (load_of e.act) (λ seen. MatchOption (call_of e.party past) ⊥ (λ c. IsLeftAt c.call seen e.then))
 
 abbrev pub is_done : {T : Type 0} → Then T → Bool
 is_done (thens.Answers answers.Done) = true
@@ -120,12 +149,16 @@ pub record OnceLaw {T : Type 0} (past : List (Event T)) : Type 0 where
   pub ends : ends_in past ≤ begins_in past
   -- it ends in the call that began it
   pub own : EndsItsOwn past
+  -- that call ends it at its next step, and then stores 2 and answers `Done`
+  pub runs : RunsToItsEnd past
   -- `CallOnce` answers `Done` alone, and `IsCompleted` a flag
   pub suits : AnswersItsCall past
   -- `Done` and `true` come after its end
   pub answers : AnswersAfterEnd past
   -- `IsCompleted` answers whether the word is 2
   pub tells : TellsCompletion past
+  -- a load of `IsCompleted` answers, and one of `CallOnce` exactly where it saw 2
+  pub leaves : LeavesAtTwo past
   -- once `Done` has been answered the word is 2
   pub done : DoneAtTwo past
   -- and 2 it stays
