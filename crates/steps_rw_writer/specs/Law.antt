@@ -1,9 +1,11 @@
 -- What a writer-preferring lock keeps at every front of every run: one writer or only readers, which its word counts beside the mark; a mark
 -- of a call that is under way, which keeps readers out; and a cause for each refusal.
-use Rattle.std.specs.Prelude.{◌≡◌, ℕ, ◌+◌, ◌*◌, ◌-◌, ◌^◌, ◌<◌, ◌==◌, ◌⊎◌, ◌&&◌, Bool, true, false, if◌then◌else◌, List, [], ◌∷◌, MatchBool, MatchOption}
+use Rattle.std.specs.Prelude.{◌≡◌, ℕ, ◌+◌, ◌*◌, ◌-◌, ◌^◌, ◌<◌, ◌==◌, ◌↔◌, ◌⊎◌, ◌&&◌, Bool, true, false, if◌then◌else◌, List, [], ◌∷◌, MatchBool, MatchOption}
 use Rattle.steps_events.specs.declared.event.Word.TheVariants as words
 use Rattle.steps_events.specs.declared.event.Call.{Call}
 use Rattle.steps_events.specs.declared.event.Call.TheVariants as calls
+use Rattle.steps_events.specs.declared.event.Answer.TheVariants as answers
+use Rattle.steps_events.specs.declared.event.Then.TheVariants as thens
 use Rattle.steps_events.specs.declared.event.Event.{Event}
 use Rattle.steps_events.specs.declared.hold.HoldKind.TheVariants as kinds
 use Rattle.steps_events.specs.Past.{Hold, call_of, holds_of, word_in, is_failure}
@@ -83,6 +85,14 @@ RwWriterCause calls.WriteLock party events =
     AtLastSight words.State (λ before. HasAborted party before × IsLocked rw_writer_table before) party events ⊎ HasMissedAfterAbort party events
 RwWriterCause other party events = ⊥
 
+-- Exact: the event in which a `TryWriteLock` sees the word grants the lock exactly where there was no hold before it, and the mark was not set.
+abbrev pub IsExactGrant : {T : Type 0} → List (Event T) → Type 0
+IsExactGrant [] = Unit {0}
+IsExactGrant (e ∷ past) =
+    MatchOption (call_of e.party past) (Unit {0})
+    (λ c. c.call ≡ calls.TryWriteLock → is_sight words.State e.act ≡ true →
+    ((e.then ≡ thens.Answers answers.Success) ↔ ((holds_of rw_writer_table past ≡ []) × (is_marked_after past ≡ false))))
+
 -- What a writer-preferring lock keeps beside what every object does.
 pub record RwWriterLaw {T : Type 0} (past : List (Event T)) : Type 0 where
   -- the word is twice the number of read holds and the mark, or 2^64 - 1 with one write hold and no other
@@ -91,6 +101,8 @@ pub record RwWriterLaw {T : Type 0} (past : List (Event T)) : Type 0 where
   pub mark : SetterIsUnderWay past
   -- and no read hold is granted while it is set
   pub keeps_out : MarkKeepsReadersOut past
+  -- `TryWriteLock` is granted exactly where nobody holds the lock and the mark is not set
+  pub exact : IsExactGrant past
   -- while a writer stands, whoever frees the lock owes a counter step until it has made it
   pub counted : NoWakeIsLost past
   -- while a reader stands that saw an odd word, whoever makes the word even owes a wake of all until it has made it
