@@ -1,5 +1,5 @@
--- Each refusal of a writer-preferring lock has its cause.
-use Rattle.std.proofs.Common.{◌≡◌, ◌≢◌, ℕ, ◌+◌, ◌-◌, ◌%◌, ◌^◌, ◌<◌, ◌≤◌, ◌==◌, refl, sym, ◌∙◌, ap, subst, Bool, true, false, cond, ◌&&◌, length, List, [], ◌∷◌, Option, Some, None, ◌⊎◌, inl, inr, arith}
+-- Each refusal of a writer-preferring lock has its cause, and a `TryWriteLock` is granted exactly where it may be.
+use Rattle.std.proofs.Common.{◌≡◌, ◌≢◌, ℕ, ◌+◌, ◌-◌, ◌%◌, ◌^◌, ◌<◌, ◌≤◌, ◌==◌, refl, sym, ◌∙◌, ap, subst, Bool, true, false, cond, ◌&&◌, length, List, [], ◌∷◌, Option, Some, None, ◌⊎◌, inl, inr, ◌↔◌, arith}
 use Rattle.std.specs.Prelude.{MatchBool, MatchOption, nat_lt, not}
 use Rattle.std.proofs.lemmas.Bool.{eqb-true, eqb-false}
 use Rattle.std.proofs.lemmas.Bool.Decides.{nat_tests}
@@ -34,11 +34,12 @@ use Rattle.steps_rw_writer.specs.declared.RwWriterPlace.{RwWriterPlace}
 use Rattle.steps_rw_writer.specs.declared.RwWriterPlace.TheVariants as places
 use Rattle.steps_rw_writer.specs.Table.{is_odd, lets_readers_in, lets_writer_in, lets_mark, is_marked, is_blocked, try_read_look, read_look, spins, marks_or_spins, unmarks_or_leaves, write_refused, write_look, last_look, released, woken_one, woken_all, rw_writer_table}
 use Rattle.steps_rw_writer.specs.Marks.{is_marked_after}
-use Rattle.steps_rw_writer.specs.Law.{CountsHolds, HasMissedAfterAbort, RwWriterCause, KeepsRwWriter}
-use Rattle.steps_rw_writer.proofs.WordLaws.{writer_lock_exclusive}
+use Rattle.steps_rw_writer.specs.Law.{CountsHolds, HasMissedAfterAbort, RwWriterCause, IsExactGrant, KeepsRwWriter}
+use Rattle.steps_rw_writer.proofs.WordLaws.{held_by_none, writer_lock_exclusive}
 use Rattle.steps_rw_writer.proofs.PlaceLaws.{AtRwWriter, Asks, MayGiveUp, failed_after_abort, IsLeaver, held_above, here}
 use Rattle.steps_rw_writer.proofs.DebtLaws.{no_wake_is_lost}
 use Rattle.steps_rw_writer.proofs.WakeLaws.{readers_are_woken}
+use Rattle.steps_rw_writer.proofs.SpinLaws.{event_asks}
 use Rattle.steps_rw_writer.proofs.Laws.{event_keeps, writer_lock_word, setter_is_under_way}
 
 -- What the word says of the holds and the mark.
@@ -409,15 +410,82 @@ event_cause {T} z parties past e run =
     (λ c place _ called stage. step_cause z parties e.party past c place (hold_of rw_writer_table e.party past) run.1 called (here z parties past run.1 e.party c place called stage))
     run.0.1.moved
 
+-- A `TryWriteLock` is granted exactly where nobody holds the lock and the mark is not set.
+
+free_exactly : (w : ℕ) (holds : List Hold) (marked : Bool) → CountsHolds w holds marked → (w ≡ 0) ↔ ((holds ≡ []) × (marked ≡ false))
+free_exactly w holds true (inl read) = (λ free. absurd (omega (arith, read.counts, free)), λ none. absurd cc)
+free_exactly w holds false (inl read) =
+    (λ free. (held_by_none holds (omega (arith, read.counts, free)) read.unwritten, refl), λ none. omega (arith, read.counts, ap reads_in none.0))
+free_exactly w holds marked (inr written) =
+    (λ free. absurd (omega (arith, written.is_full, free)), λ none. let no : ◌≡◌ {A = List Hold} ((written.writer, kinds.Write) ∷ []) [] = sym written.alone ∙ none.0 in absurd cc)
+
+-- the step of a `TryWriteLock` that sees the word succeeds exactly there
+abbrev IsExactAfter : {T : Type 0} → List (Event T) → Call T → Act T → After T RwWriterPlace → Type 0
+IsExactAfter past call act a =
+    call ≡ calls.TryWriteLock → is_sight words.State act ≡ true → ((outcome_of a ≡ thens.Answers answers.Success) ↔ ((holds_of rw_writer_table past ≡ []) × (is_marked_after past ≡ false)))
+
+tries_not : {T : Type 0} (A : Type 0) (call one : Call T) → call ≡ one → (one ≡ calls.TryWriteLock → ⊥) → call ≡ calls.TryWriteLock → A
+tries_not A call one is apart try = other_call A call one calls.TryWriteLock is try apart
+
+try_write_exact :
+    {T : Type 0} (past : List (Event T)) (call : Call T) (w : ℕ) (b : Bool) → (w == 0) ≡ b → CountsHolds w (holds_of rw_writer_table past) (is_marked_after past) →
+    IsExactAfter {T = T} past call (acts.Exchange words.State 0 (2 ^ 64 - 1) w b) (cond b (afters.Ends answers.Success) (afters.Ends answers.Interrupted))
+try_write_exact past call w true is law try sees = (λ granted. (free_exactly w (holds_of rw_writer_table past) (is_marked_after past) law).0 (eqb-true w 0 is), λ none. refl)
+try_write_exact past call w false is law try sees =
+    (λ granted. absurd cc, λ none. absurd (eqb-false w 0 is ((free_exactly w (holds_of rw_writer_table past) (is_marked_after past) law).1 none)))
+
+leaver_tries_not : {T : Type 0} (A : Type 0) (c : PendingCall T) (who : Leaver) → IsLeaver who c → c.call ≡ calls.TryWriteLock → A
+leaver_tries_not A c leavers.Reader at = tries_not A c.call calls.Unlock at (λ same. absurd cc)
+leaver_tries_not A c leavers.Writer at = tries_not A c.call calls.Unlock at (λ same. absurd cc)
+leaver_tries_not A c leavers.GivenUp at = tries_not A c.call calls.WriteLock at.0 (λ same. absurd cc)
+
+step_exact :
+    {T : Type 0} (past : List (Event T)) (c : PendingCall T) (place : RwWriterPlace) (hold : Option HoldKind) → AtRwWriter place c hold →
+    CountsHolds (word_in rw_writer_table past words.State) (holds_of rw_writer_table past) (is_marked_after past) →
+    IsExactAfter past c.call (step_at rw_writer_table place hold (word_in rw_writer_table past)).act
+    (rw_writer_table.after place (value_told {T = T} (carried_out (rw_writer_table.intent place hold) (word_in rw_writer_table past))))
+step_exact past c places.TryReadLook hold at law = tries_not _ c.call calls.TryReadLock at.0 (λ same. absurd cc)
+step_exact past c (places.TryRead seen to) hold at law = tries_not _ c.call calls.TryReadLock at.0 (λ same. absurd cc)
+step_exact past c (places.ReadLook patience) hold at law = tries_not _ c.call calls.ReadLock at.0 (λ same. absurd cc)
+step_exact past c (places.Read seen to patience) hold at law = tries_not _ c.call calls.ReadLock at.0 (λ same. absurd cc)
+step_exact past c places.TryWrite hold at law = let w = word_in rw_writer_table past words.State in try_write_exact past c.call w (w == 0) refl law
+step_exact past c (places.WriteLook patience) hold at law = tries_not _ c.call calls.WriteLock at.0 (λ same. absurd cc)
+step_exact past c (places.Enter seen patience) hold at law = tries_not _ c.call calls.WriteLock at.0 (λ same. absurd cc)
+step_exact past c (places.Mark seen to patience) hold at law = tries_not _ c.call calls.WriteLock at.0 (λ same. absurd cc)
+step_exact past c (places.Unmark seen to) hold at law = tries_not _ c.call calls.WriteLock at.0 (λ same. absurd cc)
+step_exact past c (places.LoadCounter patience) hold at law = tries_not _ c.call calls.WriteLock at.0 (λ same. absurd cc)
+step_exact past c (places.LastLook count patience) hold at law = tries_not _ c.call calls.WriteLock at.0 (λ same. absurd cc)
+step_exact past c places.Release hold at law = tries_not _ c.call calls.Unlock at.0 (λ same. absurd cc)
+step_exact past c (places.Count who) hold at law = leaver_tries_not _ c who at
+step_exact past c (places.WakeOne who) hold at law = leaver_tries_not _ c who at
+step_exact past c (places.WakeAll who) hold at law = leaver_tries_not _ c who at
+
+unseen : {T : Type 0} (past : List (Event T)) (pending : Option (PendingCall T)) (act : Act T) → is_sight words.State act ≡ false → MatchOption pending (Unit {0}) (λ c. IsExactAfter past c.call act (afters.At places.Release))
+unseen past None act quiet = tt
+unseen past (Some c) act quiet = λ try sees. let no : true ≡ false = sym sees ∙ quiet in absurd cc
+
+event_exact : {T : Type 0} (z : Arithmetic T) (parties : ℕ) (past : List (Event T)) (e : Event T) → IsPast z rw_writer_table parties (e ∷ past) → IsExactGrant (e ∷ past)
+event_exact {T} z parties past e run =
+    by_move rw_writer_table (call_of e.party past) (hold_of rw_writer_table e.party past) (word_in rw_writer_table past)
+    (λ (k : Option (PendingCall T)) (x : Move T).
+    MatchOption k (Unit {0})
+    (λ c. c.call ≡ calls.TryWriteLock → is_sight words.State x.act ≡ true → ((x.outcome ≡ thens.Answers answers.Success) ↔ ((holds_of rw_writer_table past ≡ []) × (is_marked_after past ≡ false)))))
+    run.0.0 (record { act = e.act; outcome = e.then })
+    (λ call _. unseen past (call_of e.party past) (acts.Begun call) refl) (λ action _. unseen past (call_of e.party past) (acts.Answered action) refl) (λ choice _. unseen past (call_of e.party past) (acts.Chosen choice) refl)
+    (λ c place _ called stage.
+    step_exact past c place (hold_of rw_writer_table e.party past) (here z parties past run.1 e.party c place called stage) (writer_lock_word z parties past run.1).counts)
+    run.0.1.moved
+
 pub keeps_rw_writer : {T : Type 0} (z : Arithmetic T) (parties : ℕ) (past : List (Event T)) → IsPast z rw_writer_table parties past → KeepsRwWriter past
 keeps_rw_writer z parties [] run =
     let word = writer_lock_word z parties [] run in
-    record { told = tt; cause = tt; exclusive = writer_lock_exclusive 0 [] false word.counts; law = record { counts = word.counts; mark = tt; keeps_out = tt; counted = no_wake_is_lost z parties [] run; woken = readers_are_woken z parties [] run } }
+    record { told = tt; cause = tt; exclusive = writer_lock_exclusive 0 [] false word.counts; law = record { counts = word.counts; mark = tt; keeps_out = tt; exact = tt; asks = tt; tells = tt; counted = no_wake_is_lost z parties [] run; woken = readers_are_woken z parties [] run } }
 keeps_rw_writer z parties (e ∷ past) run =
     let word = event_keeps z parties past e run (writer_lock_word z parties past run.1) in
+    let asks = event_asks z parties past e run in
     record {
       told = tells_memory z rw_writer_table parties (e ∷ past) run;
       exclusive = writer_lock_exclusive _ (holds_of rw_writer_table (e ∷ past)) (is_marked_after (e ∷ past)) word.kept.counts;
       cause = event_cause z parties past e run;
-      law = record { counts = word.kept.counts; mark = setter_is_under_way z parties (e ∷ past) run; keeps_out = word.keeps_out; counted = no_wake_is_lost z parties (e ∷ past) run; woken = readers_are_woken z parties (e ∷ past) run };
+      law = record { counts = word.kept.counts; mark = setter_is_under_way z parties (e ∷ past) run; keeps_out = word.keeps_out; exact = event_exact z parties past e run; asks = asks.0; tells = asks.1; counted = no_wake_is_lost z parties (e ∷ past) run; woken = readers_are_woken z parties (e ∷ past) run };
     }

@@ -167,7 +167,7 @@ reader_enters v is =
     below : (n : ℕ) → nat_lt n (2 ^ 64 - 4) ≡ true → n < 2 ^ 64 - 4
     below n fits = grind (arith, nat_tests)
 
-writer_enters : (v : ℕ) → lets_writer_in v ≡ true → v < 2
+pub writer_enters : (v : ℕ) → lets_writer_in v ≡ true → v < 2
 writer_enters v is = grind (arith, nat_tests)
 
 pub held_above : (v : ℕ) → lets_writer_in v ≡ false → 2 ≤ v
@@ -378,10 +378,10 @@ steps_at (places.WakeAll who) c hold memory number at = woken_all_leads c _ numb
 
 -- Where an answer leads.
 
-asked_nothing : {T : Type 0} (own : List (Event T)) → latest_outcome own ≡ thens.GoesOn → answer_fault (latest_outcome own) ≡ None → ⊥
+pub asked_nothing : {T : Type 0} (own : List (Event T)) → latest_outcome own ≡ thens.GoesOn → answer_fault (latest_outcome own) ≡ None → ⊥
 asked_nothing {T} own goes waits = let no : answer_fault {T = T} thens.GoesOn ≡ None = subst (λ (o : Then T). answer_fault o ≡ None) goes waits in absurd cc
 
-offered_nothing : {T : Type 0} (own : List (Event T)) → latest_outcome own ≡ thens.GoesOn → choose_fault (latest_outcome own) ≡ None → ⊥
+pub offered_nothing : {T : Type 0} (own : List (Event T)) → latest_outcome own ≡ thens.GoesOn → choose_fault (latest_outcome own) ≡ None → ⊥
 offered_nothing {T} own goes stands = let no : choose_fault {T = T} thens.GoesOn ≡ None = subst (λ (o : Then T). choose_fault o ≡ None) goes stands in absurd cc
 
 answers_at :

@@ -92,7 +92,7 @@ reader_in p w to holds marked law free even fits more = by_counts marked law.cou
         }
     by_counts m (inr written) = absurd (omega (arith, written.is_full, fits))
 
-held_by_none : (holds : List Hold) → reads_in holds ≡ 0 → writes_in holds ≡ 0 → holds ≡ []
+pub held_by_none : (holds : List Hold) → reads_in holds ≡ 0 → writes_in holds ≡ 0 → holds ≡ []
 held_by_none [] reads writes = refl
 held_by_none (hold ∷ holds) reads writes = absurd (omega (arith, both_kinds (hold ∷ holds), reads, writes))
 

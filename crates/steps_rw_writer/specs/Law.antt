@@ -1,18 +1,23 @@
 -- What a writer-preferring lock keeps at every front of every run: one writer or only readers, which its word counts beside the mark; a mark
--- of a call that is under way, which keeps readers out; and a cause for each refusal.
-use Rattle.std.specs.Prelude.{◌≡◌, ℕ, ◌+◌, ◌*◌, ◌-◌, ◌^◌, ◌<◌, ◌==◌, ◌⊎◌, ◌&&◌, Bool, true, false, if◌then◌else◌, List, [], ◌∷◌, MatchBool, MatchOption}
+-- of a call that is under way, which keeps readers out; a cause for each refusal; and when a wait closure is asked, and what it is told.
+use Rattle.std.specs.Prelude.{◌≡◌, ℕ, ◌+◌, ◌*◌, ◌-◌, ◌^◌, ◌<◌, ◌==◌, ◌↔◌, ◌⊎◌, ◌&&◌, ◌||◌, not, Bool, true, false, if◌then◌else◌, List, [], ◌∷◌, Some, MatchBool, MatchOption}
 use Rattle.steps_events.specs.declared.event.Word.TheVariants as words
 use Rattle.steps_events.specs.declared.event.Call.{Call}
 use Rattle.steps_events.specs.declared.event.Call.TheVariants as calls
+use Rattle.steps_events.specs.declared.event.Act.{Act}
+use Rattle.steps_events.specs.declared.event.Act.TheVariants as acts
+use Rattle.steps_events.specs.declared.event.Answer.TheVariants as answers
+use Rattle.steps_events.specs.declared.event.Then.{Then}
+use Rattle.steps_events.specs.declared.event.Then.TheVariants as thens
 use Rattle.steps_events.specs.declared.event.Event.{Event}
 use Rattle.steps_events.specs.declared.hold.HoldKind.TheVariants as kinds
-use Rattle.steps_events.specs.Past.{Hold, call_of, holds_of, word_in, is_failure}
+use Rattle.steps_events.specs.Past.{Hold, PendingCall, call_of, holds_of, word_in, is_failure}
 use Rattle.steps_events.specs.HoldCounts.{reads_in, writes_in}
-use Rattle.steps_events.specs.Sights.{is_sight, is_beginning, AtLastSight, HasAborted, HasMissed, OtherWroteSinceSight}
+use Rattle.steps_events.specs.Sights.{is_sight, is_beginning, AtLastSight, HasAborted, HasMissed, OtherWroteSinceSight, sight_of, goes_on, stands_at_wait, spins_in, last_of}
 use Rattle.steps_events.specs.Laws.{TellsMemory, IsExclusive, IsLocked, HasCause}
-use Rattle.steps_rw_writer.specs.Table.{rw_writer_table}
+use Rattle.steps_rw_writer.specs.Table.{lets_readers_in, lets_writer_in, lets_mark, is_mark, rw_writer_table}
 use Rattle.steps_rw_writer.specs.Marks.{setter_of, is_marked_after, has_marked}
-use Rattle.steps_rw_writer.specs.Debts.{NoWakeIsLost, ReadersAreWoken}
+use Rattle.steps_rw_writer.specs.Debts.{loads_count, NoWakeIsLost, ReadersAreWoken}
 
 -- The word, the holds and the mark.
 
@@ -83,6 +88,71 @@ RwWriterCause calls.WriteLock party events =
     AtLastSight words.State (λ before. HasAborted party before × IsLocked rw_writer_table before) party events ⊎ HasMissedAfterAbort party events
 RwWriterCause other party events = ⊥
 
+-- Exact: the event in which a `TryWriteLock` sees the word grants the lock exactly where there was no hold before it, and the mark was not set.
+abbrev pub IsExactGrant : {T : Type 0} → List (Event T) → Type 0
+IsExactGrant [] = Unit {0}
+IsExactGrant (e ∷ past) =
+    MatchOption (call_of e.party past) (Unit {0})
+    (λ c. c.call ≡ calls.TryWriteLock → is_sight words.State e.act ≡ true →
+    ((e.then ≡ thens.Answers answers.Success) ↔ ((holds_of rw_writer_table past ≡ []) × (is_marked_after past ≡ false))))
+
+-- How often a call tries before its wait closure is asked.
+
+-- a reader's look in vain: no reader may enter
+abbrev pub is_read_in_vain : {T : Type 0} → Act T → Bool
+is_read_in_vain (acts.Load words.State seen) = not (lets_readers_in seen)
+is_read_in_vain (acts.Exchange words.State from to found false) = not (lets_readers_in found)
+is_read_in_vain act = false
+
+-- the writer may neither enter nor set the mark
+abbrev pub leaves_no_move : ℕ → Bool
+leaves_no_move word = not (lets_writer_in word || lets_mark word)
+
+-- A writer's try in vain: a look at which it has no move; a mark that it has set; an exchange to enter that failed, where it may not set the
+-- mark. A mark that failed is not counted, but what it found is a look.
+abbrev pub is_write_in_vain : {T : Type 0} → Act T → Bool
+is_write_in_vain (acts.Load words.State seen) = leaves_no_move seen
+is_write_in_vain (acts.Exchange words.State from to found done) =
+    if is_mark from to then (done || leaves_no_move found) else (not done && not (lets_mark found))
+is_write_in_vain act = false
+
+-- A writer's spins: its tries in vain but those after which it loads the counter; by whether it does so next, after these events.
+abbrev pub write_spins_in : {T : Type 0} → Bool → List (Event T) → ℕ
+write_spins_in loads_next [] = 0
+write_spins_in loads_next (e ∷ own) =
+    (if (not loads_next && goes_on e.then && is_write_in_vain e.act) then 1 else 0) + write_spins_in (loads_count e.act) own
+
+-- how often the call has spun; no call but a `ReadLock` or a `WriteLock` spins
+abbrev pub spins_of : {T : Type 0} → Call T → List (Event T) → ℕ
+spins_of calls.ReadLock own = spins_in is_read_in_vain own
+spins_of calls.WriteLock own = write_spins_in false own
+spins_of call own = 0
+
+-- a wait closure is asked only after exactly 10000 spins
+abbrev pub AsksAfterAllSpins : {T : Type 0} → List (Event T) → Type 0
+AsksAfterAllSpins [] = Unit {0}
+AsksAfterAllSpins (e ∷ past) =
+    MatchBool (stands_at_wait e.then)
+    (MatchOption (call_of e.party past) ⊥ (λ c. spins_of c.call c.own ≡ 10000))
+    (Unit {0})
+
+-- What a wait closure is told: of a reader what its latest act saw of the word, of a writer the count that it loaded last.
+
+abbrev pub IsToldClosure : {T : Type 0} → Call T → List (Event T) → Act T → ℕ → Type 0
+IsToldClosure calls.ReadLock own act told = sight_of words.State act ≡ Some told
+IsToldClosure calls.WriteLock own act told = last_of loads_count own ≡ Some (acts.Load words.Counter told)
+IsToldClosure call own act told = ⊥
+
+-- where a call is left at its wait closure
+abbrev pub IsToldAt : {T : Type 0} → PendingCall T → Act T → Then T → Type 0
+IsToldAt c act (thens.Waits told) = IsToldClosure c.call c.own act told
+IsToldAt c act outcome = Unit {0}
+
+-- so it is of the wait closure that the latest event asks
+abbrev pub TellsClosure : {T : Type 0} → List (Event T) → Type 0
+TellsClosure [] = Unit {0}
+TellsClosure (e ∷ past) = MatchOption (call_of e.party past) (Unit {0}) (λ c. IsToldAt c e.act e.then)
+
 -- What a writer-preferring lock keeps beside what every object does.
 pub record RwWriterLaw {T : Type 0} (past : List (Event T)) : Type 0 where
   -- the word is twice the number of read holds and the mark, or 2^64 - 1 with one write hold and no other
@@ -91,6 +161,12 @@ pub record RwWriterLaw {T : Type 0} (past : List (Event T)) : Type 0 where
   pub mark : SetterIsUnderWay past
   -- and no read hold is granted while it is set
   pub keeps_out : MarkKeepsReadersOut past
+  -- `TryWriteLock` is granted exactly where nobody holds the lock and the mark is not set
+  pub exact : IsExactGrant past
+  -- a wait closure is asked after 10000 spins
+  pub asks : AsksAfterAllSpins past
+  -- a reader's is told what the latest look saw, a writer's the count that it loaded last
+  pub tells : TellsClosure past
   -- while a writer stands, whoever frees the lock owes a counter step until it has made it
   pub counted : NoWakeIsLost past
   -- while a reader stands that saw an odd word, whoever makes the word even owes a wake of all until it has made it
