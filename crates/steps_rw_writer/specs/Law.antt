@@ -113,7 +113,7 @@ leaves_no_move word = not (lets_writer_in word || lets_mark word)
 abbrev pub is_write_in_vain : {T : Type 0} → Act T → Bool
 is_write_in_vain (acts.Load words.State seen) = leaves_no_move seen
 is_write_in_vain (acts.Exchange words.State from to found done) =
-    if is_mark from to then (done || leaves_no_move found) else (not done && not (lets_mark found))
+    if is_mark from to then (done || leaves_no_move found) else ((to == 2 ^ 64 - 1) && not done && not (lets_mark found))
 is_write_in_vain act = false
 
 -- A writer's spins: its tries in vain but those after which it loads the counter; by whether it does so next, after these events.
