@@ -1,1 +1,5 @@
 //! The running spin lock.
+mod kept;
+mod locks;
+mod refusals;
+mod threads;
