@@ -4,11 +4,12 @@ ghost use Rattle.running_spin_lock.specs.SpinShown.{IsSpinPass, IsSamePass};
 
 use crate::{SpinLock, SpinPass};
 use std::marker::{Model, PhantomData};
+use std::mem;
 use std::sync::Wait;
 use std::test::Fail;
 
 /// An even number.
-#[derive(Drop)]
+#[derive(Debug, Drop)]
 struct Even {
     number: u64,
     ghost even: { number % 2 ≡ 0 },
@@ -52,13 +53,24 @@ struct Kept<T, K: Keeps<T>> {
 }
 
 impl<T, K: Keeps<T>> Model for Kept<T, K> {
+    ghost Value = { T };
+
     ghost view = { λ kept. kept.value };
 
     ghost invariant = { λ kept. K.keeps kept.value };
 }
 
+impl<T, K: Keeps<T>> Kept<T, K> {
+    fn into_value(self) -> T
+        ensures kept { K.keeps result }
+    {
+        let Kept { value, by: _ } = self;
+        value
+    }
+}
+
 /// Replaces the value, and answers the one that stood there: it was kept.
-fn replace<T: Copy, K: Keeps<T>, R: Wait>(
+fn replace<T, K: Keeps<T>, R: Wait>(
     rt: &R,
     lock: &SpinLock<Kept<T, K>>,
     pass: &mut SpinPass,
@@ -70,12 +82,11 @@ fn replace<T: Copy, K: Keeps<T>, R: Wait>(
     ensures kept { K.keeps result }
 {
     let mut guard = SpinLock::blocking_lock(pass, lock, rt);
-    let before = guard.value;
-    *guard = Kept {
+    let kept = Kept {
         value,
         by: PhantomData,
     };
-    before
+    mem::replace(&mut *guard, kept).into_value()
 }
 
 /// At most ten.
@@ -92,7 +103,9 @@ fn a_kept_value_is_kept(rt: HostRuntime) -> Result<(), Fail> {
         value: 3,
         by: PhantomData,
     };
-    let (lock, mut pass) = SpinLock::new(rt.alloc(), first)?;
+    let Ok((lock, mut pass)) = SpinLock::new(rt.alloc(), first) else {
+        return Err("no memory")?;
+    };
     assert_eq!(rt; replace(&rt, &lock, &mut pass, 10), 3);
     assert_eq!(rt; replace(&rt, &lock, &mut pass, 0), 10);
     Ok(())

@@ -45,7 +45,7 @@ fn two_threads_push_under_their_guards(rt: HostRuntime) -> Result<(), Fail> {
     match SpinLock::try_lock(&mut one, &lock) {
         Some(guard) => {
             let list = guard.as_slice();
-            assert!(rt; list == [1, 2, 3] || list == [2, 3, 1]);
+            assert!(rt; list == [1, 2, 3].as_slice() || list == [2, 3, 1].as_slice());
         }
         None => return Err("the lock is taken")?,
     }
