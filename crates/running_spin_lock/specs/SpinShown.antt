@@ -1,5 +1,5 @@
 -- What contracts see of a spin lock, its pass and its guard, and what a call changes in a pass.
-use Rattle.std.specs.Prelude.{◌≡◌, ℕ, ◌<◌}
+use Rattle.std.specs.Prelude.{◌≡◌, ℕ, ◌<◌, ◌≤◌}
 use Rattle.std.specs.Borrow.{GName}
 use Rattle.atomic_table.specs.Seated.{TableId}
 use Rattle.passes.specs.declared.part.Part.{Part}
@@ -84,3 +84,9 @@ module _ {T A : Type 0} where
 -- the lock was seen taken once, and nothing else changed
 abbrev pub HasSeenLocked : SpinPass → SpinPass → Type 0
 HasSeenLocked p q = IsSamePass p q × (view q ≡ looked (view p) 1)
+
+-- The same part of the whole. On the way the pass may have been granted, and may have seen the lock.
+pub record HasStayed (p q : SpinPass) : Type 0 where
+  pub same : IsSamePass p q
+  pub part : part_of q ≡ part_of p
+  pub grants : grants_of p ≤ grants_of q

@@ -1,6 +1,6 @@
 //! Each call by itself.
 ghost use Rattle.std.specs.Prelude.{◌≡◌, ◌+◌};
-ghost use Rattle.running_spin_lock.specs.SpinShown.{IsSpinPass, IsSamePass, IsAlone, grants_of};
+ghost use Rattle.running_spin_lock.specs.SpinShown.{IsSpinPass, IsSamePass, IsAlone, HasStayed, grants_of};
 
 use crate::{PoisonError, SpinLock, SpinPass};
 use std::sync::Wait;
@@ -49,7 +49,7 @@ fn one_holder_at_a_time(rt: HostRuntime) -> Result<(), Fail> {
 fn add_twice<R: Wait>(rt: &R, lock: &SpinLock<u64>, pass: &mut SpinPass, more: u64) -> u64
     requires own { IsSpinPass lock.now pass.old }
     requires alone { IsAlone pass.old }
-    ensures stayed { IsSamePass pass.old pass.new }
+    ensures stayed { HasStayed pass.old pass.new }
     ensures grants { grants_of pass.new ≡ grants_of pass.old + 3 }
 {
     {

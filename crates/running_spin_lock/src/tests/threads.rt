@@ -1,6 +1,5 @@
 //! Threads that meet at the lock.
-ghost use Rattle.std.specs.Prelude.{◌≡◌};
-ghost use Rattle.running_spin_lock.specs.SpinShown.{IsSpinPass, IsSamePass, IsAlone};
+ghost use Rattle.running_spin_lock.specs.SpinShown.{IsSpinPass, HasStayed};
 
 use crate::{SpinLock, SpinPass};
 use std::alloc::AllocError;
@@ -8,18 +7,21 @@ use std::sync::Wait;
 use std::test::Fail;
 use std::thread;
 
-/// Pushes these numbers under one guard.
+/// Pushes these numbers under one guard, and tells whether there was memory.
 fn push_all<R: Wait>(
     rt: &R,
     lock: &SpinLock<Vec<u64>>,
-    pass: &mut SpinPass,
+    mut pass: SpinPass,
     numbers: &[u64],
-) -> Result<(), AllocError>
-    requires own { IsSpinPass lock.now pass.old }
-    ensures stayed { IsSamePass pass.old pass.new }
+) -> (SpinPass, bool)
+    requires own { IsSpinPass lock.now pass }
+    ensures stayed { HasStayed pass result.0 }
 {
-    let mut guard = SpinLock::blocking_lock(pass, lock, rt);
-    extend(&mut guard, numbers)
+    let pushed = {
+        let mut guard = SpinLock::blocking_lock(&mut pass, lock, rt);
+        extend(&mut guard, numbers).is_ok()
+    };
+    (pass, pushed)
 }
 
 fn extend(list: &mut Vec<u64>, numbers: &[u64]) -> Result<(), AllocError> {
@@ -32,16 +34,18 @@ fn extend(list: &mut Vec<u64>, numbers: &[u64]) -> Result<(), AllocError> {
 #[test]
 fn two_threads_push_under_their_guards(rt: HostRuntime) -> Result<(), Fail> {
     let (lock, pass) = SpinLock::new(rt.alloc(), Vec::new(rt.alloc()))?;
-    let Ok((mut one, mut two)) = pass.split(&lock) else {
+    let Ok((one, two)) = pass.split(&lock) else {
         unreachable!()
     };
-    let (first, second) = thread::join(
+    let ((mut one, first), (_, second)) = thread::join(
         &rt,
-        || push_all(&rt, &lock, &mut one, &[1]),
-        || push_all(&rt, &lock, &mut two, &[2, 3]),
+        || -> (SpinPass, bool)
+            requires { IsSpinPass lock one }
+            ensures { HasStayed one result.0 }
+        { push_all(&rt, &lock, one, &[1]) },
+        || push_all(&rt, &lock, two, &[2, 3]),
     );
-    first?;
-    second?;
+    assert!(rt; first && second);
     match SpinLock::try_lock(&mut one, &lock) {
         Some(guard) => {
             let list = guard.as_slice();
@@ -55,7 +59,7 @@ fn two_threads_push_under_their_guards(rt: HostRuntime) -> Result<(), Fail> {
 /// Adds 1 to the value, so often.
 fn count_up<R: Wait>(rt: &R, lock: &SpinLock<u64>, mut pass: SpinPass, times: u64) -> SpinPass
     requires own { IsSpinPass lock.now pass }
-    ensures stayed { IsSamePass pass result }
+    ensures stayed { HasStayed pass result }
 {
     for _ in 0..times {
         let mut guard = SpinLock::blocking_lock(&mut pass, lock, rt);
@@ -72,7 +76,10 @@ fn no_addition_is_lost(rt: HostRuntime) -> Result<(), Fail> {
     };
     let (mut one, _) = thread::join(
         &rt,
-        || count_up(&rt, &lock, one, 2000),
+        || -> SpinPass
+            requires { IsSpinPass lock one }
+            ensures { HasStayed one result }
+        { count_up(&rt, &lock, one, 2000) },
         || count_up(&rt, &lock, two, 3000),
     );
     match SpinLock::try_lock(&mut one, &lock) {
