@@ -135,6 +135,8 @@ impl OncePass {
 }
 
 impl<A: Allocator> Once<A> {
+    ghost use Rattle.std.specs.Borrow.{MutBor};
+    ghost use Rattle.std.specs.Fn.{FnOnceReturnsAtMut};
     ghost use Rattle.std.specs.Prelude.{true, false, ◌+◌, ◌*◌, ◌<◌, ◌≢◌, MatchBool};
     ghost use Rattle.passes.specs.Parts.{IsWhole};
     ghost use Rattle.passes.specs.Views.{first_view};
@@ -164,15 +166,48 @@ impl<A: Allocator> Once<A> {
         ensures kept { IsComplete pass.old → HasSeenOnce pass.old pass.new }
         ensures exact { IsWhole (part_of_once pass.old) → ended_of pass.new ≡ 1 }
     {
+        self.call_once_on(
+            rt,
+            pass,
+            &mut (),
+            |_: &mut ()|
+                requires { F.IsAlwaysCallable f }
+                ensures { F.post f tt }
+            {
+                f();
+            },
+        );
+    }
+
+    /// What `call_once` does, with a closure that is lent `on`, and whether this call ran it. A closure that has to change what its
+    /// caller also lends to others can't capture it, and is lent it here.
+    #[inline(always)]
+    pub fn call_once_on<X, R: Wait, F: FnOnce(&mut X)>(
+        &self,
+        rt: &R,
+        pass: &mut OncePass,
+        on: &mut X,
+        f: F,
+    ) -> bool
+        requires own { IsOncePass self.now pass.old }
+        requires may { (lent : MutBor X) → lent.now ≡ on.old → F.pre f lent }
+        ensures completed { HasCompleted pass.old pass.new }
+        ensures tells { MatchBool result (ended_of pass.old < ended_of pass.new) (ended_of pass.new ≡ ended_of pass.old) }
+        ensures ran { result ≡ true → FnOnceReturnsAtMut F.FnOnce f on.old tt on.new }
+        ensures untouched { result ≡ false → on.new ≡ on.old }
+        ensures kept { IsComplete pass.old → HasSeenOnce pass.old pass.new }
+        ensures exact { IsWhole (part_of_once pass.old) → ended_of pass.new ≡ 1 }
+    {
         if self.look(&mut pass.pass) == COMPLETE {
-            return;
+            return false;
         }
         if self.begin(&mut pass.pass) {
-            f();
+            f(on);
             self.end(&mut pass.pass);
-            return;
+            return true;
         }
         self.stay(rt, &mut pass.pass);
+        false
     }
 
     /// Whether a closure has ended: one load.

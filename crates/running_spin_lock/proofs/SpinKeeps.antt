@@ -44,41 +44,41 @@ module _ {T : Type 0} where
       let v : View SpinHolds = me.0 in let more : SpinHolds = the_others s.views id in let is = apart s id v r at in let word = is.word in let one = is.one in let long = is.one_word in
       let put : get_or (set s.words 0 1) 0 0 ≡ 1 = get_or-set_same s.words 0 1 0 (omega (arith, long)) in
       dite (ℕ_discrete (get_or s.words 0 0) 0)
-          (λ free. let home = is.home (omega (arith, word, free)) in let x : T = home.0 in (
-            locked v,
-            takes 0 (Some x),
-            ap (λ hs. get_elem? hs 0) home.1,
-            kept_again s id v (locked v) r at refl alive (set s.words 0 1) (set s.homes 0 maybe.none) (record {
-              one_word = length-set s.words 0 1 ∙ long;
-              word = put ∙ omega (arith, word, free);
-              one = omega (arith, word, free);
-              home = λ off. absurd (omega (arith, off));
-              out = λ _. ap (λ hs. set hs 0 maybe.none) home.1;
-            }),
-            record {
-              free = λ _. record { off = omega (arith, word, free); on = refl; took = (x, ap (λ l. (0, Some x) ∷ l) none) };
-              taken = λ miss. absurd (miss free);
-              alone = λ _ _. free;
-            },
-          ))
-          (λ held. (
-            looked v 1,
-            keeps,
-            tt,
-            kept_again s id v (looked v 1) r at refl alive (set s.words 0 1) s.homes (record {
-              one_word = length-set s.words 0 1 ∙ long;
-              word = put ∙ omega (arith, word, one, held);
-              one = one;
-              home = is.home;
-              out = is.out;
-            }),
-            record {
-              free = λ hit. absurd (held hit);
-              taken = λ _. (refl, refl);
-              alone = λ whole off. let none_else = ap (λ (t : SpinHolds). t.holds) (alone no_holds both_holds no_core holds_add_up s.views id v at whole r.shared) in
-                  absurd (held (omega (arith, word, off, none_else)));
-            },
-          ))
+      (λ free. let home = is.home (omega (arith, word, free)) in let x : T = home.0 in (
+        locked v,
+        takes 0 (Some x),
+        ap (λ hs. get_elem? hs 0) home.1,
+        kept_again s id v (locked v) r at refl alive (set s.words 0 1) (set s.homes 0 maybe.none) (record {
+          one_word = length-set s.words 0 1 ∙ long;
+          word = put ∙ omega (arith, word, free);
+          one = omega (arith, word, free);
+          home = λ off. absurd (omega (arith, off));
+          out = λ _. ap (λ hs. set hs 0 maybe.none) home.1;
+        }),
+        record {
+          free = λ _. record { off = omega (arith, word, free); on = refl; took = (x, ap (λ l. (0, Some x) ∷ l) none) };
+          taken = λ miss. absurd (miss free);
+          alone = λ _ _. free;
+        },
+      ))
+      (λ held. (
+        looked v 1,
+        keeps,
+        tt,
+        kept_again s id v (looked v 1) r at refl alive (set s.words 0 1) s.homes (record {
+          one_word = length-set s.words 0 1 ∙ long;
+          word = put ∙ omega (arith, word, one, held);
+          one = one;
+          home = is.home;
+          out = is.out;
+        }),
+        record {
+          free = λ hit. absurd (held hit);
+          taken = λ _. (refl, refl);
+          alone = λ whole off. let none_else = ap (λ (t : SpinHolds). t.holds) (alone no_holds both_holds no_core holds_add_up s.views id v at whole r.shared) in
+              absurd (held (omega (arith, word, off, none_else)));
+        },
+      ))
 
   pub stores : (slots id : ℕ) (me : Me (Option T) (View SpinHolds)) (x : T) → me.1 ≡ (0, Some x) ∷ [] → me.0.tally.holds ≡ 1 → 0 < me.0.part.share
       → Allows IsKept slots id me 0 (λ _. 0) (λ _. Stored me)

@@ -39,6 +39,7 @@ impl<T> Play<Option<T>, View<SpinHolds>> for Release {
 
 /// The word of a locked spin lock, and of a free one.
 const LOCKED: u64 = 1;
+
 const FREE: u64 = 0;
 
 impl<T, A: Allocator> SpinLock<T, A> {
@@ -48,10 +49,7 @@ impl<T, A: Allocator> SpinLock<T, A> {
 
     /// One swap of 1. The guard where the lock was free; `None` where it was seen locked, and then this call holds nothing.
     #[inline(always)]
-    pub fn try_lock<'p>(
-        pass: &'p mut SpinPass,
-        this: &'p Self,
-    ) -> Option<SpinLockGuard<'p, T, A>>
+    pub fn try_lock<'p>(pass: &'p mut SpinPass, this: &'p Self) -> Option<SpinLockGuard<'p, T, A>>
         requires own { IsSpinPass this.now pass.old }
         ensures* refused { sem 𝓛 (RestsIfNone the_row pass.entry borrow_of result (HasSeenLocked pass.old)) }
         ensures same_borrow { IfSome result (λ guard. borrow_of guard ≡ pass.entry.ghost_name) }
