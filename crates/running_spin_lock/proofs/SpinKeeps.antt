@@ -1,5 +1,5 @@
 -- Each step of a spin lock keeps its rule.
-use Rattle.std.proofs.Common.{◌≡◌, ℕ, zero, suc, ◌<◌, ◌≤◌, eqb, List, [], ◌∷◌, get_or, set, sym, refl, ap, ◌∙◌, subst, arith, Bool, true, false, Option, Some, None, length-set, get_or-set_same, true-eqb}
+use Rattle.std.proofs.Common.{◌≡◌, ℕ, ◌<◌, eqb, List, [], ◌∷◌, get_or, set, sym, refl, ap, ◌∙◌, subst, arith, true, Option, Some, None, length-set, get_or-set_same, true-eqb}
 use Rattle.std.proofs.lemmas.Bool.{and_parts, false≢true}
 use mathlib.Core.Logic.{dite}
 use mathlib.Core.Option as maybe
@@ -11,8 +11,8 @@ use Rattle.passes.specs.Views.{first_view, looked, IsCounted}
 use Rattle.passes.proofs.Parts.{shared_first, shared_step}
 use Rattle.passes.proofs.Sums.{others, sum_at, sum_set, sum_of_two, alone}
 use Rattle.running_spin_lock.specs.declared.hold.SpinHolds.{SpinHolds}
-use Rattle.running_spin_lock.specs.SpinRule.{no_holds, both_holds, granted, released, locked, unlocked, IsHome, IsOut, IsGuarding, OneHolder, OneHolderAtMost}
-use Rattle.running_spin_lock.specs.SpinSteps.{Swapped, Stored, Taken, is_vacant, has_vacant_slot}
+use Rattle.running_spin_lock.specs.SpinRule.{no_holds, both_holds, locked, unlocked, IsGuarding, OneHolderAtMost}
+use Rattle.running_spin_lock.specs.SpinSteps.{Swapped, Stored, is_vacant, has_vacant_slot}
 use Rattle.running_spin_lock.specs.SpinTally.{holds_add_up}
 
 abbrev no_core : SpinHolds → SpinHolds

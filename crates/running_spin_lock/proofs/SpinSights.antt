@@ -1,8 +1,7 @@
 -- What was seen over several swaps.
-use Rattle.std.proofs.Common.{◌≡◌, ◌+◌, ℕ, ap, sym, refl, ◌∙◌, subst, arith}
-use Rattle.passes.specs.declared.part.Sights.{Sights}
+use Rattle.std.proofs.Common.{◌≡◌, ap, sym, refl, subst, arith}
 use Rattle.passes.specs.declared.view.View.{View}
-use Rattle.passes.specs.Sights.{seen, stale, HasOnlyRead, HasWritten}
+use Rattle.passes.specs.Sights.{stale}
 use Rattle.passes.specs.Views.{looked}
 use Rattle.running_spin_lock.specs.declared.hold.SpinHolds.{SpinHolds}
 use Rattle.running_spin_lock.specs.SpinRule.{granted, locked}

@@ -1,6 +1,4 @@
-use Rattle.std.proofs.Common.{rules, sym, ap, ◌∙◌, subst}
-use Rattle.passes.specs.declared.part.Part.{Part}
-use Rattle.passes.specs.Parts.{AddUp}
+use Rattle.std.proofs.Common.{rules}
 use Rattle.passes.proofs.Parts.{splits_weight}
 use Rattle.passes.proofs.Steps.{splits}
 use Rattle.running_spin_lock.specs.SpinTally.{holds_add_up}
