@@ -15,7 +15,7 @@ use std::alloc::{AllocError, Allocator, Global};
 use std::hint::spin_loop;
 use std::ops::Deref;
 use std::sync::Wait;
-use steps_barrier::arrived;
+use steps_barrier::{arrived, count_of, epoch_of};
 use steps_events::SPIN_REPETITIONS;
 use tallies::{Rounds, WaitWord};
 
@@ -262,22 +262,6 @@ impl<A: Allocator> Barrier<A> {
     fn word(&self) -> WaitWord<'_> {
         WaitWord::from(self.words.word(0))
     }
-}
-
-/// How many rounds were opened, modulo 2^32, at this word.
-#[inline(always)]
-fn epoch_of(word: u64) -> u64
-    ensures { result ≡ epoch_of word }
-{
-    word >> 32
-}
-
-/// How many have arrived in the round that fills, at this word.
-#[inline(always)]
-fn count_of(word: u64) -> u64
-    ensures { result ≡ count_of word }
-{
-    word & 0xFFFF_FFFF
 }
 
 /// Whenever the rule of a barrier holds, a round that a pass knows to be open is full. Says so of the rule alone, and does nothing.
