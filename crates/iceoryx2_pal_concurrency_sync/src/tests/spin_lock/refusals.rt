@@ -1,5 +1,5 @@
 //! Each growth of `new`, refused in turn. A lock of a number is three blocks of 16 bytes.
-use crate::SpinLock;
+use crate::spin_lock::SpinLock;
 use linked_list_allocator::LocalHeap;
 use std::test::Fail;
 

@@ -2,7 +2,7 @@
 ghost use Rattle.std.specs.Prelude.{◌≡◌, ◌%◌, ◌≤◌};
 ghost use Rattle.running_spin_lock.specs.SpinShown.{IsSpinPass, IsSamePass};
 
-use crate::{SpinLock, SpinPass};
+use crate::spin_lock::{SpinLock, SpinPass};
 use std::marker::{Model, PhantomData};
 use std::mem;
 use std::sync::Wait;

@@ -1,7 +1,7 @@
 //! Threads that meet at the lock.
 ghost use Rattle.running_spin_lock.specs.SpinShown.{IsSpinPass, HasStayed};
 
-use crate::{SpinLock, SpinPass};
+use crate::spin_lock::{SpinLock, SpinPass};
 use std::alloc::AllocError;
 use std::sync::Wait;
 use std::test::Fail;

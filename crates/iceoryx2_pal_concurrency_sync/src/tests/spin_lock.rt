@@ -1,8 +1,12 @@
-//! Each call by itself.
+//! The running spin lock.
+mod kept;
+mod refusals;
+mod threads;
+
 ghost use Rattle.std.specs.Prelude.{◌≡◌, ◌+◌};
 ghost use Rattle.running_spin_lock.specs.SpinShown.{IsSpinPass, IsSamePass, IsAlone, HasStayed, grants_of};
 
-use crate::{PoisonError, SpinLock, SpinPass};
+use crate::spin_lock::{PoisonError, SpinLock, SpinPass};
 use std::sync::Wait;
 use std::test::Fail;
 

@@ -1,5 +1,0 @@
-//! The running spin lock.
-mod kept;
-mod locks;
-mod refusals;
-mod threads;
