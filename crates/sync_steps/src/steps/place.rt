@@ -157,9 +157,7 @@ pub fn needs_hold<T>(object: &Object<T>, call: &Call<T>) -> bool
     ensures { result ≡ needs_hold_at object.now call.now }
 {
     match object {
-        Object::Mutex | Object::ReaderLock | Object::WriterLock => {
-            matches!(call, Call::Unlock)
-        }
+        Object::Mutex | Object::ReaderLock | Object::WriterLock => { matches!(call, Call::Unlock) }
         Object::Semaphore(_)
         | Object::Spin
         | Object::Barrier(_)
