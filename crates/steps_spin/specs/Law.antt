@@ -1,5 +1,5 @@
 -- What a spin lock keeps at every front of every run: one holder, who has the lock after each answer, and that a call which waits only spins.
-use Rattle.std.specs.Prelude.{◌≡◌, ◌≤◌, ℕ, Bool, true, false, if◌then◌else◌, is_none, List, [], ◌∷◌, length, MatchBool, MatchOption}
+use Rattle.std.specs.Prelude.{◌≡◌, ◌≤◌, ℕ, Bool, true, false, if◌then◌else◌, List, [], ◌∷◌, length, MatchBool, MatchOption}
 use Rattle.steps_events.specs.declared.event.Word.TheVariants as words
 use Rattle.steps_events.specs.declared.event.Act.{Act}
 use Rattle.steps_events.specs.declared.event.Act.TheVariants as acts
@@ -13,6 +13,7 @@ use Rattle.steps_events.specs.declared.hold.HoldKind.TheVariants as kinds
 use Rattle.steps_events.specs.Past.{Hold, call_of, holds_of, word_in, failures_in}
 use Rattle.steps_events.specs.Moves.{is_step}
 use Rattle.steps_events.specs.Sights.{AtLastSight}
+use Rattle.steps_events.specs.Waits.{OnlySpins}
 use Rattle.steps_events.specs.Laws.{TellsMemory, IsExclusive, IsLocked, HasCause}
 use Rattle.steps_spin.specs.Table.{spin_table}
 
@@ -63,16 +64,6 @@ abbrev pub HandsOn : {T : Type 0} → List (Event T) → Type 0
 HandsOn [] = Unit {0}
 HandsOn (e ∷ past) = IsHandedOn e.party e.then (holds_of spin_table past) (holds_of spin_table (e ∷ past))
 
--- the latest event leaves its call at no wait or choice closure
-abbrev pub stands : {T : Type 0} → Then T → Bool
-stands (thens.Waits seen) = true
-stands (thens.Chooses old) = true
-stands other = false
-
-abbrev pub NeverStands : {T : Type 0} → List (Event T) → Type 0
-NeverStands [] = Unit {0}
-NeverStands (e ∷ past) = stands e.then ≡ false
-
 -- The word counts the holds.
 pub record CountsHolds {T : Type 0} (past : List (Event T)) : Type 0 where
   pub counted : word_in spin_table past words.State ≡ length (holds_of spin_table past)
@@ -86,8 +77,8 @@ pub record SpinLaw {T : Type 0} (past : List (Event T)) : Type 0 where
   pub steps : StepsAsItsCall past
   -- `Success` takes the lock from nobody, `Done` gives it back, and nothing else changes who has it
   pub hands_on : HandsOn past
-  -- no call stands at a closure
-  pub spins : NeverStands past
+  -- a call that waits only spins: none stands at a closure, and none wakes
+  pub spins : OnlySpins past
   -- the word is the number of holds, 1 at most
   pub word : CountsHolds past
   -- a swap does not count as a failed exchange
