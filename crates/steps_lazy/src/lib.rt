@@ -40,6 +40,8 @@ impl LazyPlace {
     /// What the step is to do, at a lazy value with this word, whose closure gives this value.
     #[inline(always)]
     pub fn intent<T>(&self, word: Word, value: T) -> Intent<T>
+    where
+        T: Copy,
         ensures { result ≡ lazy_intent value word self.now }
     {
         match self {
@@ -51,6 +53,8 @@ impl LazyPlace {
     /// How the call goes on, by what the step told, where the closure gives this value.
     #[inline(always)]
     pub fn after<T>(&self, told: Option<u64>, value: T) -> After<T, LazyPlace>
+    where
+        T: Copy,
         ensures { result ≡ lazy_after value self.now told }
     {
         match self {
@@ -71,6 +75,8 @@ impl LazyPlace {
 /// Where the call of the once would have ended, the cell is read next.
 #[inline(always)]
 fn reads_next<T>(after: After<T, OncePlace>) -> After<T, LazyPlace>
+where
+    T: Copy,
     ensures { result ≡ reads_next after }
 {
     match after {

@@ -57,7 +57,7 @@ begins_at other place hold is = absurd cc
 -- Where a step leads.
 
 -- how a call goes on after a look, by whether it saw 2
-abbrev seen_after : {T : Type 0} → OncePlace → Bool → After T OncePlace
+abbrev pub seen_after : {T : Type 0} → OncePlace → Bool → After T OncePlace
 seen_after on complete = cond complete (afters.Ends answers.Done) (afters.At on)
 
 look_steps : {T : Type 0} (c : PendingCall T) (hold : Option HoldKind) (e : Event T) (next : OncePlace) (complete : Bool) → place_after {T = T} (seen_after places.Begin complete) ≡ Some next → AtOnce next (record { call = c.call; own = e ∷ c.own }) hold
@@ -73,7 +73,7 @@ stay_steps {T} c hold e next false is =
     subst (λ p. AtOnce {T = T} p (record { call = c.call; own = e ∷ c.own }) hold) made tt
 
 -- and after its exchange, by whether it was done
-abbrev begin_after : {T : Type 0} → Bool → After T OncePlace
+abbrev pub begin_after : {T : Type 0} → Bool → After T OncePlace
 begin_after done = cond done (afters.At places.Run) (afters.At places.Stay)
 
 begin_steps :
