@@ -1,6 +1,6 @@
 -- A lazy value keeps its law at every front of every run. The word and the closure are those of the once inside.
 use Rattle.std.proofs.Common.{◌≡◌, ◌≢◌, ℕ, ◌+◌, ◌≤◌, ◌==◌, refl, sym, ◌∙◌, ap, subst, Bool, true, false, cond, List, [], ◌∷◌, Option, Some, None, ◌⊎◌, inl, inr, arith}
-use Rattle.std.specs.Prelude.{MatchBool, MatchOption, not}
+use Rattle.std.specs.Prelude.{IfSome, MatchBool, MatchOption, not}
 use Rattle.std.proofs.lemmas.Bool.{eqb-true}
 use Rattle.steps_events.specs.declared.WaitAction.{WaitAction}
 use Rattle.steps_events.specs.declared.event.Word.{Word}
@@ -29,9 +29,9 @@ use Rattle.steps_events.proofs.Own.{IsCallAfter, call_was}
 use Rattle.steps_once.specs.declared.OncePlace.{OncePlace}
 use Rattle.steps_once.specs.declared.OncePlace.TheVariants as onces
 use Rattle.steps_once.specs.Table.{once_intent, found_after}
-use Rattle.steps_once.specs.Closures.{is_begin, is_end, begins_in, ends_in}
-use Rattle.steps_once.proofs.Laws.{AtOnce, seen_after, begin_after, closure_intent}
-use Rattle.steps_once.proofs.Closures.{is_running, IsClosureIntent, RunsOneClosure, at_most_one, complete_ended, closure_front, stays_complete, tells_state, own_began}
+use Rattle.steps_once.specs.Closures.{is_begin, is_end, is_load, begins_in, ends_in}
+use Rattle.steps_once.proofs.Laws.{AtOnce, seen_after, begin_after, closure_intent, has_begun}
+use Rattle.steps_once.proofs.Closures.{is_running, is_miss, missed_since, IsClosureIntent, RunsOneClosure, at_most_one, complete_ended, closure_front, stays_complete, tells_state, own_began}
 use Rattle.steps_lazy.specs.declared.LazyPlace.{LazyPlace}
 use Rattle.steps_lazy.specs.declared.LazyPlace.TheVariants as places
 use Rattle.steps_lazy.specs.Table.{lazy_table, lazy_begins, lazy_intent, reads_next, lazy_after}
@@ -68,7 +68,7 @@ pub record AtLazy {T : Type 0} (place : LazyPlace) (c : PendingCall T) (hold : O
 -- Where a call begins.
 
 begins_at : {T : Type 0} (call : Call T) (place : LazyPlace) (hold : Option HoldKind) → lazy_begins call ≡ Some place → AtLazy {T = T} place (record { call = call; own = [] }) hold
-begins_at {T} calls.Force place hold is = subst (λ p. AtLazy {T = T} p (record { call = calls.Force; own = [] }) hold) (some_same (places.Once onces.Look) place is) (record { call = refl; own = tt; led = refl })
+begins_at {T} calls.Force place hold is = subst (λ p. AtLazy {T = T} p (record { call = calls.Force; own = [] }) hold) (some_same (places.Once onces.Look) place is) (record { call = refl; own = refl; led = refl })
 begins_at other place hold is = absurd cc
 
 -- Where a step leads.
@@ -94,7 +94,7 @@ exchange_leads {T} c hold w number outcome next true force is =
     (record { call = force; own = refl; led = (λ _. refl, λ no. absurd cc, refl) })
 exchange_leads {T} c hold w number outcome next false force is =
     subst (λ p. AtLazy {T = T} p (record { call = c.call; own = event number (acts.Exchange words.State 0 1 w false) outcome ∷ c.own }) hold) (some_same (places.Once onces.Stay) next is)
-    (record { call = force; own = tt; led = (λ no. absurd cc, λ no. absurd cc, refl) })
+    (record { call = force; own = refl; led = (λ no. absurd cc, λ no. absurd cc, refl) })
 
 steps_at :
     {T : Type 0} (v : T) (place : LazyPlace) (c : PendingCall T) (hold left : Option HoldKind) (memory : Word → ℕ) (number : ℕ) (next : LazyPlace) → AtLazy place c hold →
@@ -109,29 +109,29 @@ steps_at {T} v (places.Once onces.Run) c hold left memory number next at is =
 steps_at {T} v (places.Once onces.Complete) c hold left memory number next at is =
     subst (λ p. AtLazy {T = T} p (record { call = c.call; own = event number (acts.Store words.State 2) thens.GoesOn ∷ c.own }) left) (some_same places.Read next is)
     (record { call = at.call; own = refl; led = (λ no. absurd cc, λ no. absurd cc, refl) })
-steps_at v (places.Once onces.Stay) c hold left memory number next at is = look_leads c left (memory words.State) number _ onces.Stay next (memory words.State == 2) at.call tt refl is
+steps_at v (places.Once onces.Stay) c hold left memory number next at is = look_leads c left (memory words.State) number _ onces.Stay next (memory words.State == 2) at.call at.own refl is
 steps_at v places.Read c hold left memory number next at is = absurd cc
 
 -- no call of a lazy value stands, but an answer of a closure would change nothing
 
 stays_here :
-    {T : Type 0} (place : LazyPlace) (c : PendingCall T) (hold : Option HoldKind) (e : Event T) → is_begin e.act ≡ false → is_end e.act ≡ false → shows_end e.act ≡ false →
+    {T : Type 0} (place : LazyPlace) (c : PendingCall T) (hold : Option HoldKind) (e : Event T) → is_step e.act ≡ false → is_miss e.act ≡ false → is_begin e.act ≡ false → is_end e.act ≡ false → shows_end e.act ≡ false →
     IsAt place c hold → IsAt {T = T} place (record { call = c.call; own = e ∷ c.own }) hold
-stays_here (places.Once onces.IsCompleted) c hold e begins ends shows at = at
-stays_here (places.Once onces.Look) c hold e begins ends shows at = tt
-stays_here (places.Once onces.Begin) c hold e begins ends shows at = tt
-stays_here (places.Once onces.Run) c hold e begins ends shows at = rw (begins, ends) at
-stays_here (places.Once onces.Complete) c hold e begins ends shows at = rw ends (omega (arith, at))
-stays_here (places.Once onces.Stay) c hold e begins ends shows at = tt
-stays_here places.Read c hold e begins ends shows at = rw shows at
+stays_here (places.Once onces.IsCompleted) c hold e quiet misses begins ends shows at = at
+stays_here (places.Once onces.Look) c hold e quiet misses begins ends shows at = rw quiet at
+stays_here (places.Once onces.Begin) c hold e quiet misses begins ends shows at = tt
+stays_here (places.Once onces.Run) c hold e quiet misses begins ends shows at = rw (begins, ends) at
+stays_here (places.Once onces.Complete) c hold e quiet misses begins ends shows at = rw ends (omega (arith, at))
+stays_here (places.Once onces.Stay) c hold e quiet misses begins ends shows at = rw misses at
+stays_here places.Read c hold e quiet misses begins ends shows at = rw shows at
 
 pub lazy_kept : {T : Type 0} (v : T) → IsKept (lazy_table v) AtLazy
 lazy_kept v =
     record {
       begins = λ call place hold is allowed. begins_at call place hold is;
       steps = λ place c hold memory number next at free is. steps_at v place c hold _ memory number next at is;
-      answers = λ place c hold action number at waits. record { call = at.call; own = stays_here place c hold (event number (acts.Answered action) thens.GoesOn) refl refl refl at.own; led = at.led };
-      chooses = λ place c hold choice number at waits. record { call = at.call; own = stays_here place c hold (event number (acts.Chosen choice) thens.GoesOn) refl refl refl at.own; led = at.led };
+      answers = λ place c hold action number at waits. record { call = at.call; own = stays_here place c hold (event number (acts.Answered action) thens.GoesOn) refl refl refl refl refl at.own; led = at.led };
+      chooses = λ place c hold choice number at waits. record { call = at.call; own = stays_here place c hold (event number (acts.Chosen choice) thens.GoesOn) refl refl refl refl refl at.own; led = at.led };
     }
 
 -- A lazy value runs one closure.
@@ -186,6 +186,7 @@ pub record EventLaw {T : Type 0} (v : T) (party : ℕ) (past : List (Event T)) (
       MatchBool (is_step m.act)
       (MatchOption pending ⊥ (λ c. MatchOption (last_of is_step c.own) (is_read m.act ≡ false) (λ before. IsNextStep (is_begin before) (is_end before) (shows_end before) m.act)))
       (Unit {0})
+  pub waits : MatchBool (is_load m.act) (MatchOption pending ⊥ (λ c. IfSome (last_of is_step c.own) (λ before. 1 ≤ begins_in past))) (Unit {0})
   pub answers :
       MatchBool (is_read m.act)
       ((m.act ≡ acts.ReadCell v) × (m.outcome ≡ thens.Answers (answers.Value v)) × (word_in (lazy_table v) past words.State ≡ 2) × (ends_in past ≡ 1))
@@ -230,27 +231,27 @@ goes_on_law :
     {T : Type 0} (v : T) (party : ℕ) (past : List (Event T)) (c : PendingCall T) (act : Act T) (outcome : Then T) → outcome ≡ thens.GoesOn → is_read act ≡ false → is_wake act ≡ false →
     MatchBool (is_end act) (AtLast is_begin (λ before. begins_in before ≡ 0) party past) (Unit {0}) →
     MatchBool (is_step act) (MatchOption (last_of is_step c.own) (is_read act ≡ false) (λ before. IsNextStep (is_begin before) (is_end before) (shows_end before) act)) (Unit {0}) →
-    EventLaw v party past (Some c) (record { act = act; outcome = outcome })
-goes_on_law {T} v party past c act outcome goes reads wakes ends runs =
+    MatchBool (is_load act) (IfSome (last_of is_step c.own) (λ before. 1 ≤ begins_in past)) (Unit {0}) → EventLaw v party past (Some c) (record { act = act; outcome = outcome })
+goes_on_law {T} v party past c act outcome goes reads wakes ends runs waits =
     subst (λ (o : Then T). EventLaw v party past (Some c) (record { act = act; outcome = o })) (sym goes)
-    (record { cause = tt; own = ends; runs = runs; answers = rw reads refl; spins = (refl, wakes) })
+    (record { cause = tt; own = ends; runs = runs; waits = waits; answers = rw reads refl; spins = (refl, wakes) })
 
 step_law :
     {T : Type 0} (z : Arithmetic T) (v : T) (parties party : ℕ) (past : List (Event T)) → IsPast z (lazy_table v) parties past → (c : PendingCall T) → call_of party past ≡ Some c →
     (place : LazyPlace) (hold : Option HoldKind) → AtLazy place c hold → EventLaw v party past (Some c) (step_at (lazy_table v) place hold (word_in (lazy_table v) past))
 step_law z v parties party past run c called (places.Once onces.IsCompleted) hold at = absurd at.own
 step_law {T} z v parties party past run c called (places.Once onces.Look) hold at =
-    goes_on_law v party past c _ _ (goes_on_at T onces.Look _) refl refl tt (in_order (places.Once onces.Look) (last_of is_step c.own) (acts.Load words.State (word_in (lazy_table v) past words.State)) at.led (λ no. absurd cc) (λ no. absurd cc) refl)
+    goes_on_law v party past c _ _ (goes_on_at T onces.Look _) refl refl tt (in_order (places.Once onces.Look) (last_of is_step c.own) (acts.Load words.State (word_in (lazy_table v) past words.State)) at.led (λ no. absurd cc) (λ no. absurd cc) refl) (rw at.own tt)
 step_law {T} z v parties party past run c called (places.Once onces.Begin) hold at =
-    goes_on_law v party past c _ _ (goes_on_at T onces.Begin _) refl refl tt (in_order (places.Once onces.Begin) (last_of is_step c.own) (acts.Exchange words.State 0 1 (word_in (lazy_table v) past words.State) (word_in (lazy_table v) past words.State == 0)) at.led (λ no. absurd cc) (λ no. absurd cc) refl)
+    goes_on_law v party past c _ _ (goes_on_at T onces.Begin _) refl refl tt (in_order (places.Once onces.Begin) (last_of is_step c.own) (acts.Exchange words.State 0 1 (word_in (lazy_table v) past words.State) (word_in (lazy_table v) past words.State == 0)) at.led (λ no. absurd cc) (λ no. absurd cc) refl) tt
 step_law {T} z v parties party past run c called (places.Once onces.Run) hold at =
     let front = closure_front z (lazy_table v) parties (runs_one z v parties) past run in
     goes_on_law v party past c _ _ (goes_on_at T onces.Run 0) refl refl (own_began z (lazy_table v) parties party past run c called at.own (at_most_one _ _ _ front.state).0)
-    (in_order (places.Once onces.Run) (last_of is_step c.own) _ at.led (λ _. refl) (λ no. absurd cc) refl)
+    (in_order (places.Once onces.Run) (last_of is_step c.own) _ at.led (λ _. refl) (λ no. absurd cc) refl) tt
 step_law {T} z v parties party past run c called (places.Once onces.Complete) hold at =
-    goes_on_law v party past c _ _ (goes_on_at T onces.Complete 0) refl refl tt (in_order (places.Once onces.Complete) (last_of is_step c.own) _ at.led (λ no. absurd cc) (λ _. refl) refl)
+    goes_on_law v party past c _ _ (goes_on_at T onces.Complete 0) refl refl tt (in_order (places.Once onces.Complete) (last_of is_step c.own) _ at.led (λ no. absurd cc) (λ _. refl) refl) tt
 step_law {T} z v parties party past run c called (places.Once onces.Stay) hold at =
-    goes_on_law v party past c _ _ (goes_on_at T onces.Stay _) refl refl tt (in_order (places.Once onces.Stay) (last_of is_step c.own) (acts.Load words.State (word_in (lazy_table v) past words.State)) at.led (λ no. absurd cc) (λ no. absurd cc) refl)
+    goes_on_law v party past c _ _ (goes_on_at T onces.Stay _) refl refl tt (in_order (places.Once onces.Stay) (last_of is_step c.own) (acts.Load words.State (word_in (lazy_table v) past words.State)) at.led (λ no. absurd cc) (λ no. absurd cc) refl) (has_begun (last_of is_step c.own) (missed_since z (lazy_table v) parties (runs_one z v parties) past run party c called at.own))
 step_law z v parties party past run c called places.Read hold at =
     let two = two_since z v parties past run party c called at.own in
     let front = closure_front z (lazy_table v) parties (runs_one z v parties) past run in
@@ -258,6 +259,7 @@ step_law z v parties party past run c called places.Read hold at =
       cause = tt;
       own = tt;
       runs = in_order places.Read (last_of is_step c.own) (acts.ReadCell v) at.led (λ no. absurd cc) (λ no. absurd cc) refl;
+      waits = tt;
       answers = (refl, refl, two, complete_ended _ _ _ front.state two);
       spins = (refl, refl);
     }
@@ -267,9 +269,9 @@ event_law :
 event_law {T} z v parties past e run =
     by_move (lazy_table v) (call_of e.party past) (hold_of (lazy_table v) e.party past) (word_in (lazy_table v) past) (λ (k : Option (PendingCall T)) (m : Move T). EventLaw v e.party past k m)
     run.0.0 (record { act = e.act; outcome = e.then })
-    (λ call _. record { cause = tt; own = tt; runs = tt; answers = refl; spins = (refl, refl) })
-    (λ action _. record { cause = tt; own = tt; runs = tt; answers = refl; spins = (refl, refl) })
-    (λ choice _. record { cause = tt; own = tt; runs = tt; answers = refl; spins = (refl, refl) })
+    (λ call _. record { cause = tt; own = tt; runs = tt; waits = tt; answers = refl; spins = (refl, refl) })
+    (λ action _. record { cause = tt; own = tt; runs = tt; waits = tt; answers = refl; spins = (refl, refl) })
+    (λ choice _. record { cause = tt; own = tt; runs = tt; waits = tt; answers = refl; spins = (refl, refl) })
     (λ c place _ called stage.
     step_law z v parties e.party past run.1 c called place (hold_of (lazy_table v) e.party past) (at_place z (lazy_table v) parties AtLazy (lazy_kept v) past run.1 e.party c place called stage))
     run.0.1.moved
@@ -284,7 +286,7 @@ only_forces {T} z v parties past e run = by_call (call_of e.party past) (each_ca
 pub keeps_lazy : {T : Type 0} (z : Arithmetic T) (v : T) (parties : ℕ) (past : List (Event T)) → IsPast z (lazy_table v) parties past → KeepsLazy v past
 keeps_lazy z v parties [] run =
     let front = closure_front z (lazy_table v) parties (runs_one z v parties) [] run in
-    record { told = tt; unheld = refl; cause = tt; law = record { one = omega arith; ends = omega arith; own = tt; runs = tt; answers = tt; calls = tt; stays = tt; spins = tt; state = tells_state (lazy_table v) [] front.state } }
+    record { told = tt; unheld = refl; cause = tt; law = record { one = omega arith; ends = omega arith; own = tt; runs = tt; waits = tt; answers = tt; calls = tt; stays = tt; spins = tt; state = tells_state (lazy_table v) [] front.state } }
 keeps_lazy z v parties (e ∷ past) run =
     let event = event_law z v parties past e run in
     let front = closure_front z (lazy_table v) parties (runs_one z v parties) (e ∷ past) run in
@@ -294,17 +296,18 @@ keeps_lazy z v parties (e ∷ past) run =
       unheld = no_holds (lazy_table v) (λ call from to. refl) (e ∷ past);
       cause = event.cause;
       law =
-        record {
-          one = most.0;
-          ends = most.2;
-          own = event.own;
-          runs = event.runs;
-          answers = event.answers;
-          calls = only_forces z v parties past e run.1;
-          stays = stays_complete z (lazy_table v) parties (runs_one z v parties) past e run;
-          spins = event.spins;
-          state = tells_state (lazy_table v) (e ∷ past) front.state;
-        };
+          record {
+            one = most.0;
+            ends = most.2;
+            own = event.own;
+            runs = event.runs;
+            waits = event.waits;
+            answers = event.answers;
+            calls = only_forces z v parties past e run.1;
+            stays = stays_complete z (lazy_table v) parties (runs_one z v parties) past e run;
+            spins = event.spins;
+            state = tells_state (lazy_table v) (e ∷ past) front.state;
+          };
     }
 
 -- a lazy value has no other word

@@ -14,7 +14,7 @@ use Rattle.steps_events.specs.Moves.{is_step}
 use Rattle.steps_events.specs.Sights.{last_of}
 use Rattle.steps_events.specs.Waits.{OnlySpins}
 use Rattle.steps_events.specs.Laws.{TellsMemory, HasCause}
-use Rattle.steps_once.specs.Closures.{is_begin, is_end, begins_in, ends_in, EndsItsOwn, StaysTwo, TellsState}
+use Rattle.steps_once.specs.Closures.{is_begin, is_end, begins_in, ends_in, EndsItsOwn, WaitsForAnother, StaysTwo, TellsState}
 use Rattle.steps_lazy.specs.Table.{lazy_table}
 
 -- no call of a lazy value is refused
@@ -71,6 +71,8 @@ pub record LazyLaw {T : Type 0} (v : T) (past : List (Event T)) : Type 0 where
   pub own : EndsItsOwn past
   -- that call ends it at its next step, then stores 2, and then reads the cell; any other reads where it has just seen 2
   pub runs : RunsInOrder past
+  -- a call waits only for a closure that has begun
+  pub waits : WaitsForAnother past
   -- every answer is v, read from the cell after the closure's end; an event that reads nothing answers nothing
   pub answers : AnswersWhatItReads v past
   -- it has no call but `Force`

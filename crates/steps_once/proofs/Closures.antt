@@ -1,7 +1,7 @@
 -- One closure, at any table whose word is a once's: a closure begins with an exchange of 0 for 1, ends in its own call, and is told by a store of 2.
-use Rattle.std.proofs.Common.{◌≡◌, ◌≢◌, ℕ, ◌+◌, ◌≤◌, ◌==◌, refl, sym, ◌∙◌, ap, subst, Bool, true, false, cond, List, [], ◌∷◌, Option, Some, None, ◌⊎◌, inl, inr, ◌↔◌, arith}
+use Rattle.std.proofs.Common.{◌≡◌, ◌≢◌, ℕ, zero, ◌+◌, ◌≤◌, ◌==◌, refl, sym, ◌∙◌, ap, subst, Bool, true, false, cond, List, [], ◌∷◌, Option, Some, None, ◌⊎◌, inl, inr, ◌↔◌, arith}
 use Rattle.std.specs.Prelude.{MatchOption}
-use Rattle.std.proofs.lemmas.Bool.{eqb-true}
+use Rattle.std.proofs.lemmas.Bool.{eqb-true, eq-eqb}
 use Rattle.steps_events.specs.declared.event.Word.{Word}
 use Rattle.steps_events.specs.declared.event.Word.TheVariants as words
 use Rattle.steps_events.specs.declared.event.Act.{Act}
@@ -54,6 +54,7 @@ Effect pending w word begins ends =
 
 abbrev EffectOf : {T : Type 0} → Option (PendingCall T) → ℕ → Act T → Type 0
 EffectOf pending w act = Effect pending w (word_after words.State act w) (is_begin act) (is_end act)
+
 begin_effect : {T : Type 0} (c : PendingCall T) (w from to : ℕ) (done : Bool) → from ≡ 0 → to ≡ 1 → (w == from) ≡ done → EffectOf (Some c) w (acts.Exchange words.State from to w done)
 begin_effect c w from to true is_from is_to found = inr (inl (eqb-true w from found ∙ is_from, is_to, refl, refl))
 begin_effect c w from to false is_from is_to found = inl (refl, refl, refl)
@@ -219,6 +220,42 @@ tells_state t past state = record { begun = begun state; ended = complete_ended 
     known (inl empty) = omega (arith, empty.0)
     known (inr (inl runs)) = omega (arith, runs.0)
     known (inr (inr done)) = omega (arith, done.0)
+
+-- A call that has missed: its exchange of 0 failed, so a closure has begun.
+
+abbrev pub is_miss : {T : Type 0} → Act T → Bool
+is_miss (acts.Exchange words.State zero to found false) = true
+is_miss act = false
+
+abbrev pub has_missed : {T : Type 0} → List (Event T) → Bool
+has_missed [] = false
+has_missed (e ∷ own) = cond (is_miss e.act) true (has_missed own)
+
+missed_at : {T : Type 0} (act : Act T) (memory : Word → ℕ) → IsTold act memory → is_miss act ≡ true → memory words.State ≢ 0
+missed_at (acts.Exchange words.State zero to found false) memory told missed = λ is. let no : true ≡ false = sym (eq-eqb found 0 (told.0 ∙ is)) ∙ sym told.1 in absurd cc
+missed_at other memory told missed = absurd cc
+
+some_begun : (w begins ends : ℕ) → IsState w begins ends → w ≢ 0 → 1 ≤ begins
+some_begun w begins ends (inl empty) other = absurd (other empty.0)
+some_begun w begins ends (inr (inl runs)) other = omega (arith, runs.1)
+some_begun w begins ends (inr (inr done)) other = omega (arith, done.1)
+
+pub missed_since :
+    {T P : Type 0} (z : Arithmetic T) (t : Table T P) (parties : ℕ) → RunsOneClosure z t parties → (past : List (Event T)) → IsPast z t parties past → (party : ℕ) (c : PendingCall T) → call_of party past ≡ Some c →
+    has_missed c.own ≡ true → 1 ≤ begins_in past
+missed_since z t parties one [] run party c called missed = absurd cc
+missed_since {T} z t parties one (e ∷ past) run party c called missed = by_call (missed_since z t parties one past run.1) (call_was past e party c called)
+  where
+    by_test : (misses : Bool) → is_miss e.act ≡ misses → (own : List (Event T)) → (has_missed own ≡ true → 1 ≤ begins_in past) → cond misses true (has_missed own) ≡ true → 1 ≤ begins_in (e ∷ past)
+    by_test true misses own rest missed =
+        let front = closure_front z t parties one past run.1 in
+        omega (arith, some_begun _ _ _ front.state (missed_at e.act (word_in t past) (tells_memory z t parties (e ∷ past) run) misses))
+    by_test false misses own rest missed = omega (arith, rest missed)
+
+    by_call : ((p : ℕ) (k : PendingCall T) → call_of p past ≡ Some k → has_missed k.own ≡ true → 1 ≤ begins_in past) → IsCallAfter past e party c → 1 ≤ begins_in (e ∷ past)
+    by_call rest (inl other) = omega (arith, rest party c other.1 missed)
+    by_call rest (inr (inl begun)) = let no : has_missed {T = T} [] ≡ true = subst (λ (own : List (Event T)). has_missed own ≡ true) begun.1 missed in absurd cc
+    by_call rest (inr (inr on)) = by_test (is_miss e.act) refl on.1.0.own (rest party on.1.0 on.1.1) (subst (λ (own : List (Event T)). has_missed own ≡ true) on.1.2 missed)
 
 -- a call whose closure runs has begun it
 running_began : {T : Type 0} (own : List (Event T)) → is_running own ≡ true → (act : Act T) × (last_of is_begin own ≡ Some act)

@@ -32,15 +32,18 @@ use Rattle.steps_events.proofs.Own.{own_among}
 use Rattle.steps_once.specs.declared.OncePlace.{OncePlace}
 use Rattle.steps_once.specs.declared.OncePlace.TheVariants as places
 use Rattle.steps_once.specs.Table.{once_table, once_begins, once_intent, found_after, once_after}
-use Rattle.steps_once.specs.Closures.{is_begin, is_end, begins_in, ends_in}
+use Rattle.steps_once.specs.Closures.{is_begin, is_end, is_load, begins_in, ends_in}
 use Rattle.steps_once.specs.Law.{OnceCause, IsNextStep, RunsToItsEnd, IsAnswerOf, answer_of, tells_end, flag_of, IsLeftAt, load_of, is_done, KeepsOnce}
-use Rattle.steps_once.proofs.Closures.{is_running, IsClosureIntent, RunsOneClosure, IsState, at_most_one, complete_ended, closure_front, stays_complete, tells_state, own_began}
+use Rattle.steps_once.proofs.Closures.{is_running, has_missed, missed_since, IsClosureIntent, RunsOneClosure, IsState, at_most_one, complete_ended, closure_front, stays_complete, tells_state, own_began}
 
 -- What is kept of a call at its place.
 
 abbrev pub AtOnce : {T : Type 0} → OncePlace → PendingCall T → Option HoldKind → Type 0
 AtOnce places.Run c hold = is_running c.own ≡ true
 AtOnce places.Complete c hold = 1 ≤ ends_in c.own
+AtOnce places.IsCompleted c hold = last_of is_step c.own ≡ None
+AtOnce places.Look c hold = last_of is_step c.own ≡ None
+AtOnce places.Stay c hold = has_missed c.own ≡ true
 AtOnce place c hold = Unit {0}
 
 -- Where a call begins.
@@ -48,10 +51,10 @@ AtOnce place c hold = Unit {0}
 begins_at : {T : Type 0} (call : Call T) (place : OncePlace) (hold : Option HoldKind) → once_begins call ≡ Some place → AtOnce {T = T} place (record { call = call; own = [] }) hold
 begins_at {T} calls.IsCompleted place hold is =
     let made : places.IsCompleted ≡ place = cc in
-    subst (λ p. AtOnce {T = T} p (record { call = calls.IsCompleted; own = [] }) hold) made tt
+    subst (λ p. AtOnce {T = T} p (record { call = calls.IsCompleted; own = [] }) hold) made refl
 begins_at {T} calls.CallOnce place hold is =
     let made : places.Look ≡ place = cc in
-    subst (λ p. AtOnce {T = T} p (record { call = calls.CallOnce; own = [] }) hold) made tt
+    subst (λ p. AtOnce {T = T} p (record { call = calls.CallOnce; own = [] }) hold) made refl
 begins_at other place hold is = absurd cc
 
 -- Where a step leads.
@@ -66,11 +69,12 @@ look_steps {T} c hold e next false is =
     let made : places.Begin ≡ next = cc in
     subst (λ p. AtOnce {T = T} p (record { call = c.call; own = e ∷ c.own }) hold) made tt
 
-stay_steps : {T : Type 0} (c : PendingCall T) (hold : Option HoldKind) (e : Event T) (next : OncePlace) (complete : Bool) → place_after {T = T} (seen_after places.Stay complete) ≡ Some next → AtOnce next (record { call = c.call; own = e ∷ c.own }) hold
-stay_steps c hold e next true is = absurd cc
-stay_steps {T} c hold e next false is =
+stay_steps :
+    {T : Type 0} (c : PendingCall T) (hold : Option HoldKind) (e : Event T) (next : OncePlace) (complete : Bool) → AtOnce places.Stay (record { call = c.call; own = e ∷ c.own }) hold → place_after {T = T} (seen_after places.Stay complete) ≡ Some next → AtOnce next (record { call = c.call; own = e ∷ c.own }) hold
+stay_steps c hold e next true at is = absurd cc
+stay_steps {T} c hold e next false at is =
     let made : places.Stay ≡ next = cc in
-    subst (λ p. AtOnce {T = T} p (record { call = c.call; own = e ∷ c.own }) hold) made tt
+    subst (λ p. AtOnce {T = T} p (record { call = c.call; own = e ∷ c.own }) hold) made at
 
 -- and after its exchange, by whether it was done
 abbrev pub begin_after : {T : Type 0} → Bool → After T OncePlace
@@ -84,7 +88,7 @@ begin_steps {T} c hold w number outcome next true is =
     subst (λ p. AtOnce {T = T} p (record { call = c.call; own = event number (acts.Exchange words.State 0 1 w true) outcome ∷ c.own }) hold) made refl
 begin_steps {T} c hold w number outcome next false is =
     let made : places.Stay ≡ next = cc in
-    subst (λ p. AtOnce {T = T} p (record { call = c.call; own = event number (acts.Exchange words.State 0 1 w false) outcome ∷ c.own }) hold) made tt
+    subst (λ p. AtOnce {T = T} p (record { call = c.call; own = event number (acts.Exchange words.State 0 1 w false) outcome ∷ c.own }) hold) made refl
 
 steps_at :
     {T : Type 0} (place : OncePlace) (c : PendingCall T) (hold left : Option HoldKind) (memory : Word → ℕ) (number : ℕ) (next : OncePlace) → AtOnce place c hold →
@@ -97,29 +101,29 @@ steps_at {T} places.Run c hold left memory number next at is =
     let made : places.Complete ≡ next = cc in
     subst (λ p. AtOnce {T = T} p (record { call = c.call; own = event number acts.Ended thens.GoesOn ∷ c.own }) left) made (omega arith)
 steps_at places.Complete c hold left memory number next at is = absurd cc
-steps_at places.Stay c hold left memory number next at is = stay_steps c left _ next (memory words.State == 2) is
+steps_at places.Stay c hold left memory number next at is = stay_steps c left _ next (memory words.State == 2) at is
 
 -- Where an answer leads: no call of a once stands.
 
 answers_at :
     {T : Type 0} (place : OncePlace) (c : PendingCall T) (hold : Option HoldKind) (action : WaitAction) (number : ℕ) → AtOnce place c hold →
     AtOnce {T = T} place (record { call = c.call; own = event number (acts.Answered action) thens.GoesOn ∷ c.own }) hold
-answers_at places.IsCompleted c hold action number at = tt
-answers_at places.Look c hold action number at = tt
+answers_at places.IsCompleted c hold action number at = at
+answers_at places.Look c hold action number at = at
 answers_at places.Begin c hold action number at = tt
 answers_at places.Run c hold action number at = at
 answers_at places.Complete c hold action number at = omega (arith, at)
-answers_at places.Stay c hold action number at = tt
+answers_at places.Stay c hold action number at = at
 
 chooses_at :
     {T : Type 0} (place : OncePlace) (c : PendingCall T) (hold : Option HoldKind) (choice : Option T) (number : ℕ) → AtOnce place c hold →
     AtOnce {T = T} place (record { call = c.call; own = event number (acts.Chosen choice) thens.GoesOn ∷ c.own }) hold
-chooses_at places.IsCompleted c hold choice number at = tt
-chooses_at places.Look c hold choice number at = tt
+chooses_at places.IsCompleted c hold choice number at = at
+chooses_at places.Look c hold choice number at = at
 chooses_at places.Begin c hold choice number at = tt
 chooses_at places.Run c hold choice number at = at
 chooses_at places.Complete c hold choice number at = omega (arith, at)
-chooses_at places.Stay c hold choice number at = tt
+chooses_at places.Stay c hold choice number at = at
 
 pub once_kept : {T : Type 0} → IsKept {T = T} once_table AtOnce
 once_kept =
@@ -263,6 +267,7 @@ runs_one z parties =
 pub record EventLaw {T : Type 0} (party : ℕ) (past : List (Event T)) (w : ℕ) (pending : Option (PendingCall T)) (m : Move T) : Type 0 where
   pub cause : MatchBool (is_refusal m.outcome) (MatchOption pending ⊥ (λ c. OnceCause c.call party (event party m.act m.outcome ∷ past))) (Unit {0})
   pub own : MatchBool (is_end m.act) (AtLast is_begin (λ before. begins_in before ≡ 0) party past) (Unit {0})
+  pub waits : MatchBool (is_load m.act) (MatchOption pending ⊥ (λ c. IfSome (last_of is_step c.own) (λ before. 1 ≤ begins_in past))) (Unit {0})
   pub suits : IfSome (answer_of m.outcome) (λ answer. MatchOption pending ⊥ (λ c. IsAnswerOf c.call answer))
   pub answers : MatchBool (tells_end m.outcome) (ends_in past ≡ 1) (Unit {0})
   pub tells : IfSome (flag_of m.outcome) (λ flag. flag ≡ (w == 2))
@@ -284,35 +289,40 @@ goes_on_unless_2 w sees = (λ is. absurd cc, λ is. let no : true ≡ false = sy
 
 -- of a load
 flag_law :
-    {T : Type 0} (party : ℕ) (past : List (Event T)) (c : PendingCall T) (w : ℕ) (flag : Bool) → c.call ≡ calls.IsCompleted → IsState w (begins_in past) (ends_in past) → (w == 2) ≡ flag →
+    {T : Type 0} (party : ℕ) (past : List (Event T)) (c : PendingCall T) (w : ℕ) (flag : Bool) → c.call ≡ calls.IsCompleted → last_of is_step c.own ≡ None → IsState w (begins_in past) (ends_in past) → (w == 2) ≡ flag →
     EventLaw party past w (Some c) (record { act = acts.Load words.State w; outcome = thens.Answers (answers.Flag flag) })
-flag_law party past c w true its state sees = record { cause = tt; own = tt; suits = suits_at c places.IsCompleted _ its (true, refl); answers = complete_ended _ _ _ state (eqb-true w 2 sees); tells = sym sees; leaves = left_at c places.IsCompleted w _ its (ap (λ flag. thens.Answers (answers.Flag flag)) (sym sees)); done = tt; spins = (refl, refl) }
-flag_law party past c w false its state sees = record { cause = tt; own = tt; suits = suits_at c places.IsCompleted _ its (false, refl); answers = tt; tells = sym sees; leaves = left_at c places.IsCompleted w _ its (ap (λ flag. thens.Answers (answers.Flag flag)) (sym sees)); done = tt; spins = (refl, refl) }
+flag_law party past c w true its first state sees = record { cause = tt; own = tt; waits = rw first tt; suits = suits_at c places.IsCompleted _ its (true, refl); answers = complete_ended _ _ _ state (eqb-true w 2 sees); tells = sym sees; leaves = left_at c places.IsCompleted w _ its (ap (λ flag. thens.Answers (answers.Flag flag)) (sym sees)); done = tt; spins = (refl, refl) }
+flag_law party past c w false its first state sees = record { cause = tt; own = tt; waits = rw first tt; suits = suits_at c places.IsCompleted _ its (false, refl); answers = tt; tells = sym sees; leaves = left_at c places.IsCompleted w _ its (ap (λ flag. thens.Answers (answers.Flag flag)) (sym sees)); done = tt; spins = (refl, refl) }
 
 seen_law :
-    {T : Type 0} (party : ℕ) (past : List (Event T)) (c : PendingCall T) (w : ℕ) (on : OncePlace) (complete : Bool) → c.call ≡ calls.CallOnce → IsState w (begins_in past) (ends_in past) → (w == 2) ≡ complete →
+    {T : Type 0} (party : ℕ) (past : List (Event T)) (c : PendingCall T) (w : ℕ) (on : OncePlace) (complete : Bool) → c.call ≡ calls.CallOnce → IfSome (last_of is_step c.own) (λ before. 1 ≤ begins_in past) → IsState w (begins_in past) (ends_in past) → (w == 2) ≡ complete →
     EventLaw party past w (Some c) (record { act = acts.Load words.State w; outcome = outcome_of {T = T} (seen_after on complete) })
-seen_law party past c w on true its state sees = record { cause = tt; own = tt; suits = suits_at c places.Look _ its refl; answers = complete_ended _ _ _ state (eqb-true w 2 sees); tells = tt; leaves = left_at c places.Look w _ its (λ _. eqb-true w 2 sees, λ _. refl); done = eqb-true w 2 sees; spins = (refl, refl) }
-seen_law party past c w on false its state sees = record { cause = tt; own = tt; suits = tt; answers = tt; tells = tt; leaves = left_at c places.Look w _ its (goes_on_unless_2 w sees); done = tt; spins = (refl, refl) }
+seen_law party past c w on true its waits state sees = record { cause = tt; own = tt; waits = waits; suits = suits_at c places.Look _ its refl; answers = complete_ended _ _ _ state (eqb-true w 2 sees); tells = tt; leaves = left_at c places.Look w _ its (λ _. eqb-true w 2 sees, λ _. refl); done = eqb-true w 2 sees; spins = (refl, refl) }
+seen_law party past c w on false its waits state sees = record { cause = tt; own = tt; waits = waits; suits = tt; answers = tt; tells = tt; leaves = left_at c places.Look w _ its (goes_on_unless_2 w sees); done = tt; spins = (refl, refl) }
+
+-- whatever its step before was
+pub has_begun : {T : Type 0} {begins : ℕ} (last : Option (Act T)) → 1 ≤ begins → IfSome last (λ before. 1 ≤ begins)
+has_begun None begun = tt
+has_begun (Some before) begun = begun
 
 begin_law :
     {T : Type 0} (party : ℕ) (past : List (Event T)) (c : PendingCall T) (w : ℕ) (done : Bool) →
     EventLaw party past w (Some c) (record { act = acts.Exchange words.State 0 1 w done; outcome = outcome_of {T = T} (begin_after done) })
-begin_law party past c w true = record { cause = tt; own = tt; suits = tt; answers = tt; tells = tt; leaves = tt; done = tt; spins = (refl, refl) }
-begin_law party past c w false = record { cause = tt; own = tt; suits = tt; answers = tt; tells = tt; leaves = tt; done = tt; spins = (refl, refl) }
+begin_law party past c w true = record { cause = tt; own = tt; waits = tt; suits = tt; answers = tt; tells = tt; leaves = tt; done = tt; spins = (refl, refl) }
+begin_law party past c w false = record { cause = tt; own = tt; waits = tt; suits = tt; answers = tt; tells = tt; leaves = tt; done = tt; spins = (refl, refl) }
 
 step_law :
     {T : Type 0} (z : Arithmetic T) (parties party : ℕ) (past : List (Event T)) → IsPast z once_table parties past → (c : PendingCall T) → call_of party past ≡ Some c →
     (place : OncePlace) (hold : Option HoldKind) (memory : Word → ℕ) → AtOnce place c hold → c.call ≡ call_at place → IsState (memory words.State) (begins_in past) (ends_in past) →
     EventLaw party past (memory words.State) (Some c) (step_at once_table place hold memory)
-step_law z parties party past run c called places.IsCompleted hold memory at its state = flag_law party past c (memory words.State) (memory words.State == 2) its state refl
-step_law z parties party past run c called places.Look hold memory at its state = seen_law party past c (memory words.State) places.Begin (memory words.State == 2) its state refl
+step_law z parties party past run c called places.IsCompleted hold memory at its state = flag_law party past c (memory words.State) (memory words.State == 2) its at state refl
+step_law z parties party past run c called places.Look hold memory at its state = seen_law party past c (memory words.State) places.Begin (memory words.State == 2) its (rw at tt) state refl
 step_law z parties party past run c called places.Begin hold memory at its state = begin_law party past c (memory words.State) (memory words.State == 0)
 step_law z parties party past run c called places.Run hold memory at its state =
-    record { cause = tt; own = own_began z once_table parties party past run c called at (at_most_one _ _ _ state).0; suits = tt; answers = tt; tells = tt; leaves = tt; done = tt; spins = (refl, refl) }
+    record { cause = tt; own = own_began z once_table parties party past run c called at (at_most_one _ _ _ state).0; waits = tt; suits = tt; answers = tt; tells = tt; leaves = tt; done = tt; spins = (refl, refl) }
 step_law z parties party past run c called places.Complete hold memory at its state =
-    record { cause = tt; own = tt; suits = suits_at c places.Complete _ its refl; answers = omega (arith, at, own_among is_end past party c called, (at_most_one _ _ _ state).1); tells = tt; leaves = tt; done = refl; spins = (refl, refl) }
-step_law z parties party past run c called places.Stay hold memory at its state = seen_law party past c (memory words.State) places.Stay (memory words.State == 2) its state refl
+    record { cause = tt; own = tt; waits = tt; suits = suits_at c places.Complete _ its refl; answers = omega (arith, at, own_among is_end past party c called, (at_most_one _ _ _ state).1); tells = tt; leaves = tt; done = refl; spins = (refl, refl) }
+step_law z parties party past run c called places.Stay hold memory at its state = seen_law party past c (memory words.State) places.Stay (memory words.State == 2) its (has_begun (last_of is_step c.own) (missed_since z once_table parties (runs_one z parties) past run party c called at)) state refl
 
 event_law :
     {T : Type 0} (z : Arithmetic T) (parties : ℕ) (past : List (Event T)) (e : Event T) → IsPast z once_table parties (e ∷ past) →
@@ -321,9 +331,9 @@ event_law {T} z parties past e run =
     by_move once_table (call_of e.party past) (hold_of once_table e.party past) (word_in once_table past)
     (λ (k : Option (PendingCall T)) (m : Move T). EventLaw e.party past (word_in once_table past words.State) k m)
     run.0.0 (record { act = e.act; outcome = e.then })
-    (λ call _. record { cause = tt; own = tt; suits = tt; answers = tt; tells = tt; leaves = tt; done = tt; spins = (refl, refl) })
-    (λ action _. record { cause = tt; own = tt; suits = tt; answers = tt; tells = tt; leaves = tt; done = tt; spins = (refl, refl) })
-    (λ choice _. record { cause = tt; own = tt; suits = tt; answers = tt; tells = tt; leaves = tt; done = tt; spins = (refl, refl) })
+    (λ call _. record { cause = tt; own = tt; waits = tt; suits = tt; answers = tt; tells = tt; leaves = tt; done = tt; spins = (refl, refl) })
+    (λ action _. record { cause = tt; own = tt; waits = tt; suits = tt; answers = tt; tells = tt; leaves = tt; done = tt; spins = (refl, refl) })
+    (λ choice _. record { cause = tt; own = tt; waits = tt; suits = tt; answers = tt; tells = tt; leaves = tt; done = tt; spins = (refl, refl) })
     (λ c place _ called stage.
     step_law z parties e.party past run.1 c called place (hold_of once_table e.party past) (word_in once_table past)
     (at_place z once_table parties AtOnce once_kept past run.1 e.party c place called stage) (at_place z once_table parties IsItsCall its_call_kept past run.1 e.party c place called stage)
@@ -332,7 +342,7 @@ event_law {T} z parties past e run =
 
 pub keeps_once : {T : Type 0} (z : Arithmetic T) (parties : ℕ) (past : List (Event T)) → IsPast z once_table parties past → KeepsOnce past
 keeps_once z parties [] run =
-    record { told = tt; unheld = refl; cause = tt; law = record { one = omega arith; ends = omega arith; own = tt; runs = tt; suits = tt; answers = tt; tells = tt; leaves = tt; done = tt; stays = tt; spins = tt; state = tells_state once_table [] (closure_front z once_table parties (runs_one z parties) [] run).state } }
+    record { told = tt; unheld = refl; cause = tt; law = record { one = omega arith; ends = omega arith; own = tt; runs = tt; waits = tt; suits = tt; answers = tt; tells = tt; leaves = tt; done = tt; stays = tt; spins = tt; state = tells_state once_table [] (closure_front z once_table parties (runs_one z parties) [] run).state } }
 keeps_once z parties (e ∷ past) run =
     let event = event_law z parties past e run in
     let front = closure_front z once_table parties (runs_one z parties) (e ∷ past) run in
@@ -341,7 +351,7 @@ keeps_once z parties (e ∷ past) run =
       told = tells_memory z once_table parties (e ∷ past) run;
       unheld = no_holds once_table (λ call from to. refl) (e ∷ past);
       cause = event.cause;
-      law = record { one = most.0; ends = most.2; own = event.own; runs = runs_to_its_end z parties (e ∷ past) run; suits = event.suits; answers = event.answers; tells = event.tells; leaves = event.leaves; done = event.done; stays = stays_complete z once_table parties (runs_one z parties) past e run; spins = event.spins; state = tells_state once_table (e ∷ past) front.state };
+      law = record { one = most.0; ends = most.2; own = event.own; runs = runs_to_its_end z parties (e ∷ past) run; waits = event.waits; suits = event.suits; answers = event.answers; tells = event.tells; leaves = event.leaves; done = event.done; stays = stays_complete z once_table parties (runs_one z parties) past e run; spins = event.spins; state = tells_state once_table (e ∷ past) front.state };
     }
 
 -- a once has no other word

@@ -15,7 +15,7 @@ use Rattle.steps_events.specs.Moves.{is_step}
 use Rattle.steps_events.specs.Sights.{last_of}
 use Rattle.steps_events.specs.Waits.{OnlySpins}
 use Rattle.steps_events.specs.Laws.{TellsMemory, HasCause}
-use Rattle.steps_once.specs.Closures.{is_begin, is_end, begins_in, ends_in, EndsItsOwn, StaysTwo, TellsState}
+use Rattle.steps_once.specs.Closures.{is_begin, is_end, begins_in, ends_in, EndsItsOwn, WaitsForAnother, StaysTwo, TellsState}
 use Rattle.steps_once.specs.Table.{once_table}
 
 -- no call of a once is refused
@@ -107,6 +107,8 @@ pub record OnceLaw {T : Type 0} (past : List (Event T)) : Type 0 where
   pub own : EndsItsOwn past
   -- that call ends it at its next step, and then stores 2 and answers `Done`
   pub runs : RunsToItsEnd past
+  -- a call waits only for a closure that has begun
+  pub waits : WaitsForAnother past
   -- `CallOnce` answers `Done` alone, and `IsCompleted` a flag
   pub suits : AnswersItsCall past
   -- `Done` and `true` come after its end
