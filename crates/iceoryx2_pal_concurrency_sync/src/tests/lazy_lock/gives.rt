@@ -33,9 +33,13 @@ fn read_twice<F: FnOnce() -> u64 + Drop, G: Gives<u64, F>, R: Wait>(
 fn read_forty_two<R: Wait>(rt: &R, alloc: Global) -> Result<(u64, u64), AllocError>
     ensures { IfOk result (λ read. (read.0 ≡ 42) × (read.1 ≡ 42)) }
 {
-    read_twice::<_, Brand, R>(rt, alloc, || -> u64
-        ensures { result ≡ 42 }
-    { 42 })
+    read_twice::<_, Brand, R>(
+        rt,
+        alloc,
+        || -> u64
+            ensures { result ≡ 42 }
+        { 42 },
+    )
 }
 
 /// With the closure's own contract picked, each read is a value that a closure of its type may give, by that contract.
