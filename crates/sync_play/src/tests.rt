@@ -11,6 +11,7 @@ mod permits;
 mod player;
 mod plays;
 mod rwreader;
+mod rwwriter;
 mod spin;
 mod streams;
 

@@ -11,6 +11,7 @@ use Rattle.steps_spin.specs.Law.{SpinCause, SpinLaw}
 use Rattle.steps_semaphore.specs.Law.{SemaphoreCause, SemaphoreLaw}
 use Rattle.steps_barrier.specs.Law.{BarrierCause, BarrierLaw}
 use Rattle.steps_rw_reader.specs.Law.{RwReaderCause, RwReaderLaw}
+use Rattle.steps_rw_writer.specs.Law.{RwWriterCause, RwWriterLaw}
 use Rattle.steps_once.specs.Law.{OnceCause, OnceLaw}
 use Rattle.steps_lazy.specs.Law.{LazyCause, LazyLaw}
 use Rattle.sync_steps.specs.Objects.{table_of}
@@ -23,7 +24,7 @@ CauseOf objects.Spin call party events = SpinCause call party events
 CauseOf (objects.Semaphore initial) call party events = SemaphoreCause initial call party events
 CauseOf (objects.Barrier n) call party events = BarrierCause n call party events
 CauseOf objects.ReaderLock call party events = RwReaderCause call party events
-CauseOf objects.WriterLock call party events = ⊥
+CauseOf objects.WriterLock call party events = RwWriterCause call party events
 CauseOf objects.Condvar call party events = ⊥
 CauseOf objects.Once call party events = OnceCause call party events
 CauseOf (objects.Lazy v) call party events = LazyCause call party events
@@ -36,7 +37,7 @@ LawOf objects.Spin past = SpinLaw past
 LawOf (objects.Semaphore initial) past = SemaphoreLaw initial past
 LawOf (objects.Barrier n) past = BarrierLaw n past
 LawOf objects.ReaderLock past = RwReaderLaw past
-LawOf objects.WriterLock past = past ≡ []
+LawOf objects.WriterLock past = RwWriterLaw past
 LawOf objects.Condvar past = past ≡ []
 LawOf objects.Once past = OnceLaw past
 LawOf (objects.Lazy v) past = LazyLaw v past

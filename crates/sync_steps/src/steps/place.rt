@@ -12,6 +12,7 @@ use steps_lazy::LazyPlace;
 use steps_mutex::MutexPlace;
 use steps_once::OncePlace;
 use steps_rw_reader::RwReaderPlace;
+use steps_rw_writer::RwWriterPlace;
 use steps_semaphore::SemaphorePlace;
 use steps_spin::SpinPlace;
 
@@ -23,6 +24,7 @@ pub enum Place<T> {
     Semaphore(SemaphorePlace),
     Barrier(BarrierPlace),
     RwReader(RwReaderPlace),
+    RwWriter(RwWriterPlace),
     Once(OncePlace),
     /// With the value that the closure gives.
     Lazy(LazyPlace, T),
@@ -83,9 +85,10 @@ impl<T: Copy> Place<T> {
             Object::Semaphore(_) => Some(Place::Semaphore(SemaphorePlace::begin(call)?)),
             Object::Barrier(n) => Some(Place::Barrier(BarrierPlace::begin(call, *n)?)),
             Object::ReaderLock => Some(Place::RwReader(RwReaderPlace::begin(call)?)),
+            Object::WriterLock => Some(Place::RwWriter(RwWriterPlace::begin(call)?)),
             Object::Once => Some(Place::Once(OncePlace::begin(call)?)),
             Object::Lazy(value) => Some(Place::Lazy(LazyPlace::begin(call)?, *value)),
-            Object::WriterLock | Object::Condvar | Object::Atomic(_) => None,
+            Object::Condvar | Object::Atomic(_) => None,
         }
     }
 
@@ -100,6 +103,7 @@ impl<T: Copy> Place<T> {
             Place::Semaphore(place) => place.intent(Word::State),
             Place::Barrier(place) => place.intent(Word::State),
             Place::RwReader(place) => place.intent(Word::State, hold),
+            Place::RwWriter(place) => place.intent(Word::State, Word::Counter, hold),
             Place::Once(place) => place.intent(Word::State),
             Place::Lazy(place, value) => place.intent(Word::State, *value),
         }
@@ -116,6 +120,7 @@ impl<T: Copy> Place<T> {
             Place::Semaphore(place) => within!(place.after(told), Place::Semaphore),
             Place::Barrier(place) => within!(place.after(told), Place::Barrier),
             Place::RwReader(place) => within!(place.after(told), Place::RwReader),
+            Place::RwWriter(place) => within!(place.after(told), Place::RwWriter),
             Place::Once(place) => within!(place.after(told), Place::Once),
             Place::Lazy(place, value) => within!(place.after(told, *value), Place::Lazy, *value),
         }
@@ -131,6 +136,7 @@ impl<T: Copy> Place<T> {
             Place::Semaphore(place) => Place::Semaphore(place.answered(action)),
             Place::Barrier(place) => Place::Barrier(place.answered(action)),
             Place::RwReader(place) => Place::RwReader(place.answered(action)),
+            Place::RwWriter(place) => Place::RwWriter(place.answered(action)),
             Place::Once(place) => Place::Once(place.answered(action)),
             Place::Lazy(place, value) => Place::Lazy(place.answered(action), *value),
         }
@@ -146,24 +152,25 @@ impl<T: Copy> Place<T> {
             Place::Semaphore(place) => Place::Semaphore(*place),
             Place::Barrier(place) => Place::Barrier(*place),
             Place::RwReader(place) => Place::RwReader(*place),
+            Place::RwWriter(place) => Place::RwWriter(*place),
             Place::Once(place) => Place::Once(*place),
             Place::Lazy(place, value) => Place::Lazy(*place, *value),
         }
     }
 }
 
-/// The hold that a call takes where its exchange of the lock's word puts `_to` in the place of `_from`.
+/// The hold that a call takes where its exchange of the lock's word puts `to` in the place of `from`.
 #[inline(always)]
-pub fn grant<T>(object: &Object<T>, call: &Call<T>, _from: u64, _to: u64) -> Option<HoldKind>
-    ensures { result ≡ grant_at object.now call.now _from _to }
+pub fn grant<T>(object: &Object<T>, call: &Call<T>, from: u64, to: u64) -> Option<HoldKind>
+    ensures { result ≡ grant_at object.now call.now from to }
 {
     match object {
         Object::Mutex => steps_mutex::grant(call),
         Object::Spin => steps_spin::grant(call),
         Object::ReaderLock => steps_rw_reader::grant(call),
+        Object::WriterLock => steps_rw_writer::grant(call, from, to),
         Object::Semaphore(_)
         | Object::Barrier(_)
-        | Object::WriterLock
         | Object::Condvar
         | Object::Once
         | Object::Lazy(_)
@@ -176,10 +183,11 @@ pub fn needs_hold<T>(object: &Object<T>, call: &Call<T>) -> bool
     ensures { result ≡ needs_hold_at object.now call.now }
 {
     match object {
-        Object::Mutex | Object::Spin | Object::ReaderLock => matches!(call, Call::Unlock),
+        Object::Mutex | Object::Spin | Object::ReaderLock | Object::WriterLock => {
+            matches!(call, Call::Unlock)
+        }
         Object::Semaphore(_)
         | Object::Barrier(_)
-        | Object::WriterLock
         | Object::Condvar
         | Object::Once
         | Object::Lazy(_)
