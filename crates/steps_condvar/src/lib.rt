@@ -6,7 +6,8 @@ ghost use Rattle.steps_events.specs.declared.event.Event.{Event as AnEvent};
 ghost use Rattle.steps_events.specs.declared.event.Wake.TheVariants as wakes;
 ghost use Rattle.steps_events.specs.Arithmetic.{Arithmetic};
 ghost use Rattle.steps_events.specs.Runs.{IsPast};
-ghost use Rattle.steps_condvar.specs.Table.{condvar_begins, condvar_intent, condvar_after, condvar_answered, condvar_grant, released, permitted, relocked};
+ghost use Rattle.steps_condvar.specs.Table.{condvar_begins, condvar_intent, condvar_after, condvar_answered, condvar_grant, released, permitted, relocked, condvar_table};
+ghost use Rattle.steps_condvar.specs.Law.{KeepsCondvar};
 
 use steps_events::WaitAction;
 use steps_events::event::{Answer, Call, Wake, Word};
@@ -191,3 +192,10 @@ pub fn grant<T>(call: &Call<T>) -> Option<HoldKind>
         _ => steps_mutex::grant(call),
     }
 }
+
+/// What holds at every front of every run of a condition variable and its mutex, of any number of parties. It says so of the
+/// definitions alone, and does nothing.
+pub fn at_every_front<T>()
+    ensures { (z : Arithmetic T) (parties : ℕ) (past : List (AnEvent T)) →
+        IsPast z condvar_table parties past → KeepsCondvar past }
+{}

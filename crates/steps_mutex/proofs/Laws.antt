@@ -45,7 +45,7 @@ AtMutex places.Wake c hold = c.call ≡ calls.Unlock
 
 -- Where a call begins.
 
-begins_at :
+pub begins_at :
     {T : Type 0} (call : Call T) (place : MutexPlace) (hold : Option HoldKind) → mutex_begins call ≡ Some place → hold_fault {T = T} mutex_table call hold ≡ None →
     AtMutex {T = T} place (record { call = call; own = [] }) hold
 begins_at {T} calls.TryLock place hold is allowed =
@@ -72,7 +72,7 @@ at_lock : {T : Type 0} (place : MutexPlace) (call : Call T) (own : List (Event T
 at_lock (places.Lock patience) call own hold lock at = (lock, at)
 at_lock other call own hold lock at = absurd at
 
-steps_at :
+pub steps_at :
     {T : Type 0} (place : MutexPlace) (c : PendingCall T) (hold left : Option HoldKind) (memory : Word → ℕ) (number : ℕ) (next : MutexPlace) → AtMutex place c hold →
     place_after {T = T} (mutex_after place (value_told {T = T} (carried_out (mutex_intent words.State place) memory))) ≡ Some next →
     AtMutex next (record { call = c.call; own = event number (step_at mutex_table place hold memory).act (step_at mutex_table place hold memory).outcome ∷ c.own }) left
@@ -87,7 +87,7 @@ steps_at places.Wake c hold left memory number next at is = absurd cc
 
 -- Where an answer leads.
 
-answers_at :
+pub answers_at :
     {T : Type 0} (place : MutexPlace) (c : PendingCall T) (hold : Option HoldKind) (action : WaitAction) (number : ℕ) → AtMutex place c hold → answer_fault (latest_outcome c.own) ≡ None →
     AtMutex {T = T} (mutex_answered place action) (record { call = c.call; own = event number (acts.Answered action) thens.GoesOn ∷ c.own }) hold
 answers_at places.TryLock c hold action number at waits = at
@@ -95,7 +95,7 @@ answers_at (places.Lock patience) c hold action number at waits = (at.0, lock_an
 answers_at places.Release c hold action number at waits = at
 answers_at places.Wake c hold action number at waits = at
 
-chooses_at :
+pub chooses_at :
     {T : Type 0} (place : MutexPlace) (c : PendingCall T) (hold : Option HoldKind) (choice : Option T) (number : ℕ) → AtMutex place c hold →
     AtMutex {T = T} place (record { call = c.call; own = event number (acts.Chosen choice) thens.GoesOn ∷ c.own }) hold
 chooses_at places.TryLock c hold choice number at = at
@@ -141,7 +141,7 @@ pub record EventLaw {T P : Type 0} (t : Table T P) (party : ℕ) (past : List (E
   pub asks : MatchBool (stands_at_wait m.outcome) (MatchOption pending ⊥ (λ c. spins_in is_failure c.own ≡ 10000)) (Unit {0})
   pub tries : MatchBool (is_refusal m.outcome) (MatchOption pending ⊥ (λ c. HasTried c.call (event party m.act m.outcome ∷ c.own))) (Unit {0})
 
-another : {T : Type 0} (one other : Call T) (A : Type 0) → one ≡ other → (one ≡ calls.TryLock → ⊥) → other ≡ calls.TryLock → A
+pub another : {T : Type 0} (one other : Call T) (A : Type 0) → one ≡ other → (one ≡ calls.TryLock → ⊥) → other ≡ calls.TryLock → A
 another one other A is not_try try = absurd (not_try (is ∙ try))
 
 try_lock_law :
@@ -167,7 +167,7 @@ lock_law :
     {T P : Type 0} (t : Table T P) (party : ℕ) (past : List (Event T)) (c : PendingCall T) (w : ℕ) (done : Bool) (a : After T MutexPlace) → call_of party past ≡ Some c → c.call ≡ calls.Lock → IsFreeOrHeld w (holds_of t past) →
     LockLeads c.own party w (acts.Exchange words.State 0 1 w done) a → EventLaw t party past (Some c) (record { act = acts.Exchange words.State 0 1 w done; outcome = outcome_of {T = T} a })
 lock_law t party past c w done (afters.At next) called is law leads = record { cause = tt; exact = another calls.Lock c.call _ (sym is) (λ same. absurd cc); asks = tt; tries = tt }
-lock_law t party past c w done (afters.Waits next seen) called is law leads = record { cause = tt; exact = another calls.Lock c.call _ (sym is) (λ same. absurd cc); asks = leads.1; tries = tt }
+lock_law t party past c w done (afters.Waits next seen) called is law leads = record { cause = tt; exact = another calls.Lock c.call _ (sym is) (λ same. absurd cc); asks = leads.2; tries = tt }
 lock_law t party past c w done (afters.Ends answers.Success) called is law leads = record { cause = tt; exact = another calls.Lock c.call _ (sym is) (λ same. absurd cc); asks = tt; tries = tt }
 lock_law {T} t party past c w done (afters.Ends answers.Interrupted) called is law leads =
     let refuses : Event T = event party (acts.Exchange words.State 0 1 w done) (thens.Answers answers.Interrupted) in

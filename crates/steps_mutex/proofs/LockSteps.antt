@@ -42,8 +42,8 @@ lock_begins = record { so = begun_spun is_failure; tried = refl; failed = refl; 
 -- How a call goes on after an exchange that found the value: it has spun once more, or stands after 10000 spins; it is granted where the word was 0,
 -- and gives up where it was not, after its closure answered Abort.
 abbrev pub LockLeads : {T : Type 0} → List (Event T) → ℕ → ℕ → Act T → After T MutexPlace → Type 0
-LockLeads own number w act (afters.At next) = AtLock next (event number act thens.GoesOn ∷ own)
-LockLeads own number w act (afters.Waits next seen) = AtLock next (event number act (thens.Waits seen) ∷ own) × (spins_in is_failure own ≡ 10000)
+LockLeads own number w act (afters.At next) = AtLock next (event number act thens.GoesOn ∷ own) × (w ≢ 0)
+LockLeads own number w act (afters.Waits next seen) = AtLock next (event number act (thens.Waits seen) ∷ own) × (w ≢ 0) × (spins_in is_failure own ≡ 10000)
 LockLeads own number w act (afters.Ends answers.Success) = w ≡ 0
 LockLeads own number w act (afters.Ends answers.Interrupted) =
     (w ≢ 0) × (keeps_asking own ≡ false) × HasTriedAll (event number act (thens.Answers answers.Interrupted) ∷ own)
@@ -60,13 +60,13 @@ lock_leads_by :
     (w == 0) ≡ free → patience.keep ≡ keep → nat_lt patience.spins 10000 ≡ left → LockLeads own number w (acts.Exchange word 0 1 w free) (lock_after patience free keep left)
 lock_leads_by word patience own number w true keep left tried is keeps spins = eqb-true w 0 is
 lock_leads_by word patience own number w false true true tried is keeps spins =
-    record {
+    (record {
       so = record { spun = omega (arith, tried.so.spun); keeps = tried.so.keeps; within_limit = spins_left patience.spins spins };
       tried = omega (arith, tried.tried);
       failed = omega (arith, tried.failed);
       stands = λ waits. absurd cc;
       gives_up = λ gave. let no : true ≡ false = sym keeps ∙ gave in absurd cc;
-    }
+    }, eqb-false w 0 is)
 lock_leads_by word patience own number w false true false tried is keeps spins =
     let all : patience.spins ≡ 10000 = spins_spent patience.spins tried.so.within_limit spins in
     (record {
@@ -75,7 +75,7 @@ lock_leads_by word patience own number w false true false tried is keeps spins =
       failed = omega (arith, tried.failed);
       stands = λ waits. all;
       gives_up = λ gave. all;
-    }, tried.so.spun ∙ all)
+    }, eqb-false w 0 is, tried.so.spun ∙ all)
 lock_leads_by word patience own number w false false left tried is keeps spins =
     (eqb-false w 0 is, tried.so.keeps ∙ keeps, (omega (arith, tried.tried, tried.gives_up keeps), omega (arith, tried.failed)))
 
@@ -90,7 +90,7 @@ pub lock_goes_on :
     AtLock next (event number act (outcome_of a) ∷ own)
 lock_goes_on {T} own number w act (afters.At place) next leads is =
     let made : place ≡ next = cc in
-    subst (λ p. AtLock {T = T} p (event number act thens.GoesOn ∷ own)) made leads
+    subst (λ p. AtLock {T = T} p (event number act thens.GoesOn ∷ own)) made leads.0
 lock_goes_on {T} own number w act (afters.Waits place seen) next leads is =
     let made : place ≡ next = cc in
     subst (λ p. AtLock {T = T} p (event number act (thens.Waits seen) ∷ own)) made leads.0

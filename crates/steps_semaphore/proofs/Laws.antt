@@ -23,7 +23,7 @@ use Rattle.steps_events.specs.Past.{same_word, PendingCall, call_of, hold_of, wo
 use Rattle.steps_events.specs.Moves.{Move, step_at, answer_fault}
 use Rattle.steps_events.specs.Runs.{IsPast}
 use Rattle.steps_events.specs.Sights.{sight_of, is_sight, is_abort, HasAborted, spins_in, stands_at_wait}
-use Rattle.steps_events.specs.Laws.{Lacks, is_refusal}
+use Rattle.steps_events.specs.Laws.{is_apart, Lacks, is_refusal}
 use Rattle.steps_events.proofs.Holds.{some_same, eqb_same, no_holds}
 use Rattle.steps_events.proofs.Steps.{by_move, tells_memory}
 use Rattle.steps_events.proofs.Spins.{begun_spun}
@@ -273,11 +273,14 @@ keeps_semaphore z initial parties (e ∷ past) fits run =
     }
 
 -- a semaphore has no other word
+pub semaphore_apart : (T : Type 0) (own word : Word) → same_word own word ≡ false → (place : SemaphorePlace) → is_apart {T = T} word (semaphore_intent own place) ≡ true
+semaphore_apart T own word other places.Value = ap not other
+semaphore_apart T own word other (places.Post n) = ap not other
+semaphore_apart T own word other places.Wake = refl
+semaphore_apart T own word other places.TryLook = ap not other
+semaphore_apart T own word other (places.TryTake seen to) = ap not other
+semaphore_apart T own word other (places.Look patience) = ap not other
+semaphore_apart T own word other (places.Take seen to patience) = ap not other
+
 pub semaphore_lacks : (T : Type 0) (initial : ℕ) (word : Word) → same_word words.State word ≡ false → Lacks {T = T} (semaphore_table initial) word
-semaphore_lacks T initial word other places.Value hold = ap not other
-semaphore_lacks T initial word other (places.Post n) hold = ap not other
-semaphore_lacks T initial word other places.Wake hold = refl
-semaphore_lacks T initial word other places.TryLook hold = ap not other
-semaphore_lacks T initial word other (places.TryTake seen to) hold = ap not other
-semaphore_lacks T initial word other (places.Look patience) hold = ap not other
-semaphore_lacks T initial word other (places.Take seen to patience) hold = ap not other
+semaphore_lacks T initial word other place hold = semaphore_apart T words.State word other place
