@@ -1,4 +1,5 @@
 use Rattle.steps_condvar.proofs.Counts.{none_wait, counts_after}
+use Rattle.steps_condvar.proofs.Places.{condvar_kept}
 use Rattle.steps_condvar.proofs.at_every_front.Goals as goal
 
 pub returns : goal.returns
