@@ -1,6 +1,6 @@
 -- What a condition variable keeps at every front of every run: its waiter count, its permits, what each answer of a `Wait` means, a cause for each
 -- refusal, and how often a call tries.
-use Rattle.std.specs.Prelude.{◌≡◌, ◌≤◌, ℕ, zero, suc, ◌+◌, ◌%◌, ◌^◌, ◌==◌, ◌⊎◌, Bool, true, false, if◌then◌else◌, List, [], ◌∷◌, Option, Some, None, unwrap_or, MatchBool, MatchOption}
+use Rattle.std.specs.Prelude.{◌≡◌, ℕ, zero, suc, ◌+◌, ◌%◌, ◌^◌, ◌==◌, ◌⊎◌, Bool, true, false, if◌then◌else◌, List, [], ◌∷◌, Option, Some, None, unwrap_or, MatchBool, MatchOption}
 use Rattle.steps_events.specs.declared.event.Word.TheVariants as words
 use Rattle.steps_events.specs.declared.event.Wake.{Wake}
 use Rattle.steps_events.specs.declared.event.Wake.TheVariants as wakes
@@ -19,7 +19,7 @@ use Rattle.steps_events.specs.Sights.{sight_of, is_sight, AtLastSight, keeps_ask
 use Rattle.steps_events.specs.Laws.{TellsMemory, IsExclusive, IsLocked, HasCause}
 use Rattle.steps_mutex.specs.Law as mutex
 use Rattle.steps_mutex.specs.Law.{LockCause, HasTriedAll, IsExactGrant}
-use Rattle.steps_semaphore.specs.Permits.{permits, permits_taken, KeepsPermits}
+use Rattle.steps_semaphore.specs.Permits.{permits, permits_taken, is_take, KeepsPermits}
 use Rattle.steps_semaphore.specs.Law.{is_empty_look}
 use Rattle.steps_condvar.specs.Table.{permits_for, condvar_table}
 use Rattle.steps_condvar.specs.Waiters.{is_count, counts_in, since_count, CountsWaiters}
@@ -106,7 +106,7 @@ pub record WaitStep {T : Type 0} (own : List (Event T)) (e : Event T) (hold : Op
   -- it looks for a permit while it is counted, and has given the mutex back and woken one
   pub looks : is_sight words.Value e.act ≡ true → (counts_in own ≡ 1) × (acts_in is_release own ≡ 1) × (acts_in is_wake_one own ≡ 1)
   -- it takes one at most
-  pub takes : takes_in (e ∷ own) ≤ 1
+  pub takes : is_take words.Value e.act ≡ true → takes_in own ≡ 0
   -- it locks once it has counted itself out
   pub locks : is_sight words.State e.act ≡ true → counts_in own ≡ 2
   -- and its answer tells whether it was signalled, and whether it has the mutex

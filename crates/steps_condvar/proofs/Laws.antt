@@ -1,0 +1,308 @@
+-- A condition variable keeps its law at every front of every run.
+use Rattle.std.proofs.Common.{◌≡◌, ◌≢◌, ◌≤◌, ◌∙◌, ℕ, zero, suc, ◌+◌, ◌-◌, ◌%◌, ◌^◌, ◌==◌, ◌&&◌, refl, sym, ap, subst, Bool, true, false, cond, is_some, List, [], ◌∷◌, Option, Some, None, ◌⊎◌, inl, inr, ◌↔◌, arith}
+use Rattle.std.specs.Prelude.{IfSome, MatchBool, MatchOption, nat_lt, not}
+use Rattle.std.proofs.lemmas.Bool.{eqb-true, eqb-false, eq-eqb}
+use Rattle.steps_events.specs.declared.event.Word.{Word}
+use Rattle.steps_events.specs.declared.event.Word.TheVariants as words
+use Rattle.steps_events.specs.declared.event.Wake.{Wake}
+use Rattle.steps_events.specs.declared.event.Wake.TheVariants as wakes
+use Rattle.steps_events.specs.declared.event.Call.{Call}
+use Rattle.steps_events.specs.declared.event.Call.TheVariants as calls
+use Rattle.steps_events.specs.declared.event.Act.{Act}
+use Rattle.steps_events.specs.declared.event.Act.TheVariants as acts
+use Rattle.steps_events.specs.declared.event.Answer.{Answer}
+use Rattle.steps_events.specs.declared.event.Answer.TheVariants as answers
+use Rattle.steps_events.specs.declared.event.Event.{Event}
+use Rattle.steps_events.specs.declared.event.Then.{Then}
+use Rattle.steps_events.specs.declared.event.Then.TheVariants as thens
+use Rattle.steps_events.specs.declared.hold.HoldKind.{HoldKind}
+use Rattle.steps_events.specs.declared.hold.HoldKind.TheVariants as kinds
+use Rattle.steps_events.specs.declared.patience.Patience.{Patience}
+use Rattle.steps_events.specs.declared.row.After.{After}
+use Rattle.steps_events.specs.declared.row.After.TheVariants as afters
+use Rattle.steps_events.specs.Arithmetic.{Arithmetic}
+use Rattle.steps_events.specs.Rows.{carried_out, value_told, outcome_of, within}
+use Rattle.steps_events.specs.Past.{same_word, PendingCall, call_of, call_after, call_going_on, holds_of, hold_of, hold_after, word_in, word_after, event, is_release, is_failure}
+use Rattle.steps_events.specs.Moves.{Move, step_at}
+use Rattle.steps_events.specs.Runs.{IsPast}
+use Rattle.steps_events.specs.Sights.{sight_of, is_sight, AtLastSight, spins_in, stands_at_wait, acts_in}
+use Rattle.steps_events.specs.Laws.{IsTold, is_apart, Lacks, is_refusal}
+use Rattle.steps_events.proofs.Holds.{eqb_same, hold_of_same}
+use Rattle.steps_events.proofs.Steps.{carried_goes_on, by_move, tells_memory}
+use Rattle.steps_events.proofs.LastSights.{sight_is_told, at_last_sight}
+use Rattle.steps_events.proofs.Parties.{at_place}
+use Rattle.steps_events.proofs.Locks.{IsLock, IsLockIntent, IsFreeOrHeld, lock_word, lock_exclusive, locked_at}
+use Rattle.steps_mutex.specs.declared.MutexPlace.{MutexPlace}
+use Rattle.steps_mutex.specs.declared.MutexPlace.TheVariants as locks
+use Rattle.steps_mutex.specs.Table.{mutex_intent, mutex_after, mutex_table}
+use Rattle.steps_mutex.specs.Law as mutex_law
+use Rattle.steps_mutex.specs.Law.{LockCause}
+use Rattle.steps_mutex.proofs.LockSteps.{LockLeads, lock_leads}
+use Rattle.steps_mutex.proofs.Laws as mutex
+use Rattle.steps_mutex.proofs.Laws.{AtMutex, another, mutex_lacks}
+use Rattle.steps_semaphore.specs.declared.SemaphorePlace.{SemaphorePlace}
+use Rattle.steps_semaphore.specs.declared.SemaphorePlace.TheVariants as permits
+use Rattle.steps_semaphore.specs.Table.{semaphore_intent, semaphore_after}
+use Rattle.steps_semaphore.specs.Permits.{permits_given, permits_taken, is_take, number_answered}
+use Rattle.steps_semaphore.specs.Law.{is_empty_look}
+use Rattle.steps_semaphore.proofs.Permits.{Effect, Tallies, tallies_first, tallies_after, lowered}
+use Rattle.steps_semaphore.proofs.Laws.{semaphore_apart}
+use Rattle.steps_semaphore.proofs.WaitSteps.{WaitLeads, wait_leads, wait_effect}
+use Rattle.steps_condvar.specs.declared.CondvarPlace.{CondvarPlace}
+use Rattle.steps_condvar.specs.declared.CondvarPlace.TheVariants as places
+use Rattle.steps_condvar.specs.Table.{permits_for, condvar_table, condvar_grant, permitted, relocked}
+use Rattle.steps_condvar.specs.Waiters.{is_count, counts_in, since_count, is_wait, is_counted, CountsWaiters}
+use Rattle.steps_condvar.specs.Law.{wake_for, count_read, amount_for, condvar_gives, condvar_value, takes_in, HasAbortedSince, FoundNoPermit, FoundMutexHeld, IsSignalled, CondvarCause, answer_of, wait_answer, WaitStep, is_read, is_post, NotifyStep, LockStep, CallStep, spins_of, gives_up, HasTried, KeepsCondvar}
+use Rattle.steps_condvar.proofs.Counts.{CountEffect, none_wait, counts_after}
+use Rattle.steps_condvar.proofs.Places.{notify, Progress, SawNone, SignalIs, took, AtCondvar, outcome_within, condvar_kept}
+
+-- A condition variable has a lock for one: its mutex.
+
+lock_intent : {T : Type 0} (place : CondvarPlace) (c : PendingCall T) (hold : Option HoldKind) → AtCondvar place c hold → IsLockIntent {T = T} (condvar_grant c.call 0 1) hold ((condvar_table {T = T}).intent place hold)
+lock_intent (places.Mutex place) c hold at = mutex.lock_intent (λ call. condvar_grant call 0 1) place c hold refl refl at
+lock_intent (places.Read wake) c hold at = tt
+lock_intent (places.Post wake amount) c hold at = tt
+lock_intent (places.Wake wake) c hold at = tt
+lock_intent places.CountIn c hold at = tt
+lock_intent (places.Release locks.Release) c hold at = (refl, at.2.2)
+lock_intent (places.Release locks.Wake) c hold at = tt
+lock_intent (places.Release other) c hold at = absurd at.2
+lock_intent (places.Permit (permits.Look patience)) c hold at = tt
+lock_intent (places.Permit (permits.Take seen to patience)) c hold at = tt
+lock_intent (places.Permit other) c hold at = absurd at.3
+lock_intent (places.CountOut signalled) c hold at = tt
+lock_intent {T} (places.Relock signalled (locks.Lock patience)) c hold at = (refl, refl, ap (λ (k : Call T). condvar_grant k 0 1) at.0)
+lock_intent (places.Relock signalled other) c hold at = absurd at.4
+
+pub condvar_is_lock : {T : Type 0} (z : Arithmetic T) (parties : ℕ) → IsLock {T = T} z condvar_table parties
+condvar_is_lock z parties =
+    record {
+      opens = refl;
+      steps = λ past party c place run called stage. lock_intent place c (hold_of condvar_table party past) (at_place z condvar_table parties AtCondvar condvar_kept past run party c place called stage);
+    }
+
+-- What a step does to the permits.
+
+notify_wakes : {T : Type 0} (wake : Wake) (call : Call T) → call ≡ notify wake → wake_for call ≡ Some wake
+notify_wakes {T} wakes.One call is = ap (λ (k : Call T). wake_for k) is
+notify_wakes {T} wakes.All call is = ap (λ (k : Call T). wake_for k) is
+
+step_effect :
+    {T : Type 0} (place : CondvarPlace) (c : PendingCall T) (hold : Option HoldKind) (memory : Word → ℕ) → AtCondvar place c hold →
+    Effect (memory words.Value) (word_after {T = T} words.Value (step_at condvar_table place hold memory).act (memory words.Value)) (condvar_gives {T = T} (step_at condvar_table place hold memory).act (Some c)) (is_take {T = T} words.Value (step_at condvar_table place hold memory).act)
+step_effect (places.Mutex locks.TryLock) c hold memory at = inl (refl, refl, refl)
+step_effect (places.Mutex (locks.Lock patience)) c hold memory at = inl (refl, refl, refl)
+step_effect (places.Mutex locks.Release) c hold memory at = inl (refl, refl, refl)
+step_effect (places.Mutex locks.Wake) c hold memory at = inl (refl, refl, refl)
+step_effect (places.Read wake) c hold memory at = inl (refl, refl, refl)
+step_effect {T} (places.Post wake amount) c hold memory at =
+    let gives : amount ≡ amount_for (wake_for c.call) (count_read c.own) = rw (notify_wakes wake c.call at.0) at.4 in
+    inr (inl (ap (λ k. (memory words.Value + k) % 2 ^ 64) gives, refl))
+step_effect (places.Wake wake) c hold memory at = inl (refl, refl, refl)
+step_effect places.CountIn c hold memory at = inl (refl, refl, refl)
+step_effect (places.Release locks.Release) c hold memory at = inl (refl, refl, refl)
+step_effect (places.Release locks.Wake) c hold memory at = inl (refl, refl, refl)
+step_effect (places.Release other) c hold memory at = absurd at.2
+step_effect (places.Permit (permits.Look patience)) c hold memory at = wait_effect words.Value (permits.Look patience) (since_count c.own) memory at.3
+step_effect (places.Permit (permits.Take seen to patience)) c hold memory at = wait_effect words.Value (permits.Take seen to patience) (since_count c.own) memory at.3
+step_effect (places.Permit other) c hold memory at = absurd at.3
+step_effect (places.CountOut signalled) c hold memory at = inl (refl, refl, refl)
+step_effect (places.Relock signalled (locks.Lock patience)) c hold memory at = inl (refl, refl, refl)
+step_effect (places.Relock signalled other) c hold memory at = absurd at.4
+
+event_effect :
+    {T : Type 0} (z : Arithmetic T) (parties : ℕ) (past : List (Event T)) (e : Event T) → IsPast z condvar_table parties (e ∷ past) →
+    Effect (word_in condvar_table past words.Value) (word_after words.Value e.act (word_in condvar_table past words.Value)) (condvar_gives e.act (call_of e.party past)) (is_take words.Value e.act)
+event_effect {T} z parties past e run =
+    let v = word_in condvar_table past words.Value in
+    by_move condvar_table (call_of e.party past) (hold_of condvar_table e.party past) (word_in condvar_table past)
+    (λ (k : Option (PendingCall T)) (m : Move T). Effect v (word_after words.Value m.act v) (condvar_gives m.act k) (is_take words.Value m.act))
+    run.0.0 (record { act = e.act; outcome = e.then })
+    (λ call _. inl (refl, refl, refl)) (λ action _. inl (refl, refl, refl)) (λ choice _. inl (refl, refl, refl))
+    (λ c place _ called stage. step_effect place c (hold_of condvar_table e.party past) (word_in condvar_table past) (at_place z condvar_table parties AtCondvar condvar_kept past run.1 e.party c place called stage))
+    run.0.1.moved
+
+pub condvar_tallies :
+    {T : Type 0} (z : Arithmetic T) (parties : ℕ) (past : List (Event T)) → IsPast z condvar_table parties past →
+    Tallies (word_in condvar_table past words.Value) (permits_given condvar_gives 0 past) (permits_taken words.Value past)
+condvar_tallies z parties [] run = tallies_first 0 (omega arith)
+condvar_tallies z parties (e ∷ past) run = tallies_after _ _ _ _ _ (is_take words.Value e.act) (condvar_tallies z parties past run.1) (event_effect z parties past e run)
+
+-- A call that saw no permit has that cause.
+no_permit :
+    {T : Type 0} (z : Arithmetic T) (parties : ℕ) (past : List (Event T)) (party : ℕ) (c : PendingCall T) → IsPast z condvar_table parties past → call_of party past ≡ Some c → SawNone c.own → FoundNoPermit party past
+no_permit {T} z parties past party c run called saw =
+    at_last_sight z condvar_table parties words.Value party 0 c.call saw.before (λ before. HasAbortedSince party before × (condvar_value before ≡ 0)) front past run c.own called saw.saw
+  where
+    front : (before : List (Event T)) → IsPast z condvar_table parties before → call_of party before ≡ Some (record { call = c.call; own = saw.before }) → word_in condvar_table before words.Value ≡ 0 →
+        HasAbortedSince party before × (condvar_value before ≡ 0)
+    front before goes was none = (rw was saw.aborted, sym (condvar_tallies z parties before goes).0 ∙ none)
+
+-- What one more event tells.
+
+pub record EventLaw {T : Type 0} (party : ℕ) (past : List (Event T)) (n : ℕ) (hold : Option HoldKind) (pending : Option (PendingCall T)) (m : Move T) : Type 0 where
+  pub count : CountEffect n (word_after words.Waiters m.act n) (is_count m.act) (is_counted pending) (is_counted (call_after m.outcome (event party m.act m.outcome) pending))
+  pub number : number_answered m.outcome ≡ None
+  pub cause : MatchBool (is_refusal m.outcome) (MatchOption pending ⊥ (λ c. CondvarCause c.call party (event party m.act m.outcome ∷ past))) (Unit {0})
+  pub steps : MatchOption pending (Unit {0}) (λ c. CallStep c.call c.own (event party m.act m.outcome) (hold_after condvar_table m.act pending hold))
+  pub exact :
+      MatchOption pending (Unit {0})
+      (λ c. c.call ≡ calls.TryLock → is_sight words.State m.act ≡ true → ((m.outcome ≡ thens.Answers answers.Success) ↔ (holds_of condvar_table past ≡ [])))
+  pub asks : MatchBool (stands_at_wait m.outcome) (MatchOption pending ⊥ (λ c. spins_of c.call c.own ≡ 10000)) (Unit {0})
+  pub tries : MatchBool (gives_up m.outcome) (MatchOption pending ⊥ (λ c. HasTried c.call (event party m.act m.outcome ∷ c.own))) (Unit {0})
+
+-- Whether a call is counted.
+
+counted_by : {T : Type 0} (c : PendingCall T) (n : ℕ) → c.call ≡ calls.Wait → counts_in c.own ≡ n → is_counted (Some c) ≡ (n == 1)
+counted_by {T} c n wait counts =
+    let waits : is_wait c.call ≡ true = ap (λ (k : Call T). is_wait k) wait in
+    rw (waits, counts) refl
+
+uncounted : {T : Type 0} (c : PendingCall T) → is_wait c.call ≡ false → is_counted (Some c) ≡ false
+uncounted c other = rw other refl
+
+-- An event of a `Wait` that does not end it.
+
+going_law :
+    {T : Type 0} (party : ℕ) (past : List (Event T)) (n : ℕ) (hold : Option HoldKind) (c : PendingCall T) (act : Act T) (outcome : Then T) → c.call ≡ calls.Wait → answer_of outcome ≡ None →
+    CountEffect n (word_after words.Waiters act n) (is_count act) (is_counted (Some c)) (is_counted (call_going_on act (event party act outcome) (Some c))) →
+    WaitStep c.own (event party act outcome) (hold_after condvar_table act (Some c) hold) → MatchBool (stands_at_wait outcome) (spins_of calls.Wait c.own ≡ 10000) (Unit {0}) →
+    EventLaw party past n hold (Some c) (record { act = act; outcome = outcome })
+going_law {T} party past n hold c act thens.GoesOn wait goes count step asks =
+    record {
+      count = count; number = refl; cause = tt; asks = tt; tries = tt;
+      steps = subst (λ (k : Call T). CallStep k c.own (event party act thens.GoesOn) (hold_after condvar_table act (Some c) hold)) (sym wait) step;
+      exact = another calls.Wait c.call _ (sym wait) (λ same. absurd cc);
+    }
+going_law {T} party past n hold c act (thens.Waits seen) wait goes count step asks =
+    record {
+      count = count; number = refl; cause = tt; tries = tt;
+      asks = subst (λ (k : Call T). spins_of k c.own ≡ 10000) (sym wait) asks;
+      steps = subst (λ (k : Call T). CallStep k c.own (event party act (thens.Waits seen)) (hold_after condvar_table act (Some c) hold)) (sym wait) step;
+      exact = another calls.Wait c.call _ (sym wait) (λ same. absurd cc);
+    }
+going_law {T} party past n hold c act (thens.Chooses old) wait goes count step asks =
+    record {
+      count = count; number = refl; cause = tt; asks = tt; tries = tt;
+      steps = subst (λ (k : Call T). CallStep k c.own (event party act (thens.Chooses old)) (hold_after condvar_table act (Some c) hold)) (sym wait) step;
+      exact = another calls.Wait c.call _ (sym wait) (λ same. absurd cc);
+    }
+going_law party past n hold c act (thens.Answers answer) wait goes count step asks = absurd cc
+
+-- its step for a permit, by how it goes on
+
+looking :
+    {T : Type 0} (party : ℕ) (c : PendingCall T) (act : Act T) (outcome : Then T) (hold : Option HoldKind) → Progress c.own 1 1 1 0 → is_release act ≡ false → is_sight words.State act ≡ false → answer_of outcome ≡ None →
+    WaitStep c.own (event party act outcome) hold
+looking party c act outcome hold so frees apart goes =
+    record {
+      unlocks = λ yes. let no : true ≡ false = sym yes ∙ frees in absurd cc;
+      looks = λ sees. (so.counted, so.released, so.woke);
+      takes = λ takes. so.taken;
+      locks = λ sees. let no : true ≡ false = sym sees ∙ apart in absurd cc;
+      answers = rw goes tt;
+    }
+
+still_counted :
+    {T : Type 0} (n : ℕ) (times : ℕ) (c : PendingCall T) (act : Act T) (e : Event T) → c.call ≡ calls.Wait → counts_in c.own ≡ times → is_count e.act ≡ false → is_count act ≡ false → word_after words.Waiters act n ≡ n →
+    call_going_on act e (Some c) ≡ Some (record { call = c.call; own = e ∷ c.own }) →
+    CountEffect n (word_after words.Waiters act n) (is_count act) (is_counted (Some c)) (is_counted (call_going_on act e (Some c)))
+still_counted {T} n times c act e wait counts quiet is_quiet keeps goes =
+    let longer : PendingCall T = record { call = c.call; own = e ∷ c.own } in
+    let now : counts_in longer.own ≡ times = rw quiet (omega (arith, counts)) in
+    inl (is_quiet, keeps, rw goes (counted_by longer times wait now ∙ sym (counted_by c times wait counts)))
+
+permit_law :
+    {T : Type 0} (party : ℕ) (past : List (Event T)) (n : ℕ) (hold : Option HoldKind) (c : PendingCall T) (act : Act T) (a : After T SemaphorePlace) → c.call ≡ calls.Wait → Progress c.own 1 1 1 0 →
+    is_count act ≡ false → is_release act ≡ false → is_sight words.State act ≡ false → word_after words.Waiters act n ≡ n →
+    ((e : Event T) → call_going_on act e (Some c) ≡ Some (record { call = c.call; own = e ∷ c.own })) → WaitLeads words.Value (since_count c.own) party act a →
+    EventLaw party past n hold (Some c) (record { act = act; outcome = outcome_of (permitted a) })
+permit_law party past n hold c act (afters.At next) wait so quiet frees apart keeps goes leads =
+    going_law party past n hold c act thens.GoesOn wait refl (still_counted n 1 c act (event party act thens.GoesOn) wait so.counted quiet quiet keeps (goes (event party act thens.GoesOn))) (looking party c act thens.GoesOn _ so frees apart refl) tt
+permit_law party past n hold c act (afters.Waits next seen) wait so quiet frees apart keeps goes leads =
+    going_law party past n hold c act (thens.Waits seen) wait refl (still_counted n 1 c act (event party act (thens.Waits seen)) wait so.counted quiet quiet keeps (goes (event party act (thens.Waits seen))))
+    (looking party c act (thens.Waits seen) _ so frees apart refl) (rw so.counted leads.2)
+permit_law party past n hold c act (afters.Ends answer) wait so quiet frees apart keeps goes leads =
+    going_law party past n hold c act thens.GoesOn wait refl (still_counted n 1 c act (event party act thens.GoesOn) wait so.counted quiet quiet keeps (goes (event party act thens.GoesOn))) (looking party c act thens.GoesOn _ so frees apart refl) tt
+permit_law party past n hold c act (afters.Chooses next old) wait so quiet frees apart keeps goes leads = absurd leads
+
+-- its lock of the mutex, by how it goes on
+
+locking :
+    {T : Type 0} (party w takes : ℕ) (c : PendingCall T) (done : Bool) (outcome : Then T) (hold : Option HoldKind) → Progress c.own 2 1 1 takes → MatchOption (answer_of outcome) (Unit {0}) (λ answer. answer ≡ wait_answer (takes_in c.own) hold) →
+    WaitStep c.own (event party (acts.Exchange words.State 0 1 w done) outcome) hold
+locking {T} party w takes c done outcome hold so answer =
+    record {
+      unlocks = λ yes. absurd cc;
+      looks = λ sees. absurd cc;
+      takes = λ takes. absurd cc;
+      locks = λ sees. so.counted;
+      answers = by_answer (answer_of outcome) answer;
+    }
+  where
+    by_answer : (o : Option (Answer T)) → MatchOption o (Unit {0}) (λ a. a ≡ wait_answer (takes_in c.own) hold) → MatchOption o (Unit {0}) (λ a. (a ≡ wait_answer (takes_in c.own) hold) × (counts_in c.own ≡ 2))
+    by_answer None is = tt
+    by_answer (Some a) is = (is, so.counted)
+
+ending :
+    {T : Type 0} (n : ℕ) (c : PendingCall T) (act : Act T) (e : Event T) (answer : Answer T) → c.call ≡ calls.Wait → counts_in c.own ≡ 2 → is_count act ≡ false → word_after words.Waiters act n ≡ n →
+    CountEffect n (word_after words.Waiters act n) (is_count act) (is_counted (Some c)) (is_counted (call_after (thens.Answers answer) e (Some c)))
+ending n c act e answer wait counts quiet keeps = inl (quiet, keeps, sym (counted_by c 2 wait counts))
+
+relock_law :
+    {T : Type 0} (party : ℕ) (past : List (Event T)) (n : ℕ) (hold : Option HoldKind) (signalled : Bool) (c : PendingCall T) (w : ℕ) (done : Bool) (a : After T MutexPlace) → call_of party past ≡ Some c → c.call ≡ calls.Wait → hold ≡ None →
+    Progress c.own 2 1 1 (took signalled) → MatchBool signalled (Unit {0}) (FoundNoPermit party past) → IsFreeOrHeld w (holds_of condvar_table past) → (w == 0) ≡ done → LockLeads (since_count c.own) party w (acts.Exchange words.State 0 1 w done) a →
+    EventLaw party past n hold (Some c) (record { act = acts.Exchange words.State 0 1 w done; outcome = outcome_of (relocked signalled a) })
+relock_law {T} party past n hold signalled c w done (afters.At next) called wait free so none law found leads =
+    let act : Act T = acts.Exchange words.State 0 1 w done in
+    going_law party past n hold c act thens.GoesOn wait refl (still_counted n 2 c act (event party act thens.GoesOn) wait so.counted refl refl refl refl) (locking party w (took signalled) c done thens.GoesOn _ so tt) tt
+relock_law {T} party past n hold signalled c w done (afters.Waits next seen) called wait free so none law found leads =
+    let act : Act T = acts.Exchange words.State 0 1 w done in
+    going_law party past n hold c act (thens.Waits seen) wait refl (still_counted n 2 c act (event party act (thens.Waits seen)) wait so.counted refl refl refl refl) (locking party w (took signalled) c done (thens.Waits seen) _ so tt) (rw so.counted leads.2)
+relock_law {T} party past n hold true c w true (afters.Ends answers.Success) called wait free so none law found leads =
+    let act : Act T = acts.Exchange words.State 0 1 w true in
+    let granted : condvar_grant c.call 0 1 ≡ Some kinds.Write = ap (λ (k : Call T). condvar_grant k 0 1) wait in
+    record {
+      count = ending n c act (event party act (thens.Answers answers.Success)) answers.Success wait so.counted refl refl;
+      number = refl; cause = tt; asks = tt; tries = tt;
+      steps = subst (λ (k : Call T). CallStep k c.own (event party act (thens.Answers answers.Success)) (hold_after condvar_table act (Some c) hold)) (sym wait)
+          (locking party w 1 c true (thens.Answers answers.Success) (hold_after condvar_table act (Some c) hold) so (rw (granted, so.taken) refl));
+      exact = another calls.Wait c.call _ (sym wait) (λ same. absurd cc);
+    }
+relock_law {T} party past n hold false c w true (afters.Ends answers.Success) called wait free so none law found leads =
+    let act : Act T = acts.Exchange words.State 0 1 w true in
+    let e : Event T = event party act (thens.Answers answers.InterruptedHeld) in
+    let granted : condvar_grant c.call 0 1 ≡ Some kinds.Write = ap (λ (k : Call T). condvar_grant k 0 1) wait in
+    let cause : FoundNoPermit party (e ∷ past) = rw (eqb_same party) none in
+    record {
+      count = ending n c act e answers.InterruptedHeld wait so.counted refl refl;
+      number = refl; asks = tt; tries = tt;
+      cause = subst (λ (k : Call T). CondvarCause k party (e ∷ past)) (sym wait) cause;
+      steps = subst (λ (k : Call T). CallStep k c.own e (hold_after condvar_table act (Some c) hold)) (sym wait)
+          (locking party w 0 c true (thens.Answers answers.InterruptedHeld) (hold_after condvar_table act (Some c) hold) so (rw (granted, so.taken) refl));
+      exact = another calls.Wait c.call _ (sym wait) (λ same. absurd cc);
+    }
+relock_law party past n hold signalled c w false (afters.Ends answers.Success) called wait free so none law found leads = absurd (eqb-false w 0 found leads)
+relock_law {T} party past n hold signalled c w false (afters.Ends answers.Interrupted) called wait free so none law found leads =
+    let act : Act T = acts.Exchange words.State 0 1 w false in
+    let e : Event T = event party act (thens.Answers answers.Interrupted) in
+    let held : FoundMutexHeld party (e ∷ past) = rw (eqb_same party) (aborted, locked_at condvar_table past w law leads.0) in
+    record {
+      count = ending n c act e answers.Interrupted wait so.counted refl refl;
+      number = refl; asks = tt;
+      cause = subst (λ (k : Call T). CondvarCause k party (e ∷ past)) (sym wait) (held, by_signal signalled so none);
+      steps = subst (λ (k : Call T). CallStep k c.own e (hold_after condvar_table act (Some c) hold)) (sym wait)
+          (locking party w (took signalled) c false (thens.Answers answers.Interrupted) (hold_after condvar_table act (Some c) hold) so (rw free refl));
+      exact = another calls.Wait c.call _ (sym wait) (λ same. absurd cc);
+      tries = subst (λ (k : Call T). HasTried k (e ∷ c.own)) (sym wait) leads.2;
+    }
+  where
+    aborted : HasAbortedSince party past
+    aborted = rw called leads.1
+
+    by_signal : (s : Bool) → Progress c.own 2 1 1 (took s) → MatchBool s (Unit {0}) (FoundNoPermit party past) →
+        IsSignalled party past ⊎ FoundNoPermit party (event party (acts.Exchange words.State 0 1 w false) (thens.Answers answers.Interrupted) ∷ past)
+    by_signal true has saw = inl (rw called has.taken)
+    by_signal false has saw = inr (rw (eqb_same party) saw)
+relock_law party past n hold signalled c w true (afters.Ends answers.Interrupted) called wait free so none law found leads = absurd (leads.0 (eqb-true w 0 found))
+relock_law party past n hold signalled c w done other called wait free so none law found leads = absurd leads
