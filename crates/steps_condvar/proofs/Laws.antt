@@ -15,6 +15,7 @@ use Rattle.steps_events.specs.declared.event.Answer.TheVariants as answers
 use Rattle.steps_events.specs.declared.event.Event.{Event}
 use Rattle.steps_events.specs.declared.event.Then.{Then}
 use Rattle.steps_events.specs.declared.event.Then.TheVariants as thens
+use Rattle.steps_events.specs.declared.event.Input.{Input}
 use Rattle.steps_events.specs.declared.hold.HoldKind.{HoldKind}
 use Rattle.steps_events.specs.declared.hold.HoldKind.TheVariants as kinds
 use Rattle.steps_events.specs.declared.patience.Patience.{Patience}
@@ -23,14 +24,14 @@ use Rattle.steps_events.specs.declared.row.After.TheVariants as afters
 use Rattle.steps_events.specs.Arithmetic.{Arithmetic}
 use Rattle.steps_events.specs.Rows.{carried_out, value_told, outcome_of, within}
 use Rattle.steps_events.specs.Past.{same_word, PendingCall, call_of, call_after, call_going_on, holds_of, hold_of, hold_after, word_in, word_after, event, is_release, is_failure}
-use Rattle.steps_events.specs.Moves.{Move, step_at}
+use Rattle.steps_events.specs.Moves.{Move, step_at, fault_at, begin_fault}
 use Rattle.steps_events.specs.Runs.{IsPast}
 use Rattle.steps_events.specs.Sights.{sight_of, is_sight, AtLastSight, spins_in, stands_at_wait, acts_in}
 use Rattle.steps_events.specs.Laws.{IsTold, is_apart, Lacks, is_refusal}
 use Rattle.steps_events.proofs.Holds.{eqb_same, hold_of_same}
 use Rattle.steps_events.proofs.Steps.{carried_goes_on, by_move, tells_memory}
 use Rattle.steps_events.proofs.LastSights.{sight_is_told, at_last_sight}
-use Rattle.steps_events.proofs.Parties.{at_place}
+use Rattle.steps_events.proofs.Parties.{at_place, fault_at_none}
 use Rattle.steps_events.proofs.Locks.{IsLock, IsLockIntent, IsFreeOrHeld, lock_word, lock_exclusive, locked_at}
 use Rattle.steps_mutex.specs.declared.MutexPlace.{MutexPlace}
 use Rattle.steps_mutex.specs.declared.MutexPlace.TheVariants as locks
@@ -52,7 +53,7 @@ use Rattle.steps_condvar.specs.declared.CondvarPlace.{CondvarPlace}
 use Rattle.steps_condvar.specs.declared.CondvarPlace.TheVariants as places
 use Rattle.steps_condvar.specs.Table.{permits_for, condvar_table, condvar_grant, permitted, relocked}
 use Rattle.steps_condvar.specs.Waiters.{is_count, counts_in, since_count, is_wait, is_counted, CountsWaiters}
-use Rattle.steps_condvar.specs.Law.{wake_for, count_read, amount_for, condvar_gives, condvar_value, takes_in, HasAbortedSince, FoundNoPermit, FoundMutexHeld, IsSignalled, CondvarCause, answer_of, wait_answer, WaitStep, is_read, is_post, NotifyStep, LockStep, CallStep, spins_of, gives_up, HasTried, KeepsCondvar}
+use Rattle.steps_condvar.specs.Law.{wake_for, count_read, amount_for, condvar_gives, condvar_value, takes_in, HasAbortedSince, FoundNoPermit, FoundMutexHeld, IsSignalled, CondvarCause, answer_of, wait_answer, WaitStep, is_post, PutsSum, NotifyStep, LockStep, CallStep, spins_of, gives_up, HasTried, KeepsCondvar}
 use Rattle.steps_condvar.proofs.Counts.{CountEffect, none_wait, counts_after}
 use Rattle.steps_condvar.proofs.Places.{notify, Progress, SawNone, SignalIs, took, AtCondvar, outcome_within, condvar_kept}
 
@@ -306,3 +307,330 @@ relock_law {T} party past n hold signalled c w false (afters.Ends answers.Interr
     by_signal false has saw = inr (rw (eqb_same party) saw)
 relock_law party past n hold signalled c w true (afters.Ends answers.Interrupted) called wait free so none law found leads = absurd (leads.0 (eqb-true w 0 found))
 relock_law party past n hold signalled c w done other called wait free so none law found leads = absurd leads
+
+-- An event of another call: it is not counted.
+
+after_uncounted :
+    {T : Type 0} (outcome : Then T) (e : Event T) (c : PendingCall T) → is_wait c.call ≡ false → call_going_on e.act e (Some c) ≡ Some (record { call = c.call; own = e ∷ c.own }) → is_counted (call_after outcome e (Some c)) ≡ false
+after_uncounted {T} (thens.Answers answer) e c other goes = refl
+after_uncounted {T} outcome e c other goes = rw goes (uncounted (record { call = c.call; own = e ∷ c.own }) other)
+
+not_counted :
+    {T : Type 0} (n : ℕ) (act : Act T) (outcome : Then T) (e : Event T) (c : PendingCall T) → is_wait c.call ≡ false → is_count act ≡ false → word_after words.Waiters act n ≡ n →
+    call_going_on e.act e (Some c) ≡ Some (record { call = c.call; own = e ∷ c.own }) → CountEffect n (word_after words.Waiters act n) (is_count act) (is_counted (Some c)) (is_counted (call_after outcome e (Some c)))
+not_counted n act outcome e c other quiet keeps goes = inl (quiet, keeps, after_uncounted outcome e c other goes ∙ sym (uncounted c other))
+
+-- of a notify
+
+notify_waits : {T : Type 0} (wake : Wake) (call : Call T) → call ≡ notify wake → is_wait call ≡ false
+notify_waits {T} wakes.One call is = ap (λ (k : Call T). is_wait k) is
+notify_waits {T} wakes.All call is = ap (λ (k : Call T). is_wait k) is
+
+notify_step : {T : Type 0} (wake : Wake) (call : Call T) (own : List (Event T)) (e : Event T) (hold : Option HoldKind) → call ≡ notify wake → NotifyStep wake own e → CallStep call own e hold
+notify_step {T} wakes.One call own e hold is step = subst (λ (k : Call T). CallStep k own e hold) (sym is) step
+notify_step {T} wakes.All call own e hold is step = subst (λ (k : Call T). CallStep k own e hold) (sym is) step
+
+notify_law :
+    {T : Type 0} (party : ℕ) (past : List (Event T)) (n : ℕ) (hold : Option HoldKind) (c : PendingCall T) (wake : Wake) (act : Act T) (ends : Bool) → c.call ≡ notify wake → is_count act ≡ false → word_after words.Waiters act n ≡ n →
+    is_sight words.State act ≡ false → ((e : Event T) → call_going_on act e (Some c) ≡ Some (record { call = c.call; own = e ∷ c.own })) →
+    NotifyStep wake c.own (event party act (cond ends (thens.Answers answers.Done) thens.GoesOn)) → EventLaw party past n hold (Some c) (record { act = act; outcome = cond ends (thens.Answers answers.Done) thens.GoesOn })
+notify_law {T} party past n hold c wake act true is quiet keeps apart goes step =
+    let e : Event T = event party act (thens.Answers answers.Done) in
+    record {
+      count = not_counted n act (thens.Answers answers.Done) e c (notify_waits wake c.call is) quiet keeps (goes e);
+      number = refl; cause = tt; asks = tt; tries = tt;
+      steps = notify_step wake c.call c.own e (hold_after condvar_table act (Some c) hold) is step;
+      exact = λ try sees. let no : true ≡ false = sym sees ∙ apart in absurd cc;
+    }
+notify_law {T} party past n hold c wake act false is quiet keeps apart goes step =
+    let e : Event T = event party act thens.GoesOn in
+    record {
+      count = not_counted n act thens.GoesOn e c (notify_waits wake c.call is) quiet keeps (goes e);
+      number = refl; cause = tt; asks = tt; tries = tt;
+      steps = notify_step wake c.call c.own e (hold_after condvar_table act (Some c) hold) is step;
+      exact = λ try sees. let no : true ≡ false = sym sees ∙ apart in absurd cc;
+    }
+
+-- of a call of the mutex: its law there is its law here
+
+mutex_waits : {T : Type 0} (place : MutexPlace) (c : PendingCall T) (hold : Option HoldKind) → AtMutex place c hold → is_wait c.call ≡ false
+mutex_waits {T} locks.TryLock c hold at = ap (λ (k : Call T). is_wait k) at
+mutex_waits {T} (locks.Lock patience) c hold at = ap (λ (k : Call T). is_wait k) at.0
+mutex_waits {T} locks.Release c hold at = ap (λ (k : Call T). is_wait k) at.0
+mutex_waits {T} locks.Wake c hold at = ap (λ (k : Call T). is_wait k) at
+
+mutex_quiet :
+    (T : Type 0) (place : MutexPlace) (memory : Word → ℕ) (n : ℕ) →
+    (is_count {T = T} (carried_out (mutex_intent words.State place) memory) ≡ false) × (word_after {T = T} words.Waiters (carried_out (mutex_intent words.State place) memory) n ≡ n)
+mutex_quiet T locks.TryLock memory n = (refl, refl)
+mutex_quiet T (locks.Lock patience) memory n = (refl, refl)
+mutex_quiet T locks.Release memory n = (refl, refl)
+mutex_quiet T locks.Wake memory n = (refl, refl)
+
+mutex_step :
+    {T : Type 0} (place : MutexPlace) (c : PendingCall T) (hold left : Option HoldKind) (memory : Word → ℕ) (party : ℕ) (outcome : Then T) → AtMutex place c hold →
+    CallStep c.call c.own (event party (carried_out (mutex_intent words.State place) memory) outcome) left
+mutex_step {T} locks.TryLock c hold left memory party outcome at =
+    subst (λ (k : Call T). CallStep k c.own (event party (carried_out (mutex_intent words.State locks.TryLock) memory) outcome) left) (sym at) (record { uncounted = refl; untaken = refl })
+mutex_step {T} (locks.Lock patience) c hold left memory party outcome at =
+    subst (λ (k : Call T). CallStep k c.own (event party (carried_out (mutex_intent words.State (locks.Lock patience)) memory) outcome) left) (sym at.0) (record { uncounted = refl; untaken = refl })
+mutex_step {T} locks.Release c hold left memory party outcome at =
+    subst (λ (k : Call T). CallStep k c.own (event party (carried_out (mutex_intent words.State locks.Release) memory) outcome) left) (sym at.0) (record { uncounted = refl; untaken = refl })
+mutex_step {T} locks.Wake c hold left memory party outcome at =
+    subst (λ (k : Call T). CallStep k c.own (event party (carried_out (mutex_intent words.State locks.Wake) memory) outcome) left) (sym at) (record { uncounted = refl; untaken = refl })
+
+-- none of these answers a number
+
+try_number : (T : Type 0) (b : Bool) → number_answered (outcome_of {T = T} {P = MutexPlace} (cond b (afters.Ends answers.Success) (afters.Ends answers.Interrupted))) ≡ None
+try_number T true = refl
+try_number T false = refl
+
+lock_number : {T : Type 0} (own : List (Event T)) (party w : ℕ) (act : Act T) (a : After T MutexPlace) → LockLeads own party w act a → number_answered (outcome_of a) ≡ None
+lock_number own party w act (afters.At next) leads = refl
+lock_number own party w act (afters.Waits next seen) leads = refl
+lock_number own party w act (afters.Ends answers.Success) leads = refl
+lock_number own party w act (afters.Ends answers.Interrupted) leads = refl
+lock_number own party w act other leads = absurd leads
+
+mutex_number :
+    {T : Type 0} (place : MutexPlace) (c : PendingCall T) (hold : Option HoldKind) (memory : Word → ℕ) → AtMutex place c hold →
+    number_answered (outcome_of {T = T} (mutex_after place (value_told {T = T} (carried_out (mutex_intent words.State place) memory)))) ≡ None
+mutex_number {T} locks.TryLock c hold memory at = try_number T (memory words.State == 0)
+mutex_number (locks.Lock patience) c hold memory at =
+    lock_number c.own 0 (memory words.State) _ (mutex_after (locks.Lock patience) (Some (memory words.State))) (lock_leads words.State patience c.own 0 (memory words.State) at.1)
+mutex_number locks.Release c hold memory at = refl
+mutex_number locks.Wake c hold memory at = refl
+
+-- what the two laws say of a call by its kind is the same
+
+same_cause : {T : Type 0} (call : Call T) (party : ℕ) (events : List (Event T)) → is_wait call ≡ false → LockCause condvar_table call party events → CondvarCause call party events
+same_cause calls.Wait party events other cause = absurd cc
+same_cause call party events other cause = cause
+
+same_spins : {T : Type 0} (call : Call T) (own : List (Event T)) → is_wait call ≡ false → spins_in is_failure own ≡ 10000 → spins_of call own ≡ 10000
+same_spins calls.Wait own other spun = absurd cc
+same_spins call own other spun = spun
+
+same_tries : {T : Type 0} (call : Call T) (own : List (Event T)) → is_wait call ≡ false → mutex_law.HasTried call own → HasTried call own
+same_tries calls.Wait own other tried = absurd cc
+same_tries call own other tried = tried
+
+where_true : (b : Bool) (A B : Type 0) → (A → B) → MatchBool b A (Unit {0}) → MatchBool b B (Unit {0})
+where_true true A B to is = to is
+where_true false A B to is = tt
+
+where_gives_up : {T : Type 0} (outcome : Then T) (A B : Type 0) → (A → B) → MatchBool (is_refusal outcome) A (Unit {0}) → MatchBool (gives_up outcome) B (Unit {0})
+where_gives_up (thens.Answers answers.Interrupted) A B to is = to is
+where_gives_up other A B to is = tt
+
+mutex_law_here :
+    {T : Type 0} (party : ℕ) (past : List (Event T)) (n : ℕ) (hold : Option HoldKind) (c : PendingCall T) (act : Act T) (outcome : Then T) → is_wait c.call ≡ false → is_count act ≡ false → word_after words.Waiters act n ≡ n →
+    call_going_on act (event party act outcome) (Some c) ≡ Some (record { call = c.call; own = event party act outcome ∷ c.own }) → number_answered outcome ≡ None →
+    CallStep c.call c.own (event party act outcome) (hold_after condvar_table act (Some c) hold) → mutex.EventLaw condvar_table party past (Some c) (record { act = act; outcome = outcome }) →
+    EventLaw party past n hold (Some c) (record { act = act; outcome = outcome })
+mutex_law_here {T} party past n hold c act outcome other quiet keeps goes number step law =
+    let e : Event T = event party act outcome in
+    record {
+      count = not_counted n act outcome e c other quiet keeps goes;
+      number = number;
+      cause = where_true (is_refusal outcome) _ _ (same_cause c.call party (e ∷ past) other) law.cause;
+      steps = step;
+      exact = law.exact;
+      asks = where_true (stands_at_wait outcome) _ _ (same_spins c.call c.own other) law.asks;
+      tries = where_gives_up outcome _ _ (same_tries c.call (e ∷ c.own) other) law.tries;
+    }
+
+mutex_event :
+    {T : Type 0} (party : ℕ) (past : List (Event T)) (n : ℕ) (hold : Option HoldKind) (c : PendingCall T) (place : MutexPlace) (memory : Word → ℕ) → call_of party past ≡ Some c → AtMutex place c hold →
+    IsFreeOrHeld (memory words.State) (holds_of condvar_table past) → EventLaw party past n hold (Some c) (step_at condvar_table (places.Mutex place) hold memory)
+mutex_event {T} party past n hold c place memory called at law =
+    let act : Act T = carried_out (mutex_intent words.State place) memory in
+    let a : After T MutexPlace = mutex_after place (value_told act) in
+    let outcome : Then T = outcome_of (within places.Mutex a) in
+    let there : mutex.EventLaw condvar_table party past (Some c) (record { act = act; outcome = outcome }) =
+        subst (λ (o : Then T). mutex.EventLaw condvar_table party past (Some c) (record { act = act; outcome = o })) (sym (outcome_within places.Mutex a)) (mutex.step_law condvar_table party past c place hold memory called at law) in
+    mutex_law_here party past n hold c act outcome (mutex_waits place c hold at) (mutex_quiet T place memory n).0 (mutex_quiet T place memory n).1 (carried_goes_on (mutex_intent words.State place) memory (event party act outcome) c)
+    (ap number_answered (outcome_within places.Mutex a) ∙ mutex_number place c hold memory at) (mutex_step place c hold (hold_after condvar_table act (Some c) hold) memory party outcome at) there
+
+-- An event that is no step: the beginning of a call, and what a closure answers.
+
+begun_uncounted : (b : Bool) → (b && false) ≡ false
+begun_uncounted true = refl
+begun_uncounted false = refl
+
+begun_law :
+    {T : Type 0} (party : ℕ) (past : List (Event T)) (n : ℕ) (hold : Option HoldKind) (pending : Option (PendingCall T)) (call : Call T) → begin_fault condvar_table pending hold call ≡ None →
+    EventLaw party past n hold pending (record { act = acts.Begun call; outcome = thens.GoesOn })
+begun_law party past n hold (Some c) call allowed = absurd cc
+begun_law party past n hold None call allowed = record { count = inl (refl, refl, begun_uncounted (is_wait call)); number = refl; cause = tt; steps = tt; exact = tt; asks = tt; tries = tt }
+
+-- an act that has to do with no word
+record IsApart {T : Type 0} (act : Act T) : Type 0 where
+  counts : is_count act ≡ false
+  frees : is_release act ≡ false
+  mutex : is_sight words.State act ≡ false
+  waiters : is_sight words.Waiters act ≡ false
+  value : is_sight words.Value act ≡ false
+  takes : is_take words.Value act ≡ false
+  posts : is_post act ≡ false
+  sums : (amount : ℕ) → PutsSum amount act
+
+contrary : (b : Bool) (A : Type 0) → b ≡ false → b ≡ true → A
+contrary b A is_false is_true = let never : true ≡ false = sym is_true ∙ is_false in absurd cc
+
+apart_step : {T : Type 0} (call : Call T) (own : List (Event T)) (party : ℕ) (act : Act T) (hold : Option HoldKind) → IsApart act → CallStep call own (event party act thens.GoesOn) hold
+apart_step calls.Wait own party act hold apart =
+    record { unlocks = contrary _ _ apart.frees; looks = contrary _ _ apart.value; takes = contrary _ _ apart.takes; locks = contrary _ _ apart.mutex; answers = tt }
+apart_step calls.NotifyOne own party act hold apart = record { posts = contrary _ _ apart.posts; sums = apart.sums _; ends = tt; apart = apart.mutex }
+apart_step calls.NotifyAll own party act hold apart = record { posts = contrary _ _ apart.posts; sums = apart.sums _; ends = tt; apart = apart.mutex }
+apart_step call own party act hold apart = record { uncounted = apart.waiters; untaken = apart.value }
+
+apart_counts : {T : Type 0} (c : PendingCall T) (e : Event T) → is_count e.act ≡ false → is_counted (Some (record { call = c.call; own = e ∷ c.own })) ≡ is_counted (Some c)
+apart_counts {T} c e quiet =
+    let same : counts_in (e ∷ c.own) ≡ counts_in c.own = rw quiet (omega arith) in
+    ap (λ m. is_wait c.call && (m == 1)) same
+
+apart_law :
+    {T : Type 0} (party : ℕ) (past : List (Event T)) (n : ℕ) (hold : Option HoldKind) (pending : Option (PendingCall T)) (act : Act T) → IsApart act → word_after words.Waiters act n ≡ n →
+    ((c : PendingCall T) (e : Event T) → call_going_on act e (Some c) ≡ Some (record { call = c.call; own = e ∷ c.own })) → ((e : Event T) → call_going_on act e None ≡ None) →
+    EventLaw party past n hold pending (record { act = act; outcome = thens.GoesOn })
+apart_law party past n hold None act apart keeps goes none = record { count = inl (apart.counts, keeps, rw (none (event party act thens.GoesOn)) refl); number = refl; cause = tt; steps = tt; exact = tt; asks = tt; tries = tt }
+apart_law party past n hold (Some c) act apart keeps goes none =
+    record {
+      count = inl (apart.counts, keeps, rw (goes c (event party act thens.GoesOn)) (apart_counts c (event party act thens.GoesOn) apart.counts));
+      number = refl; cause = tt; asks = tt; tries = tt;
+      steps = apart_step c.call c.own party act _ apart;
+      exact = λ try sees. contrary _ _ apart.mutex sees;
+    }
+
+-- Each step.
+
+signal_cause :
+    {T : Type 0} (z : Arithmetic T) (parties : ℕ) (past : List (Event T)) (party : ℕ) (c : PendingCall T) (signalled : Bool) → IsPast z condvar_table parties past → call_of party past ≡ Some c → SignalIs signalled c.own →
+    MatchBool signalled (Unit {0}) (FoundNoPermit party past)
+signal_cause z parties past party c true run called signal = tt
+signal_cause z parties past party c false run called signal = no_permit z parties past party c run called signal
+
+-- a step of a `Wait` on the count or in its unlock has to do with no other word
+onward :
+    {T : Type 0} (c : PendingCall T) (party : ℕ) (act : Act T) (hold : Option HoldKind) (counts releases wakes takes : ℕ) → Progress c.own counts releases wakes takes → (is_release act ≡ true → counts ≡ 1) →
+    is_sight words.State act ≡ false → is_sight words.Value act ≡ false → is_take words.Value act ≡ false → WaitStep c.own (event party act thens.GoesOn) hold
+onward c party act hold counts releases wakes takes so frees mutex value take =
+    record { unlocks = λ yes. so.counted ∙ frees yes; looks = contrary _ _ value; takes = contrary _ _ take; locks = contrary _ _ mutex; answers = tt }
+
+step_law :
+    {T : Type 0} (z : Arithmetic T) (parties party : ℕ) (past : List (Event T)) (c : PendingCall T) (place : CondvarPlace) (hold : Option HoldKind) (memory : Word → ℕ) → IsPast z condvar_table parties past → call_of party past ≡ Some c →
+    AtCondvar place c hold → IsFreeOrHeld (memory words.State) (holds_of condvar_table past) → EventLaw party past (memory words.Waiters) hold (Some c) (step_at condvar_table place hold memory)
+step_law z parties party past c (places.Mutex place) hold memory run called at law = mutex_event party past (memory words.Waiters) hold c place memory called at law
+step_law {T} z parties party past c (places.Read wake) hold memory run called at law =
+    notify_law party past (memory words.Waiters) hold c wake (acts.Load words.Waiters (memory words.Waiters)) false at.0 refl refl refl (λ e. refl) (record { posts = λ yes. absurd cc; sums = tt; ends = tt; apart = refl })
+step_law {T} z parties party past c (places.Post wake amount) hold memory run called at law =
+    notify_law party past (memory words.Waiters) hold c wake (step_at {T = T} condvar_table (places.Post wake amount) hold memory).act false at.0 refl refl refl (λ e. refl)
+    (record { posts = λ yes. (at.2, at.3); sums = ap (λ k. (memory words.Value + k) % 2 ^ 64) at.4; ends = tt; apart = refl })
+step_law {T} z parties party past c (places.Wake wake) hold memory run called at law =
+    notify_law party past (memory words.Waiters) hold c wake (acts.Woke wake) true at.0 refl refl refl (λ e. refl) (record { posts = λ yes. absurd cc; sums = tt; ends = (refl, refl, at.2); apart = refl })
+step_law {T} z parties party past c places.CountIn hold memory run called at law =
+    let act : Act T = (step_at condvar_table places.CountIn hold memory).act in
+    let so : Progress c.own 0 0 0 0 = at.2 in
+    let longer : PendingCall T = record { call = c.call; own = event party act thens.GoesOn ∷ c.own } in
+    let now : counts_in longer.own ≡ 1 = omega (arith, so.counted) in
+    going_law party past (memory words.Waiters) hold c act thens.GoesOn at.0 refl (inr (inl (refl, refl, counted_by c 0 at.0 so.counted, counted_by longer 1 at.0 now)))
+    (onward c party act _ 0 0 0 0 so (λ yes. absurd cc) refl refl refl) tt
+step_law {T} z parties party past c (places.Release locks.Release) hold memory run called at law =
+    let so : Progress c.own 1 0 0 0 = at.2.0 in
+    going_law party past (memory words.Waiters) hold c (acts.Store words.State 0) thens.GoesOn at.0 refl
+    (still_counted (memory words.Waiters) 1 c (acts.Store words.State 0) (event party (acts.Store words.State 0) thens.GoesOn) at.0 so.counted refl refl refl refl) (onward c party (acts.Store words.State 0) _ 1 0 0 0 so (λ yes. refl) refl refl refl) tt
+step_law {T} z parties party past c (places.Release locks.Wake) hold memory run called at law =
+    let so : Progress c.own 1 1 0 0 = at.2.0 in
+    going_law party past (memory words.Waiters) hold c (acts.Woke wakes.One) thens.GoesOn at.0 refl
+    (still_counted (memory words.Waiters) 1 c (acts.Woke wakes.One) (event party (acts.Woke wakes.One) thens.GoesOn) at.0 so.counted refl refl refl refl) (onward c party (acts.Woke wakes.One) _ 1 1 0 0 so (λ yes. refl) refl refl refl) tt
+step_law z parties party past c (places.Release other) hold memory run called at law = absurd at.2
+step_law z parties party past c (places.Permit (permits.Look patience)) hold memory run called at law =
+    permit_law party past (memory words.Waiters) hold c _ _ at.0 at.2 refl refl refl refl (λ e. refl) (wait_leads words.Value (permits.Look patience) (since_count c.own) party memory at.3)
+step_law z parties party past c (places.Permit (permits.Take seen to patience)) hold memory run called at law =
+    permit_law party past (memory words.Waiters) hold c _ _ at.0 at.2 refl refl refl refl (λ e. refl) (wait_leads words.Value (permits.Take seen to patience) (since_count c.own) party memory at.3)
+step_law z parties party past c (places.Permit other) hold memory run called at law = absurd at.3
+step_law {T} z parties party past c (places.CountOut signalled) hold memory run called at law =
+    let act : Act T = (step_at condvar_table (places.CountOut signalled) hold memory).act in
+    let so : Progress c.own 1 1 1 (took signalled) = at.3 in
+    let longer : PendingCall T = record { call = c.call; own = event party act thens.GoesOn ∷ c.own } in
+    let now : counts_in longer.own ≡ 2 = omega (arith, so.counted) in
+    going_law party past (memory words.Waiters) hold c act thens.GoesOn at.0 refl (inr (inr (refl, refl, counted_by c 1 at.0 so.counted, counted_by longer 2 at.0 now)))
+    (onward c party act _ 1 1 1 (took signalled) so (λ yes. refl) refl refl refl) tt
+step_law z parties party past c (places.Relock signalled (locks.Lock patience)) hold memory run called at law =
+    let w = memory words.State in
+    relock_law party past (memory words.Waiters) hold signalled c w (w == 0) (mutex_after (locks.Lock patience) (Some w)) called at.0 at.1 at.2 (signal_cause z parties past party c signalled run called at.3) law refl
+    (lock_leads words.State patience (since_count c.own) party w at.4)
+step_law z parties party past c (places.Relock signalled other) hold memory run called at law = absurd at.4
+
+event_law :
+    {T : Type 0} (z : Arithmetic T) (parties : ℕ) (past : List (Event T)) (e : Event T) → IsPast z condvar_table parties (e ∷ past) →
+    EventLaw e.party past (word_in condvar_table past words.Waiters) (hold_of condvar_table e.party past) (call_of e.party past) (record { act = e.act; outcome = e.then })
+event_law {T} z parties past e run =
+    let pending = call_of e.party past in
+    let hold = hold_of condvar_table e.party past in
+    let n = word_in condvar_table past words.Waiters in
+    by_move condvar_table pending hold (word_in condvar_table past) (λ (k : Option (PendingCall T)) (m : Move T). EventLaw e.party past n hold k m)
+    run.0.0 (record { act = e.act; outcome = e.then })
+    (λ call is. begun_law e.party past n hold pending call (subst (λ (i : Input T). fault_at condvar_table pending hold i ≡ None) is (fault_at_none condvar_table parties past e.party run.0.0 run.0.1.allowed)))
+    (λ action _. apart_law e.party past n hold pending (acts.Answered action) (record { counts = refl; frees = refl; mutex = refl; waiters = refl; value = refl; takes = refl; posts = refl; sums = λ amount. tt }) refl (λ c d. refl) (λ d. refl))
+    (λ choice _. apart_law e.party past n hold pending (acts.Chosen choice) (record { counts = refl; frees = refl; mutex = refl; waiters = refl; value = refl; takes = refl; posts = refl; sums = λ amount. tt }) refl (λ c d. refl) (λ d. refl))
+    (λ c place _ called stage.
+    step_law z parties e.party past c place hold (word_in condvar_table past) run.1 called (at_place z condvar_table parties AtCondvar condvar_kept past run.1 e.party c place called stage)
+    (lock_word z condvar_table parties (condvar_is_lock z parties) past run.1))
+    run.0.1.moved
+
+-- The law of every run.
+
+waiters_counted : {T : Type 0} (z : Arithmetic T) (parties : ℕ) (past : List (Event T)) → IsPast z condvar_table parties past → CountsWaiters past
+waiters_counted z parties [] run = none_wait
+waiters_counted z parties (e ∷ past) run = counts_after past e (waiters_counted z parties past run.1) (event_law z parties past e run).count
+
+told_sight : {T : Type 0} (word : Word) (act : Act T) (memory : Word → ℕ) (o : Option ℕ) → sight_of word act ≡ o → IsTold act memory → IfSome o (λ v. v ≡ memory word)
+told_sight word act memory None is told = tt
+told_sight word act memory (Some v) is told = sym (sight_is_told word act memory v is told)
+
+pub keeps_condvar : {T : Type 0} (z : Arithmetic T) (parties : ℕ) (past : List (Event T)) → IsPast z condvar_table parties past → KeepsCondvar past
+keeps_condvar z parties [] run =
+    record {
+      told = tt;
+      exclusive = lock_exclusive 0 [] (lock_word z condvar_table parties (condvar_is_lock z parties) [] run);
+      cause = tt;
+      law = record { waiters = none_wait; permits = record { at_most = omega arith; told = tt; lowers = tt }; steps = tt; exact = tt; asks = tt; tries = tt };
+    }
+keeps_condvar {T} z parties (e ∷ past) run =
+    let before = condvar_tallies z parties past run.1 in
+    let after = condvar_tallies z parties (e ∷ past) run in
+    let event = event_law z parties past e run in
+    let told = tells_memory z condvar_table parties (e ∷ past) run in
+    let sees : IfSome (sight_of words.Value e.act) (λ v. v ≡ word_in condvar_table past words.Value) = told_sight words.Value e.act (word_in condvar_table past) (sight_of words.Value e.act) refl told in
+    record {
+      told = told;
+      exclusive = lock_exclusive _ (holds_of condvar_table (e ∷ past)) (lock_word z condvar_table parties (condvar_is_lock z parties) (e ∷ past) run);
+      cause = event.cause;
+      law = record {
+        waiters = waiters_counted z parties (e ∷ past) run;
+        permits = record {
+          at_most = after.1;
+          told = (subst (λ n. IfSome (sight_of words.Value e.act) (λ v. v ≡ n)) before.0 sees, rw event.number tt);
+          lowers = lowered _ _ _ _ _ (is_take words.Value e.act) before (event_effect z parties past e run);
+        };
+        steps = subst (λ h. MatchOption (call_of e.party past) (Unit {0}) (λ c. CallStep c.call c.own e h)) (sym (hold_of_same condvar_table e.party e.act e.then past)) event.steps;
+        exact = event.exact;
+        asks = event.asks;
+        tries = event.tries;
+      };
+    }
+
+-- a condition variable has no other words
+pub condvar_lacks :
+    (T : Type 0) (word : Word) → same_word words.State word ≡ false → same_word words.Waiters word ≡ false → same_word words.Value word ≡ false → Lacks {T = T} condvar_table word
+condvar_lacks T word state waiters value (places.Mutex place) hold = mutex_lacks T word state place hold
+condvar_lacks T word state waiters value (places.Read wake) hold = ap not waiters
+condvar_lacks T word state waiters value (places.Post wake amount) hold = ap not value
+condvar_lacks T word state waiters value (places.Wake wake) hold = refl
+condvar_lacks T word state waiters value places.CountIn hold = ap not waiters
+condvar_lacks T word state waiters value (places.Release place) hold = mutex_lacks T word state place hold
+condvar_lacks T word state waiters value (places.Permit place) hold = semaphore_apart T words.Value word value place
+condvar_lacks T word state waiters value (places.CountOut signalled) hold = ap not waiters
+condvar_lacks T word state waiters value (places.Relock signalled place) hold = mutex_lacks T word state place hold
