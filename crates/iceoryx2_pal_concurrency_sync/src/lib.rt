@@ -2,15 +2,15 @@
 //!
 //! A port of the Rust crate `iceoryx2-pal-concurrency-sync` 0.10.0, with its names of modules and items. Each object is made together
 //! with a pass, the right to call it, which carries what its owner did and saw there. A call that may wait takes `rt`, the right to
-//! wait, and its promises hold if it returns; every other call returns where its closures do.
+//! wait, and its promises hold if it returns; every other call returns where its closures do. Each object stands in a crate of its own,
+//! and here under its name.
 #![tactic(auto)]
 
 pub mod once;
 pub mod strategy;
 #[cfg(test)]
 mod tests;
-mod wait;
 
 pub use passes::WaitResult;
 pub use sync_steps::{SPIN_REPETITIONS, WaitAction, atomic, steps};
-pub use wait::WaitWord;
+pub use tallies::WaitWord;

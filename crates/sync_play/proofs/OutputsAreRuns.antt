@@ -120,6 +120,7 @@ call_values : (o : Object ℕ) → RowValues (calls_of o)
 call_values objects.Mutex = (tt, (tt, (tt, tt)))
 call_values (objects.Semaphore initial) = (tt, (tt, (tt, (tt, tt))))
 call_values objects.ReaderLock = (tt, (tt, (tt, (tt, (tt, tt)))))
+call_values objects.WriterLock = (tt, (tt, (tt, (tt, (tt, tt)))))
 call_values (objects.Barrier n) = (tt, tt)
 call_values objects.Once = (tt, (tt, tt))
 call_values other = tt

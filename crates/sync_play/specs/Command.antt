@@ -72,6 +72,7 @@ abbrev pub calls_of : Object ℕ → List (List ℕ × Form)
 calls_of objects.Mutex = mutex_calls
 calls_of (objects.Semaphore initial) = semaphore_calls
 calls_of objects.ReaderLock = rw_lock_calls
+calls_of objects.WriterLock = rw_lock_calls
 calls_of (objects.Barrier n) = barrier_calls
 calls_of objects.Once = once_calls
 calls_of o = []

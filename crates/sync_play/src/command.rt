@@ -150,7 +150,7 @@ fn named_call(object: Object<u64>, name: &[u8]) -> Option<Form>
     match object {
         Object::Mutex => mutex_call(name),
         Object::Semaphore(_) => semaphore_call(name),
-        Object::ReaderLock => rw_lock_call(name),
+        Object::ReaderLock | Object::WriterLock => rw_lock_call(name),
         Object::Barrier(_) => barrier_call(name),
         Object::Once => once_call(name),
         _ => None,

@@ -84,6 +84,12 @@ impl Header {
                 object: Object::ReaderLock,
                 parties,
             })
+        } else if is(name, b"rwwriter") {
+            let parties = parties(rest)?;
+            Ok(Header {
+                object: Object::WriterLock,
+                parties,
+            })
         } else if is(name, b"once") {
             let parties = parties(rest)?;
             Ok(Header {

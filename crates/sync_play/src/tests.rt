@@ -8,6 +8,7 @@ mod permits;
 mod player;
 mod plays;
 mod rwreader;
+mod rwwriter;
 mod streams;
 
 use crate::fault::RunFault;

@@ -10,6 +10,7 @@ use Rattle.steps_mutex.specs.Law.{MutexCause, MutexLaw}
 use Rattle.steps_semaphore.specs.Law.{SemaphoreCause, SemaphoreLaw}
 use Rattle.steps_barrier.specs.Law.{BarrierCause, BarrierLaw}
 use Rattle.steps_rw_reader.specs.Law.{RwReaderCause, RwReaderLaw}
+use Rattle.steps_rw_writer.specs.Law.{RwWriterCause, RwWriterLaw}
 use Rattle.steps_once.specs.Law.{OnceCause, OnceLaw}
 use Rattle.sync_steps.specs.Objects.{table_of}
 use Rattle.sync_steps.specs.Runs.{holds_of}
@@ -21,7 +22,7 @@ CauseOf objects.Spin call party events = ⊥
 CauseOf (objects.Semaphore initial) call party events = SemaphoreCause initial call party events
 CauseOf (objects.Barrier n) call party events = BarrierCause n call party events
 CauseOf objects.ReaderLock call party events = RwReaderCause call party events
-CauseOf objects.WriterLock call party events = ⊥
+CauseOf objects.WriterLock call party events = RwWriterCause call party events
 CauseOf objects.Condvar call party events = ⊥
 CauseOf objects.Once call party events = OnceCause call party events
 CauseOf (objects.Lazy v) call party events = ⊥
@@ -34,7 +35,7 @@ LawOf objects.Spin past = past ≡ []
 LawOf (objects.Semaphore initial) past = SemaphoreLaw initial past
 LawOf (objects.Barrier n) past = BarrierLaw n past
 LawOf objects.ReaderLock past = RwReaderLaw past
-LawOf objects.WriterLock past = past ≡ []
+LawOf objects.WriterLock past = RwWriterLaw past
 LawOf objects.Condvar past = past ≡ []
 LawOf objects.Once past = OnceLaw past
 LawOf (objects.Lazy v) past = past ≡ []

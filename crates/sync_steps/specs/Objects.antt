@@ -14,6 +14,8 @@ use Rattle.steps_barrier.specs.declared.BarrierPlace.{BarrierPlace}
 use Rattle.steps_barrier.specs.Table.{barrier_table}
 use Rattle.steps_rw_reader.specs.declared.RwReaderPlace.{RwReaderPlace}
 use Rattle.steps_rw_reader.specs.Table.{rw_reader_table}
+use Rattle.steps_rw_writer.specs.declared.RwWriterPlace.{RwWriterPlace}
+use Rattle.steps_rw_writer.specs.Table.{rw_writer_table}
 use Rattle.steps_once.specs.declared.OncePlace.{OncePlace}
 use Rattle.steps_once.specs.Table.{once_table}
 
@@ -24,7 +26,7 @@ is_served objects.Spin = false
 is_served (objects.Semaphore initial) = true
 is_served (objects.Barrier n) = true
 is_served objects.ReaderLock = true
-is_served objects.WriterLock = false
+is_served objects.WriterLock = true
 is_served objects.Condvar = false
 is_served objects.Once = true
 is_served (objects.Lazy v) = false
@@ -36,7 +38,7 @@ place_of objects.Spin = ⊥
 place_of (objects.Semaphore initial) = SemaphorePlace
 place_of (objects.Barrier n) = BarrierPlace
 place_of objects.ReaderLock = RwReaderPlace
-place_of objects.WriterLock = ⊥
+place_of objects.WriterLock = RwWriterPlace
 place_of objects.Condvar = ⊥
 place_of objects.Once = OncePlace
 place_of (objects.Lazy v) = ⊥
@@ -48,7 +50,7 @@ table_of z objects.Spin = no_calls
 table_of z (objects.Semaphore initial) = semaphore_table initial
 table_of z (objects.Barrier n) = barrier_table n
 table_of z objects.ReaderLock = rw_reader_table
-table_of z objects.WriterLock = no_calls
+table_of z objects.WriterLock = rw_writer_table
 table_of z objects.Condvar = no_calls
 table_of z objects.Once = once_table
 table_of z (objects.Lazy v) = no_calls

@@ -1,12 +1,7 @@
 //! Locks of many readers or one writer.
-//!
-//! They do what `strategy::rwlock` of the Rust crate does, but that a lock answers a hold, which says of which kind it is, and that
-//! only a hold can be unlocked. Calls that answer a hold take the pass first, since the hold borrows it. A lock guards no data: a hold
-//! says which holds other passes have meanwhile, and nothing of what other threads do.
-mod held;
-mod hold;
-mod reader_preference;
 
-pub use held::{Held, Known};
-pub use hold::{ReadHold, RwHold, RwPass, WriteHold};
-pub use reader_preference::{RwLockReaderPreference, RwReaderPass, no_hold_beside_a_write_hold};
+pub use running_rwlock::{
+    ReadHold, RwHold, RwLockReaderPreference, RwPass, RwReaderPass, WriteHold,
+    no_hold_beside_a_write_hold,
+};
+pub use tallies::{Held, Known};

@@ -1,7 +1,7 @@
 //! The running barrier.
 ghost use Rattle.std.specs.Prelude.{◌≡◌, ◌+◌, ◌<◌};
 ghost use Rattle.passes.specs.Passes.{IsSamePass};
-ghost use Rattle.iceoryx2_pal_concurrency_sync.specs.BarrierShown.{IsBarrierPass, HasWaited, arrivals_of, waiters_of};
+ghost use Rattle.running_barrier.specs.BarrierShown.{IsBarrierPass, HasWaited, arrivals_of, waiters_of};
 
 use crate::strategy::barrier::{Barrier, BarrierFull, BarrierPass};
 use crate::tests::signal::Signal;
@@ -169,7 +169,7 @@ fn wait_50_times<R: Wait>(
 }
 
 /// Two threads pass 50 rounds each, and their passes are one again.
-#[tactic(auto, using(crate::proofs::BarrierKeeps::parted_arrivals, crate::proofs::BarrierKeeps::joined_arrivals))]
+#[tactic(auto, using(running_barrier::proofs::BarrierKeeps::parted_arrivals, running_barrier::proofs::BarrierKeeps::joined_arrivals))]
 fn wait_in_two_threads<R: Threads + Wait + Sync>(
     rt: &R,
     barrier: &Barrier,
@@ -202,7 +202,7 @@ fn wait_in_two_threads<R: Threads + Wait + Sync>(
 }
 
 /// Four threads pass 50 rounds each, and their passes are one again, which has 200 arrivals more.
-#[tactic(auto, using(crate::proofs::BarrierKeeps::parted_arrivals, crate::proofs::BarrierKeeps::joined_arrivals))]
+#[tactic(auto, using(running_barrier::proofs::BarrierKeeps::parted_arrivals, running_barrier::proofs::BarrierKeeps::joined_arrivals))]
 fn wait_in_four_threads<R: Threads + Wait + Sync>(
     rt: &R,
     barrier: &Barrier,

@@ -2,8 +2,8 @@
 ghost use Rattle.std.specs.Prelude.{◌≡◌};
 ghost use Rattle.passes.specs.Passes.{view};
 ghost use Rattle.passes.specs.Views.{first_view};
-ghost use Rattle.iceoryx2_pal_concurrency_sync.specs.SemaphoreRule.{first_permits};
-ghost use Rattle.iceoryx2_pal_concurrency_sync.specs.SemaphoreShown.{IsSemPass, HasCounted};
+ghost use Rattle.tallies.specs.SemaphoreRule.{first_permits};
+ghost use Rattle.running_semaphore.specs.SemaphoreShown.{IsSemPass, HasCounted};
 
 use crate::strategy::semaphore::{SemPass, Semaphore};
 use crate::{WaitAction, WaitResult};

@@ -2,7 +2,7 @@
 ghost use Rattle.std.specs.Prelude.{◌≡◌, ◌+◌, false};
 ghost use Rattle.sync_steps.specs.declared.WaitAction.TheVariants.{Abort};
 ghost use Rattle.passes.specs.Passes.{IsSamePass, sights_of};
-ghost use Rattle.iceoryx2_pal_concurrency_sync.specs.MutexShown.{IsMutexPass, IsAlone, HasStayed, holds_of, grants_of};
+ghost use Rattle.running_mutex.specs.MutexShown.{IsMutexPass, IsAlone, HasStayed, holds_of, grants_of};
 
 use crate::strategy::mutex::{Mutex, MutexPass};
 use crate::tests::signal::Signal;

@@ -2,7 +2,7 @@
 ghost use Rattle.std.specs.Prelude.{◌≡◌};
 ghost use Rattle.passes.specs.Parts.{IsWhole};
 ghost use Rattle.passes.specs.Passes.{IsSamePass};
-ghost use Rattle.iceoryx2_pal_concurrency_sync.specs.OnceShown.{IsOncePass, IsComplete, ended_of, part_of_once, pass_in};
+ghost use Rattle.running_once.specs.OnceShown.{IsOncePass, IsComplete, ended_of, part_of_once, pass_in};
 
 use crate::once::{Once, OncePass};
 use crate::tests::signal::Signal;

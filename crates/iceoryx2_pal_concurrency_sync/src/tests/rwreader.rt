@@ -2,7 +2,7 @@
 ghost use Rattle.std.specs.Prelude.{◌≡◌, ◌+◌, false};
 ghost use Rattle.sync_steps.specs.declared.WaitAction.TheVariants.{Abort};
 ghost use Rattle.passes.specs.Passes.{IsSamePass, sights_of};
-ghost use Rattle.iceoryx2_pal_concurrency_sync.specs.RwReaderShown.{IsRwReaderPass, IsAlone, HasStayed, reads_of, writes_of};
+ghost use Rattle.running_rwlock.specs.RwReaderShown.{IsRwReaderPass, IsAlone, HasStayed, reads_of, writes_of};
 
 use crate::strategy::rwlock::{ReadHold, RwHold, RwLockReaderPreference, RwReaderPass, WriteHold};
 use crate::tests::signal::Signal;
@@ -72,7 +72,7 @@ fn lock_and_unlock_often<R: Wait>(
 }
 
 /// Two threads read and write in turn. After the join the word is 0.
-#[tactic(auto, using(crate::proofs::RwReaderJoins::nobody_joins))]
+#[tactic(auto, using(running_rwlock::proofs::RwReaderJoins::nobody_joins))]
 fn lock_in_two_threads<R: Threads + Wait + Sync>(
     rt: &R,
     lock: RwLockReaderPreference,
@@ -343,58 +343,6 @@ fn a_free_lock_is_granted_unasked(rt: HostRuntime) -> Result<(), Fail> {
     assert_eq!(rt; read_and_abort(&rt, &lock, &mut pass), (false, 0, 0, 0));
     assert_eq!(rt; write_and_abort(&rt, &lock, &mut pass), (false, 0, 0, 0));
     assert_eq!(rt; lock.close(pass), 0);
-    Ok(())
-}
-
-/// The word that `close` of a third pass answers while two have read holds, which are then let go.
-fn closed_beside_two_readers(
-    lock: RwLockReaderPreference,
-    one: &mut RwReaderPass,
-    two: &mut RwReaderPass,
-    three: RwReaderPass,
-) -> Option<u64>
-    requires { IsRwReaderPass lock one.old × IsRwReaderPass lock two.old × IsRwReaderPass lock three }
-{
-    match RwLockReaderPreference::try_read_lock(one, &lock) {
-        WaitResult::Success(first) => {
-            match RwLockReaderPreference::try_read_lock(two, &lock) {
-                WaitResult::Success(second) => {
-                    let word = lock.close(three);
-                    let_go(first);
-                    let_go(second);
-                    Some(word)
-                }
-                WaitResult::Interrupted => {
-                    let_go(first);
-                    None
-                }
-            }
-        }
-        WaitResult::Interrupted => None,
-    }
-}
-
-/// Lets a hold go whose lock is no more.
-fn let_go(hold: RwHold<'_, RwReaderPass>) {
-    match hold {
-        RwHold::Read(ReadHold { pass: _ }) => (),
-        RwHold::Write(WriteHold { pass: _ }) => (),
-    }
-}
-
-#[test]
-fn the_word_is_the_number_of_readers(rt: HostRuntime) -> Result<(), Fail> {
-    let (lock, pass) = RwLockReaderPreference::new(rt.alloc())?;
-    let Ok((mut one, other)) = pass.split(&lock) else {
-        unreachable!()
-    };
-    let Ok((mut two, three)) = other.split(&lock) else {
-        unreachable!()
-    };
-    assert_eq!(rt;
-        closed_beside_two_readers(lock, &mut one, &mut two, three),
-        Some(2)
-    );
     Ok(())
 }
 

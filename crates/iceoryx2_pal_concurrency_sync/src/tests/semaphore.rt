@@ -3,8 +3,8 @@ ghost use Rattle.std.specs.Prelude.{◌≡◌, ◌+◌};
 ghost use Rattle.passes.specs.Parts.{IsWhole};
 ghost use Rattle.passes.specs.Passes.{IsSamePass, part_of, view};
 ghost use Rattle.passes.specs.Views.{first_view};
-ghost use Rattle.iceoryx2_pal_concurrency_sync.specs.SemaphoreRule.{first_permits};
-ghost use Rattle.iceoryx2_pal_concurrency_sync.specs.SemaphoreShown.{IsSemPass, HasCounted, given_of, taken_of};
+ghost use Rattle.tallies.specs.SemaphoreRule.{first_permits};
+ghost use Rattle.running_semaphore.specs.SemaphoreShown.{IsSemPass, HasCounted, given_of, taken_of};
 
 use crate::strategy::semaphore::{SemPass, Semaphore};
 use crate::tests::signal::Signal;

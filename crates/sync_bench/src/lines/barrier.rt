@@ -1,5 +1,5 @@
 //! The lines of the barrier.
-ghost use Rattle.iceoryx2_pal_concurrency_sync.specs.BarrierShown.{IsBarrierPass};
+ghost use Rattle.running_barrier.specs.BarrierShown.{IsBarrierPass};
 
 use crate::lines::{Operation, successes};
 use iceoryx2_pal_concurrency_sync::strategy::barrier::{Barrier, BarrierPass};

@@ -1,5 +1,5 @@
 //! The lines of the mutex.
-ghost use Rattle.iceoryx2_pal_concurrency_sync.specs.MutexShown.{IsMutexPass, HasStayed};
+ghost use Rattle.running_mutex.specs.MutexShown.{IsMutexPass, HasStayed};
 
 use crate::lines::{Operation, successes};
 use iceoryx2_pal_concurrency_sync::strategy::mutex::{Mutex, MutexPass};

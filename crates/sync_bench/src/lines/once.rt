@@ -1,5 +1,5 @@
 //! The lines of the once.
-ghost use Rattle.iceoryx2_pal_concurrency_sync.specs.OnceShown.{IsOncePass};
+ghost use Rattle.running_once.specs.OnceShown.{IsOncePass};
 
 use crate::lines::{Operation, successes};
 use iceoryx2_pal_concurrency_sync::once::{Once, OncePass};

@@ -1,5 +1,5 @@
 //! The lines of the semaphore.
-ghost use Rattle.iceoryx2_pal_concurrency_sync.specs.SemaphoreShown.{IsSemPass};
+ghost use Rattle.running_semaphore.specs.SemaphoreShown.{IsSemPass};
 
 use crate::lines::{Operation, successes};
 use iceoryx2_pal_concurrency_sync::WaitResult;

@@ -11,6 +11,7 @@ use steps_events::row::{After, Intent};
 use steps_mutex::MutexPlace;
 use steps_once::OncePlace;
 use steps_rw_reader::RwReaderPlace;
+use steps_rw_writer::RwWriterPlace;
 use steps_semaphore::SemaphorePlace;
 
 /// Where a party is in its call: a place of its object's primitive.
@@ -20,6 +21,7 @@ pub enum Place {
     Semaphore(SemaphorePlace),
     Barrier(BarrierPlace),
     RwReader(RwReaderPlace),
+    RwWriter(RwWriterPlace),
     Once(OncePlace),
 }
 
@@ -64,12 +66,9 @@ impl Place {
             Object::Semaphore(_) => Some(Place::Semaphore(SemaphorePlace::begin(call)?)),
             Object::Barrier(n) => Some(Place::Barrier(BarrierPlace::begin(call, *n)?)),
             Object::ReaderLock => Some(Place::RwReader(RwReaderPlace::begin(call)?)),
+            Object::WriterLock => Some(Place::RwWriter(RwWriterPlace::begin(call)?)),
             Object::Once => Some(Place::Once(OncePlace::begin(call)?)),
-            Object::Spin
-            | Object::WriterLock
-            | Object::Condvar
-            | Object::Lazy(_)
-            | Object::Atomic(_) => None,
+            Object::Spin | Object::Condvar | Object::Lazy(_) | Object::Atomic(_) => None,
         }
     }
 
@@ -83,6 +82,7 @@ impl Place {
             Place::Semaphore(place) => place.intent(Word::State),
             Place::Barrier(place) => place.intent(Word::State),
             Place::RwReader(place) => place.intent(Word::State, hold),
+            Place::RwWriter(place) => place.intent(Word::State, Word::Counter, hold),
             Place::Once(place) => place.intent(Word::State),
         }
     }
@@ -97,6 +97,7 @@ impl Place {
             Place::Semaphore(place) => place.after(told).within(Place::Semaphore),
             Place::Barrier(place) => place.after(told).within(Place::Barrier),
             Place::RwReader(place) => place.after(told).within(Place::RwReader),
+            Place::RwWriter(place) => place.after(told).within(Place::RwWriter),
             Place::Once(place) => place.after(told).within(Place::Once),
         }
     }
@@ -110,6 +111,7 @@ impl Place {
             Place::Semaphore(place) => Place::Semaphore(place.answered(action)),
             Place::Barrier(place) => Place::Barrier(place.answered(action)),
             Place::RwReader(place) => Place::RwReader(place.answered(action)),
+            Place::RwWriter(place) => Place::RwWriter(place.answered(action)),
             Place::Once(place) => Place::Once(place.answered(action)),
         }
     }
@@ -125,23 +127,24 @@ impl Place {
             Place::Semaphore(place) => Place::Semaphore(*place),
             Place::Barrier(place) => Place::Barrier(*place),
             Place::RwReader(place) => Place::RwReader(*place),
+            Place::RwWriter(place) => Place::RwWriter(*place),
             Place::Once(place) => Place::Once(*place),
         }
     }
 }
 
-/// The hold that a call takes where its exchange of the lock's word puts `_to` in the place of `_from`.
+/// The hold that a call takes where its exchange of the lock's word puts `to` in the place of `from`.
 #[inline(always)]
-pub fn grant<T>(object: &Object<T>, call: &Call<T>, _from: u64, _to: u64) -> Option<HoldKind>
-    ensures { result ≡ grant_at object.now call.now _from _to }
+pub fn grant<T>(object: &Object<T>, call: &Call<T>, from: u64, to: u64) -> Option<HoldKind>
+    ensures { result ≡ grant_at object.now call.now from to }
 {
     match object {
         Object::Mutex => steps_mutex::grant(call),
         Object::ReaderLock => steps_rw_reader::grant(call),
+        Object::WriterLock => steps_rw_writer::grant(call, from, to),
         Object::Semaphore(_)
         | Object::Spin
         | Object::Barrier(_)
-        | Object::WriterLock
         | Object::Condvar
         | Object::Once
         | Object::Lazy(_)
@@ -154,11 +157,10 @@ pub fn needs_hold<T>(object: &Object<T>, call: &Call<T>) -> bool
     ensures { result ≡ needs_hold_at object.now call.now }
 {
     match object {
-        Object::Mutex | Object::ReaderLock => matches!(call, Call::Unlock),
+        Object::Mutex | Object::ReaderLock | Object::WriterLock => { matches!(call, Call::Unlock) }
         Object::Semaphore(_)
         | Object::Spin
         | Object::Barrier(_)
-        | Object::WriterLock
         | Object::Condvar
         | Object::Once
         | Object::Lazy(_)

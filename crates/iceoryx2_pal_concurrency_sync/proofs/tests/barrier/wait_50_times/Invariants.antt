@@ -1,4 +1,4 @@
-use Rattle.iceoryx2_pal_concurrency_sync.specs.BarrierShown.{HasWaited}
+use Rattle.running_barrier.specs.BarrierShown.{HasWaited}
 use Rattle.iceoryx2_pal_concurrency_sync.proofs.tests.barrier.wait_50_times.Given as goal
 
 abbrev pub invariant-loop-round : goal.invariant-loop-round

@@ -1,4 +1,4 @@
-use Rattle.iceoryx2_pal_concurrency_sync.specs.MutexShown.{HasStayed}
+use Rattle.running_mutex.specs.MutexShown.{HasStayed}
 use Rattle.iceoryx2_pal_concurrency_sync.proofs.tests.mutex.lock_and_unlock_often.Given as goal
 
 abbrev pub invariant-loop : goal.invariant-loop

@@ -3,7 +3,7 @@ use Rattle.passes.specs.declared.part.Part.{Part}
 use Rattle.passes.specs.declared.view.View.{View}
 use Rattle.passes.specs.Parts.{IsWhole, AddUp}
 use Rattle.passes.proofs.Parts.{weight_whole, whole_weighs}
-use Rattle.iceoryx2_pal_concurrency_sync.specs.declared.strategy.mutex.Holds.{Holds}
+use Rattle.tallies.specs.declared.mutex.Holds.{Holds}
 use Rattle.iceoryx2_pal_concurrency_sync.proofs.tests.mutex.part_in_four_and_join.Goals as goal
 
 -- four parts weigh together what the whole does, at a depth that none of the passes goes below

@@ -1,4 +1,4 @@
-use Rattle.iceoryx2_pal_concurrency_sync.specs.SemaphoreShown.{HasCounted}
+use Rattle.running_semaphore.specs.SemaphoreShown.{HasCounted}
 use Rattle.iceoryx2_pal_concurrency_sync.proofs.tests.semaphore.take_often.Given as goal
 
 abbrev pub invariant-loop : goal.invariant-loop

@@ -1,5 +1,0 @@
-use Rattle.iceoryx2_pal_concurrency_sync.proofs.RwReaderKeeps.{readers_in}
-use Rattle.iceoryx2_pal_concurrency_sync.proofs.strategy.rwlock.reader_preference.RwLockReaderPreference.come_to_read.Goals as goal
-
-pub compare_exchange-requires-clause-update : goal.compare_exchange-requires-clause-update
-compare_exchange-requires-clause-update g c = readers_in _ _ _ c.requires.room c.requires.more

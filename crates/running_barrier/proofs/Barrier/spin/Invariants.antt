@@ -1,0 +1,14 @@
+use Rattle.std.proofs.Common.{◌≡◌, ◌+◌, ◌%◌, ◌^◌}
+use Rattle.passes.specs.Passes.{view, sights_of}
+use Rattle.steps_barrier.specs.Rounds.{epoch_of}
+use Rattle.running_barrier.specs.BarrierSteps.{HasAll}
+use Rattle.running_barrier.specs.BarrierShown.{waiters_of, reached_of, HasStayed}
+use Rattle.running_barrier.proofs.Barrier.spin.Given as goal
+
+abbrev pub invariant-loop : goal.invariant-loop
+invariant-loop g l = record {
+  stayed : HasStayed l.fn.pass l.pass;
+  looked : (sights_of l.pass).count ≡ (sights_of l.fn.pass).count + 1 + l.counter;
+  epoch : epoch_of l.seen ≡ reached_of l.pass % 2 ^ 32;
+  all : HasAll (waiters_of l.fn.self) (view l.pass);
+}

@@ -1,0 +1,61 @@
+-- What holds whenever the rule of a barrier does, and what a step changes in a pass.
+use Rattle.std.specs.Prelude.{◌≡◌, ◌≢◌, ℕ, ◌+◌, ◌%◌, ◌^◌, ◌<◌, ◌≤◌}
+use Rattle.std.specs.List.{sum}
+use mathlib.Core.Option.{some}
+use lib.ListN.{get_elem?}
+use Rattle.atomic_table.specs.Table.{State}
+use Rattle.steps_barrier.specs.Rounds.{epoch_of, count_of}
+use Rattle.passes.specs.declared.view.View.{View}
+use Rattle.passes.specs.Parts.{IsWhole, total}
+use Rattle.passes.specs.Sights.{stale}
+use Rattle.passes.specs.Views.{view_of, looked, missed, IsCounted}
+use Rattle.tallies.specs.declared.barrier.Rounds.{Rounds}
+use Rattle.tallies.specs.BarrierRule.{in_round, one_more, rounds, no_rounds, both_rounds, word_of, BarrierAgrees}
+
+-- whenever the rule holds, a round that a pass knows to be open has n arrivals of all passes
+abbrev pub OpenRoundsAreFull : Type 0
+OpenRoundsAreFull = (n : ℕ) (s : State (Unit {0}) (View Rounds)) → IsCounted no_rounds both_rounds (BarrierAgrees n) s → (i : ℕ) (v : View Rounds) → get_elem? s.views i ≡ some v
+    → (round : ℕ) → round < v.tally.reached → total (λ u. in_round round u.tally.arrivals) s.views ≡ n
+
+-- so many rounds are known to be open
+abbrev pub reaches : ℕ → View Rounds → View Rounds
+reaches round v = view_of v.part v.sights (rounds v.tally.arrivals round v.tally.opened)
+
+-- What the word says, if it is this while so many rounds are open. Where no other pass is left, it is what this one did.
+pub record Says (n : ℕ) (v : View Rounds) (found round : ℕ) : Type 0 where
+  pub known : v.tally.reached ≤ round
+  pub epoch : epoch_of found ≡ round % 2 ^ 32
+  pub filling : 0 < n → count_of found < n
+  pub never : n ≡ 0 → (found ≡ 0) × (round ≡ 0)
+  pub alone : IsWhole v.part → (round ≡ v.tally.opened) × (found ≡ word_of n v.tally)
+
+-- the pass opened all rounds that it knows to be open, and has all their arrivals
+pub record MadeAll (n : ℕ) (t : Rounds) : Type 0 where
+  pub opened : t.reached ≡ t.opened
+  pub full : (round : ℕ) → round < t.reached → in_round round t.arrivals ≡ n
+
+-- where no other pass is left, this one did all that was done
+abbrev pub HasAll : ℕ → View Rounds → Type 0
+HasAll n v = IsWhole v.part → MadeAll n v.tally
+
+-- a load: all rounds that are open are now known to be
+pub record Loaded (n : ℕ) (v : View Rounds) (found : ℕ) (w : View Rounds) : Type 0 where
+  pub round : ℕ
+  pub says : Says n v found round
+  pub saw : w ≡ reaches round (looked v found)
+  pub has_all : HasAll n w
+
+-- an arrival in this round, where the word was `from`: it fills the round, which opens the next, or it does not
+pub record Arrives (n from round : ℕ) (t u : Rounds) : Type 0 where
+  pub arrivals : u.arrivals ≡ one_more round t.arrivals
+  pub counted : sum u.arrivals ≡ sum t.arrivals + 1
+  pub last : count_of from + 1 ≡ n → (u.reached ≡ round + 1) × (u.opened ≡ t.opened + 1)
+  pub early : count_of from + 1 ≢ n → (u.reached ≡ round) × (u.opened ≡ t.opened)
+
+-- an exchange of a value for the one after an arrival: the pass arrived, or saw another value
+pub record Exchanged (n from : ℕ) (v : View Rounds) (found : ℕ) (w : View Rounds) : Type 0 where
+  pub round : ℕ
+  pub says : Says n v found round
+  pub done : found ≡ from → Arrives n from round v.tally w.tally × (w.sights ≡ stale v.sights) × (w.part ≡ v.part)
+  pub failed : found ≢ from → w ≡ reaches round (missed v from found)
+  pub has_all : HasAll n w

@@ -1,0 +1,2 @@
+pub mod BarrierSteps
+pub mod BarrierShown

@@ -1,0 +1,3 @@
+pub mod OnceRule
+pub mod OnceTally
+pub mod OnceShown

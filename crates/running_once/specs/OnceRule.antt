@@ -1,0 +1,78 @@
+-- What a pass of a once counts and knows, the rule over all passes, and what a step changes.
+use Rattle.std.specs.Prelude.{◌≡◌, ◌≢◌, ℕ, ◌+◌, ◌*◌, ◌≤◌, Bool, true, false, ◌||◌, ◌==◌, List, length, slice_index}
+use mathlib.Core.Option as maybe
+use mathlib.Core.Option.{some}
+use lib.ListN.{get_elem?}
+use Rattle.atomic_table.specs.Table.{State}
+use Rattle.passes.specs.declared.view.View.{View}
+use Rattle.passes.specs.Parts.{IsWhole, total}
+use Rattle.passes.specs.Views.{view_of, looked, missed, wrote, IsCounted}
+use Rattle.running_once.specs.declared.Runs.{Runs}
+
+abbrev pub runs : ℕ → ℕ → Bool → Runs
+runs running ended complete = record { running = running; ended = ended; complete = complete }
+
+abbrev pub no_runs : Runs
+no_runs = runs 0 0 false
+
+abbrev pub both_runs : Runs → Runs → Runs
+both_runs t u = runs (t.running + u.running) (t.ended + u.ended) (t.complete || u.complete)
+
+-- what a copy keeps: whether a closure is known to have ended
+abbrev pub known_runs : Runs → Runs
+known_runs t = runs 0 0 t.complete
+
+-- what a tally says of the word, where no other pass has counted anything
+abbrev pub Amounts : ℕ → Runs → Type 0
+Amounts word t = word ≡ t.running + 2 * t.ended
+
+-- There is one word: 0 where no closure began, 1 while one runs, 2 once it has ended. One begins at most; and where a pass knows that
+-- one ended, it did.
+pub record IsRun (words : List ℕ) (t : Runs) : Type 0 where
+  pub one_word : length words ≡ 1
+  pub word : Amounts (slice_index words 0) t
+  pub one : t.running + t.ended ≤ 1
+  pub known : t.complete ≡ true → t.ended ≡ 1
+
+abbrev pub OnceAgrees : List ℕ → List (maybe.Option (Unit {0})) → Runs → Type 0
+OnceAgrees words homes = IsRun words
+
+-- whenever the rule holds, all passes together began one closure at most
+abbrev pub OneClosure : Type 0
+OneClosure = (s : State (Unit {0}) (View Runs)) → IsCounted no_runs both_runs OnceAgrees s → total (λ u. u.tally.running + u.tally.ended) s.views ≤ 1
+
+-- whenever the rule holds, and a pass knows that a closure has ended, one of all passes' has
+abbrev pub KnownHasEnded : Type 0
+KnownHasEnded = (s : State (Unit {0}) (View Runs)) → IsCounted no_runs both_runs OnceAgrees s → (i : ℕ) (v : View Runs) → get_elem? s.views i ≡ some v → v.tally.complete ≡ true → total (λ u. u.tally.ended) s.views ≡ 1
+
+-- at 2 the pass knows that a closure has ended
+abbrev pub learns : ℕ → View Runs → View Runs
+learns found v = view_of v.part v.sights (runs v.tally.running v.tally.ended (v.tally.complete || (found == 2)))
+
+-- a closure begins, and ends
+abbrev pub began : Runs → Runs
+began t = runs 1 t.ended t.complete
+
+abbrev pub ended : Runs → Runs
+ended t = runs 0 (t.ended + 1) true
+
+-- What the word says. Where no other pass is left, it is what this one did.
+pub record Says (v : View Runs) (found : ℕ) : Type 0 where
+  pub known : v.tally.complete ≡ true → found ≡ 2
+  pub range : found ≤ 2
+  pub alone : IsWhole v.part → Amounts found v.tally
+
+-- a load
+pub record Loaded (v : View Runs) (found : ℕ) (w : View Runs) : Type 0 where
+  pub says : Says v found
+  pub saw : w ≡ learns found (looked v found)
+
+-- an exchange of 0 for 1: a closure begins, or the pass saw another value
+pub record Exchanged (v : View Runs) (found : ℕ) (w : View Runs) : Type 0 where
+  pub says : Says v found
+  pub done : found ≡ 0 → (v.tally.ended ≡ 0) × (w ≡ wrote v (began v.tally))
+  pub failed : found ≢ 0 → w ≡ learns found (missed v 0 found)
+
+-- a store of 2 by the pass whose closure runs
+pub record Stored (v : View Runs) (w : View Runs) : Type 0 where
+  pub off : w ≡ wrote v (ended v.tally)

@@ -1,0 +1,72 @@
+-- What contracts see of a once and its pass, and what a call changes in a pass.
+use Rattle.std.specs.Prelude.{◌≡◌, ◌≢◌, ℕ, ◌<◌, ◌≤◌, ◌⊎◌, true}
+use Rattle.passes.specs.declared.part.Part.{Part}
+use Rattle.passes.specs.declared.part.Sights.{Sights}
+use Rattle.passes.specs.declared.view.View.{View}
+use Rattle.passes.specs.declared.pass.Pass.{Pass}
+use Rattle.passes.specs.Passes.{IsSamePass, view, part_of, sights_of, tally_of}
+use Rattle.passes.specs.Views.{looked, wrote}
+use Rattle.passes.specs.Objects.{IsPassOf}
+use Rattle.running_once.specs.declared.Runs.{Runs}
+use Rattle.running_once.specs.declared.Once.{Once}
+use Rattle.running_once.specs.declared.OncePass.{OncePass}
+use Rattle.running_once.specs.OnceRule.{learns, began, ended}
+
+-- the pass inside, between two calls
+abbrev pub pass_in : OncePass → Pass Runs
+pass_in p = p.pass
+
+abbrev pub IsOncePass : {A : Type 0} → Once A → OncePass → Type 0
+IsOncePass o p = IsPassOf o.words (pass_in p)
+
+-- what the pass knows
+abbrev pub known_by : OncePass → View Runs
+known_by p = view (pass_in p)
+
+abbrev pub part_of_once : OncePass → Part
+part_of_once p = part_of (pass_in p)
+
+abbrev pub sights_of_once : OncePass → Sights
+sights_of_once p = sights_of (pass_in p)
+
+-- how many closures its owner ran to their end
+abbrev pub ended_of : OncePass → ℕ
+ended_of p = (tally_of (pass_in p)).ended
+
+-- it knows that a closure has ended
+abbrev pub IsComplete : OncePass → Type 0
+IsComplete p = (tally_of (pass_in p)).complete ≡ true
+
+-- the word was seen once, and nothing else changed but that the pass may know of the end
+abbrev pub HasSeenOnce : OncePass → OncePass → Type 0
+HasSeenOnce p q = IsSamePass (pass_in p) (pass_in q) × (known_by q ≡ learns (sights_of_once q).last (looked (known_by p) (sights_of_once q).last))
+
+-- the word was seen once, a closure began and ended, and nothing else changed
+abbrev pub HasRun : OncePass → OncePass → Type 0
+HasRun p q = IsSamePass (pass_in p) (pass_in q) × (known_by q ≡ wrote (looked (known_by p) (sights_of_once q).last) (ended (tally_of (pass_in p))))
+
+-- The pass knows that a closure has ended. It ran none, and has looked; or it ran one, which is the first.
+pub record HasCompleted (p q : OncePass) : Type 0 where
+  pub same : IsSamePass (pass_in p) (pass_in q)
+  pub part : part_of_once q ≡ part_of_once p
+  pub complete : IsComplete q
+  pub once : (ended_of q ≡ ended_of p) ⊎ ((ended_of p ≡ 0) × HasRun p q)
+  pub saw : (sights_of_once p).count < (sights_of_once q).count
+
+-- within a call: a closure began, which is the first
+pub record HasBegun (p q : Pass Runs) : Type 0 where
+  pub same : IsSamePass p q
+  pub first : (tally_of p).ended ≡ 0
+  pub begins : view q ≡ wrote (view p) (began (tally_of p))
+
+-- the values at which no closure begins
+abbrev pub IsTaken : ℕ → Type 0
+IsTaken word = word ≢ 0
+
+-- within a call: nothing was counted, and nothing changed but what was seen
+pub record HasOnlyWaited (p q : Pass Runs) : Type 0 where
+  pub same : IsSamePass p q
+  pub part : part_of q ≡ part_of p
+  pub running : (tally_of q).running ≡ (tally_of p).running
+  pub ended : (tally_of q).ended ≡ (tally_of p).ended
+  pub saw : (sights_of p).count ≤ (sights_of q).count

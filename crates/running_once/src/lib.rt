@@ -1,0 +1,260 @@
+//! A closure that runs once. The word is 0 where none has begun, 1 while it runs, and 2 once it has ended.
+//!
+//! It does what `once` of the Rust crate does: calls that meet spin until the closure of one of them has ended.
+#![tactic(auto)]
+
+ghost use Rattle.std.specs.Prelude.{◌≡◌, IfOk};
+ghost use Rattle.passes.specs.Objects.{count_of};
+ghost use Rattle.passes.specs.Passes.{tally_of};
+ghost use Rattle.running_once.specs.OnceRule.{OneClosure, KnownHasEnded};
+
+use passes::{Deed, Pass, Rule, Tally, Words};
+use std::alloc::{AllocError, Allocator, Global};
+use std::hint::spin_loop;
+use std::sync::Wait;
+use steps_once::begun;
+
+/// What a pass of a once counts and knows. No value of it is made.
+pub struct Runs {
+    /// How many closures of its owner run: 0 or 1, and 0 between its calls.
+    pub running: u64,
+    /// How many closures its owner ran to their end: 0 or 1.
+    pub ended: u64,
+    /// Whether it knows that a closure has ended.
+    pub complete: bool,
+}
+
+impl Tally for Runs {
+    ghost use Rattle.running_once.specs.OnceRule.{no_runs, both_runs, known_runs};
+    ghost use Rattle.running_once.specs.OnceTally.{runs_add_up};
+
+    ghost none = { no_runs };
+
+    ghost add = { both_runs };
+
+    ghost core = { known_runs };
+
+    ghost adds_up = { runs_add_up };
+}
+
+/// The word says whether a closure has begun and ended, and one begins at most.
+impl Rule<(), ()> for Runs {
+    ghost use Rattle.running_once.specs.OnceRule.{no_runs, OnceAgrees};
+
+    ghost first = { λ _. no_runs };
+
+    ghost agrees = { λ _. OnceAgrees };
+}
+
+/// A closure that runs once.
+#[derive(Drop)]
+pub struct Once<A: Allocator = Global> {
+    words: Words<(), Runs, A>,
+    ghost one_word: { count_of words ≡ 1 },
+}
+
+/// The right to call a once, and what its owner did and saw there. No closure of its owner runs.
+#[derive(Drop)]
+pub struct OncePass {
+    pass: Pass<Runs>,
+    ghost settled: { (tally_of pass).running ≡ 0 },
+}
+
+/// A load.
+struct Look;
+
+impl Deed<(), Runs> for Look {
+    ghost use Rattle.running_once.specs.OnceRule.{Loaded};
+
+    ghost tells = { λ _ _ _. Loaded };
+}
+
+/// An exchange of 0 for 1.
+struct Begin;
+
+impl Deed<(), Runs> for Begin {
+    ghost use Rattle.running_once.specs.OnceRule.{Exchanged};
+
+    ghost tells = { λ _ _ _. Exchanged };
+}
+
+/// A store of 2.
+struct End;
+
+impl Deed<(), Runs> for End {
+    ghost use Rattle.running_once.specs.OnceRule.{Stored};
+
+    ghost tells = { λ _ _ _ before _ after. Stored before after };
+}
+
+impl OncePass {
+    ghost use Rattle.std.specs.Prelude.{true, is_ok};
+    ghost use Rattle.passes.specs.declared.part.Part.{Part};
+    ghost use Rattle.passes.specs.Parts.{half, IsAgain, IsSamePart, AddUp};
+    ghost use Rattle.passes.specs.Views.{left_view, right_view, joined_view};
+    ghost use Rattle.running_once.specs.OnceRule.{both_runs, known_runs};
+    ghost use Rattle.running_once.specs.OnceShown.{IsOncePass, known_by, part_of_once};
+
+    /// Two passes of the same once. What they counted adds up to what this one had counted, and both know what it knew; they weigh
+    /// together what it weighed. `Err`, which never comes today, would hand the pass back.
+    pub fn split<A: Allocator>(self, of: &Once<A>) -> Result<(OncePass, OncePass), OncePass>
+        requires own { IsOncePass of.now self }
+        ensures never_refused { is_ok result ≡ true }
+        ensures own { IfOk result (λ parts. IsOncePass of.now parts.0 × IsOncePass of.now parts.1) }
+        ensures views { IfOk result (λ parts. (known_by parts.0 ≡ left_view (known_by self)) × (known_by parts.1 ≡ right_view known_runs (known_by self))) }
+        ensures weights { IfOk result (λ parts. AddUp (part_of_once self) (part_of_once parts.0) (part_of_once parts.1)) }
+    {
+        let OncePass { pass } = self;
+        let Ok((one, other)) = pass.split(&of.words) else {
+            unreachable!()
+        };
+        Ok((OncePass { pass: one }, OncePass { pass: other }))
+    }
+
+    /// One pass from two of the same once, which counted and knows what both did, and weighs what both weighed. `Err`, which never
+    /// comes today, would hand both back.
+    pub fn join<A: Allocator>(
+        a: OncePass,
+        b: OncePass,
+        of: &Once<A>,
+    ) -> Result<OncePass, (OncePass, OncePass)>
+        requires own { IsOncePass of.now a × IsOncePass of.now b }
+        ensures never_refused { is_ok result ≡ true }
+        ensures own { IfOk result (IsOncePass of.now) }
+        ensures views { IfOk result (λ both. known_by both ≡ joined_view both_runs (known_by a) (known_by b)) }
+        ensures weights { IfOk result (λ both. AddUp (part_of_once both) (part_of_once a) (part_of_once b)) }
+        ensures again { (p : Part) → IsSamePart (part_of_once a) (half p) → IsSamePart (part_of_once b) (half p) → IfOk result (λ both. IsAgain p (part_of_once both)) }
+    {
+        let OncePass { pass: one } = a;
+        let OncePass { pass: other } = b;
+        let Ok(pass) = Pass::join(one, other, &of.words) else {
+            unreachable!()
+        };
+        Ok(OncePass { pass })
+    }
+}
+
+impl<A: Allocator> Once<A> {
+    ghost use Rattle.std.specs.Prelude.{true, false, ◌+◌, ◌*◌, ◌<◌, ◌≢◌, MatchBool};
+    ghost use Rattle.passes.specs.Parts.{IsWhole};
+    ghost use Rattle.passes.specs.Views.{first_view};
+    ghost use Rattle.passes.specs.Objects.{IsPassOf};
+    ghost use Rattle.passes.specs.Sights.{HasLooked};
+    ghost use Rattle.passes.specs.Passes.{view, part_of, sights_of, IsSamePass, HasDone};
+    ghost use Rattle.running_once.specs.OnceRule.{no_runs, ended, Amounts, Loaded};
+    ghost use Rattle.running_once.specs.OnceShown.{IsOncePass, IsComplete, HasSeenOnce, HasCompleted, HasBegun, HasOnlyWaited, IsTaken, known_by, part_of_once, sights_of_once, ended_of};
+
+    /// A once whose closure has not run, and the pass that is whole. `Err` where there was no memory; then nothing was made.
+    pub fn new(alloc: A) -> Result<(Once<A>, OncePass), AllocError>
+        ensures own { IfOk result (λ made. IsOncePass made.0 made.1) }
+        ensures first { IfOk result (λ made. known_by made.1 ≡ first_view no_runs) }
+    {
+        let (words, pass) = Words::new(alloc, &[0], &())?;
+        Ok((Once { words }, OncePass { pass }))
+    }
+
+    /// Runs the closure, if no other has begun; else lets it go, and comes back once the one that began has ended. A closure that
+    /// calls this once itself waits for ever.
+    #[inline(always)]
+    pub fn call_once<R: Wait, F: FnOnce()>(&self, rt: &R, pass: &mut OncePass, f: F)
+        requires own { IsOncePass self.now pass.old }
+        requires may { F.IsAlwaysCallable f }
+        ensures completed { HasCompleted pass.old pass.new }
+        ensures ran { ended_of pass.old < ended_of pass.new → F.post f tt }
+        ensures kept { IsComplete pass.old → HasSeenOnce pass.old pass.new }
+        ensures exact { IsWhole (part_of_once pass.old) → ended_of pass.new ≡ 1 }
+    {
+        if self.look(&mut pass.pass) == COMPLETE {
+            return;
+        }
+        if self.begin(&mut pass.pass) {
+            f();
+            self.end(&mut pass.pass);
+            return;
+        }
+        self.stay(rt, &mut pass.pass);
+    }
+
+    /// Whether a closure has ended: one load.
+    #[inline(always)]
+    pub fn is_completed(&self, pass: &mut OncePass) -> bool
+        requires own { IsOncePass self.now pass.old }
+        ensures saw { HasSeenOnce pass.old pass.new }
+        ensures tells { MatchBool result ((sights_of_once pass.new).last ≡ 2) ((sights_of_once pass.new).last ≢ 2) }
+        ensures complete { result ≡ true → IsComplete pass.new }
+        ensures known { IsComplete pass.old → result ≡ true }
+        ensures exact { IsWhole (part_of_once pass.old) → MatchBool result (ended_of pass.old ≡ 1) (ended_of pass.old ≡ 0) }
+    {
+        self.look(&mut pass.pass) == COMPLETE
+    }
+
+    /// Looks until the word says that a closure has ended.
+    fn stay<R: Wait>(&self, rt: &R, pass: &mut Pass<Runs>)
+        requires own { IsPassOf self.now.words pass.old }
+        ensures stayed { HasOnlyWaited pass.old pass.new }
+        ensures complete { (tally_of pass.new).complete ≡ true }
+        ensures alone { IsWhole (part_of pass.old) → Amounts 2 (tally_of pass.old) }
+    {
+        for _ in rt.forever() {
+            if self.look(pass) == COMPLETE {
+                return;
+            }
+            spin_loop();
+        }
+        unreachable!()
+    }
+
+    /// A load.
+    #[tactic(auto, using(crate::proofs::OnceKeeps::loads))]
+    #[inline(always)]
+    fn look(&self, pass: &mut Pass<Runs>) -> u64
+        requires own { IsPassOf self.now.words pass.old }
+        ensures same { IsSamePass pass.old pass.new }
+        ensures told { Loaded (view pass.old) result (view pass.new) }
+    {
+        self.words.load::<Look>(pass, 0)
+    }
+
+    /// An exchange of 0 for 1, and whether it was done.
+    #[inline(always)]
+    fn begin(&self, pass: &mut Pass<Runs>) -> bool
+        requires own { IsPassOf self.now.words pass.old }
+        ensures begun { MatchBool result (HasBegun pass.old pass.new) (HasOnlyWaited pass.old pass.new) }
+        ensures refused { result ≡ false → HasLooked IsTaken 1 (sights_of pass.old) (sights_of pass.new) }
+    {
+        self.words.compare_exchange::<Begin>(pass, 0, 0, running()) == 0
+    }
+
+    /// A store of 2, by the pass whose closure runs.
+    #[tactic(auto, using(crate::proofs::OnceKeeps::stores))]
+    #[inline(always)]
+    fn end(&self, pass: &mut Pass<Runs>)
+        requires own { IsPassOf self.now.words pass.old }
+        requires on { (tally_of pass.old).running ≡ 1 }
+        ensures ended { HasDone ended pass.old pass.new }
+    {
+        self.words.store::<End>(pass, 0, COMPLETE);
+    }
+}
+
+/// The word once a closure has ended.
+const COMPLETE: u64 = 2;
+
+/// The word while a closure runs.
+#[inline(always)]
+fn running() -> u64
+    ensures { result ≡ 1 }
+{
+    match begun(0) {
+        Some(word) => word,
+        None => unreachable!(),
+    }
+}
+
+/// Whenever the rule of a once holds, all its passes together began one closure at most; and where one of them knows that a closure
+/// ended, one did. Says so of the rule alone, and does nothing.
+#[tactic(auto, using(crate::proofs::OnceKeeps::one_closure, crate::proofs::OnceKeeps::known_has_ended))]
+pub fn one_closure_at_most()
+    ensures one { OneClosure }
+    ensures known { KnownHasEnded }
+{}

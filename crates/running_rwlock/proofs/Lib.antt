@@ -1,0 +1,4 @@
+pub mod HeldKeeps
+pub mod RwReaderKeeps
+pub mod RwReaderUnlocks
+pub mod RwReaderJoins

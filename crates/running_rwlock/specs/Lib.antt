@@ -1,0 +1,3 @@
+pub mod RwShown
+pub mod RwReaderSteps
+pub mod RwReaderShown

@@ -1,0 +1,62 @@
+-- What holds whenever the rule of a reader-preferring lock does, and what a step changes in a pass.
+use Rattle.std.specs.Prelude.{◌≡◌, ◌≢◌, ℕ, ◌+◌, ◌-◌, ◌*◌, ◌^◌, ◌<◌}
+use mathlib.Core.Option.{some}
+use lib.ListN.{get_elem?}
+use Rattle.atomic_table.specs.Table.{State}
+use Rattle.passes.specs.declared.view.View.{View}
+use Rattle.passes.specs.Parts.{IsWhole}
+use Rattle.passes.specs.Views.{looked, missed, wrote, IsCounted}
+use Rattle.tallies.specs.declared.held.Held.TheVariants.{Writing}
+use Rattle.tallies.specs.Held.{read_holds, write_holds, reader_in, reader_out}
+use Rattle.tallies.specs.HeldTally.{same_nothing}
+use Rattle.tallies.specs.RwReaderRule.{Holds, RwReaderAgrees, both_holds, no_holds}
+
+-- whenever the rule holds, no pass has a hold where another has a write hold
+abbrev pub NoHoldBesideAWriteHold : Type 0
+NoHoldBesideAWriteHold = (s : State (Unit {0}) (View Holds)) → IsCounted no_holds both_holds RwReaderAgrees s → (i j : ℕ) (v w : View Holds) → get_elem? s.views i ≡ some v → get_elem? s.views j ≡ some w
+    → write_holds v.tally ≡ 1 → 0 < read_holds w.tally + write_holds w.tally → i ≡ j
+
+-- the word where no other pass has counted anything
+abbrev pub word_of : Holds → ℕ
+word_of t = read_holds t + write_holds t * (2 ^ 64 - 1)
+
+-- a read hold is turned on, and off
+abbrev pub read : Holds → Holds
+read t = reader_in same_nothing tt t
+
+abbrev pub no_more_read : Holds → Holds
+no_more_read t = reader_out t
+
+-- the write hold is turned on
+abbrev pub written : Holds
+written = Writing tt tt
+
+-- A load. Where no other pass is left, it gives what the pass's holds come to.
+pub record Loaded (v : View Holds) (found : ℕ) (w : View Holds) : Type 0 where
+  pub saw : w ≡ looked v found
+  pub alone : IsWhole v.part → found ≡ word_of v.tally
+
+-- An exchange of a value for one more. It turned a read hold on, where no write hold stood, or it saw another value.
+pub record ReaderIn (from : ℕ) (v : View Holds) (found : ℕ) (w : View Holds) : Type 0 where
+  pub done : found ≡ from → w ≡ wrote v (read v.tally)
+  pub reads : found ≡ from → read_holds (read v.tally) ≡ read_holds v.tally + 1
+  pub writes : found ≡ from → (write_holds v.tally ≡ 0) × (write_holds (read v.tally) ≡ 0)
+  pub failed : found ≢ from → w ≡ missed v from found
+  pub alone : IsWhole v.part → found ≡ word_of v.tally
+
+-- a subtraction of 1 by a pass with a read hold
+pub record ReaderOut (v : View Holds) (w : View Holds) : Type 0 where
+  pub done : w ≡ wrote v (no_more_read v.tally)
+  pub reads : read_holds (no_more_read v.tally) + 1 ≡ read_holds v.tally
+  pub writes : (write_holds v.tally ≡ 0) × (write_holds (no_more_read v.tally) ≡ 0)
+
+-- An exchange of 0 for 2 ^ 64 - 1. It turned the write hold on, where the pass had no hold, or it saw another value.
+pub record WriterIn (v : View Holds) (found : ℕ) (w : View Holds) : Type 0 where
+  pub done : found ≡ 0 → (v.tally ≡ no_holds) × (w ≡ wrote v written)
+  pub failed : found ≢ 0 → w ≡ missed v 0 found
+  pub alone : IsWhole v.part → found ≡ word_of v.tally
+
+-- a store of 0 by the pass with the write hold
+pub record WriterOut (v : View Holds) (w : View Holds) : Type 0 where
+  pub done : w ≡ wrote v no_holds
+  pub reads : read_holds v.tally ≡ 0

@@ -1,0 +1,514 @@
+//! A lock of many readers or one writer that lets readers in as long as no writer is. Its word is the number of read holds, or
+//! 2^64 - 1 with a write hold.
+ghost use Rattle.std.specs.Prelude.{◌≡◌, ◌-◌, ◌^◌, IfOk};
+ghost use Rattle.passes.specs.Objects.{count_of};
+ghost use Rattle.running_rwlock.specs.RwReaderSteps.{NoHoldBesideAWriteHold};
+
+use crate::hold::{ReadHold, RwHold, WriteHold};
+use passes::{AttemptAt, Deed, Pass, WaitResult, Words, try_again, wake};
+use std::alloc::{AllocError, Allocator, Global};
+use std::ops::Deref;
+use std::sync::Wait;
+use steps_events::WaitAction;
+use steps_rw_reader::{reader_enters, writer_enters};
+use tallies::{Held, WaitWord};
+
+/// A lock of many readers or one writer. A reader enters wherever no writer is in, also where writers wait.
+#[derive(Drop)]
+pub struct RwLockReaderPreference<A: Allocator = Global> {
+    words: Words<(), Held<()>, A>,
+    ghost one_word: { count_of words ≡ 1 },
+}
+
+/// The words of a lock, at which its passes are split and joined.
+impl<A: Allocator> Deref for RwLockReaderPreference<A> {
+    type Target = Words<(), Held<()>, A>;
+
+    #[inline(always)]
+    fn deref(&self) -> &Words<(), Held<()>, A>
+        ensures { result.now ≡ self.now.words }
+    {
+        &self.words
+    }
+}
+
+/// The right to call a reader-preferring lock, and what its owner did and saw there.
+pub type RwReaderPass = Pass<Held<()>>;
+
+/// A load.
+struct Look;
+
+impl Deed<(), Held<()>> for Look {
+    ghost use Rattle.running_rwlock.specs.RwReaderSteps.{Loaded};
+
+    ghost tells = { λ _ _ _. Loaded };
+}
+
+/// An exchange of a value for one more.
+struct ComeToRead;
+
+impl Deed<(), Held<()>> for ComeToRead {
+    ghost use Rattle.running_rwlock.specs.RwReaderSteps.{ReaderIn};
+
+    ghost tells = { λ _ from _. ReaderIn from };
+}
+
+/// A subtraction of 1.
+struct LeaveReading;
+
+impl Deed<(), Held<()>> for LeaveReading {
+    ghost use Rattle.running_rwlock.specs.RwReaderSteps.{ReaderOut};
+
+    ghost tells = { λ _ _ _ before _ after. ReaderOut before after };
+}
+
+/// An exchange of 0 for 2^64 - 1.
+struct ComeToWrite;
+
+impl Deed<(), Held<()>> for ComeToWrite {
+    ghost use Rattle.running_rwlock.specs.RwReaderSteps.{WriterIn};
+
+    ghost tells = { λ _ _ _. WriterIn };
+}
+
+/// A store of 0.
+struct LeaveWriting;
+
+impl Deed<(), Held<()>> for LeaveWriting {
+    ghost use Rattle.running_rwlock.specs.RwReaderSteps.{WriterOut};
+
+    ghost tells = { λ _ _ _ before _ after. WriterOut before after };
+}
+
+impl<A: Allocator> RwLockReaderPreference<A> {
+    ghost use Rattle.std.specs.Borrow.{sem, unit};
+    ghost use Rattle.std.specs.Prelude.{true, false, ◌+◌, ◌<◌, ◌≢◌, MatchBool, IfErr, is_ok};
+    ghost use Rattle.passes.specs.Answers.{IfSuccess, IfInterrupted, IsSuccess, RestsIfInterrupted, MayAnswerAbort, HasAsked, HasGivenUp, HasWoken};
+    ghost use Rattle.passes.specs.Parts.{IsWhole};
+    ghost use Rattle.passes.specs.Passes.{view, part_of, sights_of, tally_of, HasSeen, HasMissed, HasDone, WasRefused, WasRefusedAt};
+    ghost use Rattle.passes.specs.Views.{first_view};
+    ghost use Rattle.passes.specs.contracts.pass.Pass.{the_row};
+    ghost use Rattle.tallies.specs.contracts.held.Held as held_row;
+    ghost use Rattle.running_rwlock.specs.RwShown.{IsReadHold, IsWriteHold, pass_of, borrow_of};
+    ghost use Rattle.tallies.specs.RwReaderRule.{no_holds};
+    ghost use Rattle.running_rwlock.specs.RwReaderSteps.{read, written, word_of};
+    ghost use Rattle.running_rwlock.specs.RwReaderShown.{IsRwReaderPass, IsAlone, IsShut, IsTaken, reads_of, writes_of, HasEnteredToRead, HasEnteredToWrite, HasReadAtOnce, HasWrittenAtOnce, WasTurnedAway, HasSeenTaken, HasLeftReading, HasLeftWriting, HasUnlocked};
+
+    /// A lock that is free, and the pass that is whole. `Err` where there was no memory; then nothing was made.
+    pub fn new(alloc: A) -> Result<(RwLockReaderPreference<A>, RwReaderPass), AllocError>
+        ensures own { IfOk result (λ made. IsRwReaderPass made.0 made.1) }
+        ensures first { IfOk result (λ made. view made.1 ≡ first_view no_holds) }
+    {
+        let (words, pass) = Words::new(alloc, &[0], &())?;
+        Ok((RwLockReaderPreference { words }, pass))
+    }
+
+    /// Locks for reading: one look and, where there is room for a reader, one exchange. `Interrupted` where a writer is in or there
+    /// is no room for one more reader, and also where another party wrote between the two; then this call holds nothing.
+    #[inline(always)]
+    pub fn try_read_lock<'p>(
+        pass: &'p mut RwReaderPass,
+        this: &Self,
+    ) -> WaitResult<RwHold<'p, RwReaderPass>>
+        requires own { IsRwReaderPass this.now pass.old }
+        ensures* refused { sem 𝓛 (RestsIfInterrupted (the_row (held_row.the_row unit)) pass.entry borrow_of result (WasTurnedAway pass.old)) }
+        ensures same_borrow { IfSuccess result (λ hold. borrow_of hold ≡ pass.entry.ghost_name) }
+        ensures kind { IfSuccess result IsReadHold }
+        ensures granted { IfSuccess result (λ hold. HasEnteredToRead pass.old (pass_of hold)) }
+        ensures at_once { IfSuccess result (λ hold. HasReadAtOnce pass.old (pass_of hold)) }
+        ensures exact { IsAlone pass.old → IsSuccess result }
+    {
+        if this.try_to_read(pass) {
+            WaitResult::Success(RwHold::Read(ReadHold { pass }))
+        } else {
+            WaitResult::Interrupted
+        }
+    }
+
+    /// Locks for reading: looks, and exchanges where there is room for a reader, again where another party wrote in between. Where
+    /// there is none it looks up to 10000 times more, and then calls the wait closure before each further look, with the value seen.
+    /// `Interrupted` where a look saw no room after the closure had answered `Abort`; then this call holds nothing.
+    #[inline(always)]
+    pub fn read_lock<'p, R: Wait, W: Fn(&WaitWord, &u64) -> WaitAction>(
+        pass: &'p mut RwReaderPass,
+        this: &Self,
+        rt: &R,
+        wait: W,
+    ) -> WaitResult<RwHold<'p, RwReaderPass>>
+        requires own { IsRwReaderPass this.now pass.old }
+        requires may { W.IsAlwaysCallable wait }
+        ensures* refused { sem 𝓛 (RestsIfInterrupted (the_row (held_row.the_row unit)) pass.entry borrow_of result (λ q. WasRefused IsShut 10002 pass.old q × (IsWhole (part_of pass.old) → HasAsked W.Fn wait IsShut 10001 pass.old q))) }
+        ensures same_borrow { IfSuccess result (λ hold. borrow_of hold ≡ pass.entry.ghost_name) }
+        ensures kind { IfSuccess result IsReadHold }
+        ensures granted { IfSuccess result (λ hold. HasEnteredToRead pass.old (pass_of hold)) }
+        ensures exact { IsAlone pass.old → IsSuccess result }
+        ensures aborted { IfInterrupted result (MayAnswerAbort W.Fn wait IsShut) }
+    {
+        if this.wait_to_read(pass, rt, &wait) {
+            WaitResult::Success(RwHold::Read(ReadHold { pass }))
+        } else {
+            WaitResult::Interrupted
+        }
+    }
+
+    /// Subtracts 1 for a read hold, stores 0 for a write hold, and then calls the wake closure once. Gives the pass back.
+    #[tactic(auto, using(crate::proofs::RwReaderUnlocks::unlocked_reading, crate::proofs::RwReaderUnlocks::unlocked_writing))]
+    #[inline(always)]
+    pub fn unlock<'p, W: Fn(&WaitWord)>(
+        &self,
+        hold: RwHold<'p, RwReaderPass>,
+        wake_one: W,
+    ) -> &'p mut RwReaderPass
+        requires own { IsRwReaderPass self.now (pass_of hold) }
+        requires may { W.IsAlwaysCallable wake_one }
+        ensures same_borrow { result.ghost_name ≡ borrow_of hold.entry }
+        ensures released { HasUnlocked hold.entry result.now }
+        ensures woke { HasWoken W.Fn wake_one }
+    {
+        match hold {
+            RwHold::Read(ReadHold { pass }) => self.unlock_read(pass, wake_one),
+            RwHold::Write(WriteHold { pass }) => self.unlock_write(pass, wake_one),
+        }
+    }
+
+    /// Locks for writing: one exchange of 0 for 2^64 - 1. `Interrupted` where the lock was seen taken, and then this call holds nothing.
+    #[inline(always)]
+    pub fn try_write_lock<'p>(
+        pass: &'p mut RwReaderPass,
+        this: &Self,
+    ) -> WaitResult<RwHold<'p, RwReaderPass>>
+        requires own { IsRwReaderPass this.now pass.old }
+        ensures* refused { sem 𝓛 (RestsIfInterrupted (the_row (held_row.the_row unit)) pass.entry borrow_of result (HasSeenTaken pass.old)) }
+        ensures same_borrow { IfSuccess result (λ hold. borrow_of hold ≡ pass.entry.ghost_name) }
+        ensures kind { IfSuccess result IsWriteHold }
+        ensures granted { IfSuccess result (λ hold. HasEnteredToWrite pass.old (pass_of hold)) }
+        ensures at_once { IfSuccess result (λ hold. HasWrittenAtOnce pass.old (pass_of hold)) }
+        ensures exact { IsAlone pass.old → IsSuccess result }
+    {
+        match this.try_to_write(pass) {
+            Ok(()) => WaitResult::Success(RwHold::Write(WriteHold { pass })),
+            Err(_) => WaitResult::Interrupted,
+        }
+    }
+
+    /// Locks for writing: one exchange of 0 for 2^64 - 1, up to 10000 more, and then the wait closure before each further one, with the
+    /// value that the exchange found. `Interrupted` where an exchange failed after the closure had answered `Abort`; then this call
+    /// holds nothing.
+    #[inline(always)]
+    pub fn write_lock<'p, R: Wait, W: Fn(&WaitWord, &u64) -> WaitAction>(
+        pass: &'p mut RwReaderPass,
+        this: &Self,
+        rt: &R,
+        wait: W,
+    ) -> WaitResult<RwHold<'p, RwReaderPass>>
+        requires own { IsRwReaderPass this.now pass.old }
+        requires may { W.IsAlwaysCallable wait }
+        ensures* refused { sem 𝓛 (RestsIfInterrupted (the_row (held_row.the_row unit)) pass.entry borrow_of result (HasGivenUp W.Fn wait IsTaken pass.old)) }
+        ensures same_borrow { IfSuccess result (λ hold. borrow_of hold ≡ pass.entry.ghost_name) }
+        ensures kind { IfSuccess result IsWriteHold }
+        ensures granted { IfSuccess result (λ hold. HasEnteredToWrite pass.old (pass_of hold)) }
+        ensures exact { IsAlone pass.old → IsSuccess result }
+        ensures aborted { IfInterrupted result (MayAnswerAbort W.Fn wait IsTaken) }
+    {
+        if this.wait_to_write(pass, rt, &wait) {
+            WaitResult::Success(RwHold::Write(WriteHold { pass }))
+        } else {
+            WaitResult::Interrupted
+        }
+    }
+
+    /// Ends the lock, and answers its word. With the whole pass that is what its holds come to: 0 where it has none.
+    pub fn close(self, pass: RwReaderPass) -> u64
+        requires own { IsRwReaderPass self pass }
+        ensures exact { IsWhole (part_of pass) → result ≡ word_of (tally_of pass) }
+        ensures free { IsAlone pass → result ≡ 0 }
+    {
+        let RwLockReaderPreference { words } = self;
+        words.close(pass, 0)
+    }
+
+    /// What `try_read_lock` does, and whether the hold is on.
+    #[inline(always)]
+    fn try_to_read(&self, pass: &mut RwReaderPass) -> bool
+        requires own { IsRwReaderPass self.now pass.old }
+        ensures entered { MatchBool result (HasEnteredToRead pass.old pass.new) (WasTurnedAway pass.old pass.new) }
+        ensures at_once { result ≡ true → HasReadAtOnce pass.old pass.new }
+        ensures exact { IsAlone pass.old → result ≡ true }
+    {
+        let seen = self.look(pass);
+        match reader_enters(seen) {
+            Some(more) => self.come_to_read(pass, seen, more) == seen,
+            None => false,
+        }
+    }
+
+    /// Looks, and turns a read hold on while there is room. `Err` with a value at which there was none.
+    #[inline(always)]
+    fn read_unless_shut<R: Wait>(&self, rt: &R, pass: &mut RwReaderPass) -> Result<(), u64>
+        requires own { IsRwReaderPass self.now pass.old }
+        ensures entered { IfOk result (λ _. HasEnteredToRead pass.old pass.new) }
+        ensures refused { IfErr result (λ seen. WasRefusedAt IsShut seen 1 pass.old pass.new) }
+        ensures once { IfErr result (λ _. IsWhole (part_of pass.old) → (sights_of pass.new).count ≡ (sights_of pass.old).count + 1) }
+        ensures exact { IsAlone pass.old → is_ok result ≡ true }
+    {
+        let mut seen = self.look(pass);
+        for _ in rt.forever() {
+            let Some(more) = reader_enters(seen) else {
+                return Err(seen);
+            };
+            let found = self.come_to_read(pass, seen, more);
+            if found == seen {
+                return Ok(());
+            }
+            seen = found;
+        }
+        unreachable!()
+    }
+
+    /// What `read_lock` does, and whether the hold is on.
+    #[inline(always)]
+    fn wait_to_read<R: Wait, W: Fn(&WaitWord, &u64) -> WaitAction>(
+        &self,
+        pass: &mut RwReaderPass,
+        rt: &R,
+        wait: &W,
+    ) -> bool
+        requires own { IsRwReaderPass self.now pass.old }
+        requires may { W.IsAlwaysCallable wait.now }
+        ensures entered { MatchBool result (HasEnteredToRead pass.old pass.new) (WasRefused IsShut 10002 pass.old pass.new) }
+        ensures exact { IsAlone pass.old → result ≡ true }
+        ensures aborted { result ≡ false → MayAnswerAbort W.Fn wait.now IsShut }
+        ensures asked { IsWhole (part_of pass.old) → result ≡ false → HasAsked W.Fn wait.now IsShut 10001 pass.old pass.new }
+    {
+        match self.read_unless_shut(rt, pass) {
+            Ok(()) => true,
+            Err(seen) => {
+                let reader = Reader { lock: self };
+                try_again(rt, &reader, pass, &self.word(), seen, wait)
+            }
+        }
+    }
+
+    /// What `unlock` does with a read hold.
+    #[inline(always)]
+    fn unlock_read<'p, W: Fn(&WaitWord)>(
+        &self,
+        pass: &'p mut RwReaderPass,
+        wake_one: W,
+    ) -> &'p mut RwReaderPass
+        requires own { IsRwReaderPass self.now pass.old }
+        requires on { 0 < reads_of pass.old }
+        requires may { W.IsAlwaysCallable wake_one }
+        ensures same_borrow { result.ghost_name ≡ pass.entry.ghost_name }
+        ensures released { HasLeftReading pass.old result.now }
+        ensures woke { HasWoken W.Fn wake_one }
+    {
+        self.leave_reading(pass);
+        self.wake(&wake_one);
+        pass
+    }
+
+    /// What `unlock` does with a write hold.
+    #[inline(always)]
+    fn unlock_write<'p, W: Fn(&WaitWord)>(
+        &self,
+        pass: &'p mut RwReaderPass,
+        wake_one: W,
+    ) -> &'p mut RwReaderPass
+        requires own { IsRwReaderPass self.now pass.old }
+        requires on { writes_of pass.old ≡ 1 }
+        requires may { W.IsAlwaysCallable wake_one }
+        ensures same_borrow { result.ghost_name ≡ pass.entry.ghost_name }
+        ensures released { HasLeftWriting pass.old result.now }
+        ensures woke { HasWoken W.Fn wake_one }
+    {
+        self.leave_writing(pass);
+        self.wake(&wake_one);
+        pass
+    }
+
+    /// Turns the write hold on by one exchange. `Err` with the value that it found, where that was not 0.
+    #[inline(always)]
+    fn try_to_write(&self, pass: &mut RwReaderPass) -> Result<(), u64>
+        requires own { IsRwReaderPass self.now pass.old }
+        ensures entered { IfOk result (λ _. HasEnteredToWrite pass.old pass.new) }
+        ensures at_once { IfOk result (λ _. HasWrittenAtOnce pass.old pass.new) }
+        ensures refused { IfErr result (λ seen. HasSeenTaken pass.old pass.new × ((sights_of pass.new).last ≡ seen)) }
+        ensures exact { IsAlone pass.old → is_ok result ≡ true }
+    {
+        match self.come_to_write(pass) {
+            0 => Ok(()),
+            found => Err(found),
+        }
+    }
+
+    /// What `write_lock` does, and whether the hold is on.
+    #[inline(always)]
+    fn wait_to_write<R: Wait, W: Fn(&WaitWord, &u64) -> WaitAction>(
+        &self,
+        pass: &mut RwReaderPass,
+        rt: &R,
+        wait: &W,
+    ) -> bool
+        requires own { IsRwReaderPass self.now pass.old }
+        requires may { W.IsAlwaysCallable wait.now }
+        ensures entered { MatchBool result (HasEnteredToWrite pass.old pass.new) (HasGivenUp W.Fn wait.now IsTaken pass.old pass.new) }
+        ensures exact { IsAlone pass.old → result ≡ true }
+        ensures aborted { result ≡ false → MayAnswerAbort W.Fn wait.now IsTaken }
+    {
+        match self.try_to_write(pass) {
+            Ok(()) => true,
+            Err(seen) => {
+                let writer = Writer { lock: self };
+                try_again(rt, &writer, pass, &self.word(), seen, wait)
+            }
+        }
+    }
+
+    /// A load.
+    #[tactic(auto, using(crate::proofs::RwReaderKeeps::loads))]
+    #[inline(always)]
+    fn look(&self, pass: &mut RwReaderPass) -> u64
+        requires own { IsRwReaderPass self.now pass.old }
+        ensures saw { HasSeen result pass.old pass.new }
+        ensures exact { IsWhole (part_of pass.old) → result ≡ word_of (tally_of pass.old) }
+    {
+        self.words.load::<Look>(pass, 0)
+    }
+
+    /// An exchange of the value seen for one more, and the value that it found.
+    #[inline(always)]
+    fn come_to_read(&self, pass: &mut RwReaderPass, seen: u64, more: u64) -> u64
+        requires own { IsRwReaderPass self.now pass.old }
+        requires room { seen < 2 ^ 64 - 2 }
+        requires more { more ≡ seen + 1 }
+        ensures done { result ≡ seen → HasDone read pass.old pass.new }
+        ensures reads { result ≡ seen → reads_of pass.new ≡ reads_of pass.old + 1 }
+        ensures writes { result ≡ seen → (writes_of pass.old ≡ 0) × (writes_of pass.new ≡ 0) }
+        ensures failed { result ≢ seen → HasMissed seen result pass.old pass.new }
+        ensures exact { IsWhole (part_of pass.old) → result ≡ word_of (tally_of pass.old) }
+    {
+        self.words
+            .compare_exchange::<ComeToRead>(pass, 0, seen, more)
+    }
+
+    /// A subtraction of 1, by a pass that has a read hold.
+    #[tactic(auto, using(crate::proofs::RwReaderKeeps::readers_out))]
+    #[inline(always)]
+    fn leave_reading(&self, pass: &mut RwReaderPass)
+        requires own { IsRwReaderPass self.now pass.old }
+        requires on { 0 < reads_of pass.old }
+        ensures released { HasLeftReading pass.old pass.new }
+    {
+        self.words.fetch_sub::<LeaveReading>(pass, 0, 1);
+    }
+
+    /// An exchange of 0 for 2^64 - 1, and the value that it found.
+    #[inline(always)]
+    fn come_to_write(&self, pass: &mut RwReaderPass) -> u64
+        requires own { IsRwReaderPass self.now pass.old }
+        ensures done { result ≡ 0 → HasDone (λ _. written) pass.old pass.new }
+        ensures off { result ≡ 0 → (reads_of pass.old ≡ 0) × (writes_of pass.old ≡ 0) }
+        ensures on { result ≡ 0 → (reads_of pass.new ≡ 0) × (writes_of pass.new ≡ 1) }
+        ensures failed { result ≢ 0 → HasMissed 0 result pass.old pass.new }
+        ensures exact { IsWhole (part_of pass.old) → result ≡ word_of (tally_of pass.old) }
+    {
+        self.words
+            .compare_exchange::<ComeToWrite>(pass, 0, 0, write_locked())
+    }
+
+    /// A store of 0, by the pass that has the write hold.
+    #[tactic(auto, using(crate::proofs::RwReaderKeeps::writers_out))]
+    #[inline(always)]
+    fn leave_writing(&self, pass: &mut RwReaderPass)
+        requires own { IsRwReaderPass self.now pass.old }
+        requires on { writes_of pass.old ≡ 1 }
+        ensures released { HasLeftWriting pass.old pass.new }
+    {
+        self.words.store::<LeaveWriting>(pass, 0, 0);
+    }
+
+    /// Calls the wake closure once.
+    #[inline(always)]
+    fn wake<W: Fn(&WaitWord)>(&self, wake_one: &W)
+        requires may { W.IsAlwaysCallable wake_one.now }
+        ensures woke { HasWoken W.Fn wake_one.now }
+    {
+        wake(wake_one, &self.word());
+    }
+
+    /// The lock's word, as closures see it.
+    #[inline(always)]
+    fn word(&self) -> WaitWord<'_> {
+        WaitWord::from(self.words.word(0))
+    }
+}
+
+/// A lock, as `read_lock` tries it.
+#[derive(Drop)]
+struct Reader<'l, A: Allocator> {
+    lock: &'l RwLockReaderPreference<A>,
+}
+
+/// A look of `read_lock`, and its exchanges.
+impl<A: Allocator> AttemptAt<Held<()>> for Reader<'_, A> {
+    ghost use Rattle.passes.specs.Parts.{IsWhole};
+    ghost use Rattle.passes.specs.Objects.{id_of};
+    ghost use Rattle.running_rwlock.specs.RwReaderShown.{IsShut, EntersToRead};
+
+    ghost object = { λ r. id_of r.lock.now.words };
+
+    ghost moves = { EntersToRead };
+
+    ghost refuses = { IsShut };
+
+    ghost looks_once = { IsWhole };
+
+    #[inline(always)]
+    fn attempt_at<R: Wait>(&self, rt: &R, pass: &mut RwReaderPass) -> Result<(), u64> {
+        self.lock.read_unless_shut(rt, pass)
+    }
+}
+
+/// A lock, as `write_lock` tries it.
+#[derive(Drop)]
+struct Writer<'l, A: Allocator> {
+    lock: &'l RwLockReaderPreference<A>,
+}
+
+/// An exchange of `write_lock`.
+impl<A: Allocator> AttemptAt<Held<()>> for Writer<'_, A> {
+    ghost use Rattle.passes.specs.Objects.{id_of};
+    ghost use Rattle.running_rwlock.specs.RwReaderShown.{IsTaken, EntersToWrite};
+
+    ghost object = { λ w. id_of w.lock.now.words };
+
+    ghost moves = { EntersToWrite };
+
+    ghost refuses = { IsTaken };
+
+    ghost looks_once = { λ _. Unit {0} };
+
+    #[inline(always)]
+    fn attempt_at<R: Wait>(&self, _rt: &R, pass: &mut RwReaderPass) -> Result<(), u64> {
+        self.lock.try_to_write(pass)
+    }
+}
+
+/// The word of a lock with a write hold.
+#[inline(always)]
+fn write_locked() -> u64
+    ensures { result ≡ 2 ^ 64 - 1 }
+{
+    match writer_enters(0) {
+        Some(word) => word,
+        None => unreachable!(),
+    }
+}
+
+/// Whenever the rule of a reader-preferring lock holds, no pass has a hold where another has a write hold. Says so of the rule alone,
+/// and does nothing.
+#[tactic(auto, using(crate::proofs::RwReaderKeeps::none_beside))]
+pub fn no_hold_beside_a_write_hold()
+    ensures { NoHoldBesideAWriteHold }
+{}

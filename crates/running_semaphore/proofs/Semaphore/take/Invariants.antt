@@ -1,0 +1,18 @@
+use Rattle.std.proofs.Common.{◌≡◌, true}
+use Rattle.passes.specs.Parts.{IsWhole}
+use Rattle.passes.specs.Sights.{HasLooked, LooksOnceOrMisses}
+use Rattle.passes.specs.Passes.{view, part_of, sights_of, HasOnlySeen}
+use Rattle.passes.specs.Views.{looked}
+use Rattle.running_semaphore.specs.SemaphoreShown.{worth_of}
+use Rattle.running_semaphore.proofs.Semaphore.take.Given as goal
+
+-- the value seen is the last one that was seen, by the first look or by an exchange that missed
+abbrev pub invariant-loop : goal.invariant-loop
+invariant-loop g l = record {
+  stayed : HasOnlySeen l.fn.pass l.pass;
+  last : HasLooked (λ n. n ≡ l.seen) 1 (sights_of l.fn.pass) (sights_of l.pass);
+  fresh : (sights_of l.pass).fresh ≡ true;
+  looks : LooksOnceOrMisses (sights_of l.fn.pass) (sights_of l.pass);
+  once : IsWhole (part_of l.fn.pass) → view l.pass ≡ looked (view l.fn.pass) l.seen;
+  exact : IsWhole (part_of l.fn.pass) → l.seen ≡ worth_of l.fn.pass;
+}

@@ -1,0 +1,2 @@
+pub mod SemaphoreSteps
+pub mod SemaphoreShown

@@ -1,0 +1,33 @@
+-- What the passes of a barrier count and know adds up.
+use Rattle.std.proofs.Common.{◌≡◌, ℕ, ◌+◌, max, List, [], ◌∷◌, refl, arith, add_assoc, add_comm}
+use Rattle.passes.specs.Tallies.{IsTally}
+use Rattle.tallies.specs.BarrierRule.{both_counts, rounds, no_rounds, both_rounds, known_rounds}
+
+counts_swap : (xs ys : List ℕ) → both_counts xs ys ≡ both_counts ys xs
+counts_swap [] [] = refl
+counts_swap [] (y ∷ ys) = refl
+counts_swap (x ∷ xs) [] = refl
+counts_swap (x ∷ xs) (y ∷ ys) = λ i. add_comm x y i ∷ counts_swap xs ys i
+
+counts_group : (xs ys zs : List ℕ) → both_counts (both_counts xs ys) zs ≡ both_counts xs (both_counts ys zs)
+counts_group [] ys zs = refl
+counts_group (x ∷ xs) [] zs = refl
+counts_group (x ∷ xs) (y ∷ ys) [] = refl
+counts_group (x ∷ xs) (y ∷ ys) (z ∷ zs) = λ i. add_assoc x y z i ∷ counts_group xs ys zs i
+
+max_group : (a b c : ℕ) → max (max a b) c ≡ max a (max b c)
+max_group a b c = omega arith
+
+same_rounds : (xs ys : List ℕ) (a b c d : ℕ) → xs ≡ ys → a ≡ b → c ≡ d → rounds xs a c ≡ rounds ys b d
+same_rounds xs ys a b c d counts first second = λ i. rounds (counts i) (first i) (second i)
+
+pub rounds_add_up : IsTally no_rounds both_rounds known_rounds
+rounds_add_up = record {
+  unit = λ t. same_rounds t.arrivals t.arrivals (max 0 t.reached) t.reached (0 + t.opened) t.opened refl (omega arith) (omega arith);
+  swap = λ t u. same_rounds (both_counts t.arrivals u.arrivals) (both_counts u.arrivals t.arrivals) (max t.reached u.reached) (max u.reached t.reached) (t.opened + u.opened) (u.opened + t.opened)
+      (counts_swap t.arrivals u.arrivals) (omega arith) (omega arith);
+  group = λ t u v. same_rounds (both_counts (both_counts t.arrivals u.arrivals) v.arrivals) (both_counts t.arrivals (both_counts u.arrivals v.arrivals))
+      (max (max t.reached u.reached) v.reached) (max t.reached (max u.reached v.reached)) (t.opened + u.opened + v.opened) (t.opened + (u.opened + v.opened))
+      (counts_group t.arrivals u.arrivals v.arrivals) (max_group t.reached u.reached v.reached) (omega arith);
+  copy = λ t. same_rounds t.arrivals t.arrivals (max t.reached t.reached) t.reached (0 + t.opened) t.opened refl (omega arith) (omega arith);
+}

@@ -1,0 +1,9 @@
+pub mod MutexRule
+pub mod MutexTally
+pub mod SemaphoreRule
+pub mod SemaphoreTally
+pub mod BarrierRule
+pub mod BarrierTally
+pub mod Held
+pub mod HeldTally
+pub mod RwReaderRule

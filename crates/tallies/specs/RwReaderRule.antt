@@ -1,0 +1,26 @@
+-- The rule over all passes of a reader-preferring lock.
+use Rattle.std.specs.Prelude.{◌≡◌, ℕ, List, length, slice_index}
+use mathlib.Core.Option as maybe
+use mathlib.Core.Option.{some}
+use Rattle.tallies.specs.declared.held.Held.{Held}
+use Rattle.tallies.specs.declared.held.Held.TheVariants.{Free}
+use Rattle.tallies.specs.Held.{both_held, Locks}
+use Rattle.tallies.specs.HeldTally.{same_nothing}
+
+-- the holds of a pass of the plain lock, which know nothing
+abbrev pub Holds : Type 0
+Holds = Held (Unit {0})
+
+abbrev pub no_holds : Holds
+no_holds = Free
+
+abbrev pub both_holds : Holds → Holds → Holds
+both_holds = both_held same_nothing
+
+-- there is one word, and it is the number of read holds, or 2 ^ 64 - 1 with a write hold
+pub record IsHeld (words : List ℕ) (t : Holds) : Type 0 where
+  pub one_word : length words ≡ 1
+  pub locks : Locks (slice_index words 0) tt t
+
+abbrev pub RwReaderAgrees : List ℕ → List (maybe.Option (Unit {0})) → Holds → Type 0
+RwReaderAgrees words homes = IsHeld words

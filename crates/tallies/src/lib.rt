@@ -1,0 +1,15 @@
+//! What the passes of each object count, and the rule over it: what the sum over all passes of an object says of its words. And the word
+//! that wait and wake closures see, which is one of any of these objects, so that one closure serves them all.
+#![tactic(auto)]
+
+mod barrier;
+mod held;
+mod mutex;
+mod semaphore;
+mod wait_word;
+
+pub use barrier::{Arrivals, Rounds};
+pub use held::{Held, Known};
+pub use mutex::Holds;
+pub use semaphore::Permits;
+pub use wait_word::WaitWord;

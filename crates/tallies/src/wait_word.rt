@@ -1,0 +1,67 @@
+//! The word that wait and wake closures see.
+use crate::{Held, Holds, Permits, Rounds};
+use passes::Word;
+
+/// A word of an object, as wait and wake closures see it. It can be loaded, and no more.
+#[derive(Drop)]
+pub struct WaitWord<'t> {
+    word: AnyWord<'t>,
+}
+
+/// A word of any object.
+#[derive(Drop)]
+enum AnyWord<'t> {
+    Mutex(Word<'t, (), Holds>),
+    ReaderLock(Word<'t, (), Held<()>>),
+    Semaphore(Word<'t, u64, Permits>),
+    Barrier(Word<'t, u32, Rounds>),
+}
+
+impl WaitWord<'_> {
+    /// The word as it is now. Another party may write it right after, so the answer promises nothing.
+    #[inline(always)]
+    pub fn load(&self) -> u64 {
+        match &self.word {
+            AnyWord::Mutex(word) => word.load(),
+            AnyWord::ReaderLock(word) => word.load(),
+            AnyWord::Semaphore(word) => word.load(),
+            AnyWord::Barrier(word) => word.load(),
+        }
+    }
+}
+
+impl<'t> From<Word<'t, (), Holds>> for WaitWord<'t> {
+    #[inline(always)]
+    fn from(word: Word<'t, (), Holds>) -> WaitWord<'t> {
+        WaitWord {
+            word: AnyWord::Mutex(word),
+        }
+    }
+}
+
+impl<'t> From<Word<'t, (), Held<()>>> for WaitWord<'t> {
+    #[inline(always)]
+    fn from(word: Word<'t, (), Held<()>>) -> WaitWord<'t> {
+        WaitWord {
+            word: AnyWord::ReaderLock(word),
+        }
+    }
+}
+
+impl<'t> From<Word<'t, u64, Permits>> for WaitWord<'t> {
+    #[inline(always)]
+    fn from(word: Word<'t, u64, Permits>) -> WaitWord<'t> {
+        WaitWord {
+            word: AnyWord::Semaphore(word),
+        }
+    }
+}
+
+impl<'t> From<Word<'t, u32, Rounds>> for WaitWord<'t> {
+    #[inline(always)]
+    fn from(word: Word<'t, u32, Rounds>) -> WaitWord<'t> {
+        WaitWord {
+            word: AnyWord::Barrier(word),
+        }
+    }
+}
