@@ -171,20 +171,31 @@ going_law :
     EventLaw party past n hold (Some c) (record { act = act; outcome = outcome })
 going_law {T} party past n hold c act thens.GoesOn wait goes count step asks =
     record {
-      count = count; number = refl; cause = tt; asks = tt; tries = tt;
+      count = count;
+      number = refl;
+      cause = tt;
+      asks = tt;
+      tries = tt;
       steps = subst (λ (k : Call T). CallStep k c.own (event party act thens.GoesOn) (hold_after condvar_table act (Some c) hold)) (sym wait) step;
       exact = another calls.Wait c.call _ (sym wait) (λ same. absurd cc);
     }
 going_law {T} party past n hold c act (thens.Waits seen) wait goes count step asks =
     record {
-      count = count; number = refl; cause = tt; tries = tt;
+      count = count;
+      number = refl;
+      cause = tt;
+      tries = tt;
       asks = subst (λ (k : Call T). spins_of k c.own ≡ 10000) (sym wait) asks;
       steps = subst (λ (k : Call T). CallStep k c.own (event party act (thens.Waits seen)) (hold_after condvar_table act (Some c) hold)) (sym wait) step;
       exact = another calls.Wait c.call _ (sym wait) (λ same. absurd cc);
     }
 going_law {T} party past n hold c act (thens.Chooses old) wait goes count step asks =
     record {
-      count = count; number = refl; cause = tt; asks = tt; tries = tt;
+      count = count;
+      number = refl;
+      cause = tt;
+      asks = tt;
+      tries = tt;
       steps = subst (λ (k : Call T). CallStep k c.own (event party act (thens.Chooses old)) (hold_after condvar_table act (Some c) hold)) (sym wait) step;
       exact = another calls.Wait c.call _ (sym wait) (λ same. absurd cc);
     }
@@ -265,7 +276,10 @@ relock_law {T} party past n hold true c w true (afters.Ends answers.Success) cal
     let granted : condvar_grant c.call 0 1 ≡ Some kinds.Write = ap (λ (k : Call T). condvar_grant k 0 1) wait in
     record {
       count = ending n c act (event party act (thens.Answers answers.Success)) answers.Success wait so.counted refl refl;
-      number = refl; cause = tt; asks = tt; tries = tt;
+      number = refl;
+      cause = tt;
+      asks = tt;
+      tries = tt;
       steps = subst (λ (k : Call T). CallStep k c.own (event party act (thens.Answers answers.Success)) (hold_after condvar_table act (Some c) hold)) (sym wait)
           (locking party w 1 c true (thens.Answers answers.Success) (hold_after condvar_table act (Some c) hold) so (rw (granted, so.taken) refl));
       exact = another calls.Wait c.call _ (sym wait) (λ same. absurd cc);
@@ -277,7 +291,9 @@ relock_law {T} party past n hold false c w true (afters.Ends answers.Success) ca
     let cause : FoundNoPermit party (e ∷ past) = rw (eqb_same party) none in
     record {
       count = ending n c act e answers.InterruptedHeld wait so.counted refl refl;
-      number = refl; asks = tt; tries = tt;
+      number = refl;
+      asks = tt;
+      tries = tt;
       cause = subst (λ (k : Call T). CondvarCause k party (e ∷ past)) (sym wait) cause;
       steps = subst (λ (k : Call T). CallStep k c.own e (hold_after condvar_table act (Some c) hold)) (sym wait)
           (locking party w 0 c true (thens.Answers answers.InterruptedHeld) (hold_after condvar_table act (Some c) hold) so (rw (granted, so.taken) refl));
@@ -290,7 +306,8 @@ relock_law {T} party past n hold signalled c w false (afters.Ends answers.Interr
     let held : FoundMutexHeld party (e ∷ past) = rw (eqb_same party) (aborted, locked_at condvar_table past w law leads.0) in
     record {
       count = ending n c act e answers.Interrupted wait so.counted refl refl;
-      number = refl; asks = tt;
+      number = refl;
+      asks = tt;
       cause = subst (λ (k : Call T). CondvarCause k party (e ∷ past)) (sym wait) (held, by_signal signalled so none);
       steps = subst (λ (k : Call T). CallStep k c.own e (hold_after condvar_table act (Some c) hold)) (sym wait)
           (locking party w (took signalled) c false (thens.Answers answers.Interrupted) (hold_after condvar_table act (Some c) hold) so (rw free refl));
@@ -338,7 +355,10 @@ notify_law {T} party past n hold c wake act true is quiet keeps apart goes step 
     let e : Event T = event party act (thens.Answers answers.Done) in
     record {
       count = not_counted n act (thens.Answers answers.Done) e c (notify_waits wake c.call is) quiet keeps (goes e);
-      number = refl; cause = tt; asks = tt; tries = tt;
+      number = refl;
+      cause = tt;
+      asks = tt;
+      tries = tt;
       steps = notify_step wake c.call c.own e (hold_after condvar_table act (Some c) hold) is step;
       exact = λ try sees. let no : true ≡ false = sym sees ∙ apart in absurd cc;
     }
@@ -346,7 +366,10 @@ notify_law {T} party past n hold c wake act false is quiet keeps apart goes step
     let e : Event T = event party act thens.GoesOn in
     record {
       count = not_counted n act thens.GoesOn e c (notify_waits wake c.call is) quiet keeps (goes e);
-      number = refl; cause = tt; asks = tt; tries = tt;
+      number = refl;
+      cause = tt;
+      asks = tt;
+      tries = tt;
       steps = notify_step wake c.call c.own e (hold_after condvar_table act (Some c) hold) is step;
       exact = λ try sees. let no : true ≡ false = sym sees ∙ apart in absurd cc;
     }
@@ -448,7 +471,7 @@ mutex_event {T} party past n hold c place memory called at law =
     let a : After T MutexPlace = mutex_after place (value_told act) in
     let outcome : Then T = outcome_of (within places.Mutex a) in
     let there : mutex.EventLaw condvar_table party past (Some c) (record { act = act; outcome = outcome }) =
-        subst (λ (o : Then T). mutex.EventLaw condvar_table party past (Some c) (record { act = act; outcome = o })) (sym (outcome_within places.Mutex a)) (mutex.step_law condvar_table party past c place hold memory called at law) in
+    subst (λ (o : Then T). mutex.EventLaw condvar_table party past (Some c) (record { act = act; outcome = o })) (sym (outcome_within places.Mutex a)) (mutex.step_law condvar_table party past c place hold memory called at law) in
     mutex_law_here party past n hold c act outcome (mutex_waits place c hold at) (mutex_quiet T place memory n).0 (mutex_quiet T place memory n).1 (carried_goes_on (mutex_intent words.State place) memory (event party act outcome) c)
     (ap number_answered (outcome_within places.Mutex a) ∙ mutex_number place c hold memory at) (mutex_step place c hold (hold_after condvar_table act (Some c) hold) memory party outcome at) there
 
@@ -498,7 +521,10 @@ apart_law party past n hold None act apart keeps goes none = record { count = in
 apart_law party past n hold (Some c) act apart keeps goes none =
     record {
       count = inl (apart.counts, keeps, rw (goes c (event party act thens.GoesOn)) (apart_counts c (event party act thens.GoesOn) apart.counts));
-      number = refl; cause = tt; asks = tt; tries = tt;
+      number = refl;
+      cause = tt;
+      asks = tt;
+      tries = tt;
       steps = apart_step c.call c.own party act _ apart;
       exact = λ try sees. contrary _ _ apart.mutex sees;
     }

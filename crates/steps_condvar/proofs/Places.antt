@@ -174,7 +174,7 @@ mutex_steps {T} place c hold left memory number next at is =
     let inner = mutex.steps_at place c hold left memory number on.0 at on.1 in
     let same : outcome_of {T = T} a ≡ outcome_of (within places.Mutex a) = sym (outcome_within places.Mutex a) in
     let here : AtMutex on.0 (record { call = c.call; own = event number (carried_out (mutex_intent words.State place) memory) (outcome_of (within places.Mutex a)) ∷ c.own }) left =
-        subst (λ (o : Then T). AtMutex on.0 (record { call = c.call; own = event number (carried_out (mutex_intent words.State place) memory) o ∷ c.own }) left) same inner in
+    subst (λ (o : Then T). AtMutex on.0 (record { call = c.call; own = event number (carried_out (mutex_intent words.State place) memory) o ∷ c.own }) left) same inner in
     subst (λ p. AtCondvar {T = T} p (record { call = c.call; own = event number (carried_out (mutex_intent words.State place) memory) (outcome_of (within places.Mutex a)) ∷ c.own }) left) on.2 here
 
 -- a step for a permit, by how it goes on
@@ -277,9 +277,13 @@ answers_at :
 answers_at (places.Mutex place) c hold action number at waits = mutex.answers_at place c hold action number at waits
 answers_at (places.Permit place) c hold action number at waits =
     (at.0, at.1, no_progress c.own number (acts.Answered action) thens.GoesOn 1 1 1 0 at.2 refl refl refl refl, wait_answered place (since_count c.own) number action at.3 (ap answer_fault at.2.latest ∙ waits))
-answers_at (places.Relock signalled (locks.Lock patience)) c hold action number at waits =
-    (at.0, at.1, no_progress c.own number (acts.Answered action) thens.GoesOn 2 1 1 (took signalled) at.2 refl refl refl refl,
-     signal_stays signalled c.own (event number (acts.Answered action) thens.GoesOn) refl at.3, lock_answered patience (since_count c.own) number action at.4 (ap answer_fault at.2.latest ∙ waits))
+answers_at (places.Relock signalled (locks.Lock patience)) c hold action number at waits = (
+  at.0,
+  at.1,
+  no_progress c.own number (acts.Answered action) thens.GoesOn 2 1 1 (took signalled) at.2 refl refl refl refl,
+  signal_stays signalled c.own (event number (acts.Answered action) thens.GoesOn) refl at.3,
+  lock_answered patience (since_count c.own) number action at.4 (ap answer_fault at.2.latest ∙ waits),
+)
 answers_at (places.Relock signalled other) c hold action number at waits = absurd at.4
 answers_at other c hold action number at waits = not_asked (latest_outcome c.own) _ at.1 waits
 
@@ -289,9 +293,13 @@ chooses_at :
 chooses_at (places.Mutex place) c hold choice number at stands = mutex.chooses_at place c hold choice number at
 chooses_at (places.Permit place) c hold choice number at stands =
     (at.0, at.1, no_progress c.own number (acts.Chosen choice) thens.GoesOn 1 1 1 0 at.2 refl refl refl refl, wait_chosen place (since_count c.own) number choice at.3)
-chooses_at (places.Relock signalled (locks.Lock patience)) c hold choice number at stands =
-    (at.0, at.1, no_progress c.own number (acts.Chosen choice) thens.GoesOn 2 1 1 (took signalled) at.2 refl refl refl refl,
-     signal_stays signalled c.own (event number (acts.Chosen choice) thens.GoesOn) refl at.3, lock_chosen patience (since_count c.own) number choice at.4)
+chooses_at (places.Relock signalled (locks.Lock patience)) c hold choice number at stands = (
+  at.0,
+  at.1,
+  no_progress c.own number (acts.Chosen choice) thens.GoesOn 2 1 1 (took signalled) at.2 refl refl refl refl,
+  signal_stays signalled c.own (event number (acts.Chosen choice) thens.GoesOn) refl at.3,
+  lock_chosen patience (since_count c.own) number choice at.4,
+)
 chooses_at (places.Relock signalled other) c hold choice number at stands = absurd at.4
 chooses_at other c hold choice number at stands = not_chosen (latest_outcome c.own) _ at.1 stands
 

@@ -17,6 +17,9 @@ use steps_events::row::{After, Intent};
 use steps_mutex::MutexPlace;
 use steps_semaphore::SemaphorePlace;
 
+#[cfg(test)]
+mod tests;
+
 /// How many permits a notify gives that wakes so, where so many wait: at most one to wake one, and one for each to wake all.
 #[inline(always)]
 pub fn permits_for(wake: Wake, waiters: u64) -> u64
@@ -37,10 +40,7 @@ pub enum CondvarPlace {
     /// The load of the waiter count, in a notify that wakes so.
     Read(Wake),
     /// The add to the permits, in a notify.
-    Post {
-        wake: Wake,
-        amount: u64,
-    },
+    Post { wake: Wake, amount: u64 },
     /// The wake of a notify.
     Wake(Wake),
     /// The add to the waiter count, in `Wait`.
@@ -50,14 +50,9 @@ pub enum CondvarPlace {
     /// A step of the semaphore of permits, in `Wait`.
     Permit(SemaphorePlace),
     /// The subtraction from the waiter count, in a `Wait` that took a permit or took none.
-    CountOut {
-        signalled: bool,
-    },
+    CountOut { signalled: bool },
     /// A step of the mutex, in the lock of such a `Wait`.
-    Relock {
-        signalled: bool,
-        place: MutexPlace,
-    },
+    Relock { signalled: bool, place: MutexPlace },
 }
 
 impl CondvarPlace {
