@@ -11,6 +11,7 @@ use Rattle.steps_semaphore.specs.Law.{SemaphoreCause, SemaphoreLaw}
 use Rattle.steps_barrier.specs.Law.{BarrierCause, BarrierLaw}
 use Rattle.steps_rw_reader.specs.Law.{RwReaderCause, RwReaderLaw}
 use Rattle.steps_rw_writer.specs.Law.{RwWriterCause, RwWriterLaw}
+use Rattle.steps_condvar.specs.Law.{CondvarCause, CondvarLaw}
 use Rattle.steps_once.specs.Law.{OnceCause, OnceLaw}
 use Rattle.sync_steps.specs.Objects.{table_of}
 use Rattle.sync_steps.specs.Runs.{holds_of}
@@ -23,7 +24,7 @@ CauseOf (objects.Semaphore initial) call party events = SemaphoreCause initial c
 CauseOf (objects.Barrier n) call party events = BarrierCause n call party events
 CauseOf objects.ReaderLock call party events = RwReaderCause call party events
 CauseOf objects.WriterLock call party events = RwWriterCause call party events
-CauseOf objects.Condvar call party events = ⊥
+CauseOf objects.Condvar call party events = CondvarCause call party events
 CauseOf objects.Once call party events = OnceCause call party events
 CauseOf (objects.Lazy v) call party events = ⊥
 CauseOf (objects.Atomic v) call party events = ⊥
@@ -36,7 +37,7 @@ LawOf (objects.Semaphore initial) past = SemaphoreLaw initial past
 LawOf (objects.Barrier n) past = BarrierLaw n past
 LawOf objects.ReaderLock past = RwReaderLaw past
 LawOf objects.WriterLock past = RwWriterLaw past
-LawOf objects.Condvar past = past ≡ []
+LawOf objects.Condvar past = CondvarLaw past
 LawOf objects.Once past = OnceLaw past
 LawOf (objects.Lazy v) past = past ≡ []
 LawOf (objects.Atomic v) past = past ≡ []

@@ -9,7 +9,7 @@ use steps_events::atomic::internal::AtomicInteger;
 
 /// At every front of every run, of any object and any number of parties, the headline holds: each lock has one writer or
 /// only readers, a writer-preferring lock loses no wake and leaves no mark, no more permits are taken than given, a
-/// barrier's call passes only once its round is full, a once's one closure ends before any call tells of it, and every
+/// condition variable's wait tells whether it was signalled, a barrier's call passes only once its round is full, a once's one closure ends before any call tells of it, and every
 /// refusal has its cause. It says so of the definitions alone, and does nothing.
 #[tactic(auto, using(crate::proofs::Headlines::headline))]
 pub fn at_every_front<T: AtomicInteger>()

@@ -38,7 +38,7 @@ impl<T, A: Allocator> Model for Machine<T, A> {
 
 impl<T: AtomicInteger, A: Allocator> Machine<T, A> {
     /// A machine of the object, where no party has begun a call yet. So far it serves mutexes, semaphores, barriers, both reader-writer
-    /// locks and onces.
+    /// locks, condition variables and onces.
     ///
     /// It takes memory for the places of its parties, and answers `AllocError` where there is none.
     pub fn new(alloc: A, object: Object<T>, parties: usize) -> Result<Machine<T, A>, AllocError>

@@ -4,6 +4,7 @@ ghost use Rattle.sync_steps.specs.Machine.Places.{begins_at, intent_at, after_at
 
 use std::alloc::AllocError;
 use steps_barrier::BarrierPlace;
+use steps_condvar::CondvarPlace;
 use steps_events::WaitAction;
 use steps_events::event::{Call, Object, Word};
 use steps_events::hold::HoldKind;
@@ -22,6 +23,7 @@ pub enum Place {
     Barrier(BarrierPlace),
     RwReader(RwReaderPlace),
     RwWriter(RwWriterPlace),
+    Condvar(CondvarPlace),
     Once(OncePlace),
 }
 
@@ -67,8 +69,9 @@ impl Place {
             Object::Barrier(n) => Some(Place::Barrier(BarrierPlace::begin(call, *n)?)),
             Object::ReaderLock => Some(Place::RwReader(RwReaderPlace::begin(call)?)),
             Object::WriterLock => Some(Place::RwWriter(RwWriterPlace::begin(call)?)),
+            Object::Condvar => Some(Place::Condvar(CondvarPlace::begin(call)?)),
             Object::Once => Some(Place::Once(OncePlace::begin(call)?)),
-            Object::Spin | Object::Condvar | Object::Lazy(_) | Object::Atomic(_) => None,
+            Object::Spin | Object::Lazy(_) | Object::Atomic(_) => None,
         }
     }
 
@@ -83,13 +86,14 @@ impl Place {
             Place::Barrier(place) => place.intent(Word::State),
             Place::RwReader(place) => place.intent(Word::State, hold),
             Place::RwWriter(place) => place.intent(Word::State, Word::Counter, hold),
+            Place::Condvar(place) => place.intent(),
             Place::Once(place) => place.intent(Word::State),
         }
     }
 
     /// How the call goes on, by what the step told.
     #[inline(always)]
-    pub fn after<T>(&self, told: Option<u64>) -> After<T, Place>
+    pub fn after<T: Copy>(&self, told: Option<u64>) -> After<T, Place>
         ensures { result ≡ after_at self.now told }
     {
         match self {
@@ -98,6 +102,7 @@ impl Place {
             Place::Barrier(place) => place.after(told).within(Place::Barrier),
             Place::RwReader(place) => place.after(told).within(Place::RwReader),
             Place::RwWriter(place) => place.after(told).within(Place::RwWriter),
+            Place::Condvar(place) => place.after(told).within(Place::Condvar),
             Place::Once(place) => place.after(told).within(Place::Once),
         }
     }
@@ -112,6 +117,7 @@ impl Place {
             Place::Barrier(place) => Place::Barrier(place.answered(action)),
             Place::RwReader(place) => Place::RwReader(place.answered(action)),
             Place::RwWriter(place) => Place::RwWriter(place.answered(action)),
+            Place::Condvar(place) => Place::Condvar(place.answered(action)),
             Place::Once(place) => Place::Once(place.answered(action)),
         }
     }
@@ -128,6 +134,7 @@ impl Place {
             Place::Barrier(place) => Place::Barrier(*place),
             Place::RwReader(place) => Place::RwReader(*place),
             Place::RwWriter(place) => Place::RwWriter(*place),
+            Place::Condvar(place) => Place::Condvar(*place),
             Place::Once(place) => Place::Once(*place),
         }
     }
@@ -142,10 +149,10 @@ pub fn grant<T>(object: &Object<T>, call: &Call<T>, from: u64, to: u64) -> Optio
         Object::Mutex => steps_mutex::grant(call),
         Object::ReaderLock => steps_rw_reader::grant(call),
         Object::WriterLock => steps_rw_writer::grant(call, from, to),
+        Object::Condvar => steps_condvar::grant(call),
         Object::Semaphore(_)
         | Object::Spin
         | Object::Barrier(_)
-        | Object::Condvar
         | Object::Once
         | Object::Lazy(_)
         | Object::Atomic(_) => None,
@@ -158,10 +165,10 @@ pub fn needs_hold<T>(object: &Object<T>, call: &Call<T>) -> bool
 {
     match object {
         Object::Mutex | Object::ReaderLock | Object::WriterLock => { matches!(call, Call::Unlock) }
+        Object::Condvar => matches!(call, Call::Unlock | Call::Wait),
         Object::Semaphore(_)
         | Object::Spin
         | Object::Barrier(_)
-        | Object::Condvar
         | Object::Once
         | Object::Lazy(_)
         | Object::Atomic(_) => false,
