@@ -1,6 +1,7 @@
 //! Each text is played by `run`, from a slice to a vector.
 
 mod barrier;
+mod condvar;
 mod faults;
 mod long;
 mod once;
