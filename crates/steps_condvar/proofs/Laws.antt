@@ -88,6 +88,10 @@ notify_wakes : {T : Type 0} (wake : Wake) (call : Call T) → call ≡ notify wa
 notify_wakes {T} wakes.One call is = ap (λ (k : Call T). wake_for k) is
 notify_wakes {T} wakes.All call is = ap (λ (k : Call T). wake_for k) is
 
+amount_is : (wake : Wake) (waiters : ℕ) → permits_for wake waiters ≡ amount_for (Some wake) waiters
+amount_is wakes.One waiters = refl
+amount_is wakes.All waiters = refl
+
 step_effect :
     {T : Type 0} (place : CondvarPlace) (c : PendingCall T) (hold : Option HoldKind) (memory : Word → ℕ) → AtCondvar place c hold →
     Effect (memory words.Value) (word_after {T = T} words.Value (step_at condvar_table place hold memory).act (memory words.Value)) (condvar_gives {T = T} (step_at condvar_table place hold memory).act (Some c)) (is_take {T = T} words.Value (step_at condvar_table place hold memory).act)
@@ -97,7 +101,7 @@ step_effect (places.Mutex locks.Release) c hold memory at = inl (refl, refl, ref
 step_effect (places.Mutex locks.Wake) c hold memory at = inl (refl, refl, refl)
 step_effect (places.Read wake) c hold memory at = inl (refl, refl, refl)
 step_effect {T} (places.Post wake amount) c hold memory at =
-    let gives : amount ≡ amount_for (wake_for c.call) (count_read c.own) = rw (notify_wakes wake c.call at.0) at.4 in
+    let gives : amount ≡ amount_for (wake_for c.call) (count_read c.own) = rw (notify_wakes wake c.call at.0) (at.4 ∙ amount_is wake (count_read c.own)) in
     inr (inl (ap (λ k. (memory words.Value + k) % 2 ^ 64) gives, refl))
 step_effect (places.Wake wake) c hold memory at = inl (refl, refl, refl)
 step_effect places.CountIn c hold memory at = inl (refl, refl, refl)
@@ -552,7 +556,7 @@ step_law {T} z parties party past c (places.Read wake) hold memory run called at
     notify_law party past (memory words.Waiters) hold c wake (acts.Load words.Waiters (memory words.Waiters)) false at.0 refl refl refl (λ e. refl) (record { posts = λ yes. absurd cc; sums = tt; ends = tt; apart = refl })
 step_law {T} z parties party past c (places.Post wake amount) hold memory run called at law =
     notify_law party past (memory words.Waiters) hold c wake (step_at {T = T} condvar_table (places.Post wake amount) hold memory).act false at.0 refl refl refl (λ e. refl)
-    (record { posts = λ yes. (at.2, at.3); sums = ap (λ k. (memory words.Value + k) % 2 ^ 64) at.4; ends = tt; apart = refl })
+    (record { posts = λ yes. (at.2, at.3); sums = ap (λ k. (memory words.Value + k) % 2 ^ 64) (at.4 ∙ amount_is wake (count_read c.own)); ends = tt; apart = refl })
 step_law {T} z parties party past c (places.Wake wake) hold memory run called at law =
     notify_law party past (memory words.Waiters) hold c wake (acts.Woke wake) true at.0 refl refl refl (λ e. refl) (record { posts = λ yes. absurd cc; sums = tt; ends = (refl, refl, at.2); apart = refl })
 step_law {T} z parties party past c places.CountIn hold memory run called at law =

@@ -1,6 +1,6 @@
 -- What a condition variable keeps at every front of every run: its waiter count, its permits, what each answer of a `Wait` means, a cause for each
 -- refusal, and how often a call tries.
-use Rattle.std.specs.Prelude.{◌≡◌, ℕ, zero, suc, ◌+◌, ◌%◌, ◌^◌, ◌==◌, ◌⊎◌, Bool, true, false, if◌then◌else◌, List, [], ◌∷◌, Option, Some, None, unwrap_or, MatchBool, MatchOption}
+use Rattle.std.specs.Prelude.{◌≡◌, ℕ, zero, suc, min, ◌+◌, ◌%◌, ◌^◌, ◌==◌, ◌⊎◌, Bool, true, false, if◌then◌else◌, List, [], ◌∷◌, Option, Some, None, unwrap_or, MatchBool, MatchOption}
 use Rattle.steps_events.specs.declared.event.Word.TheVariants as words
 use Rattle.steps_events.specs.declared.event.Wake.{Wake}
 use Rattle.steps_events.specs.declared.event.Wake.TheVariants as wakes
@@ -21,7 +21,7 @@ use Rattle.steps_mutex.specs.Law as mutex
 use Rattle.steps_mutex.specs.Law.{LockCause, HasTriedAll, IsExactGrant}
 use Rattle.steps_semaphore.specs.Permits.{permits, permits_taken, is_take, KeepsPermits}
 use Rattle.steps_semaphore.specs.Law.{is_empty_look}
-use Rattle.steps_condvar.specs.Table.{permits_for, condvar_table}
+use Rattle.steps_condvar.specs.Table.{condvar_table}
 use Rattle.steps_condvar.specs.Waiters.{is_count, counts_in, since_count, CountsWaiters}
 
 -- Permits.
@@ -37,9 +37,11 @@ abbrev pub count_read : {T : Type 0} → List (Event T) → ℕ
 count_read [] = 0
 count_read (e ∷ own) = unwrap_or (sight_of words.Waiters e.act) (count_read own)
 
+-- the permits that it gives, where so many wait
 abbrev pub amount_for : Option Wake → ℕ → ℕ
 amount_for None waiters = 0
-amount_for (Some wake) waiters = permits_for wake waiters
+amount_for (Some wakes.One) waiters = min 1 waiters
+amount_for (Some wakes.All) waiters = waiters
 
 -- the add of a `NotifyOne` gives the lesser of 1 and the count that it read, that of a `NotifyAll` this count
 abbrev pub condvar_gives : {T : Type 0} → Act T → Option (PendingCall T) → ℕ
@@ -131,7 +133,7 @@ pub record NotifyStep {T : Type 0} (wake : Wake) (own : List (Event T)) (e : Eve
   -- it posts once, once it has read the waiter count
   pub posts : is_post e.act ≡ true → (acts_in is_read own ≡ 1) × (acts_in is_post own ≡ 0)
   -- as many permits as the count tells
-  pub sums : PutsSum (permits_for wake (count_read own)) e.act
+  pub sums : PutsSum (amount_for (Some wake) (count_read own)) e.act
   -- it ends once it has posted, with its wake
   pub ends : MatchOption (answer_of e.then) (Unit {0}) (λ answer. (answer ≡ answers.Done) × (e.act ≡ acts.Woke wake) × (acts_in is_post own ≡ 1))
   -- and has to do with the mutex at no time
