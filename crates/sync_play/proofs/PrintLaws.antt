@@ -19,13 +19,13 @@ pub last_printed :
     word ≡ word_in u64_arithmetic o past words.State → failed ≡ min (failures_in past) (2 ^ 64 - 1) →
     first ≡ old ++ named (codes "word") word →
     second ≡ first ++ named_words (word_in u64_arithmetic o past) (further_words o) →
-    OnOk result (all ≡ second ++ (named (codes " failed") failed ++ codes "\n")) →
+    OnOk result (all ≡ second ++ (codes " " ++ (named (codes "failed") failed ++ codes "\n"))) →
     OnOk result (all ≡ old ++ last_line o past)
 unfolding last_line
 last_printed result o past word failed old first second all w f a b c =
     let front = named (codes "word") word in
     let rest = named_words (word_in u64_arithmetic o past) (further_words o) in
-    let end = named (codes " failed") failed ++ codes "\n" in
+    let end = codes " " ++ (named (codes "failed") failed ++ codes "\n") in
     let whole : old ++ (front ++ (rest ++ end)) ≡ old ++ last_line o past = rw (w, f) refl in
     let pieces : second ≡ (old ++ front) ++ rest = b ∙ ap (λ (l : List ℕ). l ++ rest) a in
     printed_all result (λ is. is ∙ ap (λ (l : List ℕ). l ++ end) pieces ∙ append_assoc (old ++ front) rest end ∙ append_assoc old front (rest ++ end) ∙ whole) c

@@ -24,6 +24,8 @@ header_of [] = Err faults.NoObject
 header_of (name ∷ words) =
     if bytes_eq name (codes "mutex")
     then (parties_of words >>= λ n. Ok (record { object = objects.Mutex; parties = n }))
+    else (if bytes_eq name (codes "spin")
+    then (parties_of words >>= λ n. Ok (record { object = objects.Spin; parties = n }))
     else (if bytes_eq name (codes "semaphore")
     then (parties_and_value (2 ^ 64 - 1) words >>= λ opened. Ok (record { object = objects.Semaphore opened.1; parties = opened.0 }))
     else (if bytes_eq name (codes "barrier")
@@ -36,4 +38,6 @@ header_of (name ∷ words) =
     then (parties_of words >>= λ n. Ok (record { object = objects.Condvar; parties = n }))
     else (if bytes_eq name (codes "once")
     then (parties_of words >>= λ n. Ok (record { object = objects.Once; parties = n }))
-    else Err faults.NoObject))))))
+    else (if bytes_eq name (codes "lazy")
+    then (parties_and_value (2 ^ 64 - 1) words >>= λ opened. Ok (record { object = objects.Lazy opened.1; parties = opened.0 }))
+    else Err faults.NoObject))))))))

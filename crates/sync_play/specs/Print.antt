@@ -57,7 +57,7 @@ printed events = flat_map event_lines events
 
 -- The last line: what the run has left.
 
--- how it tells a number, by a name
+-- a number by its name
 abbrev pub named : List ℕ → ℕ → List ℕ
 named name n = name ++ (codes " " ++ decimal n)
 
@@ -68,19 +68,19 @@ further_words objects.Spin = []
 further_words (objects.Semaphore initial) = []
 further_words (objects.Barrier n) = []
 further_words objects.ReaderLock = []
-further_words objects.WriterLock = (codes " counter", words.Counter) ∷ []
-further_words objects.Condvar = (codes " waiters", words.Waiters) ∷ (codes " value", words.Value) ∷ []
+further_words objects.WriterLock = (codes "counter", words.Counter) ∷ []
+further_words objects.Condvar = (codes "waiters", words.Waiters) ∷ (codes "value", words.Value) ∷ []
 further_words objects.Once = []
 further_words (objects.Lazy v) = []
 further_words (objects.Atomic v) = []
 
--- the words by their names, where they hold this
+-- what words hold in this memory, by their names, each after a space
 abbrev pub named_words : (Word → ℕ) → List (List ℕ × Word) → List ℕ
-named_words memory rows = flat_map (λ row. named row.0 (memory row.1)) rows
+named_words memory rows = flat_map (λ row. codes " " ++ named row.0 (memory row.1)) rows
 
 -- the first word, the further ones, and how many exchanges failed
 abbrev pub line_of_words : (Word → ℕ) → List (List ℕ × Word) → ℕ → List ℕ
-line_of_words memory rows failed = named (codes "word") (memory words.State) ++ (named_words memory rows ++ (named (codes " failed") failed ++ codes "\n"))
+line_of_words memory rows failed = named (codes "word") (memory words.State) ++ (named_words memory rows ++ (codes " " ++ (named (codes "failed") failed ++ codes "\n")))
 
 unfoldable pub last_line : Object ℕ → List (Event ℕ) → List ℕ
 last_line o past = line_of_words (word_in u64_arithmetic o past) (further_words o) (min (failures_in past) (2 ^ 64 - 1))

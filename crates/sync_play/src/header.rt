@@ -66,6 +66,12 @@ impl Header {
                 object: Object::Mutex,
                 parties,
             })
+        } else if is(name, b"spin") {
+            let parties = parties(rest)?;
+            Ok(Header {
+                object: Object::Spin,
+                parties,
+            })
         } else if is(name, b"semaphore") {
             let (parties, initial) = parties_and_value(u64::MAX, rest)?;
             Ok(Header {
@@ -100,6 +106,12 @@ impl Header {
             let parties = parties(rest)?;
             Ok(Header {
                 object: Object::Once,
+                parties,
+            })
+        } else if is(name, b"lazy") {
+            let (parties, value) = parties_and_value(u64::MAX, rest)?;
+            Ok(Header {
+                object: Object::Lazy(value),
                 parties,
             })
         } else {

@@ -103,6 +103,10 @@ fn outcome(events: &[Event<u64>], at: usize) -> Option<(usize, Then<u64>)> {
     Some((event.party, event.then))
 }
 
+fn act_of(events: &[Event<u64>], at: usize) -> Option<Act<u64>> {
+    Some(events.get(at)?.act)
+}
+
 #[test]
 fn the_last_of_a_thousand_parties_locks(rt: HostRuntime) -> Result<(), Fail> {
     let mut machine = Machine::<u64>::new(rt.alloc(), Object::Mutex, 1000)?;
@@ -393,6 +397,35 @@ fn a_once_runs_in_one_piece_and_in_two(rt: HostRuntime) -> Result<(), Fail> {
 }
 
 #[test]
+fn a_spin_lock_is_handed_on_in_one_piece_and_in_two(rt: HostRuntime) -> Result<(), Fail> {
+    let schedule = [
+        (1, Input::Begin(Call::BlockingLock)),
+        (1, Input::Go),
+        (0, Input::Begin(Call::Lock)),
+        (0, Input::Go),
+        (2, Input::Begin(Call::TryLock)),
+        (2, Input::Go),
+        (1, Input::Begin(Call::Unlock)),
+        (1, Input::Go),
+        (0, Input::Go),
+    ];
+    let success = Then::Answers(Answer::Success);
+    let interrupted = Then::Answers(Answer::Interrupted);
+    let done = Then::Answers(Answer::Done);
+    for at in 0..9 {
+        let (whole, parts, word) = in_two_pieces(rt.alloc(), Object::Spin, &schedule, at)?;
+        assert_eq!(rt; outcome(&whole, 1), Some((1, success)));
+        assert_eq!(rt; outcome(&whole, 3), Some((0, Then::GoesOn)));
+        assert_eq!(rt; outcome(&whole, 5), Some((2, interrupted)));
+        assert_eq!(rt; outcome(&whole, 7), Some((1, done)));
+        assert_eq!(rt; outcome(&whole, 8), Some((0, success)));
+        assert!(rt; whole.as_slice() == parts.as_slice());
+        assert_eq!(rt; word, 1);
+    }
+    Ok(())
+}
+
+#[test]
 fn a_waiting_writer_enters_in_one_piece_and_in_two(rt: HostRuntime) -> Result<(), Fail> {
     let schedule = [
         (0, Input::Begin(Call::ReadLock)),
@@ -563,5 +596,37 @@ fn a_wait_that_gives_up_holds_the_mutex_again(rt: HostRuntime) -> Result<(), Fai
     assert_eq!(rt; machine.waiters(), 0);
     assert_eq!(rt; machine.value(), 0);
     assert_eq!(rt; machine.failed(), 0);
+    Ok(())
+}
+
+#[test]
+fn a_lazy_value_is_made_in_one_piece_and_in_two(rt: HostRuntime) -> Result<(), Fail> {
+    let schedule = [
+        (1, Input::Begin(Call::Force)),
+        (1, Input::Go),
+        (1, Input::Go),
+        (0, Input::Begin(Call::Force)),
+        (0, Input::Go),
+        (0, Input::Go),
+        (1, Input::Go),
+        (1, Input::Go),
+        (0, Input::Go),
+        (0, Input::Go),
+        (1, Input::Go),
+    ];
+    let value = u64::MAX;
+    let read = Act::ReadCell(value);
+    let told = Then::Answers(Answer::Value(value));
+    for at in 0..11 {
+        let (whole, parts, word) = in_two_pieces(rt.alloc(), Object::Lazy(value), &schedule, at)?;
+        assert_eq!(rt; act_of(&whole, 6), Some(Act::Ended));
+        assert_eq!(rt; outcome(&whole, 7), Some((1, Then::GoesOn)));
+        assert_eq!(rt; outcome(&whole, 8), Some((0, Then::GoesOn)));
+        assert_eq!(rt; act_of(&whole, 9), Some(read));
+        assert_eq!(rt; outcome(&whole, 9), Some((0, told)));
+        assert_eq!(rt; outcome(&whole, 10), Some((1, told)));
+        assert!(rt; whole.as_slice() == parts.as_slice());
+        assert_eq!(rt; word, 2);
+    }
     Ok(())
 }

@@ -1,4 +1,5 @@
 use Rattle.std.proofs.Common.{◌<◌, length, subst}
+use Rattle.steps_events.specs.WordsAt.{word_at}
 use Rattle.steps_events.specs.declared.event.Input.TheVariants as inputs
 use Rattle.sync_steps.specs.Machine.{Configuration}
 use Rattle.sync_steps.specs.Machine.Applies.{HasRefused}
