@@ -59,23 +59,28 @@ lock_leads_by :
     {T : Type 0} (word : Word) (patience : Patience) (own : List (Event T)) (number w : ℕ) (free keep left : Bool) → HasTriedSo patience own →
     (w == 0) ≡ free → patience.keep ≡ keep → nat_lt patience.spins 10000 ≡ left → LockLeads own number w (acts.Exchange word 0 1 w free) (lock_after patience free keep left)
 lock_leads_by word patience own number w true keep left tried is keeps spins = eqb-true w 0 is
-lock_leads_by word patience own number w false true true tried is keeps spins =
-    (record {
-      so = record { spun = omega (arith, tried.so.spun); keeps = tried.so.keeps; within_limit = spins_left patience.spins spins };
-      tried = omega (arith, tried.tried);
-      failed = omega (arith, tried.failed);
-      stands = λ waits. absurd cc;
-      gives_up = λ gave. let no : true ≡ false = sym keeps ∙ gave in absurd cc;
-    }, eqb-false w 0 is)
+lock_leads_by word patience own number w false true true tried is keeps spins = (
+  record {
+    so = record { spun = omega (arith, tried.so.spun); keeps = tried.so.keeps; within_limit = spins_left patience.spins spins };
+    tried = omega (arith, tried.tried);
+    failed = omega (arith, tried.failed);
+    stands = λ waits. absurd cc;
+    gives_up = λ gave. let no : true ≡ false = sym keeps ∙ gave in absurd cc;
+  },
+  eqb-false w 0 is,
+)
 lock_leads_by word patience own number w false true false tried is keeps spins =
-    let all : patience.spins ≡ 10000 = spins_spent patience.spins tried.so.within_limit spins in
-    (record {
-      so = record { spun = omega (arith, tried.so.spun); keeps = tried.so.keeps; within_limit = tried.so.within_limit };
-      tried = omega (arith, tried.tried);
-      failed = omega (arith, tried.failed);
-      stands = λ waits. all;
-      gives_up = λ gave. all;
-    }, eqb-false w 0 is, tried.so.spun ∙ all)
+    let all : patience.spins ≡ 10000 = spins_spent patience.spins tried.so.within_limit spins in (
+      record {
+        so = record { spun = omega (arith, tried.so.spun); keeps = tried.so.keeps; within_limit = tried.so.within_limit };
+        tried = omega (arith, tried.tried);
+        failed = omega (arith, tried.failed);
+        stands = λ waits. all;
+        gives_up = λ gave. all;
+      },
+      eqb-false w 0 is,
+      tried.so.spun ∙ all,
+    )
 lock_leads_by word patience own number w false false left tried is keeps spins =
     (eqb-false w 0 is, tried.so.keeps ∙ keeps, (omega (arith, tried.tried, tried.gives_up keeps), omega (arith, tried.failed)))
 
