@@ -3,6 +3,7 @@ ghost use Rattle.std.specs.Prelude.{◌≡◌, true};
 ghost use Rattle.sync_steps.specs.Objects.{is_served};
 
 mod barrier;
+mod condvar;
 mod faults;
 mod lazy;
 mod long;
