@@ -1,11 +1,10 @@
 -- The waiter count and the parties that wait: each event changes both alike.
-use Rattle.std.proofs.Common.{◌≡◌, ◌≢◌, ℕ, ◌+◌, ◌-◌, ◌%◌, ◌^◌, ◌==◌, refl, sym, ◌∙◌, subst, Bool, true, false, cond, List, [], ◌∷◌, length, Option, Some, None, ◌⊎◌, inl, inr, arith}
+use Rattle.std.proofs.Common.{◌≡◌, ◌≢◌, ℕ, ◌+◌, ◌-◌, ◌%◌, ◌^◌, ◌==◌, refl, sym, ◌∙◌, subst, Bool, true, false, cond, List, [], ◌∷◌, length, ◌⊎◌, inl, inr, arith}
 use Rattle.std.proofs.lemmas.Bool.Decides.{eqb_tells}
 use Rattle.steps_events.specs.declared.event.Word.TheVariants as words
-use Rattle.steps_events.specs.declared.event.Act.{Act}
 use Rattle.steps_events.specs.declared.event.Event.{Event}
-use Rattle.steps_events.specs.Past.{PendingCall, call_of, call_after, word_in, word_after}
-use Rattle.steps_events.proofs.Holds.{eqb_same, eqb_other}
+use Rattle.steps_events.specs.Past.{call_of, call_after, word_in, word_after}
+use Rattle.steps_events.proofs.Holds.{eqb_other}
 use Rattle.steps_condvar.specs.Table.{condvar_table}
 use Rattle.steps_condvar.specs.Waiters.{is_count, is_counted, without, times, waiting_after, CountsWaiters}
 

@@ -1,7 +1,7 @@
 -- A condition variable keeps its law at every front of every run.
-use Rattle.std.proofs.Common.{◌≡◌, ◌≢◌, ◌≤◌, ◌∙◌, ℕ, zero, suc, ◌+◌, ◌-◌, ◌%◌, ◌^◌, ◌==◌, ◌&&◌, refl, sym, ap, subst, Bool, true, false, cond, is_some, List, [], ◌∷◌, Option, Some, None, ◌⊎◌, inl, inr, ◌↔◌, arith}
-use Rattle.std.specs.Prelude.{IfSome, MatchBool, MatchOption, nat_lt, not}
-use Rattle.std.proofs.lemmas.Bool.{eqb-true, eqb-false, eq-eqb}
+use Rattle.std.proofs.Common.{◌≡◌, ◌∙◌, ℕ, ◌+◌, ◌%◌, ◌^◌, ◌==◌, ◌&&◌, refl, sym, ap, subst, Bool, true, false, cond, List, [], ◌∷◌, Option, Some, None, ◌⊎◌, inl, inr, ◌↔◌, arith}
+use Rattle.std.specs.Prelude.{IfSome, MatchBool, MatchOption, not}
+use Rattle.std.proofs.lemmas.Bool.{eqb-true, eqb-false}
 use Rattle.steps_events.specs.declared.event.Word.{Word}
 use Rattle.steps_events.specs.declared.event.Word.TheVariants as words
 use Rattle.steps_events.specs.declared.event.Wake.{Wake}
@@ -18,7 +18,6 @@ use Rattle.steps_events.specs.declared.event.Then.TheVariants as thens
 use Rattle.steps_events.specs.declared.event.Input.{Input}
 use Rattle.steps_events.specs.declared.hold.HoldKind.{HoldKind}
 use Rattle.steps_events.specs.declared.hold.HoldKind.TheVariants as kinds
-use Rattle.steps_events.specs.declared.patience.Patience.{Patience}
 use Rattle.steps_events.specs.declared.row.After.{After}
 use Rattle.steps_events.specs.declared.row.After.TheVariants as afters
 use Rattle.steps_events.specs.Arithmetic.{Arithmetic}
@@ -26,8 +25,8 @@ use Rattle.steps_events.specs.Rows.{carried_out, value_told, outcome_of, within}
 use Rattle.steps_events.specs.Past.{same_word, PendingCall, call_of, call_after, call_going_on, holds_of, hold_of, hold_after, word_in, word_after, event, is_release, is_failure}
 use Rattle.steps_events.specs.Moves.{Move, step_at, fault_at, begin_fault}
 use Rattle.steps_events.specs.Runs.{IsPast}
-use Rattle.steps_events.specs.Sights.{sight_of, is_sight, AtLastSight, spins_in, stands_at_wait, acts_in}
-use Rattle.steps_events.specs.Laws.{IsTold, is_apart, Lacks, is_refusal}
+use Rattle.steps_events.specs.Sights.{sight_of, is_sight, spins_in, stands_at_wait}
+use Rattle.steps_events.specs.Laws.{IsTold, Lacks, is_refusal}
 use Rattle.steps_events.proofs.Holds.{eqb_same, hold_of_same}
 use Rattle.steps_events.proofs.Steps.{carried_goes_on, by_move, tells_memory}
 use Rattle.steps_events.proofs.LastSights.{sight_is_told, at_last_sight}
@@ -35,7 +34,7 @@ use Rattle.steps_events.proofs.Parties.{at_place, fault_at_none}
 use Rattle.steps_events.proofs.Locks.{IsLock, IsLockIntent, IsFreeOrHeld, lock_word, lock_exclusive, locked_at}
 use Rattle.steps_mutex.specs.declared.MutexPlace.{MutexPlace}
 use Rattle.steps_mutex.specs.declared.MutexPlace.TheVariants as locks
-use Rattle.steps_mutex.specs.Table.{mutex_intent, mutex_after, mutex_table}
+use Rattle.steps_mutex.specs.Table.{mutex_intent, mutex_after}
 use Rattle.steps_mutex.specs.Law as mutex_law
 use Rattle.steps_mutex.specs.Law.{LockCause}
 use Rattle.steps_mutex.proofs.LockSteps.{LockLeads, lock_leads}
@@ -43,9 +42,7 @@ use Rattle.steps_mutex.proofs.Laws as mutex
 use Rattle.steps_mutex.proofs.Laws.{AtMutex, another, mutex_lacks}
 use Rattle.steps_semaphore.specs.declared.SemaphorePlace.{SemaphorePlace}
 use Rattle.steps_semaphore.specs.declared.SemaphorePlace.TheVariants as permits
-use Rattle.steps_semaphore.specs.Table.{semaphore_intent, semaphore_after}
 use Rattle.steps_semaphore.specs.Permits.{permits_given, permits_taken, is_take, number_answered}
-use Rattle.steps_semaphore.specs.Law.{is_empty_look}
 use Rattle.steps_semaphore.proofs.Permits.{Effect, Tallies, tallies_first, tallies_after, lowered}
 use Rattle.steps_semaphore.proofs.Laws.{semaphore_apart}
 use Rattle.steps_semaphore.proofs.WaitSteps.{WaitLeads, wait_leads, wait_effect}
@@ -53,7 +50,7 @@ use Rattle.steps_condvar.specs.declared.CondvarPlace.{CondvarPlace}
 use Rattle.steps_condvar.specs.declared.CondvarPlace.TheVariants as places
 use Rattle.steps_condvar.specs.Table.{permits_for, condvar_table, condvar_grant, permitted, relocked}
 use Rattle.steps_condvar.specs.Waiters.{is_count, counts_in, since_count, is_wait, is_counted, CountsWaiters}
-use Rattle.steps_condvar.specs.Law.{wake_for, count_read, amount_for, condvar_gives, condvar_value, takes_in, HasAbortedSince, FoundNoPermit, FoundMutexHeld, IsSignalled, CondvarCause, answer_of, wait_answer, WaitStep, is_post, PutsSum, NotifyStep, LockStep, CallStep, spins_of, gives_up, HasTried, KeepsCondvar}
+use Rattle.steps_condvar.specs.Law.{wake_for, count_read, amount_for, condvar_gives, condvar_value, takes_in, HasAbortedSince, FoundNoPermit, FoundMutexHeld, IsSignalled, CondvarCause, answer_of, wait_answer, WaitStep, is_post, PutsSum, NotifyStep, CallStep, spins_of, gives_up, HasTried, KeepsCondvar}
 use Rattle.steps_condvar.proofs.Counts.{CountEffect, none_wait, counts_after}
 use Rattle.steps_condvar.proofs.Places.{notify, Progress, SawNone, SignalIs, took, AtCondvar, outcome_within, condvar_kept}
 

@@ -15,13 +15,12 @@ use Rattle.steps_events.specs.declared.event.Event.{Event}
 use Rattle.steps_events.specs.declared.event.Then.{Then}
 use Rattle.steps_events.specs.declared.event.Then.TheVariants as thens
 use Rattle.steps_events.specs.declared.hold.HoldKind.{HoldKind}
-use Rattle.steps_events.specs.declared.hold.HoldKind.TheVariants as kinds
 use Rattle.steps_events.specs.declared.row.After.{After}
 use Rattle.steps_events.specs.declared.row.After.TheVariants as afters
 use Rattle.steps_events.specs.Rows.{carried_out, value_told, outcome_of, place_after, within}
-use Rattle.steps_events.specs.Past.{PendingCall, latest_outcome, event, is_release, hold_taken, hold_after}
-use Rattle.steps_events.specs.Moves.{step_at, hold_fault, go_fault, answer_fault, choose_fault}
-use Rattle.steps_events.specs.Sights.{sight_of, is_sight, is_abort, keeps_asking, acts_in}
+use Rattle.steps_events.specs.Past.{PendingCall, latest_outcome, event, is_release, hold_after}
+use Rattle.steps_events.specs.Moves.{step_at, hold_fault, answer_fault, choose_fault}
+use Rattle.steps_events.specs.Sights.{is_sight, keeps_asking, acts_in}
 use Rattle.steps_events.proofs.LastSights.{LastSaw}
 use Rattle.steps_events.proofs.Parties.{IsKept}
 use Rattle.steps_events.proofs.Spins.{HasSpun, begun_spun, passed_on}
@@ -33,7 +32,6 @@ use Rattle.steps_mutex.proofs.Laws as mutex
 use Rattle.steps_mutex.proofs.Laws.{AtMutex}
 use Rattle.steps_semaphore.specs.declared.SemaphorePlace.{SemaphorePlace}
 use Rattle.steps_semaphore.specs.declared.SemaphorePlace.TheVariants as permits
-use Rattle.steps_semaphore.specs.Table.{semaphore_intent, semaphore_after}
 use Rattle.steps_semaphore.specs.Permits.{is_take}
 use Rattle.steps_semaphore.specs.Law.{is_empty_look}
 use Rattle.steps_semaphore.proofs.WaitSteps.{AtWait, WaitLeads, wait_leads, wait_answered, wait_chosen}

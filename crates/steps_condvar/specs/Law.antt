@@ -22,7 +22,7 @@ use Rattle.steps_mutex.specs.Law.{LockCause, HasTriedAll, IsExactGrant}
 use Rattle.steps_semaphore.specs.Permits.{permits, permits_taken, is_take, KeepsPermits}
 use Rattle.steps_semaphore.specs.Law.{is_empty_look}
 use Rattle.steps_condvar.specs.Table.{condvar_table}
-use Rattle.steps_condvar.specs.Waiters.{is_count, counts_in, since_count, CountsWaiters}
+use Rattle.steps_condvar.specs.Waiters.{counts_in, since_count, CountsWaiters}
 
 -- Permits.
 

@@ -1,6 +1,6 @@
 -- A mutex keeps its law at every front of every run.
-use Rattle.std.proofs.Common.{◌≡◌, ℕ, ◌+◌, ◌==◌, refl, sym, ◌∙◌, ap, subst, Bool, true, false, cond, is_some, List, [], ◌∷◌, Option, Some, None, ◌↔◌, arith}
-use Rattle.std.specs.Prelude.{MatchBool, MatchOption, nat_lt, not}
+use Rattle.std.proofs.Common.{◌≡◌, ℕ, ◌==◌, refl, sym, ◌∙◌, ap, subst, Bool, true, false, cond, is_some, List, [], ◌∷◌, Option, Some, None, ◌↔◌}
+use Rattle.std.specs.Prelude.{MatchBool, MatchOption, not}
 use Rattle.std.proofs.lemmas.Bool.{eqb-true, eqb-false}
 use Rattle.steps_events.specs.declared.WaitAction.{WaitAction}
 use Rattle.steps_events.specs.declared.event.Word.{Word}
@@ -14,16 +14,15 @@ use Rattle.steps_events.specs.declared.event.Event.{Event}
 use Rattle.steps_events.specs.declared.event.Then.TheVariants as thens
 use Rattle.steps_events.specs.declared.hold.HoldKind.{HoldKind}
 use Rattle.steps_events.specs.declared.hold.HoldKind.TheVariants as kinds
-use Rattle.steps_events.specs.declared.patience.Patience.{Patience}
 use Rattle.steps_events.specs.declared.row.After.{After}
 use Rattle.steps_events.specs.declared.row.After.TheVariants as afters
 use Rattle.steps_events.specs.Arithmetic.{Arithmetic}
 use Rattle.steps_events.specs.Tables.{Table}
-use Rattle.steps_events.specs.Rows.{carried_out, value_told, outcome_of, place_after, within}
-use Rattle.steps_events.specs.Past.{same_word, PendingCall, call_of, holds_of, hold_of, word_in, latest_outcome, event, is_failure, failures_in}
+use Rattle.steps_events.specs.Rows.{carried_out, value_told, outcome_of, place_after}
+use Rattle.steps_events.specs.Past.{same_word, PendingCall, call_of, holds_of, hold_of, word_in, latest_outcome, event, is_failure}
 use Rattle.steps_events.specs.Moves.{Move, step_at, hold_fault, answer_fault}
 use Rattle.steps_events.specs.Runs.{IsPast}
-use Rattle.steps_events.specs.Sights.{is_sight, HasAborted, spins_in, stands_at_wait, stands_in, exchanges_in}
+use Rattle.steps_events.specs.Sights.{is_sight, HasAborted, spins_in, stands_at_wait}
 use Rattle.steps_events.specs.Laws.{Lacks, is_refusal}
 use Rattle.steps_events.proofs.Holds.{eqb_same}
 use Rattle.steps_events.proofs.Steps.{by_move, tells_memory}
