@@ -1,6 +1,5 @@
 pub mod HeldKeeps
 pub mod RwReaderKeeps
 pub mod RwWriterKeeps
-pub mod RwWriterTries
 pub mod RwReaderUnlocks
 pub mod RwReaderJoins

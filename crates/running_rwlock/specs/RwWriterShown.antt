@@ -115,6 +115,10 @@ pub record HasJustSeen (found : ℕ) (q : Pass MarkedHolds) : Type 0 where
   pub fresh : (sights_of q).fresh ≡ true
   pub down : ¬ IsMarked found → flags_of q ≡ 0
 
+-- within a call: as far as a writer has seen, no reader enters, since its own mark stands, or for another reason
+abbrev pub KeepsReadersOut : Pass MarkedHolds → Type 0
+KeepsReadersOut q = (flags_of q ≡ 1) ⊎ IsShut (sights_of q).last
+
 -- within a call: an exchange from the value that a writer had just seen found another, since another party had written in between
 pub record HasMissedIt (found : ℕ) (p q : Pass MarkedHolds) : Type 0 where
   pub tried : HasTried 1 p q

@@ -182,7 +182,7 @@ impl<A: Allocator> RwLockWriterPreference<A> {
     ghost use Rattle.tallies.specs.RwWriterRule.{nothing_marked};
     ghost use Rattle.running_rwlock.specs.RwShown.{IsReadHold, IsWriteHold, pass_of, borrow_of, WasTurnedAway};
     ghost use Rattle.running_rwlock.specs.RwWriterSteps.{IsMarked, IsOnly, SaysAlone, WriterIn, Unchanged, read, word_of};
-    ghost use Rattle.running_rwlock.specs.RwWriterShown.{IsRwWriterPass, IsAlone, IsAloneWithin, IsShut, pass_in, known_by, part_in, sights_in, reads_of, writes_of, flags_of, HasEnteredToRead, HasEnteredToWrite, HasReadAtOnce, HasWrittenAtOnce, HasSeenTaken, HasEnteredSeenFree, HasTried, HasJustSeen, HasMissedIt, MayGiveUp, HasGivenUpWriting, HasLeftReading, HasLeftWriting, HasUnlocked};
+    ghost use Rattle.running_rwlock.specs.RwWriterShown.{IsRwWriterPass, IsAlone, IsAloneWithin, IsShut, pass_in, known_by, part_in, sights_in, reads_of, writes_of, flags_of, HasEnteredToRead, HasEnteredToWrite, HasReadAtOnce, HasWrittenAtOnce, HasSeenTaken, HasEnteredSeenFree, HasTried, HasJustSeen, KeepsReadersOut, HasMissedIt, MayGiveUp, HasGivenUpWriting, HasLeftReading, HasLeftWriting, HasUnlocked};
 
     /// A lock that is free, and the pass that is whole. `Err` where there was no memory; then nothing was made.
     #[tactic(auto, using(crate::proofs::RwWriterKeeps::opens))]
@@ -513,6 +513,7 @@ impl<A: Allocator> RwLockWriterPreference<A> {
     fn enter_or_mark<R: Wait>(&self, rt: &R, pass: &mut Pass<MarkedHolds>) -> bool
         requires own { IsPassOf self.now.words pass.old }
         ensures entered { MatchBool result (HasEnteredSeenFree pass.old pass.new) (HasTried 1 pass.old pass.new) }
+        ensures shut { result ≡ false → KeepsReadersOut pass.new }
         ensures exact { IsAloneWithin pass.old → result ≡ true }
     {
         let seen = self.look_to_write(pass);
@@ -525,6 +526,7 @@ impl<A: Allocator> RwLockWriterPreference<A> {
         requires own { IsPassOf self.now.words pass.old }
         requires just { HasJustSeen seen pass.old }
         ensures entered { MatchBool result (HasEnteredSeenFree pass.old pass.new) (HasTried 0 pass.old pass.new) }
+        ensures shut { result ≡ false → KeepsReadersOut pass.new }
         ensures exact { seen ≡ 0 → IsAloneWithin pass.old → result ≡ true }
     {
         let mut last = seen;
@@ -645,7 +647,7 @@ impl<A: Allocator> RwLockWriterPreference<A> {
     }
 
     /// A load by a writer.
-    #[tactic(auto, using(crate::proofs::RwWriterKeeps::loads_to_write, crate::proofs::RwWriterTries::looks, crate::proofs::RwWriterTries::looks_last))]
+    #[tactic(auto, using(crate::proofs::RwWriterKeeps::loads_to_write))]
     #[inline(always)]
     fn look_to_write(&self, pass: &mut Pass<MarkedHolds>) -> u64
         requires own { IsPassOf self.now.words pass.old }
@@ -657,7 +659,6 @@ impl<A: Allocator> RwLockWriterPreference<A> {
     }
 
     /// An exchange of the value just seen, where nobody held the lock, for 2^64 - 1. `Err` with another value that it found.
-    #[tactic(auto, using(crate::proofs::RwWriterTries::misses, crate::proofs::RwWriterTries::enters_free))]
     #[inline(always)]
     fn enter(&self, pass: &mut Pass<MarkedHolds>, seen: u64) -> Result<(), u64>
         requires own { IsPassOf self.now.words pass.old }
@@ -684,7 +685,6 @@ impl<A: Allocator> RwLockWriterPreference<A> {
     }
 
     /// An exchange of the value just seen for one more. `Err` with another value that it found.
-    #[tactic(auto, using(crate::proofs::RwWriterTries::misses, crate::proofs::RwWriterTries::marks_it))]
     #[inline(always)]
     fn set_mark(&self, pass: &mut Pass<MarkedHolds>, seen: u64, marked: u64) -> Result<(), u64>
         requires own { IsPassOf self.now.words pass.old }
@@ -692,7 +692,7 @@ impl<A: Allocator> RwLockWriterPreference<A> {
         requires even { seen % 2 ≡ 0 }
         requires other { seen ≢ 2 ^ 64 - 2 }
         requires marked { marked ≡ seen + 1 }
-        ensures done { IfOk result (λ _. HasTried 0 pass.old pass.new) }
+        ensures done { IfOk result (λ _. HasTried 0 pass.old pass.new × KeepsReadersOut pass.new) }
         ensures missed { IfErr result (λ found. HasMissedIt found pass.old pass.new) }
     {
         let found = self
@@ -702,7 +702,6 @@ impl<A: Allocator> RwLockWriterPreference<A> {
     }
 
     /// An exchange of the value just seen for one less. `Err` with another value that it found.
-    #[tactic(auto, using(crate::proofs::RwWriterTries::misses, crate::proofs::RwWriterTries::unmarks_it))]
     #[inline(always)]
     fn take_mark(&self, pass: &mut Pass<MarkedHolds>, seen: u64, unmarked: u64) -> Result<(), u64>
         requires own { IsPassOf self.now.words pass.old }
