@@ -5,5 +5,6 @@ mod mutex;
 mod once;
 mod refusals;
 mod rwreader;
+mod rwwriter;
 mod semaphore;
 mod signal;
