@@ -5,7 +5,7 @@
 //! exchange, and that a barrier of 0 refuses each call.
 #![tactic(auto)]
 
-ghost use Rattle.std.specs.Prelude.{◌≡◌, ◌<◌, ◌≤◌, IfOk};
+ghost use Rattle.std.specs.Prelude.{◌≡◌, ◌≢◌, ◌<◌, ◌≤◌, ◌+◌, IfOk, MatchBool};
 ghost use Rattle.passes.specs.Objects.{count_of as words_of, key_of};
 ghost use Rattle.running_barrier.specs.BarrierSteps.{OpenRoundsAreFull};
 ghost use Rattle.steps_barrier.specs.Rounds.{epoch_of, count_of};
@@ -15,7 +15,7 @@ use std::alloc::{AllocError, Allocator, Global};
 use std::hint::spin_loop;
 use std::ops::Deref;
 use std::sync::Wait;
-use steps_barrier::arrived;
+use steps_barrier::{arrived, count_of, epoch_of};
 use steps_events::SPIN_REPETITIONS;
 use tallies::{Rounds, WaitWord};
 
@@ -113,8 +113,10 @@ impl<A: Allocator> Barrier<A> {
         ensures none { waiters_of self.now ≡ 0 → is_ok result ≡ false }
         ensures woke { IfOk result (λ _. opened_of pass.old < opened_of pass.new → HasWoken K.Fn wake_all) }
     {
+        // Read once: it would be loaded again after the exchange.
+        let number_of_waiters = self.number_of_waiters;
         let seen = self.look(pass);
-        let Some(next) = self.next(seen) else {
+        let Some(next) = arrived(seen, number_of_waiters) else {
             return Err(BarrierFull);
         };
         let found = self.exchange(pass, seen, next);
@@ -123,7 +125,7 @@ impl<A: Allocator> Barrier<A> {
         } else {
             self.arrive(rt, pass, found)
         };
-        if self.is_last(from) {
+        if fills(from, number_of_waiters) {
             wake(&wake_all, &self.word());
             return Ok(());
         }
@@ -140,7 +142,7 @@ impl<A: Allocator> Barrier<A> {
     {
         let mut seen = found;
         for _ in rt.forever() {
-            let Some(next) = self.next(seen) else {
+            let Some(next) = arrived(seen, self.number_of_waiters) else {
                 unreachable!()
             };
             let found = self.exchange(pass, seen, next);
@@ -150,22 +152,6 @@ impl<A: Allocator> Barrier<A> {
             seen = found;
         }
         unreachable!()
-    }
-
-    /// The word after an arrival at this value, where there is room for one.
-    #[inline(always)]
-    fn next(&self, seen: u64) -> Option<u64>
-        ensures { MatchOption result (waiters_of self.now ≤ count_of seen) (IsNextWord (waiters_of self.now) seen) }
-    {
-        arrived(seen, self.number_of_waiters)
-    }
-
-    /// Whether an arrival from this value fills its round.
-    #[inline(always)]
-    fn is_last(&self, from: u64) -> bool
-        ensures { MatchBool result (count_of from + 1 ≡ waiters_of self.now) (count_of from + 1 ≢ waiters_of self.now) }
-    {
-        count_of(from) + 1 == u64::from(self.number_of_waiters)
     }
 
     /// Waits until the epoch is another than this one, which was that of the last look or arrival.
@@ -264,20 +250,12 @@ impl<A: Allocator> Barrier<A> {
     }
 }
 
-/// How many rounds were opened, modulo 2^32, at this word.
+/// Whether an arrival from this value fills a round of so many.
 #[inline(always)]
-fn epoch_of(word: u64) -> u64
-    ensures { result ≡ epoch_of word }
+fn fills(from: u64, number_of_waiters: u32) -> bool
+    ensures { MatchBool result (count_of from + 1 ≡ number_of_waiters) (count_of from + 1 ≢ number_of_waiters) }
 {
-    word >> 32
-}
-
-/// How many have arrived in the round that fills, at this word.
-#[inline(always)]
-fn count_of(word: u64) -> u64
-    ensures { result ≡ count_of word }
-{
-    word & 0xFFFF_FFFF
+    count_of(from) + 1 == u64::from(number_of_waiters)
 }
 
 /// Whenever the rule of a barrier holds, a round that a pass knows to be open is full. Says so of the rule alone, and does nothing.

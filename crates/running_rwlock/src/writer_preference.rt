@@ -8,7 +8,7 @@ ghost use Rattle.steps_rw_writer.specs.Table.{is_blocked as blocked};
 ghost use Rattle.running_rwlock.specs.RwWriterSteps.{NoHoldBesideTheWriter, NoMarkWithoutAFlag};
 
 use crate::hold::{ReadHold, RwHold, RwPass, WriteHold};
-use passes::{AttemptAt, Deed, Pass, WaitResult, Words, may_give_up, try_again, wake};
+use passes::{Attempt, Deed, Pass, WaitResult, Words, may_give_up, try_again, wake};
 use std::alloc::{AllocError, Allocator, Global};
 use std::hint::spin_loop;
 use std::sync::Wait;
@@ -828,7 +828,7 @@ struct Reader<'l, A: Allocator> {
 }
 
 /// A look of `read_lock`, and its exchanges.
-impl<A: Allocator> AttemptAt<MarkedHolds> for Reader<'_, A> {
+impl<A: Allocator> Attempt<MarkedHolds> for Reader<'_, A> {
     ghost use Rattle.passes.specs.Objects.{id_of};
     ghost use Rattle.running_rwlock.specs.RwWriterSteps.{IsOnly};
     ghost use Rattle.running_rwlock.specs.RwWriterShown.{IsShut, EntersToRead};
@@ -842,7 +842,7 @@ impl<A: Allocator> AttemptAt<MarkedHolds> for Reader<'_, A> {
     ghost looks_once = { IsOnly };
 
     #[inline(always)]
-    fn attempt_at<R: Wait>(&self, rt: &R, pass: &mut Pass<MarkedHolds>) -> Result<(), u64> {
+    fn attempt<R: Wait>(&self, rt: &R, pass: &mut Pass<MarkedHolds>) -> Result<(), u64> {
         self.lock.read_unless_shut(rt, pass)
     }
 }

@@ -28,10 +28,10 @@ pub fn arrived(word: u64, number_of_waiters: u32) -> Option<u64>
 {
     let count = count_of(word) + 1;
     let all = u64::from(number_of_waiters);
-    if count < all {
-        Some(word + 1)
-    } else if count == all {
+    if count == all {
         Some(opened(word))
+    } else if count < all {
+        Some(word + 1)
     } else {
         None
     }
@@ -47,7 +47,7 @@ pub fn opened(word: u64) -> u64
 
 /// How many rounds were opened, modulo 2^32.
 #[inline(always)]
-fn epoch_of(word: u64) -> u64
+pub fn epoch_of(word: u64) -> u64
     ensures { result ≡ epoch_of word }
 {
     word >> 32
@@ -55,7 +55,7 @@ fn epoch_of(word: u64) -> u64
 
 /// How many have arrived in the round that is not full.
 #[inline(always)]
-fn count_of(word: u64) -> u64
+pub fn count_of(word: u64) -> u64
     ensures { result ≡ count_of word }
 {
     word % (1 << 32)

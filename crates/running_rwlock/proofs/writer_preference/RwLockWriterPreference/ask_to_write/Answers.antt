@@ -1,7 +1,7 @@
 use Rattle.std.proofs.Common.{◌<◌, ◌^◌, arith}
 use Rattle.std.proofs.lemmas.Bool.{MatchBool-at_true}
 use Rattle.steps_events.specs.declared.WaitAction.TheVariants as actions
-use Rattle.passes.proofs.AttemptsAt.{told_of_its_kind}
+use Rattle.passes.proofs.Attempts.{told_of_its_kind}
 use Rattle.running_rwlock.proofs.writer_preference.RwLockWriterPreference.ask_to_write.Goals as goal
 
 pub returns-then-may_give_up-clause-aborted : goal.returns-then-may_give_up-clause-aborted
