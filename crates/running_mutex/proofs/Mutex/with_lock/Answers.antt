@@ -1,5 +1,4 @@
-use Rattle.std.proofs.lemmas.Bool.{not-true}
 use Rattle.running_mutex.proofs.Mutex.with_lock.Goals as goal
 
 pub returns-then-not-enter-clause-aborted : goal.returns-then-not-enter-clause-aborted
-returns-then-not-enter-clause-aborted g c = c.enter.ensures.aborted (not-true _ c.if-not-enter.true)
+returns-then-not-enter-clause-aborted g c = c.enter.ensures.aborted c.if-not-enter.true
