@@ -1,7 +1,7 @@
 //! The running writer-preferring lock.
 ghost use Rattle.std.specs.Prelude.{◌≡◌};
 ghost use Rattle.passes.specs.Parts.{IsAgain};
-ghost use Rattle.passes.specs.Passes.{IsSamePass};
+ghost use Rattle.passes.specs.Passes.{IsSamePass, object_of};
 ghost use Rattle.running_rwlock.specs.RwWriterShown.{IsRwWriterPass, IsAlone, HasStayed, pass_in, part_in, reads_of, writes_of};
 
 use crate::strategy::rwlock::{RwLockWriterPreference, RwWriterPass};
@@ -110,7 +110,7 @@ fn two_threads<R: Threads + Wait + Sync>(
 ) -> RwWriterPass
     requires own { IsRwWriterPass lock.now pass }
     requires off { (reads_of (pass_in pass) ≡ 0) × (writes_of (pass_in pass) ≡ 0) }
-    ensures own { IsRwWriterPass lock.now result }
+    ensures same { object_of (pass_in result) ≡ object_of (pass_in pass) }
     ensures off { (reads_of (pass_in result) ≡ 0) × (writes_of (pass_in result) ≡ 0) }
     ensures again { IsAgain (part_in pass) (part_in result) }
 {
@@ -136,11 +136,7 @@ fn two_threads<R: Threads + Wait + Sync>(
 
 /// The word that is left after two threads read and two write, each two hundred times: no hold, and no mark.
 #[tactic(auto, using(running_rwlock::proofs::RwReaderJoins::nobody_joins))]
-fn storm<R: Threads + Wait + Sync>(
-    rt: &R,
-    lock: RwLockWriterPreference,
-    pass: RwWriterPass,
-) -> u64
+fn storm<R: Threads + Wait + Sync>(rt: &R, lock: RwLockWriterPreference, pass: RwWriterPass) -> u64
     requires own { IsRwWriterPass lock pass }
     requires alone { IsAlone pass }
     ensures { result ≡ 0 }
@@ -153,11 +149,11 @@ fn storm<R: Threads + Wait + Sync>(
         rt,
         || -> RwWriterPass
             requires { IsRwWriterPass shared.now one × (reads_of (pass_in one) ≡ 0) × (writes_of (pass_in one) ≡ 0) }
-            ensures { IsRwWriterPass shared.now result × (reads_of (pass_in result) ≡ 0) × (writes_of (pass_in result) ≡ 0) × IsAgain (part_in one) (part_in result) }
+            ensures { (object_of (pass_in result) ≡ object_of (pass_in one)) × (reads_of (pass_in result) ≡ 0) × (writes_of (pass_in result) ≡ 0) × IsAgain (part_in one) (part_in result) }
         { two_threads(rt, shared, one) },
         || -> RwWriterPass
             requires { IsRwWriterPass shared.now two × (reads_of (pass_in two) ≡ 0) × (writes_of (pass_in two) ≡ 0) }
-            ensures { IsRwWriterPass shared.now result × (reads_of (pass_in result) ≡ 0) × (writes_of (pass_in result) ≡ 0) × IsAgain (part_in two) (part_in result) }
+            ensures { (object_of (pass_in result) ≡ object_of (pass_in two)) × (reads_of (pass_in result) ≡ 0) × (writes_of (pass_in result) ≡ 0) × IsAgain (part_in two) (part_in result) }
         { two_threads(rt, shared, two) },
     );
     let Ok(pass) = RwWriterPass::join(one, two, &lock) else {
@@ -195,8 +191,10 @@ impl Calls {
     /// One more digit at the end of the order.
     fn called(&self, digit: u64) {
         let before = self.order.load(Ordering::SeqCst);
-        self.order
-            .store(before.wrapping_mul(10).wrapping_add(digit), Ordering::SeqCst);
+        self.order.store(
+            before.wrapping_mul(10).wrapping_add(digit),
+            Ordering::SeqCst,
+        );
     }
 
     /// The wait closure is 1.
@@ -370,6 +368,7 @@ fn beside_a_reader(
     two: &mut RwWriterPass,
 ) -> Option<(bool, bool)>
     requires { IsRwWriterPass lock.now one.old × IsRwWriterPass lock.now two.old }
+    ensures { IsSamePass (pass_in one.old) (pass_in one.new) × IsSamePass (pass_in two.old) (pass_in two.new) }
 {
     match RwLockWriterPreference::try_read_lock(one, lock) {
         WaitResult::Success(hold) => {
@@ -388,7 +387,10 @@ fn readers_enter_together(rt: HostRuntime) -> Result<(), Fail> {
     let Ok((mut one, mut two)) = pass.split(&lock) else {
         unreachable!()
     };
-    assert_eq!(rt; beside_a_reader(&lock, &mut one, &mut two), Some((false, true)));
+    assert_eq!(rt;
+        beside_a_reader(&lock, &mut one, &mut two),
+        Some((false, true))
+    );
     assert!(rt; !is_refused_to_write(&lock, &mut two));
     Ok(())
 }
@@ -404,21 +406,30 @@ fn a_free_lock_is_granted_unasked(rt: HostRuntime) -> Result<(), Fail> {
     Ok(())
 }
 
-/// Locks in this way and unlocks, with closures that record. Whether it was granted.
-fn lock_and_wake(
-    lock: &RwLockWriterPreference,
-    pass: &mut RwWriterPass,
-    kind: Kind,
-    calls: &Calls,
-) -> bool
+/// Locks for reading and unlocks, with closures that record. Whether it was granted.
+fn read_and_wake(lock: &RwLockWriterPreference, pass: &mut RwWriterPass, calls: &Calls) -> bool
     requires { IsRwWriterPass lock.now pass.old }
     ensures { IsSamePass (pass_in pass.old) (pass_in pass.new) }
 {
-    let locked = match kind {
-        Kind::Read => RwLockWriterPreference::try_read_lock(pass, lock),
-        Kind::Write => RwLockWriterPreference::try_write_lock(pass, lock),
-    };
-    match locked {
+    match RwLockWriterPreference::try_read_lock(pass, lock) {
+        WaitResult::Success(hold) => {
+            lock.unlock(
+                hold,
+                |counter| calls.wake_one(counter),
+                |word| calls.wake_all(word),
+            );
+            true
+        }
+        WaitResult::Interrupted => false,
+    }
+}
+
+/// Locks for writing and unlocks, with closures that record. Whether it was granted.
+fn write_and_wake(lock: &RwLockWriterPreference, pass: &mut RwWriterPass, calls: &Calls) -> bool
+    requires { IsRwWriterPass lock.now pass.old }
+    ensures { IsSamePass (pass_in pass.old) (pass_in pass.new) }
+{
+    match RwLockWriterPreference::try_write_lock(pass, lock) {
         WaitResult::Success(hold) => {
             lock.unlock(
                 hold,
@@ -436,9 +447,9 @@ fn lock_and_wake(
 fn a_writer_that_leaves_wakes(rt: HostRuntime) -> Result<(), Fail> {
     let (lock, mut pass) = RwLockWriterPreference::new(rt.alloc())?;
     let (after_reading, after_writing) = (Calls::new(), Calls::new());
-    assert!(rt; lock_and_wake(&lock, &mut pass, Kind::Read, &after_reading));
+    assert!(rt; read_and_wake(&lock, &mut pass, &after_reading));
     assert_eq!(rt; after_reading.recorded(), (0, 9, 9, 9));
-    assert!(rt; lock_and_wake(&lock, &mut pass, Kind::Write, &after_writing));
+    assert!(rt; write_and_wake(&lock, &mut pass, &after_writing));
     assert_eq!(rt; after_writing.recorded(), (23, 9, 1, 0));
     Ok(())
 }
@@ -565,8 +576,20 @@ fn the_last_reader_wakes_the_writer(rt: HostRuntime) -> Result<(), Fail> {
     let (locked, asked, unlocked) = (Signal::new(), Signal::new(), Signal::new());
     let (left, entered) = thread::join(
         &rt,
-        || read_until_asked(&lock, &mut one, &mut three, &calls, (&locked, &asked, &unlocked)),
-        || lock_after_unlock(&rt, &lock, &mut two, Kind::Write, (&locked, &asked, &unlocked)),
+        || read_until_asked(
+            &lock,
+            &mut one,
+            &mut three,
+            &calls,
+            (&locked, &asked, &unlocked),
+        ),
+        || lock_after_unlock(
+            &rt,
+            &lock,
+            &mut two,
+            Kind::Write,
+            (&locked, &asked, &unlocked),
+        ),
     );
     assert_eq!(rt; left, Some((true, true)));
     assert_eq!(rt; entered, Some(1));
