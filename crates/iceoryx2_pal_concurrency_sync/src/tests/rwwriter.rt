@@ -134,7 +134,36 @@ fn two_threads<R: Threads + Wait + Sync>(
     pass
 }
 
-/// The word that is left after two threads read and two write, each two hundred times: no hold, and no mark.
+/// Two threads read and two write, likewise.
+#[tactic(auto, using(running_rwlock::proofs::RwReaderJoins::nobody_joins))]
+fn four_threads<R: Threads + Wait + Sync>(rt: &R, lock: &RwLockWriterPreference, pass: RwWriterPass) -> RwWriterPass
+    requires own { IsRwWriterPass lock.now pass }
+    requires off { (reads_of (pass_in pass) ≡ 0) × (writes_of (pass_in pass) ≡ 0) }
+    ensures same { object_of (pass_in result) ≡ object_of (pass_in pass) }
+    ensures off { (reads_of (pass_in result) ≡ 0) × (writes_of (pass_in result) ≡ 0) }
+    ensures again { IsAgain (part_in pass) (part_in result) }
+{
+    let Ok((one, two)) = pass.split(lock) else {
+        unreachable!()
+    };
+    let (one, two) = thread::join(
+        rt,
+        || -> RwWriterPass
+            requires { IsRwWriterPass lock.now one × (reads_of (pass_in one) ≡ 0) × (writes_of (pass_in one) ≡ 0) }
+            ensures { (object_of (pass_in result) ≡ object_of (pass_in one)) × (reads_of (pass_in result) ≡ 0) × (writes_of (pass_in result) ≡ 0) × IsAgain (part_in one) (part_in result) }
+        { two_threads(rt, lock, one) },
+        || -> RwWriterPass
+            requires { IsRwWriterPass lock.now two × (reads_of (pass_in two) ≡ 0) × (writes_of (pass_in two) ≡ 0) }
+            ensures { (object_of (pass_in result) ≡ object_of (pass_in two)) × (reads_of (pass_in result) ≡ 0) × (writes_of (pass_in result) ≡ 0) × IsAgain (part_in two) (part_in result) }
+        { two_threads(rt, lock, two) },
+    );
+    let Ok(pass) = RwWriterPass::join(one, two, lock) else {
+        unreachable!()
+    };
+    pass
+}
+
+/// The word that is left after four threads read and four write, each two hundred times: no hold, and no mark.
 #[tactic(auto, using(running_rwlock::proofs::RwReaderJoins::nobody_joins))]
 fn storm<R: Threads + Wait + Sync>(rt: &R, lock: RwLockWriterPreference, pass: RwWriterPass) -> u64
     requires own { IsRwWriterPass lock pass }
@@ -150,11 +179,11 @@ fn storm<R: Threads + Wait + Sync>(rt: &R, lock: RwLockWriterPreference, pass: R
         || -> RwWriterPass
             requires { IsRwWriterPass shared.now one × (reads_of (pass_in one) ≡ 0) × (writes_of (pass_in one) ≡ 0) }
             ensures { (object_of (pass_in result) ≡ object_of (pass_in one)) × (reads_of (pass_in result) ≡ 0) × (writes_of (pass_in result) ≡ 0) × IsAgain (part_in one) (part_in result) }
-        { two_threads(rt, shared, one) },
+        { four_threads(rt, shared, one) },
         || -> RwWriterPass
             requires { IsRwWriterPass shared.now two × (reads_of (pass_in two) ≡ 0) × (writes_of (pass_in two) ≡ 0) }
             ensures { (object_of (pass_in result) ≡ object_of (pass_in two)) × (reads_of (pass_in result) ≡ 0) × (writes_of (pass_in result) ≡ 0) × IsAgain (part_in two) (part_in result) }
-        { two_threads(rt, shared, two) },
+        { four_threads(rt, shared, two) },
     );
     let Ok(pass) = RwWriterPass::join(one, two, &lock) else {
         unreachable!()
