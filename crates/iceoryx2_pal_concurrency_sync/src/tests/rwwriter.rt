@@ -136,7 +136,11 @@ fn two_threads<R: Threads + Wait + Sync>(
 
 /// Two threads read and two write, likewise.
 #[tactic(auto, using(running_rwlock::proofs::RwReaderJoins::nobody_joins))]
-fn four_threads<R: Threads + Wait + Sync>(rt: &R, lock: &RwLockWriterPreference, pass: RwWriterPass) -> RwWriterPass
+fn four_threads<R: Threads + Wait + Sync>(
+    rt: &R,
+    lock: &RwLockWriterPreference,
+    pass: RwWriterPass,
+) -> RwWriterPass
     requires own { IsRwWriterPass lock.now pass }
     requires off { (reads_of (pass_in pass) ≡ 0) × (writes_of (pass_in pass) ≡ 0) }
     ensures same { object_of (pass_in result) ≡ object_of (pass_in pass) }
