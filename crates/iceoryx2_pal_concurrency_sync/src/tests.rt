@@ -1,6 +1,7 @@
 //! What no clause says: that the calls succeed with ample memory, how often they call their closures, and threads that really meet.
 mod barrier;
 mod buffer;
+mod lazy_lock;
 mod mutex;
 mod once;
 mod refusals;
@@ -8,3 +9,4 @@ mod rwreader;
 mod rwwriter;
 mod semaphore;
 mod signal;
+mod spin_lock;

@@ -6,7 +6,7 @@ use std::test::Fail;
 use std::time::{Clock, Duration};
 
 /// The names of the lines, in the order of the table.
-const NAMES: [&str; 20] = [
+const NAMES: [&str; 24] = [
     "bare exchange store",
     "std mutex lock unlock",
     "mutex lock unlock",
@@ -27,6 +27,10 @@ const NAMES: [&str; 20] = [
     "barrier of one",
     "std once_lock get",
     "once after",
+    "bare swaps",
+    "std mutex add unlock",
+    "spin lock unlock",
+    "lazy force",
 ];
 
 const HEAD: &str = "name\tmedian\tlower tenth\tupper tenth\n";
