@@ -6,6 +6,7 @@ mod mutex;
 mod once;
 mod refusals;
 mod rwreader;
+mod rwwriter;
 mod semaphore;
 mod signal;
 mod spin_lock;

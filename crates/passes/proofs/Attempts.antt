@@ -7,7 +7,7 @@ use Rattle.passes.specs.declared.part.Part.{Part}
 use Rattle.passes.specs.declared.part.Sights.{Sights}
 use Rattle.passes.specs.declared.pass.Pass.{Pass}
 use Rattle.passes.specs.Sights.{stale, HasOnlyRead, HasWritten}
-use Rattle.passes.specs.Passes.{tally_of, sights_of, HasOnlySeen, HasMoved}
+use Rattle.passes.specs.Passes.{part_of, tally_of, sights_of, HasOnlySeen, HasMoved}
 use Rattle.passes.specs.Answers.{MayAnswer, MayAnswerContinue, HasAsked}
 
 read_twice : (a b c : Sights) → HasOnlyRead a b → HasOnlyRead b c → HasOnlyRead a c
@@ -31,6 +31,10 @@ module _ {T : Type 0} where
     part = second.part ∙ first.part;
     saw = read_twice (sights_of p) (sights_of q) (sights_of r) first.saw second.saw;
   }
+
+  -- what is so of a part and a tally is so after nothing was counted
+  pub still_so : (P : Part → T → Type 0) (p q : Pass T) → HasOnlySeen p q → P (part_of p) (tally_of p) → P (part_of q) (tally_of q)
+  still_so P p q seen is = subst (λ (x : Part × T). P x.0 x.1) (λ i. (sym seen.part i, sym seen.tally i)) is
 
   -- what moves after nothing was counted moves from the start
   pub moved_later : (Moves : Part → T → T → ℕ → Type 0) (p q r : Pass T) → HasOnlySeen p q → HasMoved Moves q r → HasMoved Moves p r

@@ -2,7 +2,7 @@
 ghost use Rattle.std.specs.Prelude.{◌≡◌, ℕ, ◌+◌, true, false, MatchBool, IfOk, IfErr};
 ghost use Rattle.atomic_table.specs.Seated.{TableId};
 ghost use Rattle.passes.specs.declared.part.Part.{Part};
-ghost use Rattle.passes.specs.Passes.{object_of, part_of, sights_of, HasMoved, WasRefused, WasRefusedAt};
+ghost use Rattle.passes.specs.Passes.{object_of, part_of, sights_of, tally_of, HasMoved, WasRefused, WasRefusedAt};
 ghost use Rattle.passes.specs.Answers.{MayAnswerAbort, HasAsked};
 
 use crate::pass::Pass;
@@ -22,15 +22,15 @@ pub trait Attempt<T> {
     // The values of the word at which it is refused.
     ghost refuses: { ℕ → Type 0 };
 
-    // The parts with which a try that is refused looks once.
-    ghost looks_once: { Part → Type 0 };
+    // The passes, by part and tally, with which a try that is refused looks once.
+    ghost looks_once: { Part → T → Type 0 };
 
     /// Tries once. `Err` with the value that refused it, which is the one seen last.
     fn attempt<R: Wait>(&self, rt: &R, pass: &mut Pass<T>) -> Result<(), u64>
         requires own { object_of pass.old ≡ object self.now }
         ensures moved { IfOk result (λ _. HasMoved moves pass.old pass.new) }
         ensures refused { IfErr result (λ seen. WasRefusedAt refuses seen 1 pass.old pass.new) }
-        ensures once { IfErr result (λ _. looks_once (part_of pass.old) → (sights_of pass.new).count ≡ (sights_of pass.old).count + 1) };
+        ensures once { IfErr result (λ _. looks_once (part_of pass.old) (tally_of pass.old) → (sights_of pass.new).count ≡ (sights_of pass.old).count + 1) };
 }
 
 /// Further tries, as many as a call makes by itself, until one is not refused. `seen` is the value that refused the first.
@@ -41,7 +41,7 @@ fn spin<T, M: Attempt<T>, R: Wait>(rt: &R, by: &M, pass: &mut Pass<T>, seen: u64
     requires refused { M.refuses seen }
     ensures moved { IfOk result (λ _. HasMoved M.moves pass.old pass.new) }
     ensures refused { IfErr result (λ last. WasRefusedAt M.refuses last 10000 pass.old pass.new) }
-    ensures once { IfErr result (λ _. M.looks_once (part_of pass.old) → (sights_of pass.new).count ≡ (sights_of pass.old).count + 10000) }
+    ensures once { IfErr result (λ _. M.looks_once (part_of pass.old) (tally_of pass.old) → (sights_of pass.new).count ≡ (sights_of pass.old).count + 10000) }
 {
     let mut last = seen;
     for _ in 0..SPIN_REPETITIONS {
@@ -71,7 +71,7 @@ fn ask<T, M: Attempt<T>, X, R: Wait, W: Fn(&X, &u64) -> WaitAction>(
     requires refused { M.refuses seen }
     ensures told { MatchBool result (HasMoved M.moves pass.old pass.new) (WasRefused M.refuses 1 pass.old pass.new) }
     ensures aborted { result ≡ false → MayAnswerAbort W.Fn wait.now M.refuses }
-    ensures asked { result ≡ false → M.looks_once (part_of pass.old) → HasAsked W.Fn wait.now M.refuses 0 pass.old pass.new }
+    ensures asked { result ≡ false → M.looks_once (part_of pass.old) (tally_of pass.old) → HasAsked W.Fn wait.now M.refuses 0 pass.old pass.new }
 {
     let mut last = seen;
     for _ in rt.forever() {
@@ -104,7 +104,7 @@ pub fn try_again<T, M: Attempt<T>, X, R: Wait, W: Fn(&X, &u64) -> WaitAction>(
     requires refused { M.refuses seen }
     ensures told { MatchBool result (HasMoved M.moves pass.old pass.new) (WasRefused M.refuses 10001 pass.old pass.new) }
     ensures aborted { result ≡ false → MayAnswerAbort W.Fn wait.now M.refuses }
-    ensures asked { result ≡ false → M.looks_once (part_of pass.old) → HasAsked W.Fn wait.now M.refuses 10000 pass.old pass.new }
+    ensures asked { result ≡ false → M.looks_once (part_of pass.old) (tally_of pass.old) → HasAsked W.Fn wait.now M.refuses 10000 pass.old pass.new }
 {
     match spin(rt, by, pass, seen) {
         Ok(()) => true,

@@ -244,7 +244,7 @@ impl<A: Allocator> Attempt<Holds> for Mutex<A> {
 
     ghost refuses = { IsLocked };
 
-    ghost looks_once = { λ _. Unit {0} };
+    ghost looks_once = { λ _ _. Unit {0} };
 
     #[inline(always)]
     fn attempt<R: Wait>(&self, _rt: &R, pass: &mut MutexPass) -> Result<(), u64> {

@@ -13,6 +13,19 @@ module _ {X : Type 0} where
   is_free kept (Writing x y) knows reads writes = absurd (omega (arith, writes))
   is_free kept Torn knows reads writes = absurd knows
 
+  -- what writes does not read, and what reads does not write
+  pub only_writes : (kept : X) (t : Held X) → Knows kept t → write_holds t ≡ 1 → read_holds t ≡ 0
+  only_writes kept Free knows on = refl
+  only_writes kept (Reading n x) knows on = absurd (omega (arith, on))
+  only_writes kept (Writing x y) knows on = refl
+  only_writes kept Torn knows on = absurd knows
+
+  pub only_reads : (kept : X) (t : Held X) → Knows kept t → 0 < read_holds t → write_holds t ≡ 0
+  only_reads kept Free knows some = refl
+  only_reads kept (Reading n x) knows some = refl
+  only_reads kept (Writing x y) knows some = absurd (omega (arith, some))
+  only_reads kept Torn knows some = absurd knows
+
 module _ {X : Type 0} (same : X → X → Bool) (tells : TellsSame same) (kept : X) where
   -- Of two parts no more stands than may: then each knows what is kept, their holds add up, and beside a write hold there is no other.
   pub record Parts (t u : Held X) : Type 0 where

@@ -1,4 +1,5 @@
 pub mod HeldKeeps
 pub mod RwReaderKeeps
+pub mod RwWriterKeeps
 pub mod RwReaderUnlocks
 pub mod RwReaderJoins

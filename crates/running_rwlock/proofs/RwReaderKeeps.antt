@@ -7,12 +7,12 @@ use Rattle.passes.specs.declared.view.View.{View}
 use Rattle.passes.specs.Views.{looked, missed, wrote, Updates}
 use Rattle.passes.proofs.Sums.{sum_of_two}
 use Rattle.passes.proofs.Updates.{by_look, by_exchange}
-use Rattle.tallies.specs.declared.held.Held.TheVariants.{Free, Reading, Writing, Torn}
-use Rattle.tallies.specs.Held.{read_holds, write_holds, Knows, Locks}
+use Rattle.tallies.specs.declared.held.Held.TheVariants.{Free}
+use Rattle.tallies.specs.Held.{read_holds, write_holds, Locks}
 use Rattle.tallies.specs.HeldTally.{same_nothing, tells_same_nothing, held_adds_up}
 use Rattle.tallies.specs.RwReaderRule.{Holds, no_holds, both_holds, IsHeld, RwReaderAgrees}
 use Rattle.running_rwlock.specs.RwReaderSteps.{NoHoldBesideAWriteHold, word_of, read, no_more_read, written, Loaded, ReaderIn, ReaderOut, WriterIn, WriterOut}
-use Rattle.running_rwlock.proofs.HeldKeeps.{comes_in, goes_out, takes_over, steps_down, word_alone, parts}
+use Rattle.running_rwlock.proofs.HeldKeeps.{comes_in, goes_out, takes_over, steps_down, word_alone, parts, only_writes}
 
 -- the word is written, and is what all holds come to again
 held_again : (words : List ℕ) (n : ℕ) (t u : Holds) → IsHeld words t → Locks n tt u → IsHeld (set words 0 n) u
@@ -94,13 +94,7 @@ writers_in v new all = by_exchange no_holds both_holds RwReaderAgrees v 0 0 new 
 
 -- a pass that writes does not read
 writer_reads : (t rest : Holds) {word : ℕ} → Locks word tt (both_holds t rest) → write_holds t ≡ 1 → read_holds t ≡ 0
-writer_reads t rest is on = exclusive t (parts same_nothing tells_same_nothing tt t rest is.knows).first on
-  where
-    exclusive : (t : Holds) → Knows tt t → write_holds t ≡ 1 → read_holds t ≡ 0
-    exclusive Free knows on = refl
-    exclusive (Reading n x) knows on = absurd (omega (arith, on))
-    exclusive (Writing x y) knows on = refl
-    exclusive Torn knows on = absurd knows
+writer_reads t rest is on = only_writes tt t (parts same_nothing tells_same_nothing tt t rest is.knows).first on
 
 pub writers_out : (v : View Holds) → write_holds v.tally ≡ 1 → Updates no_holds both_holds RwReaderAgrees v 0 (λ _. 0) (λ _. WriterOut v)
 writers_out v on = record {

@@ -1,3 +1,5 @@
 pub mod RwShown
 pub mod RwReaderSteps
 pub mod RwReaderShown
+pub mod RwWriterSteps
+pub mod RwWriterShown

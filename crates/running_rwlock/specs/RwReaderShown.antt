@@ -1,9 +1,9 @@
 -- What contracts see of a reader-preferring lock and its pass, and what a call changes in a pass.
-use Rattle.std.specs.Prelude.{◌≡◌, ◌≢◌, true, ◌⊎◌, ℕ, ◌+◌, ◌-◌, ◌^◌, ◌<◌, ◌≤◌}
+use Rattle.std.specs.Prelude.{◌≡◌, ◌≢◌, ℕ, ◌+◌, ◌-◌, ◌^◌, ◌<◌, ◌≤◌}
 use Rattle.passes.specs.declared.part.Part.{Part}
 use Rattle.passes.specs.declared.pass.Pass.{Pass}
 use Rattle.passes.specs.Parts.{IsWhole}
-use Rattle.passes.specs.Passes.{IsSamePass, view, part_of, sights_of, tally_of, HasOnlySeen, HasMoved}
+use Rattle.passes.specs.Passes.{IsSamePass, view, part_of, sights_of, tally_of, HasMoved}
 use Rattle.passes.specs.Views.{looked, missed, wrote}
 use Rattle.passes.specs.Objects.{IsPassOf}
 use Rattle.running_rwlock.specs.declared.hold.RwPass.{Ghosts}
@@ -63,19 +63,6 @@ HasReadAtOnce p q = view q ≡ wrote (looked (view p) (sights_of q).last) (read 
 -- the write hold was turned on at once, and nothing else changed
 abbrev pub HasWrittenAtOnce : Pass Holds → Pass Holds → Type 0
 HasWrittenAtOnce p q = view q ≡ wrote (view p) written
-
--- one look saw a value at which no reader enters
-abbrev pub HasSeenShut : Pass Holds → Pass Holds → Type 0
-HasSeenShut p q = IsShut (sights_of q).last × (view q ≡ looked (view p) (sights_of q).last)
-
--- an exchange from the value that one look saw found another, since another party had written in between
-abbrev pub HasBeenOvertaken : Pass Holds → Pass Holds → Type 0
-HasBeenOvertaken p q = ((sights_of q).missed ≡ true) × ((sights_of q).count ≡ (sights_of p).count + 2)
-
--- One look, or one and an exchange that failed, did not let the reader in. Nothing was counted.
-pub record WasTurnedAway (p q : Pass Holds) : Type 0 where
-  pub stayed : HasOnlySeen p q
-  pub cause : HasSeenShut p q ⊎ HasBeenOvertaken p q
 
 -- one exchange saw a value at which no writer enters, and nothing else changed
 abbrev pub HasSeenTaken : Pass Holds → Pass Holds → Type 0

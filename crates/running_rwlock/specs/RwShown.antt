@@ -1,5 +1,9 @@
--- What contracts see of the hold of a reader-writer lock.
+-- What contracts see of the hold of a reader-writer lock, and what a call of either lock changes in a pass.
+use Rattle.std.specs.Prelude.{◌≡◌, true, ◌⊎◌, ℕ, ◌+◌}
 use Rattle.std.specs.Borrow.{GName}
+use Rattle.passes.specs.declared.pass.Pass.{Pass}
+use Rattle.passes.specs.Passes.{view, sights_of, HasOnlySeen}
+use Rattle.passes.specs.Views.{looked}
 use Rattle.running_rwlock.specs.declared.hold.RwPass.{Ghosts}
 use Rattle.running_rwlock.specs.declared.hold.RwHold.{RwHold}
 use Rattle.running_rwlock.specs.declared.hold.RwHold.TheVariants.{Read, Write}
@@ -21,3 +25,17 @@ module _ {P : Type 0} {G : Ghosts P} where
   abbrev pub borrow_of : RwHold P G → GName
   borrow_of (Read h) = h.pass.ghost_name
   borrow_of (Write h) = h.pass.ghost_name
+
+module _ {T : Type 0} (IsShut : ℕ → Type 0) where
+  -- one look saw a value at which no reader enters
+  abbrev pub HasSeenShut : Pass T → Pass T → Type 0
+  HasSeenShut p q = IsShut (sights_of q).last × (view q ≡ looked (view p) (sights_of q).last)
+
+  -- an exchange from the value that one look saw found another, since another party had written in between
+  abbrev pub HasBeenOvertaken : Pass T → Pass T → Type 0
+  HasBeenOvertaken p q = ((sights_of q).missed ≡ true) × ((sights_of q).count ≡ (sights_of p).count + 2)
+
+  -- One look, or one and an exchange that failed, did not let the reader in. Nothing was counted.
+  pub record WasTurnedAway (p q : Pass T) : Type 0 where
+    pub stayed : HasOnlySeen p q
+    pub cause : HasSeenShut p q ⊎ HasBeenOvertaken p q

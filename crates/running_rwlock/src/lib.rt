@@ -9,6 +9,10 @@ mod hold;
 mod reader_preference;
 #[cfg(test)]
 mod tests;
+mod writer_preference;
 
 pub use hold::{ReadHold, RwHold, RwPass, WriteHold};
 pub use reader_preference::{RwLockReaderPreference, RwReaderPass, no_hold_beside_a_write_hold};
+pub use writer_preference::{
+    RwLockWriterPreference, RwWriterPass, no_hold_beside_the_writer, no_mark_without_a_flag,
+};

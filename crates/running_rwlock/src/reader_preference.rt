@@ -89,10 +89,10 @@ impl<A: Allocator> RwLockReaderPreference<A> {
     ghost use Rattle.passes.specs.Views.{first_view};
     ghost use Rattle.passes.specs.contracts.pass.Pass.{the_row};
     ghost use Rattle.tallies.specs.contracts.held.Held as held_row;
-    ghost use Rattle.running_rwlock.specs.RwShown.{IsReadHold, IsWriteHold, pass_of, borrow_of};
+    ghost use Rattle.running_rwlock.specs.RwShown.{IsReadHold, IsWriteHold, pass_of, borrow_of, WasTurnedAway};
     ghost use Rattle.tallies.specs.RwReaderRule.{no_holds};
     ghost use Rattle.running_rwlock.specs.RwReaderSteps.{read, written, word_of};
-    ghost use Rattle.running_rwlock.specs.RwReaderShown.{IsRwReaderPass, IsAlone, IsShut, IsTaken, reads_of, writes_of, HasEnteredToRead, HasEnteredToWrite, HasReadAtOnce, HasWrittenAtOnce, WasTurnedAway, HasSeenTaken, HasLeftReading, HasLeftWriting, HasUnlocked};
+    ghost use Rattle.running_rwlock.specs.RwReaderShown.{IsRwReaderPass, IsAlone, IsShut, IsTaken, reads_of, writes_of, HasEnteredToRead, HasEnteredToWrite, HasReadAtOnce, HasWrittenAtOnce, HasSeenTaken, HasLeftReading, HasLeftWriting, HasUnlocked};
 
     /// A lock that is free, and the pass that is whole. `Err` where there was no memory; then nothing was made.
     pub fn new(alloc: A) -> Result<(RwLockReaderPreference<A>, RwReaderPass), AllocError>
@@ -111,7 +111,7 @@ impl<A: Allocator> RwLockReaderPreference<A> {
         this: &Self,
     ) -> WaitResult<RwHold<'p, RwReaderPass>>
         requires own { IsRwReaderPass this.now pass.old }
-        ensures* refused { sem 𝓛 (RestsIfInterrupted (the_row (held_row.the_row unit)) pass.entry borrow_of result (WasTurnedAway pass.old)) }
+        ensures* refused { sem 𝓛 (RestsIfInterrupted (the_row (held_row.the_row unit)) pass.entry borrow_of result (WasTurnedAway IsShut pass.old)) }
         ensures same_borrow { IfSuccess result (λ hold. borrow_of hold ≡ pass.entry.ghost_name) }
         ensures kind { IfSuccess result IsReadHold }
         ensures granted { IfSuccess result (λ hold. HasEnteredToRead pass.old (pass_of hold)) }
@@ -231,7 +231,7 @@ impl<A: Allocator> RwLockReaderPreference<A> {
     #[inline(always)]
     fn try_to_read(&self, pass: &mut RwReaderPass) -> bool
         requires own { IsRwReaderPass self.now pass.old }
-        ensures entered { MatchBool result (HasEnteredToRead pass.old pass.new) (WasTurnedAway pass.old pass.new) }
+        ensures entered { MatchBool result (HasEnteredToRead pass.old pass.new) (WasTurnedAway IsShut pass.old pass.new) }
         ensures at_once { result ≡ true → HasReadAtOnce pass.old pass.new }
         ensures exact { IsAlone pass.old → result ≡ true }
     {
@@ -462,7 +462,7 @@ impl<A: Allocator> Attempt<Held<()>> for Reader<'_, A> {
 
     ghost refuses = { IsShut };
 
-    ghost looks_once = { IsWhole };
+    ghost looks_once = { λ part _. IsWhole part };
 
     #[inline(always)]
     fn attempt<R: Wait>(&self, rt: &R, pass: &mut RwReaderPass) -> Result<(), u64> {
@@ -487,7 +487,7 @@ impl<A: Allocator> Attempt<Held<()>> for Writer<'_, A> {
 
     ghost refuses = { IsTaken };
 
-    ghost looks_once = { λ _. Unit {0} };
+    ghost looks_once = { λ _ _. Unit {0} };
 
     #[inline(always)]
     fn attempt<R: Wait>(&self, _rt: &R, pass: &mut RwReaderPass) -> Result<(), u64> {

@@ -267,7 +267,7 @@ impl<A: Allocator> Attempt<Permits> for Semaphore<A> {
 
     ghost refuses = { IsEmpty };
 
-    ghost looks_once = { IsWhole };
+    ghost looks_once = { λ part _. IsWhole part };
 
     #[inline(always)]
     fn attempt<R: Wait>(&self, rt: &R, pass: &mut SemPass) -> Result<(), u64> {

@@ -9,6 +9,7 @@ mod lazy_lock;
 mod mutex;
 mod once;
 mod rwreader;
+mod rwwriter;
 mod semaphore;
 mod spin_lock;
 mod yardsticks;
@@ -32,6 +33,9 @@ pub enum Line {
     StdRwLockWriteUnlock,
     RwReaderReadUnlock,
     RwReaderWriteUnlock,
+    BareLoadExchangeStoreAdd,
+    RwWriterReadUnlock,
+    RwWriterWriteUnlock,
     SemaphoreTryWaitPost,
     SemaphoreValue,
     BareLoadExchange,
@@ -46,7 +50,7 @@ pub enum Line {
 }
 
 /// Every line, in the order of the table.
-pub const LINES: [Line; 21] = [
+pub const LINES: [Line; 24] = [
     Line::BareExchangeStore,
     Line::StdMutexLockUnlock,
     Line::MutexLockUnlock,
@@ -57,6 +61,9 @@ pub const LINES: [Line; 21] = [
     Line::StdRwLockWriteUnlock,
     Line::RwReaderReadUnlock,
     Line::RwReaderWriteUnlock,
+    Line::BareLoadExchangeStoreAdd,
+    Line::RwWriterReadUnlock,
+    Line::RwWriterWriteUnlock,
     Line::SemaphoreTryWaitPost,
     Line::SemaphoreValue,
     Line::BareLoadExchange,
@@ -88,6 +95,9 @@ impl Line {
             Line::StdRwLockWriteUnlock => "std rwlock write unlock",
             Line::RwReaderReadUnlock => "rwlock reader read unlock",
             Line::RwReaderWriteUnlock => "rwlock reader write unlock",
+            Line::BareLoadExchangeStoreAdd => "bare load exchange store add",
+            Line::RwWriterReadUnlock => "rwlock writer read unlock",
+            Line::RwWriterWriteUnlock => "rwlock writer write unlock",
             Line::SemaphoreTryWaitPost => "semaphore try_wait post",
             Line::SemaphoreValue => "semaphore value",
             Line::BareLoadExchange => "bare load exchange",
@@ -116,6 +126,9 @@ impl Line {
             Line::StdRwLockWriteUnlock => Ok(yardsticks::std_rwlock_write_unlock(rt)),
             Line::RwReaderReadUnlock => rwreader::read_unlock(rt, alloc),
             Line::RwReaderWriteUnlock => rwreader::write_unlock(rt, alloc),
+            Line::BareLoadExchangeStoreAdd => Ok(yardsticks::bare_load_exchange_store_add()),
+            Line::RwWriterReadUnlock => rwwriter::read_unlock(rt, alloc),
+            Line::RwWriterWriteUnlock => rwwriter::write_unlock(rt, alloc),
             Line::SemaphoreTryWaitPost => semaphore::try_wait_post(rt, alloc),
             Line::SemaphoreValue => semaphore::value(alloc),
             Line::BareLoadExchange => Ok(yardsticks::bare_load_exchange()),

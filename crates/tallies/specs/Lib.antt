@@ -7,3 +7,5 @@ pub mod BarrierTally
 pub mod Held
 pub mod HeldTally
 pub mod RwReaderRule
+pub mod RwWriterRule
+pub mod RwWriterTally

@@ -5,11 +5,13 @@
 mod barrier;
 mod held;
 mod mutex;
+mod rw_writer;
 mod semaphore;
 mod wait_word;
 
 pub use barrier::{Arrivals, Rounds};
 pub use held::{Held, Known};
 pub use mutex::Holds;
+pub use rw_writer::MarkedHolds;
 pub use semaphore::Permits;
 pub use wait_word::WaitWord;

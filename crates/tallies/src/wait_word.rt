@@ -1,5 +1,5 @@
 //! The word that wait and wake closures see.
-use crate::{Held, Holds, Permits, Rounds};
+use crate::{Held, Holds, MarkedHolds, Permits, Rounds};
 use passes::Word;
 
 /// A word of an object, as wait and wake closures see it. It can be loaded, and no more.
@@ -13,6 +13,7 @@ pub struct WaitWord<'t> {
 enum AnyWord<'t> {
     Mutex(Word<'t, (), Holds>),
     ReaderLock(Word<'t, (), Held<()>>),
+    WriterLock(Word<'t, (), MarkedHolds>),
     Semaphore(Word<'t, u64, Permits>),
     Barrier(Word<'t, u32, Rounds>),
 }
@@ -24,6 +25,7 @@ impl WaitWord<'_> {
         match &self.word {
             AnyWord::Mutex(word) => word.load(),
             AnyWord::ReaderLock(word) => word.load(),
+            AnyWord::WriterLock(word) => word.load(),
             AnyWord::Semaphore(word) => word.load(),
             AnyWord::Barrier(word) => word.load(),
         }
@@ -44,6 +46,16 @@ impl<'t> From<Word<'t, (), Held<()>>> for WaitWord<'t> {
     fn from(word: Word<'t, (), Held<()>>) -> WaitWord<'t> {
         WaitWord {
             word: AnyWord::ReaderLock(word),
+        }
+    }
+}
+
+/// Either word of a writer-preferring lock: its own, or its wake counter.
+impl<'t> From<Word<'t, (), MarkedHolds>> for WaitWord<'t> {
+    #[inline(always)]
+    fn from(word: Word<'t, (), MarkedHolds>) -> WaitWord<'t> {
+        WaitWord {
+            word: AnyWord::WriterLock(word),
         }
     }
 }

@@ -1,7 +1,8 @@
 //! Locks of many readers or one writer.
 
 pub use running_rwlock::{
-    ReadHold, RwHold, RwLockReaderPreference, RwPass, RwReaderPass, WriteHold,
-    no_hold_beside_a_write_hold,
+    ReadHold, RwHold, RwLockReaderPreference, RwLockWriterPreference, RwPass, RwReaderPass,
+    RwWriterPass, WriteHold, no_hold_beside_a_write_hold, no_hold_beside_the_writer,
+    no_mark_without_a_flag,
 };
-pub use tallies::{Held, Known};
+pub use tallies::{Held, Known, MarkedHolds};

@@ -3,7 +3,7 @@
 use crate::once::Once;
 use crate::strategy::barrier::Barrier;
 use crate::strategy::mutex::Mutex;
-use crate::strategy::rwlock::RwLockReaderPreference;
+use crate::strategy::rwlock::{RwLockReaderPreference, RwLockWriterPreference};
 use crate::strategy::semaphore::Semaphore;
 use linked_list_allocator::LocalHeap;
 use std::test::Fail;
@@ -26,6 +26,19 @@ fn a_reader_preferring_lock_that_finds_no_memory(rt: HostRuntime) -> Result<(), 
     for (size, room) in [(0, false), (16, false), (32, true)] {
         let heap = LocalHeap::new(rt.alloc(), size)?;
         let made = RwLockReaderPreference::new(&heap);
+        assert_eq!(rt; made.is_ok(), room);
+        assert_eq!(rt; heap.used(), if room { 32 } else { 0 });
+        drop(made);
+        assert_eq!(rt; heap.used(), 0);
+    }
+    Ok(())
+}
+
+#[test]
+fn a_writer_preferring_lock_that_finds_no_memory(rt: HostRuntime) -> Result<(), Fail> {
+    for (size, room) in [(0, false), (16, false), (32, true)] {
+        let heap = LocalHeap::new(rt.alloc(), size)?;
+        let made = RwLockWriterPreference::new(&heap);
         assert_eq!(rt; made.is_ok(), room);
         assert_eq!(rt; heap.used(), if room { 32 } else { 0 });
         drop(made);

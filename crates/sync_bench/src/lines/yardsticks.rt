@@ -50,6 +50,32 @@ impl Operation for BareReader {
     }
 }
 
+/// What a writer-preferring lock's writer comes down to: a load, an exchange of what it saw, a store of 0, and an add to another word.
+pub fn bare_load_exchange_store_add() -> u32 {
+    successes(&mut BareWriter {
+        word: AtomicU64::new(0),
+        counter: AtomicU64::new(0),
+    })
+}
+
+#[derive(Drop)]
+struct BareWriter {
+    word: AtomicU64,
+    counter: AtomicU64,
+}
+
+impl Operation for BareWriter {
+    #[inline(always)]
+    fn once(&mut self) -> bool {
+        let word = &self.word;
+        let seen = word.load(Ordering::SeqCst);
+        let entered = word.compare_exchange(seen, u64::MAX, Ordering::SeqCst, Ordering::SeqCst);
+        word.store(0, Ordering::SeqCst);
+        self.counter.fetch_add(1, Ordering::SeqCst);
+        entered.is_ok()
+    }
+}
+
 /// Locks a reader-writer lock of std for reading, reads what it guards, and drops the guard.
 pub fn std_rwlock_read_unlock(rt: &impl Wait) -> u32 {
     successes(&mut StdRead {

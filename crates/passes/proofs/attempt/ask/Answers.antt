@@ -1,7 +1,6 @@
-use Rattle.std.proofs.Common.{subst, sym}
 use Rattle.std.proofs.lemmas.Bool.{MatchBool-at_true, MatchBool-at_false}
 use Rattle.steps_events.specs.declared.WaitAction.TheVariants as actions
-use Rattle.passes.proofs.Attempts.{seen_twice, goes_on, has_asked, told_of_its_kind}
+use Rattle.passes.proofs.Attempts.{seen_twice, still_so, goes_on, has_asked, told_of_its_kind}
 use Rattle.passes.proofs.attempt.ask.Goals as goal
 
 pub returns-then-last_try-clause-aborted : goal.returns-then-last_try-clause-aborted
@@ -11,7 +10,7 @@ returns-then-last_try-clause-aborted g c = λ _. told_of_its_kind g.W.Fn _ g.M.A
 pub returns-then-last_try-clause-asked : goal.returns-then-last_try-clause-asked
 returns-then-last_try-clause-asked g c = λ _ looks_once. has_asked _ _ _ c.args.pass.now c.loop.pass c.attempt.new.pass
     (c.loop.invariant.asked looks_once)
-    (c.in-Err.ensures.once (subst g.M.Attempt.looks_once (sym c.loop.invariant.stayed.part) looks_once))
+    (c.in-Err.ensures.once (still_so g.M.Attempt.looks_once c.args.pass.now c.loop.pass c.loop.invariant.stayed looks_once))
 
 pub loop-preserved : goal.loop-preserved
 loop-preserved g c = record {
@@ -20,5 +19,5 @@ loop-preserved g c = record {
   asked = λ looks_once. goes_on _ _ _ c.args.pass.now c.loop.pass c.attempt.new.pass
       (c.loop.invariant.asked looks_once)
       (told_of_its_kind g.W.Fn _ g.M.Attempt.refuses actions.Continue _ (MatchBool-at_false _ _ c.if-last_try.false c.may_give_up-last_try.ensures) c.loop.invariant.refused)
-      (c.in-Err.ensures.once (subst g.M.Attempt.looks_once (sym c.loop.invariant.stayed.part) looks_once));
+      (c.in-Err.ensures.once (still_so g.M.Attempt.looks_once c.args.pass.now c.loop.pass c.loop.invariant.stayed looks_once));
 }

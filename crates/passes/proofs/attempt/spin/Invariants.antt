@@ -1,5 +1,5 @@
 use Rattle.std.proofs.Common.{◌≡◌, ◌+◌, ◌≤◌}
-use Rattle.passes.specs.Passes.{part_of, sights_of, HasOnlySeen}
+use Rattle.passes.specs.Passes.{part_of, sights_of, tally_of, HasOnlySeen}
 use Rattle.passes.proofs.attempt.spin.Given as goal
 
 abbrev pub invariant-loop : goal.invariant-loop
@@ -8,5 +8,5 @@ invariant-loop g l = record {
   more : (sights_of l.fn.pass).count + l.counter ≤ (sights_of l.pass).count;
   last : (sights_of l.pass).last ≡ l.last;
   refusing : g.M.Attempt.refuses l.last;
-  once : g.M.Attempt.looks_once (part_of l.fn.pass) → (sights_of l.pass).count ≡ (sights_of l.fn.pass).count + l.counter;
+  once : g.M.Attempt.looks_once (part_of l.fn.pass) (tally_of l.fn.pass) → (sights_of l.pass).count ≡ (sights_of l.fn.pass).count + l.counter;
 }

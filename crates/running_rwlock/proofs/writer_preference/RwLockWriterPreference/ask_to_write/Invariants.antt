@@ -1,0 +1,5 @@
+use Rattle.running_rwlock.specs.RwWriterShown.{HasTried}
+use Rattle.running_rwlock.proofs.writer_preference.RwLockWriterPreference.ask_to_write.Given as goal
+
+abbrev pub invariant-loop : goal.invariant-loop
+invariant-loop g l = HasTried 0 l.fn.pass l.pass
