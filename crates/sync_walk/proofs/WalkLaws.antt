@@ -1,5 +1,5 @@
 -- A walk goes on by the first event of what is left of its line, and then by the next line.
-use Rattle.std.proofs.Common.{◌≡◌, ℕ, zero, suc, ◌-◌, ◌+◌, Bool, true, false, cond, List, [], ◌∷◌, Option, Some, None, Result, Ok, Err, IfSome, refl, sym, ap, subst, ◌∙◌, arith}
+use Rattle.std.proofs.Common.{◌≡◌, ℕ, zero, suc, ◌-◌, ◌+◌, ◌*◌, ◌^◌, ◌<◌, ◌≤◌, Bool, true, false, cond, List, [], ◌∷◌, Option, Some, None, Result, Ok, Err, IfSome, refl, sym, ap, subst, ◌∙◌, arith}
 use Rattle.steps_events.specs.declared.event.Event.{Event}
 use Rattle.steps_events.specs.declared.event.Input.TheVariants as inputs
 use Rattle.steps_events.specs.declared.event.Object.{Object}
@@ -13,7 +13,7 @@ use Rattle.sync_play.specs.declared.fault.LineFault.{LineFault}
 use Rattle.sync_play.specs.declared.fault.LineFault.TheVariants as faults
 use Rattle.sync_play.specs.Fault.{◌>>=◌}
 use Rattle.sync_play.specs.Lexer.{lines_of, words_of}
-use Rattle.sync_play.specs.Player.{event_of, event_if, left_after, next_input, first_event, IsTurn}
+use Rattle.sync_play.specs.Player.{event_of, event_if, left_after, next_input, first_event, steps_left, IsTurn}
 use Rattle.sync_walk.specs.Walk.{Walk, ended, stopped, step_then, go_walk, run_walk, task_walk, asked, lines_walk, walk_from}
 
 abbrev Ev : Type 0
@@ -121,3 +121,14 @@ pub lines_stop : (o : Object ℕ) (parties number : ℕ) (past : List Ev) (lines
     lines_walk o parties number lines past ≡ stopped number fault
 unfolding lines_walk
 lines_stop o parties number past lines line rest fault same is = rw (same, ← is) refl
+
+-- How many steps are left.
+
+pub fewer_left : (left after lines rest most : ℕ) → left + lines * 2 ^ 64 ≤ most → rest < lines → after < 2 ^ 64 → after + rest * 2 ^ 64 ≤ most
+fewer_left left after lines rest most before shorter within = omega (arith, before, shorter, within)
+
+pub fewer_steps : (new old : Command) (told : Option Ev) (e : Ev) (lines most : ℕ) → told ≡ Some e → steps_left old.task + lines * 2 ^ 64 ≤ most → IfSome told (λ _. steps_left new.task < steps_left old.task) →
+    steps_left new.task + lines * 2 ^ 64 < most
+fewer_steps new old told e lines most some before counted =
+    let shorter : steps_left new.task < steps_left old.task = subst (λ (x : Option Ev). IfSome x (λ _. steps_left new.task < steps_left old.task)) some counted in
+    omega (arith, before, shorter)

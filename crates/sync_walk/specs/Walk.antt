@@ -1,5 +1,5 @@
 -- A text as a walk: its steps, each with the line that asked for it, up to its end or its first fault.
-use Rattle.std.specs.Prelude.{◌≡◌, ℕ, zero, suc, ◌+◌, if◌then◌else◌, List, [], ◌∷◌, Option, Some, None, Result, Ok, Err}
+use Rattle.std.specs.Prelude.{◌≡◌, ℕ, zero, suc, ◌+◌, ◌*◌, ◌^◌, length, if◌then◌else◌, List, [], ◌∷◌, Option, Some, None, Result, Ok, Err}
 use Rattle.steps_events.specs.declared.event.Event.{Event}
 use Rattle.steps_events.specs.declared.event.Input.TheVariants as inputs
 use Rattle.steps_events.specs.declared.event.Object.{Object}
@@ -16,7 +16,7 @@ use Rattle.sync_play.specs.Command.{command_of}
 use Rattle.sync_play.specs.Fault.{◌>>=◌}
 use Rattle.sync_play.specs.Header.{header_of}
 use Rattle.sync_play.specs.Lexer.{lines_of, words_of}
-use Rattle.sync_play.specs.Player.{event_of}
+use Rattle.sync_play.specs.Player.{event_of, steps_left}
 use Rattle.sync_walk.specs.declared.walk.Step.{Step}
 use Rattle.sync_walk.specs.declared.walk.FaultyLine.{FaultyLine}
 use Rattle.sync_walk.specs.declared.walk.Rest.{Rest}
@@ -99,6 +99,10 @@ walk_from o parties past number left lines =
 
 abbrev pub rest_walk : Object ℕ → ℕ → List (Event ℕ) → Rest → Walk
 rest_walk o parties past rest = walk_from o parties past rest.line rest.left rest.lines.now
+
+-- how many steps are left at most: of this line, and of the lines after it
+abbrev pub most_steps : Rest → ℕ
+most_steps rest = steps_left rest.left.task + length rest.lines.now * 2 ^ 64
 
 -- What a walker tells of the rest after the past, and what it leaves: nothing more is asked, or the next step, or the fault.
 abbrev pub IsNextStep : Object ℕ → ℕ → List (Event ℕ) → Rest → Rest → Configuration ℕ → Result (Option Step) FaultyLine → Type 0

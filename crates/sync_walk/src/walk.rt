@@ -1,10 +1,11 @@
 //! Walks a text step by step.
-ghost use Rattle.std.specs.Prelude.{◌≡◌, ◌+◌, ◌^◌, ◌<◌, ℕ, true, List, length, Ok, Err, IfOk, IfErr};
+ghost use Rattle.std.specs.Prelude.{◌≡◌, ◌+◌, ◌^◌, ◌<◌, ℕ, true, List, length, Ok, Err, IfOk, IfErr, IfSome};
 ghost use Rattle.steps_events.specs.Integers.{u64_arithmetic};
 ghost use Rattle.sync_steps.specs.Machine.{StandsAt};
 ghost use Rattle.steps_events.specs.declared.event.Event.{Event as AnEvent};
 ghost use Rattle.sync_steps.specs.Objects.{is_served};
 ghost use Rattle.sync_play.specs.Lexer.{lines_of, words_of};
+ghost use Rattle.sync_play.specs.Player.{steps_left};
 ghost use Rattle.sync_walk.specs.Walk as meaning;
 
 use sync_play::command::{Command, Task};
@@ -44,7 +45,8 @@ const NOTHING: Command = Command {
 
 /// What a line asks; one without words asks for no step.
 fn asked(object: Object<u64>, line: &[u8]) -> Result<Command, LineFault>
-    ensures { result ≡ meaning.asked object (words_of line.now) }
+    ensures asked { result ≡ meaning.asked object (words_of line.now) }
+    ensures within { IfOk result (λ command. steps_left command.task < 2 ^ 64) }
 {
     match Command::parse(object, line) {
         Ok(Some(command)) => Ok(command),
@@ -93,6 +95,7 @@ pub fn next_step(
     ensures step { (parties : ℕ) (past : List (AnEvent ℕ)) → StandsAt u64_arithmetic object parties past machine.old →
         meaning.IsNextStep object parties past rest.old rest.new machine.new result }
     ensures countable { rest.new.line + length rest.new.lines.now < 2 ^ 64 }
+    ensures fewer { IfOk result (λ step. IfSome step (λ _. meaning.most_steps rest.new < meaning.most_steps rest.old)) }
 {
     loop {
         match next_event(machine, &mut rest.left) {
