@@ -1,5 +1,5 @@
 -- What a step's row says, cell by cell.
-use Rattle.std.specs.Prelude.{ℕ, zero, suc, ◌+◌, true, false, List, [], ◌∷◌, ◌++◌, Option, Some, None, codes}
+use Rattle.std.specs.Prelude.{ℕ, zero, suc, ◌+◌, true, false, List, [], ◌∷◌, ◌++◌, Option, Some, None, codes, string_bytes}
 use Rattle.std.specs.Fmt.{decimal}
 use Rattle.steps_events.specs.declared.WaitAction.TheVariants as actions
 use Rattle.steps_events.specs.declared.event.Act.{Act}
@@ -23,6 +23,7 @@ use Rattle.sync_steps.specs.Runs.{word_in}
 use Rattle.sync_play.specs.declared.header.Header.{Header}
 use Rattle.sync_play.specs.Print.{answer_words}
 use Rattle.sync_walk.specs.declared.walk.Step.{Step}
+use Rattle.sync_trace.specs.declared.cells.Cells.{Cells}
 
 -- The act.
 
@@ -133,3 +134,57 @@ holder_words objects.Condvar party kind = decimal (party + 1)
 holder_words objects.Once party kind = decimal (party + 1)
 holder_words (objects.Lazy v) party kind = decimal (party + 1)
 holder_words (objects.Atomic v) party kind = decimal (party + 1)
+
+abbrev pub after_comma : List ℕ → List ℕ
+after_comma [] = []
+after_comma (byte ∷ bytes) = (byte ∷ bytes) ++ codes ", "
+
+abbrev pub with_holder : Object ℕ → List ℕ → ℕ → Option HoldKind → List ℕ
+with_holder o front party None = front
+with_holder o front party (Some kind) = after_comma front ++ holder_words o party kind
+
+-- those of the first parties that hold something after the events
+abbrev pub holders : Object ℕ → List (Event ℕ) → ℕ → List ℕ
+holders o past zero = []
+holders o past (suc party) = with_holder o (holders o past party) party (hold_of (table_of u64_arithmetic o) party past)
+
+abbrev pub or_dash : List ℕ → List ℕ
+or_dash [] = codes "-"
+or_dash (byte ∷ bytes) = byte ∷ bytes
+
+-- who holds what after the events, or `-` where nobody holds anything
+abbrev pub holds_text : Object ℕ → ℕ → List (Event ℕ) → List ℕ
+holds_text o parties past = or_dash (holders o past parties)
+
+-- The cells of a row, but for its number.
+
+pub record Texts : Type 0 where
+  pub line : List ℕ
+  pub party : List ℕ
+  pub act : List ℕ
+  pub words : List ℕ
+  pub holds : List ℕ
+  pub call : List ℕ
+
+abbrev pub texts_of : Cells → Texts
+texts_of cells =
+    record {
+      line = string_bytes cells.line;
+      party = string_bytes cells.party;
+      act = string_bytes cells.act;
+      words = string_bytes cells.words;
+      holds = string_bytes cells.holds;
+      call = string_bytes cells.call;
+    }
+
+-- those of a step, after which the events are these
+abbrev pub cells_at : Header → List (Event ℕ) → Step → Texts
+cells_at header past step =
+    record {
+      line = decimal step.line;
+      party = decimal (step.event.party + 1);
+      act = act_words step.event.act;
+      words = words_text header.object (word_in u64_arithmetic header.object past);
+      holds = holds_text header.object header.parties past;
+      call = standing_words step.event.act step.event.then;
+    }

@@ -8,9 +8,7 @@
 #![tactic(auto)]
 
 pub mod cells;
-
-
-
-
-
-
+pub mod rows;
+pub mod run;
+pub mod table;
+pub mod trace;
