@@ -11,4 +11,6 @@ pub mod cells;
 pub mod rows;
 pub mod run;
 pub mod table;
+#[cfg(test)]
+mod tests;
 pub mod trace;
