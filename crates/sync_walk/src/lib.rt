@@ -5,4 +5,5 @@
 //! steps what it likes. A program that shows a run stands on this crate.
 #![tactic(auto)]
 
+pub mod law;
 pub mod walk;
