@@ -77,7 +77,7 @@ pub fn print_event(out: &mut String, event: &Event<u64>) -> Result<(), AllocErro
 }
 
 /// Prints the words that the last line tells after the first.
-fn print_further_words(
+pub fn print_further_words(
     out: &mut String,
     object: Object<u64>,
     machine: &Machine<u64>,

@@ -21,7 +21,7 @@ use Rattle.steps_events.specs.Past.{hold_of}
 use Rattle.sync_steps.specs.Objects.{table_of}
 use Rattle.sync_steps.specs.Runs.{word_in}
 use Rattle.sync_play.specs.declared.header.Header.{Header}
-use Rattle.sync_play.specs.Print.{answer_words}
+use Rattle.sync_play.specs.Print.{answer_words, further_words, named_words}
 use Rattle.sync_walk.specs.declared.walk.Step.{Step}
 use Rattle.sync_trace.specs.declared.cells.Cells.{Cells}
 
@@ -105,16 +105,7 @@ standing_words act (thens.Answers answer) = answer_words answer
 -- The words of the object: the first, and the others by their names.
 
 abbrev pub words_text : Object ℕ → (Word → ℕ) → List ℕ
-words_text objects.Mutex memory = decimal (memory words.State)
-words_text objects.Spin memory = decimal (memory words.State)
-words_text (objects.Semaphore initial) memory = decimal (memory words.State)
-words_text (objects.Barrier n) memory = decimal (memory words.State)
-words_text objects.ReaderLock memory = decimal (memory words.State)
-words_text objects.WriterLock memory = decimal (memory words.State) ++ (codes " counter " ++ decimal (memory words.Counter))
-words_text objects.Condvar memory = decimal (memory words.State)
-words_text objects.Once memory = decimal (memory words.State)
-words_text (objects.Lazy v) memory = decimal (memory words.State)
-words_text (objects.Atomic v) memory = decimal (memory words.State)
+words_text o memory = decimal (memory words.State) ++ named_words memory (further_words o)
 
 -- The holds.
 
