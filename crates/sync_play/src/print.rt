@@ -10,6 +10,7 @@ ghost use Rattle.sync_play.specs.Print.{answer_words, act_line, then_line, event
 use std::alloc::AllocError;
 use sync_steps::steps::{Act, Answer, Event, Machine, Object, Then, Wake};
 
+/// Prints what a call answers.
 pub fn print_answer(out: &mut String, answer: Answer<u64>) -> Result<(), AllocError>
     ensures { OnOk result (string_bytes out.new ≡ string_bytes out.old ++ answer_words answer) }
 {
