@@ -21,9 +21,9 @@ def blocks(page):
     return re.findall(r"(?:(?<=\n)|\A)(?: {4}.*\n)+", TEXTS[page])
 
 
-def quoted(page, stem):
-    """Whether the page has the example's text and what it prints, each as a block of its own."""
-    for ending in ("txt", "out", "err"):
+def quoted(page, stem, endings=("txt", "out", "err")):
+    """Whether the page has the example's text and what is printed of it, each as a block of its own."""
+    for ending in endings:
         text = read(f"{stem}.{ending}")
         if text and "".join(f"    {line}\n" for line in text.splitlines()) not in blocks(page):
             return f"{page} does not have {stem}.{ending} as it is"
@@ -50,6 +50,8 @@ for text in sorted(glob.glob("examples/*.txt")):
     report(stem, quoted("docs/TEXT.md", stem))
     if text in TEXTS["README.md"]:
         report(stem, quoted("README.md", stem))
+    if text in TEXTS["docs/TRACE.md"]:
+        report(stem, quoted("docs/TRACE.md", stem, ("txt", "trace")))
 
 named = set(re.findall(r"`(\w+\.edit)`", "".join(TEXTS.values())))
 edits = {os.path.basename(it): it for it in glob.glob("crates/*/must-fail/*.edit")}

@@ -1,12 +1,12 @@
 # The programs that play texts, where memory, input or output are wanting: each ends with its line on standard error and its status,
 # and none crashes. And a text of many pieces, each way.
 test_streams() {
-    local line player
+    local line player ending
     long_text >"$room/long.txt"
     for line in "${players[@]}"; do
-        player=${line%% *}
+        read -r player ending <<<"$line"
         if is_built "$player"; then
-            wants_streams "$player"
+            wants_streams "$player" "$ending"
         fi
     done
     if is_built sync-play; then
@@ -27,7 +27,7 @@ wants_streams() {
     attempt bash -c 'exec "$0" >/dev/full' "./$1" <$short
     judge_line "$1: standard output is full" 1 "" "writing failed"
     attempt bash -c 'exec "$0" 2>&-' "./$1" <examples/mutex-fault.txt
-    judge_line "$1: a fault, and standard error is closed" 2 "" ""
+    judge "$1: a fault, and standard error is closed" 2 "examples/mutex-fault.$2" /dev/null
     attempt bash -c '"$0" | head -c 1 >/dev/null; exit "${PIPESTATUS[0]}"' "./$1" <"$room/long.txt"
     judge_line "$1: the reader of standard output leaves" 1 "" "writing failed"
 }

@@ -95,7 +95,7 @@ impl From<AllocError> for TextFault {
 /// Why a run of the program ended early.
 #[derive(Clone, Copy, Debug, PartialEq, Eq)]
 pub enum RunFault {
-    /// The first line of the text with a fault, counted from 1. Nothing was written.
+    /// The first line of the text with a fault, counted from 1. What was written, the program's `run` says.
     Text { line: u64, fault: LineFault },
     /// The reader failed. Nothing was written.
     Read,

@@ -10,7 +10,8 @@ ghost use Rattle.sync_play.specs.Print.{answer_words, act_line, then_line, event
 use std::alloc::AllocError;
 use sync_steps::steps::{Act, Answer, Event, Machine, Object, Then, Wake};
 
-fn print_answer(out: &mut String, answer: Answer<u64>) -> Result<(), AllocError>
+/// Prints what a call answers.
+pub fn print_answer(out: &mut String, answer: Answer<u64>) -> Result<(), AllocError>
     ensures { OnOk result (string_bytes out.new ≡ string_bytes out.old ++ answer_words answer) }
 {
     match answer {
@@ -77,7 +78,7 @@ pub fn print_event(out: &mut String, event: &Event<u64>) -> Result<(), AllocErro
 }
 
 /// Prints the words that the last line tells after the first.
-fn print_further_words(
+pub fn print_further_words(
     out: &mut String,
     object: Object<u64>,
     machine: &Machine<u64>,

@@ -1,0 +1,7 @@
+use Rattle.std.proofs.Common.{◌≡◌, take}
+use Rattle.sync_trace.specs.Rows.{entries}
+use Rattle.sync_trace.specs.Table.{titles, widened_by}
+use Rattle.sync_trace.proofs.table.widths_of.Given as goal
+
+abbrev pub invariant-loop-row : goal.invariant-loop-row
+invariant-loop-row l = l.widths ≡ widened_by (entries (take l.row-index l.rows)) titles

@@ -1,0 +1,5 @@
+pub mod Cells
+pub mod Rows
+pub mod Table
+pub mod Trace
+pub mod Run

@@ -1,0 +1,49 @@
+-- The rows of a trace: steps that read the same, one right after the other, are folded into one.
+use Rattle.std.specs.Prelude.{ℕ, ◌+◌, ◌-◌, ◌^◌, min, Bool, true, false, ◌&&◌, List, [], ◌∷◌, map}
+use Rattle.std.specs.Str.{bytes_eq}
+use Rattle.sync_trace.specs.declared.rows.Row.{Row}
+use Rattle.sync_trace.specs.Cells.{Texts, texts_of}
+
+-- a row: the numbers of its first and its last step, and what each of them reads
+pub record Entry : Type 0 where
+  pub first : ℕ
+  pub last : ℕ
+  pub cells : Texts
+
+abbrev pub entry_of : Row → Entry
+entry_of row = record { first = row.first; last = row.last; cells = texts_of row.cells }
+
+abbrev pub entries : List Row → List Entry
+entries rows = map entry_of rows
+
+-- two steps read the same, but for their numbers: line, party, act, words, holds and call
+abbrev pub read_same : Texts → Texts → Bool
+read_same a b =
+    bytes_eq a.line b.line && (bytes_eq a.party b.party && (bytes_eq a.act b.act && (bytes_eq a.words b.words && (bytes_eq a.holds b.holds && bytes_eq a.call b.call))))
+
+-- steps are counted up to 2^64 - 1
+abbrev pub number_after : ℕ → ℕ
+number_after number = min (number + 1) (2 ^ 64 - 1)
+
+abbrev pub alone : ℕ → Texts → Entry
+alone number cells = record { first = number; last = number; cells = cells }
+
+-- a row with one more step
+abbrev pub longer : Entry → Texts → Entry
+longer row cells = record { first = row.first; last = number_after row.last; cells = cells }
+
+-- the last row, and the next step: in that row where it reads the same, and else in a row of its own
+abbrev pub joined : Bool → Entry → Texts → List Entry
+joined true row cells = longer row cells ∷ []
+joined false row cells = row ∷ alone (number_after row.last) cells ∷ []
+
+-- the rows with the next step
+abbrev pub added : Texts → List Entry → List Entry
+added cells [] = alone 1 cells ∷ []
+added cells (row ∷ []) = joined (read_same row.cells cells) row cells
+added cells (row ∷ next ∷ rows) = row ∷ added cells (next ∷ rows)
+
+-- the rows with these steps, in order
+abbrev pub folded : List Texts → List Entry → List Entry
+folded [] rows = rows
+folded (cells ∷ steps) rows = folded steps (added cells rows)

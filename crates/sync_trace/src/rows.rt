@@ -1,0 +1,68 @@
+//! The rows of a trace: steps that read the same, one right after the other, are folded into one.
+ghost use Rattle.std.specs.Prelude.{◌≡◌, OnOk, string_bytes};
+ghost use Rattle.std.specs.Str.{bytes_eq};
+ghost use Rattle.sync_trace.specs.Cells.{texts_of};
+ghost use Rattle.sync_trace.specs.Rows as meaning;
+
+use crate::cells::Cells;
+use std::alloc::{AllocError, Global};
+use sync_play::lexer::is;
+
+/// A row: steps with the same cells. Steps are counted from 1, up to 2^64 - 1.
+#[derive(Debug, Drop)]
+pub struct Row {
+    /// The number of its first step.
+    pub first: u64,
+    /// The number of its last step.
+    pub last: u64,
+    pub cells: Cells,
+}
+
+/// Whether two texts are the same.
+fn same(a: &String, b: &String) -> bool
+    ensures { result ≡ bytes_eq (string_bytes a.now) (string_bytes b.now) }
+{
+    is(a.as_bytes(), b.as_bytes())
+}
+
+/// Whether two steps read the same, but for their numbers.
+fn read_same(a: &Cells, b: &Cells) -> bool
+    ensures { result ≡ meaning.read_same (texts_of a.now) (texts_of b.now) }
+{
+    same(&a.line, &b.line)
+        && same(&a.party, &b.party)
+        && same(&a.act, &b.act)
+        && same(&a.words, &b.words)
+        && same(&a.holds, &b.holds)
+        && same(&a.call, &b.call)
+}
+
+/// Adds the next step: to the last row where it reads the same, and else in a row of its own.
+pub fn add(rows: &mut Vec<Row>, cells: Cells) -> Result<(), AllocError>
+    ensures { OnOk result (meaning.entries rows.new.items ≡ meaning.added (texts_of cells) (meaning.entries rows.old.items)) }
+{
+    let Some(last) = rows.pop() else {
+        rows.push(Row {
+            first: 1,
+            last: 1,
+            cells,
+        })?;
+        return Ok(());
+    };
+    let number = last.last.saturating_add(1);
+    if read_same(&last.cells, &cells) {
+        rows.push(Row {
+            first: last.first,
+            last: number,
+            cells,
+        })?;
+    } else {
+        rows.push(last)?;
+        rows.push(Row {
+            first: number,
+            last: number,
+            cells,
+        })?;
+    }
+    Ok(())
+}

@@ -1,0 +1,32 @@
+//! Traces the text that a reader brings.
+ghost use Rattle.std.specs.Prelude.{◌≡◌, OnOk, IfErr, None};
+ghost use Rattle.sync_trace.specs.Run.{HasTraced, HasBegun, TellsFault, IsEarly};
+
+use crate::trace::trace_text;
+use std::alloc::Global;
+use std::io::{Read, Write};
+use sync_play::fault::RunFault;
+use sync_play::run::{read_all, write_all};
+use sync_walk::walk::FaultyLine;
+
+/// Reads a schedule text to its end, and writes its trace, and nothing else.
+///
+/// Of a text with a fault the trace up to it is written, and then `RunFault::Text` tells the fault. After `Read` and `Memory` nothing was
+/// written, and after `Write` a beginning of the trace.
+pub fn run<R: Read, W: Write>(alloc: Global, reader: &mut R, writer: &mut W) -> Result<(), RunFault>
+    ensures ok { OnOk result (HasTraced (R.remaining reader.old) (R.remaining reader.new)
+        (W.contents writer.old) (W.contents writer.new) None) }
+    ensures text { IfErr result (λ e. TellsFault e (R.remaining reader.old) (R.remaining reader.new)
+        (W.contents writer.old) (W.contents writer.new)) }
+    ensures unwritten { IfErr result (λ e. IsEarly e → writer.new ≡ writer.old) }
+    ensures begun { IfErr result (λ e. e ≡ RunFault.Write → HasBegun (R.remaining reader.old) (R.remaining reader.new)
+        (W.contents writer.old) (W.contents writer.new)) }
+{
+    let text = read_all(alloc, reader)?;
+    let trace = trace_text(alloc, &text)?;
+    write_all(writer, &trace.bytes)?;
+    match trace.fault {
+        None => Ok(()),
+        Some(FaultyLine { line, fault }) => Err(RunFault::Text { line, fault }),
+    }
+}

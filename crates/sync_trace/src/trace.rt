@@ -1,0 +1,86 @@
+//! Traces a schedule text.
+ghost use Rattle.std.specs.Prelude.{◌≡◌, ◌+◌, ◌^◌, ◌<◌, ℕ, List, length, IfOk};
+ghost use Rattle.steps_events.specs.Integers.{u64_arithmetic};
+ghost use Rattle.sync_steps.specs.Machine.{StandsAt};
+ghost use Rattle.steps_events.specs.declared.event.Event.{Event as AnEvent};
+ghost use Rattle.sync_walk.specs.Walk.{rest_walk};
+ghost use Rattle.sync_trace.specs.Trace as meaning;
+
+use crate::cells::cells_of;
+use crate::rows::{Row, add};
+use crate::table::table;
+use std::alloc::{AllocError, Global};
+use sync_play::header::Header;
+use sync_steps::steps::Machine;
+use sync_walk::walk::{FaultyLine, Rest, next_step, open};
+
+/// The rows of a run, and the line with a fault that ended it early, if there is one.
+#[derive(Debug, Drop)]
+pub struct Rows {
+    pub rows: Vec<Row>,
+    pub fault: Option<FaultyLine>,
+}
+
+/// What is written of a text, and the line with a fault that ended it early, if there is one.
+#[derive(Debug, Drop)]
+pub struct Trace {
+    pub bytes: Vec<u8>,
+    pub fault: Option<FaultyLine>,
+}
+
+/// Adds the rows of the steps that are left of a text, and tells the line with a fault that ends them early, if there is one.
+fn add_steps(
+    alloc: Global,
+    header: Header,
+    machine: &mut Machine<u64>,
+    rest: &mut Rest<'_>,
+    rows: &mut Vec<Row>,
+) -> Result<Option<FaultyLine>, AllocError>
+    requires countable { rest.old.line + length rest.old.lines.now < 2 ^ 64 }
+    ensures { (past : List (AnEvent ℕ)) → StandsAt u64_arithmetic header.object header.parties past machine.old →
+        IfOk result (meaning.HasAdded header past (rest_walk header.object header.parties past rest.old) rows.old.items rows.new.items) }
+{
+    loop {
+        match next_step(header.object, machine, rest) {
+            Ok(Some(step)) => {
+                let cells = cells_of(alloc, header, machine, step)?;
+                add(rows, cells)?;
+            }
+            Ok(None) => return Ok(None),
+            Err(fault) => return Ok(Some(fault)),
+        }
+    }
+}
+
+/// The rows of a text.
+fn rows_of(alloc: Global, text: &[u8]) -> Result<Rows, AllocError>
+    ensures { IfOk result (λ found. meaning.AreRowsOf text.now found) }
+{
+    let mut rows = Vec::new(alloc);
+    let (header, mut rest) = match open(text) {
+        Ok(opened) => opened,
+        Err(fault) => {
+            return Ok(Rows {
+                rows,
+                fault: Some(fault),
+            });
+        }
+    };
+    let mut machine = Machine::new(alloc, header.object, header.parties)?;
+    let fault = add_steps(alloc, header, &mut machine, &mut rest, &mut rows)?;
+    Ok(Rows { rows, fault })
+}
+
+/// The trace of a text: the head and a line for each row, up to its end or its first fault.
+///
+/// Its steps are let go as they are folded into rows, so it takes memory for the rows and the output alone.
+pub fn trace_text(alloc: Global, text: &[u8]) -> Result<Trace, AllocError>
+    ensures { IfOk result (λ trace. meaning.written_of trace ≡ meaning.trace_of text.now) }
+{
+    let found = rows_of(alloc, text)?;
+    let out = table(alloc, &found.rows)?;
+    Ok(Trace {
+        bytes: out.into_bytes(),
+        fault: found.fault,
+    })
+}

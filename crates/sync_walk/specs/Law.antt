@@ -1,0 +1,34 @@
+-- Walks and outputs: what a text prints is what its walk's events print, and both have the same fault.
+use Rattle.std.specs.Prelude.{◌≡◌, ℕ, List, [], ◌++◌, map, Option, Some, None, Result, Ok, Err}
+use Rattle.steps_events.specs.declared.event.Event.{Event}
+use Rattle.steps_events.specs.declared.event.Object.{Object}
+use Rattle.steps_events.specs.Runs.{after}
+use Rattle.sync_play.specs.declared.header.Header.{Header}
+use Rattle.sync_play.specs.Fault.{FaultAt}
+use Rattle.sync_play.specs.Lexer.{lines_of}
+use Rattle.sync_play.specs.Print.{printed, last_line}
+use Rattle.sync_play.specs.Text.{output_of}
+use Rattle.sync_walk.specs.declared.walk.FaultyLine.{FaultyLine}
+use Rattle.sync_walk.specs.declared.walk.Step.{Step}
+use Rattle.sync_walk.specs.Walk.{Walk, opened, lines_walk}
+
+abbrev pub fault_at : FaultyLine → FaultAt
+fault_at fault = record { line = fault.line; fault = fault.fault }
+
+abbrev pub events_in : List Step → List (Event ℕ)
+events_in steps = map (λ step. step.event) steps
+
+abbrev pub output_unless : Option FaultyLine → List ℕ → Result (List ℕ) FaultAt
+output_unless None bytes = Ok bytes
+output_unless (Some fault) bytes = Err (fault_at fault)
+
+-- what the events of a walk print after the events so far, and the last line; or its fault
+abbrev pub output_in : Object ℕ → List (Event ℕ) → Walk → Result (List ℕ) FaultAt
+output_in o past walk = output_unless walk.fault (printed (events_in walk.steps) ++ last_line o (after (events_in walk.steps) past))
+
+abbrev pub output_opened : Result (Header × List (List ℕ)) FaultyLine → Result (List ℕ) FaultAt
+output_opened (Ok found) = output_in found.0.object [] (lines_walk found.0.object found.0.parties 2 found.1 [])
+output_opened (Err fault) = Err (fault_at fault)
+
+abbrev pub WalksAreOutputs : Type 0
+WalksAreOutputs = (text : List ℕ) → output_of text ≡ output_opened (opened (lines_of text))
