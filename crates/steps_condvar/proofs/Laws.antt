@@ -27,6 +27,7 @@ use Rattle.steps_events.specs.Past.{same_word, PendingCall, call_of, call_after,
 use Rattle.steps_events.specs.Moves.{Move, step_at, fault_at, begin_fault}
 use Rattle.steps_events.specs.Runs.{IsPast}
 use Rattle.steps_events.specs.Sights.{sight_of, is_sight, AtLastSight, spins_in, stands_at_wait, acts_in}
+use Rattle.steps_events.specs.Waits.{is_wake}
 use Rattle.steps_events.specs.Laws.{IsTold, is_apart, Lacks, is_refusal}
 use Rattle.steps_events.proofs.Holds.{eqb_same, hold_of_same}
 use Rattle.steps_events.proofs.Steps.{carried_goes_on, by_move, tells_memory}
@@ -53,7 +54,7 @@ use Rattle.steps_condvar.specs.declared.CondvarPlace.{CondvarPlace}
 use Rattle.steps_condvar.specs.declared.CondvarPlace.TheVariants as places
 use Rattle.steps_condvar.specs.Table.{permits_for, condvar_table, condvar_grant, permitted, relocked}
 use Rattle.steps_condvar.specs.Waiters.{is_count, counts_in, since_count, is_wait, is_counted, CountsWaiters}
-use Rattle.steps_condvar.specs.Law.{wake_for, count_read, amount_for, condvar_gives, condvar_value, takes_in, HasAbortedSince, FoundNoPermit, FoundMutexHeld, IsSignalled, CondvarCause, answer_of, wait_answer, WaitStep, is_post, PutsSum, NotifyStep, LockStep, CallStep, spins_of, gives_up, HasTried, KeepsCondvar}
+use Rattle.steps_condvar.specs.Law.{wake_for, count_read, amount_for, condvar_gives, condvar_value, takes_in, HasAbortedSince, FoundNoPermit, FoundMutexHeld, IsSignalled, CondvarCause, answer_of, wait_answer, WaitStep, is_read, is_post, PutsSum, NotifyStep, LockStep, CallStep, spins_of, gives_up, HasTried, KeepsCondvar}
 use Rattle.steps_condvar.proofs.Counts.{CountEffect, none_wait, counts_after}
 use Rattle.steps_condvar.proofs.Places.{notify, Progress, SawNone, SignalIs, took, AtCondvar, outcome_within, condvar_kept}
 
@@ -208,11 +209,12 @@ going_law party past n hold c act (thens.Answers answer) wait goes count step as
 -- its step for a permit, by how it goes on
 
 looking :
-    {T : Type 0} (party : ℕ) (c : PendingCall T) (act : Act T) (outcome : Then T) (hold : Option HoldKind) → Progress c.own 1 1 1 0 → is_release act ≡ false → is_sight words.State act ≡ false → answer_of outcome ≡ None →
+    {T : Type 0} (party : ℕ) (c : PendingCall T) (act : Act T) (outcome : Then T) (hold : Option HoldKind) → Progress c.own 1 1 1 0 → is_release act ≡ false → is_sight words.State act ≡ false → is_wake act ≡ false → answer_of outcome ≡ None →
     WaitStep c.own (event party act outcome) hold
-looking party c act outcome hold so frees apart goes =
+looking party c act outcome hold so frees apart wake goes =
     record {
       unlocks = λ yes. let no : true ≡ false = sym yes ∙ frees in absurd cc;
+      wakes = λ yes. let no : true ≡ false = sym yes ∙ wake in absurd cc;
       looks = λ sees. (so.counted, so.released, so.woke);
       takes = λ takes. so.taken;
       locks = λ sees. let no : true ≡ false = sym sees ∙ apart in absurd cc;
@@ -230,17 +232,17 @@ still_counted {T} n times c act e wait counts quiet is_quiet keeps goes =
 
 permit_law :
     {T : Type 0} (party : ℕ) (past : List (Event T)) (n : ℕ) (hold : Option HoldKind) (c : PendingCall T) (act : Act T) (a : After T SemaphorePlace) → c.call ≡ calls.Wait → Progress c.own 1 1 1 0 →
-    is_count act ≡ false → is_release act ≡ false → is_sight words.State act ≡ false → word_after words.Waiters act n ≡ n →
+    is_count act ≡ false → is_release act ≡ false → is_sight words.State act ≡ false → is_wake act ≡ false → word_after words.Waiters act n ≡ n →
     ((e : Event T) → call_going_on act e (Some c) ≡ Some (record { call = c.call; own = e ∷ c.own })) → WaitLeads words.Value (since_count c.own) party act a →
     EventLaw party past n hold (Some c) (record { act = act; outcome = outcome_of (permitted a) })
-permit_law party past n hold c act (afters.At next) wait so quiet frees apart keeps goes leads =
-    going_law party past n hold c act thens.GoesOn wait refl (still_counted n 1 c act (event party act thens.GoesOn) wait so.counted quiet quiet keeps (goes (event party act thens.GoesOn))) (looking party c act thens.GoesOn _ so frees apart refl) tt
-permit_law party past n hold c act (afters.Waits next seen) wait so quiet frees apart keeps goes leads =
+permit_law party past n hold c act (afters.At next) wait so quiet frees apart wake keeps goes leads =
+    going_law party past n hold c act thens.GoesOn wait refl (still_counted n 1 c act (event party act thens.GoesOn) wait so.counted quiet quiet keeps (goes (event party act thens.GoesOn))) (looking party c act thens.GoesOn _ so frees apart wake refl) tt
+permit_law party past n hold c act (afters.Waits next seen) wait so quiet frees apart wake keeps goes leads =
     going_law party past n hold c act (thens.Waits seen) wait refl (still_counted n 1 c act (event party act (thens.Waits seen)) wait so.counted quiet quiet keeps (goes (event party act (thens.Waits seen))))
-    (looking party c act (thens.Waits seen) _ so frees apart refl) (rw so.counted leads.2)
-permit_law party past n hold c act (afters.Ends answer) wait so quiet frees apart keeps goes leads =
-    going_law party past n hold c act thens.GoesOn wait refl (still_counted n 1 c act (event party act thens.GoesOn) wait so.counted quiet quiet keeps (goes (event party act thens.GoesOn))) (looking party c act thens.GoesOn _ so frees apart refl) tt
-permit_law party past n hold c act (afters.Chooses next old) wait so quiet frees apart keeps goes leads = absurd leads
+    (looking party c act (thens.Waits seen) _ so frees apart wake refl) (rw so.counted leads.2)
+permit_law party past n hold c act (afters.Ends answer) wait so quiet frees apart wake keeps goes leads =
+    going_law party past n hold c act thens.GoesOn wait refl (still_counted n 1 c act (event party act thens.GoesOn) wait so.counted quiet quiet keeps (goes (event party act thens.GoesOn))) (looking party c act thens.GoesOn _ so frees apart wake refl) tt
+permit_law party past n hold c act (afters.Chooses next old) wait so quiet frees apart wake keeps goes leads = absurd leads
 
 -- its lock of the mutex, by how it goes on
 
@@ -250,6 +252,7 @@ locking :
 locking {T} party w takes c done outcome hold so answer =
     record {
       unlocks = λ yes. absurd cc;
+      wakes = λ yes. absurd cc;
       looks = λ sees. absurd cc;
       takes = λ takes. absurd cc;
       locks = λ sees. so.counted;
@@ -499,6 +502,8 @@ record IsApart {T : Type 0} (act : Act T) : Type 0 where
   waiters : is_sight words.Waiters act ≡ false
   value : is_sight words.Value act ≡ false
   takes : is_take words.Value act ≡ false
+  reads : is_read act ≡ false
+  wakes : is_wake act ≡ false
   posts : is_post act ≡ false
   sums : (amount : ℕ) → PutsSum amount act
 
@@ -507,9 +512,9 @@ contrary b A is_false is_true = let never : true ≡ false = sym is_true ∙ is_
 
 apart_step : {T : Type 0} (call : Call T) (own : List (Event T)) (party : ℕ) (act : Act T) (hold : Option HoldKind) → IsApart act → CallStep call own (event party act thens.GoesOn) hold
 apart_step calls.Wait own party act hold apart =
-    record { unlocks = contrary _ _ apart.frees; looks = contrary _ _ apart.value; takes = contrary _ _ apart.takes; locks = contrary _ _ apart.mutex; answers = tt }
-apart_step calls.NotifyOne own party act hold apart = record { posts = contrary _ _ apart.posts; sums = apart.sums _; ends = tt; apart = apart.mutex }
-apart_step calls.NotifyAll own party act hold apart = record { posts = contrary _ _ apart.posts; sums = apart.sums _; ends = tt; apart = apart.mutex }
+    record { unlocks = contrary _ _ apart.frees; wakes = contrary _ _ apart.wakes; looks = contrary _ _ apart.value; takes = contrary _ _ apart.takes; locks = contrary _ _ apart.mutex; answers = tt }
+apart_step calls.NotifyOne own party act hold apart = record { reads = contrary _ _ apart.reads; posts = contrary _ _ apart.posts; sums = apart.sums _; wakes = contrary _ _ apart.wakes; ends = tt; apart = apart.mutex }
+apart_step calls.NotifyAll own party act hold apart = record { reads = contrary _ _ apart.reads; posts = contrary _ _ apart.posts; sums = apart.sums _; wakes = contrary _ _ apart.wakes; ends = tt; apart = apart.mutex }
 apart_step call own party act hold apart = record { uncounted = apart.waiters; untaken = apart.value }
 
 apart_counts : {T : Type 0} (c : PendingCall T) (e : Event T) → is_count e.act ≡ false → is_counted (Some (record { call = c.call; own = e ∷ c.own })) ≡ is_counted (Some c)
@@ -543,42 +548,42 @@ signal_cause z parties past party c false run called signal = no_permit z partie
 
 -- a step of a `Wait` on the count or in its unlock has to do with no other word
 onward :
-    {T : Type 0} (c : PendingCall T) (party : ℕ) (act : Act T) (hold : Option HoldKind) (counts releases wakes takes : ℕ) → Progress c.own counts releases wakes takes → (is_release act ≡ true → counts ≡ 1) →
+    {T : Type 0} (c : PendingCall T) (party : ℕ) (act : Act T) (hold : Option HoldKind) (counts releases woken takes : ℕ) → Progress c.own counts releases woken takes → (is_release act ≡ true → counts ≡ 1) → (is_wake act ≡ true → (act ≡ acts.Woke wakes.One) × (releases ≡ 1) × (woken ≡ 0)) →
     is_sight words.State act ≡ false → is_sight words.Value act ≡ false → is_take words.Value act ≡ false → WaitStep c.own (event party act thens.GoesOn) hold
-onward c party act hold counts releases wakes takes so frees mutex value take =
-    record { unlocks = λ yes. so.counted ∙ frees yes; looks = contrary _ _ value; takes = contrary _ _ take; locks = contrary _ _ mutex; answers = tt }
+onward c party act hold counts releases woken takes so frees wake mutex value take =
+    record { unlocks = λ yes. so.counted ∙ frees yes; wakes = λ yes. ((wake yes).0, so.released ∙ (wake yes).1, so.woke ∙ (wake yes).2); looks = contrary _ _ value; takes = contrary _ _ take; locks = contrary _ _ mutex; answers = tt }
 
 step_law :
     {T : Type 0} (z : Arithmetic T) (parties party : ℕ) (past : List (Event T)) (c : PendingCall T) (place : CondvarPlace) (hold : Option HoldKind) (memory : Word → ℕ) → IsPast z condvar_table parties past → call_of party past ≡ Some c →
     AtCondvar place c hold → IsFreeOrHeld (memory words.State) (holds_of condvar_table past) → EventLaw party past (memory words.Waiters) hold (Some c) (step_at condvar_table place hold memory)
 step_law z parties party past c (places.Mutex place) hold memory run called at law = mutex_event party past (memory words.Waiters) hold c place memory called at law
 step_law {T} z parties party past c (places.Read wake) hold memory run called at law =
-    notify_law party past (memory words.Waiters) hold c wake (acts.Load words.Waiters (memory words.Waiters)) false at.0 refl refl refl (λ e. refl) (record { posts = λ yes. absurd cc; sums = tt; ends = tt; apart = refl })
+    notify_law party past (memory words.Waiters) hold c wake (acts.Load words.Waiters (memory words.Waiters)) false at.0 refl refl refl (λ e. refl) (record { reads = λ yes. at.2; posts = λ yes. absurd cc; sums = tt; wakes = λ yes. absurd cc; ends = tt; apart = refl })
 step_law {T} z parties party past c (places.Post wake amount) hold memory run called at law =
     notify_law party past (memory words.Waiters) hold c wake (step_at {T = T} condvar_table (places.Post wake amount) hold memory).act false at.0 refl refl refl (λ e. refl)
-    (record { posts = λ yes. (at.2, at.3); sums = ap (λ k. (memory words.Value + k) % 2 ^ 64) (at.4 ∙ amount_is wake (count_read c.own)); ends = tt; apart = refl })
+    (record { reads = λ yes. absurd cc; posts = λ yes. (at.2, at.3); sums = ap (λ k. (memory words.Value + k) % 2 ^ 64) (at.4 ∙ amount_is wake (count_read c.own)); wakes = λ yes. absurd cc; ends = tt; apart = refl })
 step_law {T} z parties party past c (places.Wake wake) hold memory run called at law =
-    notify_law party past (memory words.Waiters) hold c wake (acts.Woke wake) true at.0 refl refl refl (λ e. refl) (record { posts = λ yes. absurd cc; sums = tt; ends = (refl, refl, at.2); apart = refl })
+    notify_law party past (memory words.Waiters) hold c wake (acts.Woke wake) true at.0 refl refl refl (λ e. refl) (record { reads = λ yes. absurd cc; posts = λ yes. absurd cc; sums = tt; wakes = λ yes. (refl, refl, at.2); ends = (refl, refl, at.2); apart = refl })
 step_law {T} z parties party past c places.CountIn hold memory run called at law =
     let act : Act T = (step_at condvar_table places.CountIn hold memory).act in
     let so : Progress c.own 0 0 0 0 = at.2 in
     let longer : PendingCall T = record { call = c.call; own = event party act thens.GoesOn ∷ c.own } in
     let now : counts_in longer.own ≡ 1 = omega (arith, so.counted) in
     going_law party past (memory words.Waiters) hold c act thens.GoesOn at.0 refl (inr (inl (refl, refl, counted_by c 0 at.0 so.counted, counted_by longer 1 at.0 now)))
-    (onward c party act _ 0 0 0 0 so (λ yes. absurd cc) refl refl refl) tt
+    (onward c party act _ 0 0 0 0 so (λ yes. absurd cc) (λ yes. absurd cc) refl refl refl) tt
 step_law {T} z parties party past c (places.Release locks.Release) hold memory run called at law =
     let so : Progress c.own 1 0 0 0 = at.2.0 in
     going_law party past (memory words.Waiters) hold c (acts.Store words.State 0) thens.GoesOn at.0 refl
-    (still_counted (memory words.Waiters) 1 c (acts.Store words.State 0) (event party (acts.Store words.State 0) thens.GoesOn) at.0 so.counted refl refl refl refl) (onward c party (acts.Store words.State 0) _ 1 0 0 0 so (λ yes. refl) refl refl refl) tt
+    (still_counted (memory words.Waiters) 1 c (acts.Store words.State 0) (event party (acts.Store words.State 0) thens.GoesOn) at.0 so.counted refl refl refl refl) (onward c party (acts.Store words.State 0) _ 1 0 0 0 so (λ yes. refl) (λ yes. absurd cc) refl refl refl) tt
 step_law {T} z parties party past c (places.Release locks.Wake) hold memory run called at law =
     let so : Progress c.own 1 1 0 0 = at.2.0 in
     going_law party past (memory words.Waiters) hold c (acts.Woke wakes.One) thens.GoesOn at.0 refl
-    (still_counted (memory words.Waiters) 1 c (acts.Woke wakes.One) (event party (acts.Woke wakes.One) thens.GoesOn) at.0 so.counted refl refl refl refl) (onward c party (acts.Woke wakes.One) _ 1 1 0 0 so (λ yes. refl) refl refl refl) tt
+    (still_counted (memory words.Waiters) 1 c (acts.Woke wakes.One) (event party (acts.Woke wakes.One) thens.GoesOn) at.0 so.counted refl refl refl refl) (onward c party (acts.Woke wakes.One) _ 1 1 0 0 so (λ yes. refl) (λ yes. (refl, refl, refl)) refl refl refl) tt
 step_law z parties party past c (places.Release other) hold memory run called at law = absurd at.2
 step_law z parties party past c (places.Permit (permits.Look patience)) hold memory run called at law =
-    permit_law party past (memory words.Waiters) hold c _ _ at.0 at.2 refl refl refl refl (λ e. refl) (wait_leads words.Value (permits.Look patience) (since_count c.own) party memory at.3)
+    permit_law party past (memory words.Waiters) hold c _ _ at.0 at.2 refl refl refl refl refl (λ e. refl) (wait_leads words.Value (permits.Look patience) (since_count c.own) party memory at.3)
 step_law z parties party past c (places.Permit (permits.Take seen to patience)) hold memory run called at law =
-    permit_law party past (memory words.Waiters) hold c _ _ at.0 at.2 refl refl refl refl (λ e. refl) (wait_leads words.Value (permits.Take seen to patience) (since_count c.own) party memory at.3)
+    permit_law party past (memory words.Waiters) hold c _ _ at.0 at.2 refl refl refl refl refl (λ e. refl) (wait_leads words.Value (permits.Take seen to patience) (since_count c.own) party memory at.3)
 step_law z parties party past c (places.Permit other) hold memory run called at law = absurd at.3
 step_law {T} z parties party past c (places.CountOut signalled) hold memory run called at law =
     let act : Act T = (step_at condvar_table (places.CountOut signalled) hold memory).act in
@@ -586,7 +591,7 @@ step_law {T} z parties party past c (places.CountOut signalled) hold memory run 
     let longer : PendingCall T = record { call = c.call; own = event party act thens.GoesOn ∷ c.own } in
     let now : counts_in longer.own ≡ 2 = omega (arith, so.counted) in
     going_law party past (memory words.Waiters) hold c act thens.GoesOn at.0 refl (inr (inr (refl, refl, counted_by c 1 at.0 so.counted, counted_by longer 2 at.0 now)))
-    (onward c party act _ 1 1 1 (took signalled) so (λ yes. refl) refl refl refl) tt
+    (onward c party act _ 1 1 1 (took signalled) so (λ yes. refl) (λ yes. absurd cc) refl refl refl) tt
 step_law z parties party past c (places.Relock signalled (locks.Lock patience)) hold memory run called at law =
     let w = memory words.State in
     relock_law party past (memory words.Waiters) hold signalled c w (w == 0) (mutex_after (locks.Lock patience) (Some w)) called at.0 at.1 at.2 (signal_cause z parties past party c signalled run called at.3) law refl
@@ -603,8 +608,8 @@ event_law {T} z parties past e run =
     by_move condvar_table pending hold (word_in condvar_table past) (λ (k : Option (PendingCall T)) (m : Move T). EventLaw e.party past n hold k m)
     run.0.0 (record { act = e.act; outcome = e.then })
     (λ call is. begun_law e.party past n hold pending call (subst (λ (i : Input T). fault_at condvar_table pending hold i ≡ None) is (fault_at_none condvar_table parties past e.party run.0.0 run.0.1.allowed)))
-    (λ action _. apart_law e.party past n hold pending (acts.Answered action) (record { counts = refl; frees = refl; mutex = refl; waiters = refl; value = refl; takes = refl; posts = refl; sums = λ amount. tt }) refl (λ c d. refl) (λ d. refl))
-    (λ choice _. apart_law e.party past n hold pending (acts.Chosen choice) (record { counts = refl; frees = refl; mutex = refl; waiters = refl; value = refl; takes = refl; posts = refl; sums = λ amount. tt }) refl (λ c d. refl) (λ d. refl))
+    (λ action _. apart_law e.party past n hold pending (acts.Answered action) (record { counts = refl; frees = refl; mutex = refl; waiters = refl; value = refl; takes = refl; reads = refl; wakes = refl; posts = refl; sums = λ amount. tt }) refl (λ c d. refl) (λ d. refl))
+    (λ choice _. apart_law e.party past n hold pending (acts.Chosen choice) (record { counts = refl; frees = refl; mutex = refl; waiters = refl; value = refl; takes = refl; reads = refl; wakes = refl; posts = refl; sums = λ amount. tt }) refl (λ c d. refl) (λ d. refl))
     (λ c place _ called stage.
     step_law z parties e.party past c place hold (word_in condvar_table past) run.1 called (at_place z condvar_table parties AtCondvar condvar_kept past run.1 e.party c place called stage)
     (lock_word z condvar_table parties (condvar_is_lock z parties) past run.1))
