@@ -145,16 +145,25 @@ pub record NotifyStep {T : Type 0} (wake : Wake) (own : List (Event T)) (e : Eve
   -- and has to do with the mutex at no time
   pub apart : is_sight words.State e.act ≡ false
 
--- a call of the mutex has to do with the waiter count and the permits at no time
-pub record LockStep {T : Type 0} (e : Event T) : Type 0 where
+-- how a call of the mutex ends: `Unlock` with a wake of one, once it has stored 0; a locking call with `Success` exactly where it has the hold
+abbrev pub IsLockAnswer : {T : Type 0} → Call T → List (Event T) → Act T → Option HoldKind → Answer T → Type 0
+IsLockAnswer calls.Unlock own act hold answer = (answer ≡ answers.Done) × (act ≡ acts.Woke wakes.One) × (acts_in is_release own ≡ 1) × (hold ≡ None)
+IsLockAnswer call own act None answer = answer ≡ answers.Interrupted
+IsLockAnswer call own act (Some kind) answer = answer ≡ answers.Success
+
+-- what a call of the mutex does next, by the hold that its party has then
+pub record LockStep {T : Type 0} (call : Call T) (own : List (Event T)) (e : Event T) (hold : Option HoldKind) : Type 0 where
+  -- it has to do with the waiter count and the permits at no time
   pub uncounted : is_sight words.Waiters e.act ≡ false
   pub untaken : is_sight words.Value e.act ≡ false
+  -- and it answers by its hold
+  pub answers : MatchOption (answer_of e.then) (Unit {0}) (λ answer. IsLockAnswer call own e.act hold answer)
 
 abbrev pub CallStep : {T : Type 0} → Call T → List (Event T) → Event T → Option HoldKind → Type 0
 CallStep calls.Wait own e hold = WaitStep own e hold
 CallStep calls.NotifyOne own e hold = NotifyStep wakes.One own e
 CallStep calls.NotifyAll own e hold = NotifyStep wakes.All own e
-CallStep call own e hold = LockStep e
+CallStep call own e hold = LockStep call own e hold
 
 -- so does the latest event
 abbrev pub StepsInOrder : {T : Type 0} → List (Event T) → Type 0
