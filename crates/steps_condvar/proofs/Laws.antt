@@ -25,8 +25,9 @@ use Rattle.steps_events.specs.Rows.{carried_out, value_told, outcome_of, within}
 use Rattle.steps_events.specs.Past.{same_word, PendingCall, call_of, call_after, call_going_on, holds_of, hold_of, hold_after, word_in, word_after, event, is_release, is_failure}
 use Rattle.steps_events.specs.Moves.{Move, step_at, fault_at, begin_fault}
 use Rattle.steps_events.specs.Runs.{IsPast}
-use Rattle.steps_events.specs.Sights.{sight_of, is_sight, spins_in, stands_at_wait}
-use Rattle.steps_events.specs.Laws.{IsTold, Lacks, is_refusal}
+use Rattle.steps_events.specs.Sights.{sight_of, is_sight, AtLastSight, spins_in, stands_at_wait, acts_in}
+use Rattle.steps_events.specs.Waits.{is_wake}
+use Rattle.steps_events.specs.Laws.{IsTold, is_apart, Lacks, is_refusal}
 use Rattle.steps_events.proofs.Holds.{eqb_same, hold_of_same}
 use Rattle.steps_events.proofs.Steps.{carried_goes_on, by_move, tells_memory}
 use Rattle.steps_events.proofs.LastSights.{sight_is_told, at_last_sight}
@@ -50,14 +51,14 @@ use Rattle.steps_condvar.specs.declared.CondvarPlace.{CondvarPlace}
 use Rattle.steps_condvar.specs.declared.CondvarPlace.TheVariants as places
 use Rattle.steps_condvar.specs.Table.{permits_for, condvar_table, condvar_grant, permitted, relocked}
 use Rattle.steps_condvar.specs.Waiters.{is_count, counts_in, since_count, is_wait, is_counted, CountsWaiters}
-use Rattle.steps_condvar.specs.Law.{wake_for, count_read, amount_for, condvar_gives, condvar_value, takes_in, HasAbortedSince, FoundNoPermit, FoundMutexHeld, IsSignalled, CondvarCause, answer_of, wait_answer, WaitStep, is_post, PutsSum, NotifyStep, CallStep, spins_of, gives_up, HasTried, KeepsCondvar}
+use Rattle.steps_condvar.specs.Law.{wake_for, count_read, amount_for, condvar_gives, condvar_value, takes_in, HasAbortedSince, FoundNoPermit, FoundMutexHeld, IsSignalled, CondvarCause, answer_of, wait_answer, WaitStep, is_read, is_post, PutsSum, NotifyStep, LockStep, CallStep, spins_of, gives_up, HasTried, KeepsCondvar}
 use Rattle.steps_condvar.proofs.Counts.{CountEffect, none_wait, counts_after}
-use Rattle.steps_condvar.proofs.Places.{notify, Progress, SawNone, SignalIs, took, AtCondvar, outcome_within, condvar_kept}
+use Rattle.steps_condvar.proofs.Places.{notify, Progress, SawNone, SignalIs, took, IsReady, AtCondvar, outcome_within, condvar_kept}
 
 -- A condition variable has a lock for one: its mutex.
 
 lock_intent : {T : Type 0} (place : CondvarPlace) (c : PendingCall T) (hold : Option HoldKind) → AtCondvar place c hold → IsLockIntent {T = T} (condvar_grant c.call 0 1) hold ((condvar_table {T = T}).intent place hold)
-lock_intent (places.Mutex place) c hold at = mutex.lock_intent (λ call. condvar_grant call 0 1) place c hold refl refl at
+lock_intent (places.Mutex place) c hold at = mutex.lock_intent (λ call. condvar_grant call 0 1) place c hold refl refl at.0
 lock_intent (places.Read wake) c hold at = tt
 lock_intent (places.Post wake amount) c hold at = tt
 lock_intent (places.Wake wake) c hold at = tt
@@ -205,11 +206,12 @@ going_law party past n hold c act (thens.Answers answer) wait goes count step as
 -- its step for a permit, by how it goes on
 
 looking :
-    {T : Type 0} (party : ℕ) (c : PendingCall T) (act : Act T) (outcome : Then T) (hold : Option HoldKind) → Progress c.own 1 1 1 0 → is_release act ≡ false → is_sight words.State act ≡ false → answer_of outcome ≡ None →
+    {T : Type 0} (party : ℕ) (c : PendingCall T) (act : Act T) (outcome : Then T) (hold : Option HoldKind) → Progress c.own 1 1 1 0 → is_release act ≡ false → is_sight words.State act ≡ false → is_wake act ≡ false → answer_of outcome ≡ None →
     WaitStep c.own (event party act outcome) hold
-looking party c act outcome hold so frees apart goes =
+looking party c act outcome hold so frees apart wake goes =
     record {
       unlocks = λ yes. let no : true ≡ false = sym yes ∙ frees in absurd cc;
+      wakes = λ yes. let no : true ≡ false = sym yes ∙ wake in absurd cc;
       looks = λ sees. (so.counted, so.released, so.woke);
       takes = λ takes. so.taken;
       locks = λ sees. let no : true ≡ false = sym sees ∙ apart in absurd cc;
@@ -227,17 +229,17 @@ still_counted {T} n times c act e wait counts quiet is_quiet keeps goes =
 
 permit_law :
     {T : Type 0} (party : ℕ) (past : List (Event T)) (n : ℕ) (hold : Option HoldKind) (c : PendingCall T) (act : Act T) (a : After T SemaphorePlace) → c.call ≡ calls.Wait → Progress c.own 1 1 1 0 →
-    is_count act ≡ false → is_release act ≡ false → is_sight words.State act ≡ false → word_after words.Waiters act n ≡ n →
+    is_count act ≡ false → is_release act ≡ false → is_sight words.State act ≡ false → is_wake act ≡ false → word_after words.Waiters act n ≡ n →
     ((e : Event T) → call_going_on act e (Some c) ≡ Some (record { call = c.call; own = e ∷ c.own })) → WaitLeads words.Value (since_count c.own) party act a →
     EventLaw party past n hold (Some c) (record { act = act; outcome = outcome_of (permitted a) })
-permit_law party past n hold c act (afters.At next) wait so quiet frees apart keeps goes leads =
-    going_law party past n hold c act thens.GoesOn wait refl (still_counted n 1 c act (event party act thens.GoesOn) wait so.counted quiet quiet keeps (goes (event party act thens.GoesOn))) (looking party c act thens.GoesOn _ so frees apart refl) tt
-permit_law party past n hold c act (afters.Waits next seen) wait so quiet frees apart keeps goes leads =
+permit_law party past n hold c act (afters.At next) wait so quiet frees apart wake keeps goes leads =
+    going_law party past n hold c act thens.GoesOn wait refl (still_counted n 1 c act (event party act thens.GoesOn) wait so.counted quiet quiet keeps (goes (event party act thens.GoesOn))) (looking party c act thens.GoesOn _ so frees apart wake refl) tt
+permit_law party past n hold c act (afters.Waits next seen) wait so quiet frees apart wake keeps goes leads =
     going_law party past n hold c act (thens.Waits seen) wait refl (still_counted n 1 c act (event party act (thens.Waits seen)) wait so.counted quiet quiet keeps (goes (event party act (thens.Waits seen))))
-    (looking party c act (thens.Waits seen) _ so frees apart refl) (rw so.counted leads.2)
-permit_law party past n hold c act (afters.Ends answer) wait so quiet frees apart keeps goes leads =
-    going_law party past n hold c act thens.GoesOn wait refl (still_counted n 1 c act (event party act thens.GoesOn) wait so.counted quiet quiet keeps (goes (event party act thens.GoesOn))) (looking party c act thens.GoesOn _ so frees apart refl) tt
-permit_law party past n hold c act (afters.Chooses next old) wait so quiet frees apart keeps goes leads = absurd leads
+    (looking party c act (thens.Waits seen) _ so frees apart wake refl) (rw so.counted leads.2)
+permit_law party past n hold c act (afters.Ends answer) wait so quiet frees apart wake keeps goes leads =
+    going_law party past n hold c act thens.GoesOn wait refl (still_counted n 1 c act (event party act thens.GoesOn) wait so.counted quiet quiet keeps (goes (event party act thens.GoesOn))) (looking party c act thens.GoesOn _ so frees apart wake refl) tt
+permit_law party past n hold c act (afters.Chooses next old) wait so quiet frees apart wake keeps goes leads = absurd leads
 
 -- its lock of the mutex, by how it goes on
 
@@ -247,6 +249,7 @@ locking :
 locking {T} party w takes c done outcome hold so answer =
     record {
       unlocks = λ yes. absurd cc;
+      wakes = λ yes. absurd cc;
       looks = λ sees. absurd cc;
       takes = λ takes. absurd cc;
       locks = λ sees. so.counted;
@@ -391,17 +394,50 @@ mutex_quiet T (locks.Lock patience) memory n = (refl, refl)
 mutex_quiet T locks.Release memory n = (refl, refl)
 mutex_quiet T locks.Wake memory n = (refl, refl)
 
+-- what a call of the mutex answers, and with which hold
+
+try_step :
+    {T : Type 0} (c : PendingCall T) (w party : ℕ) (free : Bool) → c.call ≡ calls.TryLock →
+    CallStep calls.TryLock c.own (event party (acts.Exchange words.State 0 1 w free) (outcome_of {T = T} {P = MutexPlace} (cond free (afters.Ends answers.Success) (afters.Ends answers.Interrupted))))
+    (hold_after condvar_table (acts.Exchange words.State 0 1 w free) (Some c) None)
+try_step {T} c w party true is =
+    let granted : condvar_grant c.call 0 1 ≡ Some kinds.Write = ap (λ (k : Call T). condvar_grant k 0 1) is in
+    record { uncounted = refl; untaken = refl; answers = rw granted refl }
+try_step c w party false is = record { uncounted = refl; untaken = refl; answers = refl }
+
+lock_step :
+    {T : Type 0} (c : PendingCall T) (w party : ℕ) (done : Bool) (a : After T MutexPlace) → c.call ≡ calls.Lock → (w == 0) ≡ done → LockLeads c.own party w (acts.Exchange words.State 0 1 w done) a →
+    CallStep calls.Lock c.own (event party (acts.Exchange words.State 0 1 w done) (outcome_of a)) (hold_after condvar_table (acts.Exchange words.State 0 1 w done) (Some c) None)
+lock_step c w party done (afters.At next) is found leads = record { uncounted = refl; untaken = refl; answers = tt }
+lock_step c w party done (afters.Waits next seen) is found leads = record { uncounted = refl; untaken = refl; answers = tt }
+lock_step {T} c w party true (afters.Ends answers.Success) is found leads =
+    let granted : condvar_grant c.call 0 1 ≡ Some kinds.Write = ap (λ (k : Call T). condvar_grant k 0 1) is in
+    record { uncounted = refl; untaken = refl; answers = rw granted refl }
+lock_step c w party false (afters.Ends answers.Success) is found leads = absurd (eqb-false w 0 found leads)
+lock_step c w party true (afters.Ends answers.Interrupted) is found leads = absurd (leads.0 (eqb-true w 0 found))
+lock_step c w party false (afters.Ends answers.Interrupted) is found leads = record { uncounted = refl; untaken = refl; answers = refl }
+lock_step c w party done other is found leads = absurd leads
+
 mutex_step :
-    {T : Type 0} (place : MutexPlace) (c : PendingCall T) (hold left : Option HoldKind) (memory : Word → ℕ) (party : ℕ) (outcome : Then T) → AtMutex place c hold →
-    CallStep c.call c.own (event party (carried_out (mutex_intent words.State place) memory) outcome) left
-mutex_step {T} locks.TryLock c hold left memory party outcome at =
-    subst (λ (k : Call T). CallStep k c.own (event party (carried_out (mutex_intent words.State locks.TryLock) memory) outcome) left) (sym at) (record { uncounted = refl; untaken = refl })
-mutex_step {T} (locks.Lock patience) c hold left memory party outcome at =
-    subst (λ (k : Call T). CallStep k c.own (event party (carried_out (mutex_intent words.State (locks.Lock patience)) memory) outcome) left) (sym at.0) (record { uncounted = refl; untaken = refl })
-mutex_step {T} locks.Release c hold left memory party outcome at =
-    subst (λ (k : Call T). CallStep k c.own (event party (carried_out (mutex_intent words.State locks.Release) memory) outcome) left) (sym at.0) (record { uncounted = refl; untaken = refl })
-mutex_step {T} locks.Wake c hold left memory party outcome at =
-    subst (λ (k : Call T). CallStep k c.own (event party (carried_out (mutex_intent words.State locks.Wake) memory) outcome) left) (sym at) (record { uncounted = refl; untaken = refl })
+    {T : Type 0} (place : MutexPlace) (c : PendingCall T) (hold : Option HoldKind) (memory : Word → ℕ) (party : ℕ) → AtMutex place c hold → IsReady place c.own hold →
+    CallStep c.call c.own (event party (carried_out (mutex_intent words.State place) memory) (outcome_of (mutex_after place (value_told {T = T} (carried_out (mutex_intent words.State place) memory)))))
+    (hold_after condvar_table (carried_out {T = T} (mutex_intent words.State place) memory) (Some c) hold)
+mutex_step {T} locks.TryLock c hold memory party at ready =
+    let w = memory words.State in
+    let act : Act T = acts.Exchange words.State 0 1 w (w == 0) in
+    let e : Event T = event party act (outcome_of {T = T} {P = MutexPlace} (cond (w == 0) (afters.Ends answers.Success) (afters.Ends answers.Interrupted))) in
+    subst (λ (k : Call T). CallStep k c.own e (hold_after condvar_table act (Some c) hold)) (sym at)
+    (subst (λ h. CallStep calls.TryLock c.own e (hold_after condvar_table act (Some c) h)) (sym ready) (try_step c w party (w == 0) at))
+mutex_step {T} (locks.Lock patience) c hold memory party at ready =
+    let w = memory words.State in
+    let act : Act T = acts.Exchange words.State 0 1 w (w == 0) in
+    let a : After T MutexPlace = mutex_after (locks.Lock patience) (Some w) in
+    subst (λ (k : Call T). CallStep k c.own (event party act (outcome_of a)) (hold_after condvar_table act (Some c) hold)) (sym at.0)
+    (subst (λ h. CallStep calls.Lock c.own (event party act (outcome_of a)) (hold_after condvar_table act (Some c) h)) (sym ready) (lock_step c w party (w == 0) a at.0 refl (lock_leads words.State patience c.own party w at.1)))
+mutex_step {T} locks.Release c hold memory party at ready =
+    subst (λ (k : Call T). CallStep k c.own (event party (acts.Store words.State 0) thens.GoesOn) None) (sym at.0) (record { uncounted = refl; untaken = refl; answers = tt })
+mutex_step {T} locks.Wake c hold memory party at ready =
+    subst (λ (k : Call T). CallStep k c.own (event party (acts.Woke wakes.One) (thens.Answers answers.Done)) hold) (sym at) (record { uncounted = refl; untaken = refl; answers = (refl, refl, ready.0, ready.1) })
 
 -- none of these answers a number
 
@@ -465,16 +501,17 @@ mutex_law_here {T} party past n hold c act outcome other quiet keeps goes number
     }
 
 mutex_event :
-    {T : Type 0} (party : ℕ) (past : List (Event T)) (n : ℕ) (hold : Option HoldKind) (c : PendingCall T) (place : MutexPlace) (memory : Word → ℕ) → call_of party past ≡ Some c → AtMutex place c hold →
+    {T : Type 0} (party : ℕ) (past : List (Event T)) (n : ℕ) (hold : Option HoldKind) (c : PendingCall T) (place : MutexPlace) (memory : Word → ℕ) → call_of party past ≡ Some c → AtMutex place c hold → IsReady place c.own hold →
     IsFreeOrHeld (memory words.State) (holds_of condvar_table past) → EventLaw party past n hold (Some c) (step_at condvar_table (places.Mutex place) hold memory)
-mutex_event {T} party past n hold c place memory called at law =
+mutex_event {T} party past n hold c place memory called at ready law =
     let act : Act T = carried_out (mutex_intent words.State place) memory in
     let a : After T MutexPlace = mutex_after place (value_told act) in
     let outcome : Then T = outcome_of (within places.Mutex a) in
     let there : mutex.EventLaw condvar_table party past (Some c) (record { act = act; outcome = outcome }) =
     subst (λ (o : Then T). mutex.EventLaw condvar_table party past (Some c) (record { act = act; outcome = o })) (sym (outcome_within places.Mutex a)) (mutex.step_law condvar_table party past c place hold memory called at law) in
     mutex_law_here party past n hold c act outcome (mutex_waits place c hold at) (mutex_quiet T place memory n).0 (mutex_quiet T place memory n).1 (carried_goes_on (mutex_intent words.State place) memory (event party act outcome) c)
-    (ap number_answered (outcome_within places.Mutex a) ∙ mutex_number place c hold memory at) (mutex_step place c hold (hold_after condvar_table act (Some c) hold) memory party outcome at) there
+    (ap number_answered (outcome_within places.Mutex a) ∙ mutex_number place c hold memory at)
+    (subst (λ (o : Then T). CallStep c.call c.own (event party act o) (hold_after condvar_table act (Some c) hold)) (sym (outcome_within places.Mutex a)) (mutex_step place c hold memory party at ready)) there
 
 -- An event that is no step: the beginning of a call, and what a closure answers.
 
@@ -496,6 +533,8 @@ record IsApart {T : Type 0} (act : Act T) : Type 0 where
   waiters : is_sight words.Waiters act ≡ false
   value : is_sight words.Value act ≡ false
   takes : is_take words.Value act ≡ false
+  reads : is_read act ≡ false
+  wakes : is_wake act ≡ false
   posts : is_post act ≡ false
   sums : (amount : ℕ) → PutsSum amount act
 
@@ -504,10 +543,10 @@ contrary b A is_false is_true = let never : true ≡ false = sym is_true ∙ is_
 
 apart_step : {T : Type 0} (call : Call T) (own : List (Event T)) (party : ℕ) (act : Act T) (hold : Option HoldKind) → IsApart act → CallStep call own (event party act thens.GoesOn) hold
 apart_step calls.Wait own party act hold apart =
-    record { unlocks = contrary _ _ apart.frees; looks = contrary _ _ apart.value; takes = contrary _ _ apart.takes; locks = contrary _ _ apart.mutex; answers = tt }
-apart_step calls.NotifyOne own party act hold apart = record { posts = contrary _ _ apart.posts; sums = apart.sums _; ends = tt; apart = apart.mutex }
-apart_step calls.NotifyAll own party act hold apart = record { posts = contrary _ _ apart.posts; sums = apart.sums _; ends = tt; apart = apart.mutex }
-apart_step call own party act hold apart = record { uncounted = apart.waiters; untaken = apart.value }
+    record { unlocks = contrary _ _ apart.frees; wakes = contrary _ _ apart.wakes; looks = contrary _ _ apart.value; takes = contrary _ _ apart.takes; locks = contrary _ _ apart.mutex; answers = tt }
+apart_step calls.NotifyOne own party act hold apart = record { reads = contrary _ _ apart.reads; posts = contrary _ _ apart.posts; sums = apart.sums _; wakes = contrary _ _ apart.wakes; ends = tt; apart = apart.mutex }
+apart_step calls.NotifyAll own party act hold apart = record { reads = contrary _ _ apart.reads; posts = contrary _ _ apart.posts; sums = apart.sums _; wakes = contrary _ _ apart.wakes; ends = tt; apart = apart.mutex }
+apart_step call own party act hold apart = record { uncounted = apart.waiters; untaken = apart.value; answers = tt }
 
 apart_counts : {T : Type 0} (c : PendingCall T) (e : Event T) → is_count e.act ≡ false → is_counted (Some (record { call = c.call; own = e ∷ c.own })) ≡ is_counted (Some c)
 apart_counts {T} c e quiet =
@@ -540,42 +579,42 @@ signal_cause z parties past party c false run called signal = no_permit z partie
 
 -- a step of a `Wait` on the count or in its unlock has to do with no other word
 onward :
-    {T : Type 0} (c : PendingCall T) (party : ℕ) (act : Act T) (hold : Option HoldKind) (counts releases wakes takes : ℕ) → Progress c.own counts releases wakes takes → (is_release act ≡ true → counts ≡ 1) →
+    {T : Type 0} (c : PendingCall T) (party : ℕ) (act : Act T) (hold : Option HoldKind) (counts releases woken takes : ℕ) → Progress c.own counts releases woken takes → (is_release act ≡ true → counts ≡ 1) → (is_wake act ≡ true → (act ≡ acts.Woke wakes.One) × (releases ≡ 1) × (woken ≡ 0)) →
     is_sight words.State act ≡ false → is_sight words.Value act ≡ false → is_take words.Value act ≡ false → WaitStep c.own (event party act thens.GoesOn) hold
-onward c party act hold counts releases wakes takes so frees mutex value take =
-    record { unlocks = λ yes. so.counted ∙ frees yes; looks = contrary _ _ value; takes = contrary _ _ take; locks = contrary _ _ mutex; answers = tt }
+onward c party act hold counts releases woken takes so frees wake mutex value take =
+    record { unlocks = λ yes. so.counted ∙ frees yes; wakes = λ yes. ((wake yes).0, so.released ∙ (wake yes).1, so.woke ∙ (wake yes).2); looks = contrary _ _ value; takes = contrary _ _ take; locks = contrary _ _ mutex; answers = tt }
 
 step_law :
     {T : Type 0} (z : Arithmetic T) (parties party : ℕ) (past : List (Event T)) (c : PendingCall T) (place : CondvarPlace) (hold : Option HoldKind) (memory : Word → ℕ) → IsPast z condvar_table parties past → call_of party past ≡ Some c →
     AtCondvar place c hold → IsFreeOrHeld (memory words.State) (holds_of condvar_table past) → EventLaw party past (memory words.Waiters) hold (Some c) (step_at condvar_table place hold memory)
-step_law z parties party past c (places.Mutex place) hold memory run called at law = mutex_event party past (memory words.Waiters) hold c place memory called at law
+step_law z parties party past c (places.Mutex place) hold memory run called at law = mutex_event party past (memory words.Waiters) hold c place memory called at.0 at.1 law
 step_law {T} z parties party past c (places.Read wake) hold memory run called at law =
-    notify_law party past (memory words.Waiters) hold c wake (acts.Load words.Waiters (memory words.Waiters)) false at.0 refl refl refl (λ e. refl) (record { posts = λ yes. absurd cc; sums = tt; ends = tt; apart = refl })
+    notify_law party past (memory words.Waiters) hold c wake (acts.Load words.Waiters (memory words.Waiters)) false at.0 refl refl refl (λ e. refl) (record { reads = λ yes. at.2; posts = λ yes. absurd cc; sums = tt; wakes = λ yes. absurd cc; ends = tt; apart = refl })
 step_law {T} z parties party past c (places.Post wake amount) hold memory run called at law =
     notify_law party past (memory words.Waiters) hold c wake (step_at {T = T} condvar_table (places.Post wake amount) hold memory).act false at.0 refl refl refl (λ e. refl)
-    (record { posts = λ yes. (at.2, at.3); sums = ap (λ k. (memory words.Value + k) % 2 ^ 64) (at.4 ∙ amount_is wake (count_read c.own)); ends = tt; apart = refl })
+    (record { reads = λ yes. absurd cc; posts = λ yes. (at.2, at.3); sums = ap (λ k. (memory words.Value + k) % 2 ^ 64) (at.4 ∙ amount_is wake (count_read c.own)); wakes = λ yes. absurd cc; ends = tt; apart = refl })
 step_law {T} z parties party past c (places.Wake wake) hold memory run called at law =
-    notify_law party past (memory words.Waiters) hold c wake (acts.Woke wake) true at.0 refl refl refl (λ e. refl) (record { posts = λ yes. absurd cc; sums = tt; ends = (refl, refl, at.2); apart = refl })
+    notify_law party past (memory words.Waiters) hold c wake (acts.Woke wake) true at.0 refl refl refl (λ e. refl) (record { reads = λ yes. absurd cc; posts = λ yes. absurd cc; sums = tt; wakes = λ yes. (refl, refl, at.2); ends = (refl, refl, at.2); apart = refl })
 step_law {T} z parties party past c places.CountIn hold memory run called at law =
     let act : Act T = (step_at condvar_table places.CountIn hold memory).act in
     let so : Progress c.own 0 0 0 0 = at.2 in
     let longer : PendingCall T = record { call = c.call; own = event party act thens.GoesOn ∷ c.own } in
     let now : counts_in longer.own ≡ 1 = omega (arith, so.counted) in
     going_law party past (memory words.Waiters) hold c act thens.GoesOn at.0 refl (inr (inl (refl, refl, counted_by c 0 at.0 so.counted, counted_by longer 1 at.0 now)))
-    (onward c party act _ 0 0 0 0 so (λ yes. absurd cc) refl refl refl) tt
+    (onward c party act _ 0 0 0 0 so (λ yes. absurd cc) (λ yes. absurd cc) refl refl refl) tt
 step_law {T} z parties party past c (places.Release locks.Release) hold memory run called at law =
     let so : Progress c.own 1 0 0 0 = at.2.0 in
     going_law party past (memory words.Waiters) hold c (acts.Store words.State 0) thens.GoesOn at.0 refl
-    (still_counted (memory words.Waiters) 1 c (acts.Store words.State 0) (event party (acts.Store words.State 0) thens.GoesOn) at.0 so.counted refl refl refl refl) (onward c party (acts.Store words.State 0) _ 1 0 0 0 so (λ yes. refl) refl refl refl) tt
+    (still_counted (memory words.Waiters) 1 c (acts.Store words.State 0) (event party (acts.Store words.State 0) thens.GoesOn) at.0 so.counted refl refl refl refl) (onward c party (acts.Store words.State 0) _ 1 0 0 0 so (λ yes. refl) (λ yes. absurd cc) refl refl refl) tt
 step_law {T} z parties party past c (places.Release locks.Wake) hold memory run called at law =
     let so : Progress c.own 1 1 0 0 = at.2.0 in
     going_law party past (memory words.Waiters) hold c (acts.Woke wakes.One) thens.GoesOn at.0 refl
-    (still_counted (memory words.Waiters) 1 c (acts.Woke wakes.One) (event party (acts.Woke wakes.One) thens.GoesOn) at.0 so.counted refl refl refl refl) (onward c party (acts.Woke wakes.One) _ 1 1 0 0 so (λ yes. refl) refl refl refl) tt
+    (still_counted (memory words.Waiters) 1 c (acts.Woke wakes.One) (event party (acts.Woke wakes.One) thens.GoesOn) at.0 so.counted refl refl refl refl) (onward c party (acts.Woke wakes.One) _ 1 1 0 0 so (λ yes. refl) (λ yes. (refl, refl, refl)) refl refl refl) tt
 step_law z parties party past c (places.Release other) hold memory run called at law = absurd at.2
 step_law z parties party past c (places.Permit (permits.Look patience)) hold memory run called at law =
-    permit_law party past (memory words.Waiters) hold c _ _ at.0 at.2 refl refl refl refl (λ e. refl) (wait_leads words.Value (permits.Look patience) (since_count c.own) party memory at.3)
+    permit_law party past (memory words.Waiters) hold c _ _ at.0 at.2 refl refl refl refl refl (λ e. refl) (wait_leads words.Value (permits.Look patience) (since_count c.own) party memory at.3)
 step_law z parties party past c (places.Permit (permits.Take seen to patience)) hold memory run called at law =
-    permit_law party past (memory words.Waiters) hold c _ _ at.0 at.2 refl refl refl refl (λ e. refl) (wait_leads words.Value (permits.Take seen to patience) (since_count c.own) party memory at.3)
+    permit_law party past (memory words.Waiters) hold c _ _ at.0 at.2 refl refl refl refl refl (λ e. refl) (wait_leads words.Value (permits.Take seen to patience) (since_count c.own) party memory at.3)
 step_law z parties party past c (places.Permit other) hold memory run called at law = absurd at.3
 step_law {T} z parties party past c (places.CountOut signalled) hold memory run called at law =
     let act : Act T = (step_at condvar_table (places.CountOut signalled) hold memory).act in
@@ -583,7 +622,7 @@ step_law {T} z parties party past c (places.CountOut signalled) hold memory run 
     let longer : PendingCall T = record { call = c.call; own = event party act thens.GoesOn ∷ c.own } in
     let now : counts_in longer.own ≡ 2 = omega (arith, so.counted) in
     going_law party past (memory words.Waiters) hold c act thens.GoesOn at.0 refl (inr (inr (refl, refl, counted_by c 1 at.0 so.counted, counted_by longer 2 at.0 now)))
-    (onward c party act _ 1 1 1 (took signalled) so (λ yes. refl) refl refl refl) tt
+    (onward c party act _ 1 1 1 (took signalled) so (λ yes. refl) (λ yes. absurd cc) refl refl refl) tt
 step_law z parties party past c (places.Relock signalled (locks.Lock patience)) hold memory run called at law =
     let w = memory words.State in
     relock_law party past (memory words.Waiters) hold signalled c w (w == 0) (mutex_after (locks.Lock patience) (Some w)) called at.0 at.1 at.2 (signal_cause z parties past party c signalled run called at.3) law refl
@@ -600,8 +639,8 @@ event_law {T} z parties past e run =
     by_move condvar_table pending hold (word_in condvar_table past) (λ (k : Option (PendingCall T)) (m : Move T). EventLaw e.party past n hold k m)
     run.0.0 (record { act = e.act; outcome = e.then })
     (λ call is. begun_law e.party past n hold pending call (subst (λ (i : Input T). fault_at condvar_table pending hold i ≡ None) is (fault_at_none condvar_table parties past e.party run.0.0 run.0.1.allowed)))
-    (λ action _. apart_law e.party past n hold pending (acts.Answered action) (record { counts = refl; frees = refl; mutex = refl; waiters = refl; value = refl; takes = refl; posts = refl; sums = λ amount. tt }) refl (λ c d. refl) (λ d. refl))
-    (λ choice _. apart_law e.party past n hold pending (acts.Chosen choice) (record { counts = refl; frees = refl; mutex = refl; waiters = refl; value = refl; takes = refl; posts = refl; sums = λ amount. tt }) refl (λ c d. refl) (λ d. refl))
+    (λ action _. apart_law e.party past n hold pending (acts.Answered action) (record { counts = refl; frees = refl; mutex = refl; waiters = refl; value = refl; takes = refl; reads = refl; wakes = refl; posts = refl; sums = λ amount. tt }) refl (λ c d. refl) (λ d. refl))
+    (λ choice _. apart_law e.party past n hold pending (acts.Chosen choice) (record { counts = refl; frees = refl; mutex = refl; waiters = refl; value = refl; takes = refl; reads = refl; wakes = refl; posts = refl; sums = λ amount. tt }) refl (λ c d. refl) (λ d. refl))
     (λ c place _ called stage.
     step_law z parties e.party past c place hold (word_in condvar_table past) run.1 called (at_place z condvar_table parties AtCondvar condvar_kept past run.1 e.party c place called stage)
     (lock_word z condvar_table parties (condvar_is_lock z parties) past run.1))

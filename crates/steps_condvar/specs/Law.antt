@@ -16,6 +16,7 @@ use Rattle.steps_events.specs.declared.event.Event.{Event}
 use Rattle.steps_events.specs.declared.hold.HoldKind.{HoldKind}
 use Rattle.steps_events.specs.Past.{PendingCall, call_of, holds_of, hold_of, is_release, is_failure}
 use Rattle.steps_events.specs.Sights.{sight_of, is_sight, AtLastSight, keeps_asking, spins_in, stands_at_wait, acts_in}
+use Rattle.steps_events.specs.Waits.{is_wake}
 use Rattle.steps_events.specs.Laws.{TellsMemory, IsExclusive, IsLocked, HasCause}
 use Rattle.steps_mutex.specs.Law as mutex
 use Rattle.steps_mutex.specs.Law.{LockCause, HasTriedAll, IsExactGrant}
@@ -105,6 +106,8 @@ wait_answer (suc takes) (Some kind) = answers.Success
 pub record WaitStep {T : Type 0} (own : List (Event T)) (e : Event T) (hold : Option HoldKind) : Type 0 where
   -- it gives the mutex back once it has counted itself
   pub unlocks : is_release e.act ≡ true → counts_in own ≡ 1
+  -- it wakes once, one, and only after it has given the mutex back
+  pub wakes : is_wake e.act ≡ true → (e.act ≡ acts.Woke wakes.One) × (acts_in is_release own ≡ 1) × (acts_in is_wake_one own ≡ 0)
   -- it looks for a permit while it is counted, and has given the mutex back and woken one
   pub looks : is_sight words.Value e.act ≡ true → (counts_in own ≡ 1) × (acts_in is_release own ≡ 1) × (acts_in is_wake_one own ≡ 1)
   -- it takes one at most
@@ -130,25 +133,37 @@ PutsSum amount act = Unit {0}
 
 -- what a notify does next, with this wake
 pub record NotifyStep {T : Type 0} (wake : Wake) (own : List (Event T)) (e : Event T) : Type 0 where
-  -- it posts once, once it has read the waiter count
+  -- it reads the waiter count once
+  pub reads : is_read e.act ≡ true → acts_in is_read own ≡ 0
+  -- it posts once, once it has read that count
   pub posts : is_post e.act ≡ true → (acts_in is_read own ≡ 1) × (acts_in is_post own ≡ 0)
   -- as many permits as the count tells
   pub sums : PutsSum (amount_for (Some wake) (count_read own)) e.act
-  -- it ends once it has posted, with its wake
+  -- it wakes once it has posted, as its name says, and ends with that
+  pub wakes : is_wake e.act ≡ true → (e.act ≡ acts.Woke wake) × (e.then ≡ thens.Answers answers.Done) × (acts_in is_post own ≡ 1)
   pub ends : MatchOption (answer_of e.then) (Unit {0}) (λ answer. (answer ≡ answers.Done) × (e.act ≡ acts.Woke wake) × (acts_in is_post own ≡ 1))
   -- and has to do with the mutex at no time
   pub apart : is_sight words.State e.act ≡ false
 
--- a call of the mutex has to do with the waiter count and the permits at no time
-pub record LockStep {T : Type 0} (e : Event T) : Type 0 where
+-- how a call of the mutex ends: `Unlock` with a wake of one, once it has stored 0; a locking call with `Success` exactly where it has the hold
+abbrev pub IsLockAnswer : {T : Type 0} → Call T → List (Event T) → Act T → Option HoldKind → Answer T → Type 0
+IsLockAnswer calls.Unlock own act hold answer = (answer ≡ answers.Done) × (act ≡ acts.Woke wakes.One) × (acts_in is_release own ≡ 1) × (hold ≡ None)
+IsLockAnswer call own act None answer = answer ≡ answers.Interrupted
+IsLockAnswer call own act (Some kind) answer = answer ≡ answers.Success
+
+-- what a call of the mutex does next, by the hold that its party has then
+pub record LockStep {T : Type 0} (call : Call T) (own : List (Event T)) (e : Event T) (hold : Option HoldKind) : Type 0 where
+  -- it has to do with the waiter count and the permits at no time
   pub uncounted : is_sight words.Waiters e.act ≡ false
   pub untaken : is_sight words.Value e.act ≡ false
+  -- and it answers by its hold
+  pub answers : MatchOption (answer_of e.then) (Unit {0}) (λ answer. IsLockAnswer call own e.act hold answer)
 
 abbrev pub CallStep : {T : Type 0} → Call T → List (Event T) → Event T → Option HoldKind → Type 0
 CallStep calls.Wait own e hold = WaitStep own e hold
 CallStep calls.NotifyOne own e hold = NotifyStep wakes.One own e
 CallStep calls.NotifyAll own e hold = NotifyStep wakes.All own e
-CallStep call own e hold = LockStep e
+CallStep call own e hold = LockStep call own e hold
 
 -- so does the latest event
 abbrev pub StepsInOrder : {T : Type 0} → List (Event T) → Type 0

@@ -56,7 +56,7 @@ is_at_read places.Read = true
 -- of its latest step, where that leads
 abbrev pub IsLed : {T : Type 0} → LazyPlace → Option (Act T) → Type 0
 IsLed place last =
-    MatchOption last (is_at_read place ≡ false)
+    MatchOption last (place ≡ places.Once onces.Look)
     (λ before. (is_begin before ≡ true → place ≡ places.Once onces.Run) × (is_end before ≡ true → place ≡ places.Once onces.Complete) × (shows_end before ≡ is_at_read place))
 
 pub record AtLazy {T : Type 0} (place : LazyPlace) (c : PendingCall T) (hold : Option HoldKind) : Type 0 where
@@ -183,7 +183,7 @@ pub record EventLaw {T : Type 0} (v : T) (party : ℕ) (past : List (Event T)) (
   pub own : MatchBool (is_end m.act) (AtLast is_begin (λ before. begins_in before ≡ 0) party past) (Unit {0})
   pub runs :
       MatchBool (is_step m.act)
-      (MatchOption pending ⊥ (λ c. MatchOption (last_of is_step c.own) (is_read m.act ≡ false) (λ before. IsNextStep (is_begin before) (is_end before) (shows_end before) m.act)))
+      (MatchOption pending ⊥ (λ c. MatchOption (last_of is_step c.own) (is_load m.act ≡ true) (λ before. IsNextStep (is_begin before) (is_end before) (shows_end before) m.act)))
       (Unit {0})
   pub waits : MatchBool (is_load m.act) (MatchOption pending ⊥ (λ c. IfSome (last_of is_step c.own) (λ before. 1 ≤ begins_in past))) (Unit {0})
   pub answers :
@@ -194,10 +194,10 @@ pub record EventLaw {T : Type 0} (v : T) (party : ℕ) (past : List (Event T)) (
 
 -- the step at a place follows the call's step before
 in_order :
-    {T : Type 0} (place : LazyPlace) (last : Option (Act T)) (act : Act T) → IsLed place last → (place ≡ places.Once onces.Run → act ≡ acts.Ended) → (place ≡ places.Once onces.Complete → act ≡ acts.Store words.State 2) →
-    is_read act ≡ is_at_read place → MatchOption last (is_read act ≡ false) (λ before. IsNextStep (is_begin before) (is_end before) (shows_end before) act)
-in_order place None act led ends puts reads = reads ∙ led
-in_order {T} place (Some before) act led ends puts reads = by_test (is_begin before) (is_end before) led
+    {T : Type 0} (place : LazyPlace) (last : Option (Act T)) (act : Act T) → IsLed place last → (place ≡ places.Once onces.Look → is_load act ≡ true) → (place ≡ places.Once onces.Run → act ≡ acts.Ended) → (place ≡ places.Once onces.Complete → act ≡ acts.Store words.State 2) →
+    is_read act ≡ is_at_read place → MatchOption last (is_load act ≡ true) (λ before. IsNextStep (is_begin before) (is_end before) (shows_end before) act)
+in_order place None act led looks ends puts reads = looks led
+in_order {T} place (Some before) act led looks ends puts reads = by_test (is_begin before) (is_end before) led
   where
     by_test : (begun ended : Bool) → (begun ≡ true → place ≡ places.Once onces.Run) × (ended ≡ true → place ≡ places.Once onces.Complete) × (shows_end before ≡ is_at_read place) → IsNextStep {T = T} begun ended (shows_end before) act
     by_test true ended led = ends (led.0 refl)
@@ -229,7 +229,7 @@ goes_on_at T onces.Stay found = by_test (found == 2)
 goes_on_law :
     {T : Type 0} (v : T) (party : ℕ) (past : List (Event T)) (c : PendingCall T) (act : Act T) (outcome : Then T) → outcome ≡ thens.GoesOn → is_read act ≡ false → is_wake act ≡ false →
     MatchBool (is_end act) (AtLast is_begin (λ before. begins_in before ≡ 0) party past) (Unit {0}) →
-    MatchBool (is_step act) (MatchOption (last_of is_step c.own) (is_read act ≡ false) (λ before. IsNextStep (is_begin before) (is_end before) (shows_end before) act)) (Unit {0}) →
+    MatchBool (is_step act) (MatchOption (last_of is_step c.own) (is_load act ≡ true) (λ before. IsNextStep (is_begin before) (is_end before) (shows_end before) act)) (Unit {0}) →
     MatchBool (is_load act) (IfSome (last_of is_step c.own) (λ before. 1 ≤ begins_in past)) (Unit {0}) → EventLaw v party past (Some c) (record { act = act; outcome = outcome })
 goes_on_law {T} v party past c act outcome goes reads wakes ends runs waits =
     subst (λ (o : Then T). EventLaw v party past (Some c) (record { act = act; outcome = o })) (sym goes)
@@ -240,24 +240,24 @@ step_law :
     (place : LazyPlace) (hold : Option HoldKind) → AtLazy place c hold → EventLaw v party past (Some c) (step_at (lazy_table v) place hold (word_in (lazy_table v) past))
 step_law z v parties party past run c called (places.Once onces.IsCompleted) hold at = absurd at.own
 step_law {T} z v parties party past run c called (places.Once onces.Look) hold at =
-    goes_on_law v party past c _ _ (goes_on_at T onces.Look _) refl refl tt (in_order (places.Once onces.Look) (last_of is_step c.own) (acts.Load words.State (word_in (lazy_table v) past words.State)) at.led (λ no. absurd cc) (λ no. absurd cc) refl) (rw at.own tt)
+    goes_on_law v party past c _ _ (goes_on_at T onces.Look _) refl refl tt (in_order (places.Once onces.Look) (last_of is_step c.own) (acts.Load words.State (word_in (lazy_table v) past words.State)) at.led (λ _. refl) (λ no. absurd cc) (λ no. absurd cc) refl) (rw at.own tt)
 step_law {T} z v parties party past run c called (places.Once onces.Begin) hold at =
-    goes_on_law v party past c _ _ (goes_on_at T onces.Begin _) refl refl tt (in_order (places.Once onces.Begin) (last_of is_step c.own) (acts.Exchange words.State 0 1 (word_in (lazy_table v) past words.State) (word_in (lazy_table v) past words.State == 0)) at.led (λ no. absurd cc) (λ no. absurd cc) refl) tt
+    goes_on_law v party past c _ _ (goes_on_at T onces.Begin _) refl refl tt (in_order (places.Once onces.Begin) (last_of is_step c.own) (acts.Exchange words.State 0 1 (word_in (lazy_table v) past words.State) (word_in (lazy_table v) past words.State == 0)) at.led (λ no. absurd cc) (λ no. absurd cc) (λ no. absurd cc) refl) tt
 step_law {T} z v parties party past run c called (places.Once onces.Run) hold at =
     let front = closure_front z (lazy_table v) parties (runs_one z v parties) past run in
     goes_on_law v party past c _ _ (goes_on_at T onces.Run 0) refl refl (own_began z (lazy_table v) parties party past run c called at.own (at_most_one _ _ _ front.state).0)
-    (in_order (places.Once onces.Run) (last_of is_step c.own) _ at.led (λ _. refl) (λ no. absurd cc) refl) tt
+    (in_order (places.Once onces.Run) (last_of is_step c.own) _ at.led (λ no. absurd cc) (λ _. refl) (λ no. absurd cc) refl) tt
 step_law {T} z v parties party past run c called (places.Once onces.Complete) hold at =
-    goes_on_law v party past c _ _ (goes_on_at T onces.Complete 0) refl refl tt (in_order (places.Once onces.Complete) (last_of is_step c.own) _ at.led (λ no. absurd cc) (λ _. refl) refl) tt
+    goes_on_law v party past c _ _ (goes_on_at T onces.Complete 0) refl refl tt (in_order (places.Once onces.Complete) (last_of is_step c.own) _ at.led (λ no. absurd cc) (λ no. absurd cc) (λ _. refl) refl) tt
 step_law {T} z v parties party past run c called (places.Once onces.Stay) hold at =
-    goes_on_law v party past c _ _ (goes_on_at T onces.Stay _) refl refl tt (in_order (places.Once onces.Stay) (last_of is_step c.own) (acts.Load words.State (word_in (lazy_table v) past words.State)) at.led (λ no. absurd cc) (λ no. absurd cc) refl) (has_begun (last_of is_step c.own) (missed_since z (lazy_table v) parties (runs_one z v parties) past run party c called at.own))
+    goes_on_law v party past c _ _ (goes_on_at T onces.Stay _) refl refl tt (in_order (places.Once onces.Stay) (last_of is_step c.own) (acts.Load words.State (word_in (lazy_table v) past words.State)) at.led (λ _. refl) (λ no. absurd cc) (λ no. absurd cc) refl) (has_begun (last_of is_step c.own) (missed_since z (lazy_table v) parties (runs_one z v parties) past run party c called at.own))
 step_law z v parties party past run c called places.Read hold at =
     let two = two_since z v parties past run party c called at.own in
     let front = closure_front z (lazy_table v) parties (runs_one z v parties) past run in
     record {
       cause = tt;
       own = tt;
-      runs = in_order places.Read (last_of is_step c.own) (acts.ReadCell v) at.led (λ no. absurd cc) (λ no. absurd cc) refl;
+      runs = in_order places.Read (last_of is_step c.own) (acts.ReadCell v) at.led (λ no. absurd cc) (λ no. absurd cc) (λ no. absurd cc) refl;
       waits = tt;
       answers = (refl, refl, two, complete_ended _ _ _ front.state two);
       spins = (refl, refl);

@@ -13,7 +13,7 @@ use Rattle.steps_events.specs.Moves.{is_step}
 use Rattle.steps_events.specs.Sights.{last_of}
 use Rattle.steps_events.specs.Waits.{OnlySpins}
 use Rattle.steps_events.specs.Laws.{TellsMemory, HasCause}
-use Rattle.steps_once.specs.Closures.{is_begin, is_end, begins_in, ends_in, EndsItsOwn, WaitsForAnother, StaysTwo, TellsState}
+use Rattle.steps_once.specs.Closures.{is_begin, is_end, is_load, begins_in, ends_in, EndsItsOwn, WaitsForAnother, StaysTwo, TellsState}
 use Rattle.steps_lazy.specs.Table.{lazy_table}
 
 -- no call of a lazy value is refused
@@ -52,12 +52,12 @@ abbrev pub IsNextStep : {T : Type 0} → Bool → Bool → Bool → Act T → Ty
 IsNextStep begun ended shown act =
     MatchBool begun (act ≡ acts.Ended) (MatchBool ended (act ≡ acts.Store words.State 2) (is_read act ≡ shown))
 
--- so the latest event, if it is a step, follows its call's step before; the first of a call is no read
+-- so the latest event, if it is a step, follows its call's step before; the first of a call is a look
 abbrev pub RunsInOrder : {T : Type 0} → List (Event T) → Type 0
 RunsInOrder [] = Unit {0}
 RunsInOrder (e ∷ past) =
     MatchBool (is_step e.act)
-    (MatchOption (call_of e.party past) ⊥ (λ c. MatchOption (last_of is_step c.own) (is_read e.act ≡ false) (λ before. IsNextStep (is_begin before) (is_end before) (shows_end before) e.act)))
+    (MatchOption (call_of e.party past) ⊥ (λ c. MatchOption (last_of is_step c.own) (is_load e.act ≡ true) (λ before. IsNextStep (is_begin before) (is_end before) (shows_end before) e.act)))
     (Unit {0})
 
 -- What a lazy value keeps beside what every object does.
@@ -68,7 +68,7 @@ pub record LazyLaw {T : Type 0} (v : T) (past : List (Event T)) : Type 0 where
   pub ends : ends_in past ≤ begins_in past
   -- it ends in the call that began it
   pub own : EndsItsOwn past
-  -- that call ends it at its next step, then stores 2, and then reads the cell; any other reads where it has just seen 2
+  -- a call looks first; the one that begins the closure ends it at its next step, then stores 2, and then reads the cell; any other reads where it has just seen 2
   pub runs : RunsInOrder past
   -- a call waits only for a closure that has begun
   pub waits : WaitsForAnother past
