@@ -2,6 +2,7 @@
 ghost use Rattle.running_lazy_lock.specs.Given.{IsGiven};
 
 use crate::gives::Gives;
+use running_spin_lock::SpinLock;
 use std::marker::{Model, PhantomData};
 
 /// The closure, of which `may` is kept.
@@ -23,7 +24,8 @@ impl<T, F, G: Gives<T, F>> Model for Init<T, F, G> {
 #[derive(Drop)]
 pub(crate) struct Made<T, F, G: Gives<T, F>> {
     pub(crate) value: T,
-    pub(crate) by: PhantomData<(F, G)>,
+    // Names the closure's type as a lock of it would: threads may share the value where that may only go from one to another.
+    pub(crate) by: PhantomData<SpinLock<(F, G)>>,
 }
 
 impl<T, F, G: Gives<T, F>> Model for Made<T, F, G> {
