@@ -25,9 +25,9 @@ use Rattle.steps_events.specs.Rows.{carried_out, value_told, outcome_of, within}
 use Rattle.steps_events.specs.Past.{same_word, PendingCall, call_of, call_after, call_going_on, holds_of, hold_of, hold_after, word_in, word_after, event, is_release, is_failure}
 use Rattle.steps_events.specs.Moves.{Move, step_at, fault_at, begin_fault}
 use Rattle.steps_events.specs.Runs.{IsPast}
-use Rattle.steps_events.specs.Sights.{sight_of, is_sight, AtLastSight, spins_in, stands_at_wait, acts_in}
+use Rattle.steps_events.specs.Sights.{sight_of, is_sight, spins_in, stands_at_wait}
 use Rattle.steps_events.specs.Waits.{is_wake}
-use Rattle.steps_events.specs.Laws.{IsTold, is_apart, Lacks, is_refusal}
+use Rattle.steps_events.specs.Laws.{IsTold, Lacks, is_refusal}
 use Rattle.steps_events.proofs.Holds.{eqb_same, hold_of_same}
 use Rattle.steps_events.proofs.Steps.{carried_goes_on, by_move, tells_memory}
 use Rattle.steps_events.proofs.LastSights.{sight_is_told, at_last_sight}
@@ -51,7 +51,7 @@ use Rattle.steps_condvar.specs.declared.CondvarPlace.{CondvarPlace}
 use Rattle.steps_condvar.specs.declared.CondvarPlace.TheVariants as places
 use Rattle.steps_condvar.specs.Table.{permits_for, condvar_table, condvar_grant, permitted, relocked}
 use Rattle.steps_condvar.specs.Waiters.{is_count, counts_in, since_count, is_wait, is_counted, CountsWaiters}
-use Rattle.steps_condvar.specs.Law.{wake_for, count_read, amount_for, condvar_gives, condvar_value, takes_in, HasAbortedSince, FoundNoPermit, FoundMutexHeld, IsSignalled, CondvarCause, answer_of, wait_answer, WaitStep, is_read, is_post, PutsSum, NotifyStep, LockStep, CallStep, spins_of, gives_up, HasTried, KeepsCondvar}
+use Rattle.steps_condvar.specs.Law.{wake_for, count_read, amount_for, condvar_gives, condvar_value, takes_in, HasAbortedSince, FoundNoPermit, FoundMutexHeld, IsSignalled, CondvarCause, answer_of, wait_answer, WaitStep, is_read, is_post, PutsSum, NotifyStep, CallStep, spins_of, gives_up, HasTried, KeepsCondvar}
 use Rattle.steps_condvar.proofs.Counts.{CountEffect, none_wait, counts_after}
 use Rattle.steps_condvar.proofs.Places.{notify, Progress, SawNone, SignalIs, took, IsReady, AtCondvar, outcome_within, condvar_kept}
 

@@ -15,14 +15,13 @@ use Rattle.steps_events.specs.declared.event.Event.{Event}
 use Rattle.steps_events.specs.declared.event.Then.{Then}
 use Rattle.steps_events.specs.declared.event.Then.TheVariants as thens
 use Rattle.steps_events.specs.declared.hold.HoldKind.{HoldKind}
-use Rattle.steps_events.specs.declared.hold.HoldKind.TheVariants as kinds
 use Rattle.steps_events.specs.declared.patience.Patience.{Patience}
 use Rattle.steps_events.specs.declared.row.After.{After}
 use Rattle.steps_events.specs.declared.row.After.TheVariants as afters
 use Rattle.steps_events.specs.Rows.{carried_out, value_told, outcome_of, place_after, within, refused}
-use Rattle.steps_events.specs.Past.{PendingCall, latest_outcome, event, is_release, hold_taken, hold_after}
-use Rattle.steps_events.specs.Moves.{step_at, hold_fault, go_fault, answer_fault, choose_fault}
-use Rattle.steps_events.specs.Sights.{sight_of, is_sight, is_abort, keeps_asking, acts_in}
+use Rattle.steps_events.specs.Past.{PendingCall, latest_outcome, event, is_release, hold_after}
+use Rattle.steps_events.specs.Moves.{step_at, hold_fault, answer_fault, choose_fault}
+use Rattle.steps_events.specs.Sights.{is_sight, keeps_asking, acts_in}
 use Rattle.steps_events.proofs.LastSights.{LastSaw}
 use Rattle.steps_events.proofs.Parties.{IsKept}
 use Rattle.steps_events.proofs.Spins.{HasSpun, begun_spun, passed_on}
