@@ -9,6 +9,7 @@ pub mod once;
 mod place;
 mod playing;
 pub mod rw_reader;
+pub mod rw_writer;
 pub mod semaphore;
 mod turn;
 
