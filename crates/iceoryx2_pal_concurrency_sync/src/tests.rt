@@ -1,6 +1,7 @@
 //! What no clause says: that the calls succeed with ample memory, how often they call their closures, and threads that really meet.
 mod barrier;
 mod buffer;
+mod condition_variable;
 mod mutex;
 mod once;
 mod refusals;

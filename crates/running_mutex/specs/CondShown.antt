@@ -47,6 +47,13 @@ pub record HasNotified (for : ℕ → ℕ) (p q : CondPass) : Type 0 where
   pub waiting : ℕ
   pub given : HasGiven (for waiting) waiting p q
 
+-- It may have notified and waited. A helper, a loop and a closure carry this one fact.
+pub record HasStayed (p q : CondPass) : Type 0 where
+  pub waits : IsSamePass (waits_in p) (waits_in q)
+  pub permits : IsSamePass (permits_in p) (permits_in q)
+  pub part_of_waits : part_of (waits_in q) ≡ part_of (waits_in p)
+  pub part_of_permits : part_of (permits_in q) ≡ part_of (permits_in p)
+
 module _ {H : Type 0} where
   -- the hold that a wait came back with
   abbrev pub held_by : Woken H → H
