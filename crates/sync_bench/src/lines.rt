@@ -5,6 +5,7 @@
 ghost use Rattle.std.specs.Prelude.{◌≡◌, ◌≤◌};
 
 mod barrier;
+mod condvar;
 mod mutex;
 mod once;
 mod rwreader;
@@ -37,10 +38,12 @@ pub enum Line {
     BarrierOfOne,
     StdOnceLockGet,
     OnceAfter,
+    StdCondvarNotifyOne,
+    CondvarNotifyOne,
 }
 
 /// Every line, in the order of the table.
-pub const LINES: [Line; 17] = [
+pub const LINES: [Line; 19] = [
     Line::BareExchangeStore,
     Line::StdMutexLockUnlock,
     Line::MutexLockUnlock,
@@ -58,6 +61,8 @@ pub const LINES: [Line; 17] = [
     Line::BarrierOfOne,
     Line::StdOnceLockGet,
     Line::OnceAfter,
+    Line::StdCondvarNotifyOne,
+    Line::CondvarNotifyOne,
 ];
 
 impl Line {
@@ -85,6 +90,8 @@ impl Line {
             Line::BarrierOfOne => "barrier of one",
             Line::StdOnceLockGet => "std once_lock get",
             Line::OnceAfter => "once after",
+            Line::StdCondvarNotifyOne => "std condvar notify_one",
+            Line::CondvarNotifyOne => "condvar notify_one",
         }
     }
 
@@ -109,6 +116,8 @@ impl Line {
             Line::BarrierOfOne => barrier::of_one(rt, alloc),
             Line::StdOnceLockGet => Ok(yardsticks::std_once_lock_get()),
             Line::OnceAfter => once::after(rt, alloc),
+            Line::StdCondvarNotifyOne => Ok(yardsticks::std_condvar_notify_one()),
+            Line::CondvarNotifyOne => condvar::notify_one(alloc),
         }
     }
 }

@@ -4,9 +4,7 @@ ghost use Rattle.passes.specs.Passes.{IsSamePass};
 ghost use Rattle.running_mutex.specs.MutexShown.{IsMutexPass, HasStayed as HasLockedAtMost, holds_of, pass_of, borrow_of};
 ghost use Rattle.running_mutex.specs.CondShown.{IsCondPass, HasStayed};
 
-use crate::strategy::condition_variable::{
-    CondPass, CondResult, ConditionVariable, Mutex, Woken,
-};
+use crate::strategy::condition_variable::{CondPass, CondResult, ConditionVariable, Mutex, Woken};
 use crate::strategy::mutex::{MutexHold, MutexPass};
 use crate::tests::signal::Signal;
 use crate::{WaitAction, WaitResult, WaitWord};
@@ -153,20 +151,23 @@ fn until_turn<'p, R: Wait>(
     unreachable!()
 }
 
-/// Waits until the turn is this party's, and hands it to the other.
+/// Waits until the turn is this party's, and hands it to the other. Each party waits at a condition variable of its own: at one for
+/// both, the party that notified could take the permit itself, and leave the other asleep.
 fn hand_on<R: Wait>(
     rt: &R,
-    cond: &ConditionVariable,
-    pass: &mut CondPass,
+    mine: &ConditionVariable,
+    my_pass: &mut CondPass,
+    theirs: &ConditionVariable,
+    their_pass: &mut CondPass,
     mutex: &Mutex,
     mtx_pass: &mut MutexPass,
     turn: &AtomicBool,
     own: bool,
 )
-    requires own { IsCondPass cond.now pass.old × IsMutexPass mutex.now mtx_pass.old }
+    requires own { IsCondPass mine.now my_pass.old × IsCondPass theirs.now their_pass.old × IsMutexPass mutex.now mtx_pass.old }
     requires off { holds_of mtx_pass.old ≡ 0 }
     ensures held { HasLockedAtMost mtx_pass.old mtx_pass.new }
-    ensures stayed { HasStayed pass.old pass.new }
+    ensures stayed { HasStayed my_pass.old my_pass.new × HasStayed their_pass.old their_pass.new }
 {
     let locked = Mutex::lock(mtx_pass, mutex, rt, |_, _| {
         thread::yield_now();
@@ -174,57 +175,85 @@ fn hand_on<R: Wait>(
     });
     match locked {
         WaitResult::Success(hold) => {
-            let hold = until_turn(hold, rt, cond, pass, mutex, turn, own);
+            let hold = until_turn(hold, rt, mine, my_pass, mutex, turn, own);
             turn.store(!own, Ordering::SeqCst);
-            cond.notify_one(pass, |_| ());
+            theirs.notify_one(their_pass, |_| ());
             mutex.unlock(hold, |_| ());
         }
         WaitResult::Interrupted => unreachable!(),
     }
 }
 
+/// What one party of two has: the right to wait for its turn, to notify the other, and to lock.
+#[derive(Drop)]
+struct Side {
+    waiting: CondPass,
+    notifying: CondPass,
+    locking: MutexPass,
+}
+
 /// Takes the turn so often.
 fn hand_on_often<R: Wait>(
     rt: &R,
-    cond: &ConditionVariable,
-    mut pass: CondPass,
+    mine: &ConditionVariable,
+    theirs: &ConditionVariable,
     mutex: &Mutex,
-    mut mtx_pass: MutexPass,
+    mut side: Side,
     turn: &AtomicBool,
     own: bool,
-) -> u64
-    requires own { IsCondPass cond.now pass × IsMutexPass mutex.now mtx_pass }
-    requires off { holds_of mtx_pass ≡ 0 }
+)
+    requires own { IsCondPass mine.now side.waiting × IsCondPass theirs.now side.notifying × IsMutexPass mutex.now side.locking }
+    requires off { holds_of side.locking ≡ 0 }
 {
-    let mut turns: u64 = 0;
     for _ in 0..200u64 {
-        hand_on(rt, cond, &mut pass, mutex, &mut mtx_pass, turn, own);
-        turns = turns.wrapping_add(1);
+        hand_on(
+            rt,
+            mine,
+            &mut side.waiting,
+            theirs,
+            &mut side.notifying,
+            mutex,
+            &mut side.locking,
+            turn,
+            own,
+        );
     }
-    turns
 }
 
 #[test]
 fn two_threads_hand_a_turn_to_each_other(rt: HostRuntime) -> Result<(), Fail> {
     let (mutex, pass) = Mutex::new(rt.alloc())?;
-    let Ok((mtx_one, mtx_two)) = pass.split(&mutex) else {
+    let Ok((locking_one, locking_two)) = pass.split(&mutex) else {
         unreachable!()
     };
-    let (cond, pass) = ConditionVariable::new(rt.alloc())?;
-    let Ok((one, two)) = pass.split(&cond) else {
+    let (first, pass) = ConditionVariable::new(rt.alloc())?;
+    let Ok((waiting_one, notifying_two)) = pass.split(&first) else {
         unreachable!()
+    };
+    let (second, pass) = ConditionVariable::new(rt.alloc())?;
+    let Ok((waiting_two, notifying_one)) = pass.split(&second) else {
+        unreachable!()
+    };
+    let one = Side {
+        waiting: waiting_one,
+        notifying: notifying_one,
+        locking: locking_one,
+    };
+    let two = Side {
+        waiting: waiting_two,
+        notifying: notifying_two,
+        locking: locking_two,
     };
     let turn = AtomicBool::new(false);
-    let turns = thread::join(
+    thread::join(
         &rt,
-        || -> u64
-            requires { IsCondPass cond one × IsMutexPass mutex mtx_one × (holds_of mtx_one ≡ 0) }
-        { hand_on_often(&rt, &cond, one, &mutex, mtx_one, &turn, false) },
-        || -> u64
-            requires { IsCondPass cond two × IsMutexPass mutex mtx_two × (holds_of mtx_two ≡ 0) }
-        { hand_on_often(&rt, &cond, two, &mutex, mtx_two, &turn, true) },
+        ||
+            requires { IsCondPass first one.waiting × IsCondPass second one.notifying × IsMutexPass mutex one.locking × (holds_of one.locking ≡ 0) }
+        { hand_on_often(&rt, &first, &second, &mutex, one, &turn, false) },
+        ||
+            requires { IsCondPass second two.waiting × IsCondPass first two.notifying × IsMutexPass mutex two.locking × (holds_of two.locking ≡ 0) }
+        { hand_on_often(&rt, &second, &first, &mutex, two, &turn, true) },
     );
-    assert_eq!(rt; turns, (200, 200));
     assert!(rt; !turn.load(Ordering::SeqCst));
     Ok(())
 }

@@ -77,7 +77,13 @@ fn a_once_that_finds_no_memory(rt: HostRuntime) -> Result<(), Fail> {
 /// A condition variable is four blocks of 16 bytes: its count and its permits.
 #[test]
 fn a_condition_variable_that_finds_no_memory(rt: HostRuntime) -> Result<(), Fail> {
-    for (size, room) in [(0, false), (16, false), (32, false), (48, false), (64, true)] {
+    for (size, room) in [
+        (0, false),
+        (16, false),
+        (32, false),
+        (48, false),
+        (64, true),
+    ] {
         let heap = LocalHeap::new(rt.alloc(), size)?;
         let made = ConditionVariable::new(&heap);
         assert_eq!(rt; made.is_ok(), room);

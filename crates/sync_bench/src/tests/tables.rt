@@ -24,6 +24,8 @@ const NAMES: [&str; 17] = [
     "barrier of one",
     "std once_lock get",
     "once after",
+    "std condvar notify_one",
+    "condvar notify_one",
 ];
 
 const HEAD: &str = "name\tmedian\tlower tenth\tupper tenth\n";
