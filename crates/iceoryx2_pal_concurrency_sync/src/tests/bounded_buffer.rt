@@ -134,7 +134,7 @@ fn make_often<R: Wait>(
 
 /// A producer and a consumer pass 1000 items through a buffer of 3 places.
 #[test]
-fn a_buffer_of_three_places(rt: HostRuntime) -> Result<(), Fail> {
+fn a_buffer_over_condition_variables(rt: HostRuntime) -> Result<(), Fail> {
     let items = AtomicIn::<Bounded>::new(0);
     let (mutex, locks) = Mutex::new(rt.alloc())?;
     let (not_full, for_places) = ConditionVariable::new(rt.alloc())?;
