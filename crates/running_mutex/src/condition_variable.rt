@@ -16,7 +16,9 @@ use passes::{Deed, Pass, Rule, Tally, WaitResult, Words};
 use running_semaphore::{SemPass, Semaphore};
 use std::alloc::{AllocError, Allocator, Global};
 use std::sync::Wait;
+use steps_condvar::permits_for;
 use steps_events::WaitAction;
+use steps_events::event::Wake;
 use tallies::WaitWord;
 
 /// What a pass of a condition variable counts. No value of it is made.
@@ -195,7 +197,7 @@ impl<A: Allocator> ConditionVariable<A> {
     {
         let waiting = self.waiting(&mut pass.waits);
         self.semaphore
-            .post(&mut pass.permits, wake_one, waiting.min(1));
+            .post(&mut pass.permits, wake_one, permits_for(Wake::One, waiting));
     }
 
     /// Looks at the count of those that wait, gives as many permits, and then calls the wake closure once, also for none.
@@ -207,7 +209,8 @@ impl<A: Allocator> ConditionVariable<A> {
         ensures woke { HasWoken W.Fn wake_all }
     {
         let waiting = self.waiting(&mut pass.waits);
-        self.semaphore.post(&mut pass.permits, wake_all, waiting);
+        self.semaphore
+            .post(&mut pass.permits, wake_all, permits_for(Wake::All, waiting));
     }
 
     /// Counts the wait in, unlocks the mutex and calls its wake closure, waits for a permit as the semaphore's `wait` does, counts the

@@ -1,8 +1,7 @@
 -- A lazy value keeps its law at every front of every run. The word and the closure are those of the once inside.
-use Rattle.std.proofs.Common.{◌≡◌, ◌≢◌, ℕ, ◌+◌, ◌≤◌, ◌==◌, refl, sym, ◌∙◌, ap, subst, Bool, true, false, cond, List, [], ◌∷◌, Option, Some, None, ◌⊎◌, inl, inr, arith}
+use Rattle.std.proofs.Common.{◌≡◌, ℕ, ◌≤◌, ◌==◌, refl, sym, ◌∙◌, ap, subst, Bool, true, false, cond, List, [], ◌∷◌, Option, Some, None, inl, inr, arith}
 use Rattle.std.specs.Prelude.{IfSome, MatchBool, MatchOption, not}
 use Rattle.std.proofs.lemmas.Bool.{eqb-true}
-use Rattle.steps_events.specs.declared.WaitAction.{WaitAction}
 use Rattle.steps_events.specs.declared.event.Word.{Word}
 use Rattle.steps_events.specs.declared.event.Word.TheVariants as words
 use Rattle.steps_events.specs.declared.event.Call.{Call}
@@ -28,10 +27,10 @@ use Rattle.steps_events.proofs.Parties.{IsKept, IsAtPlace, at_place, each_call}
 use Rattle.steps_events.proofs.Own.{IsCallAfter, call_was}
 use Rattle.steps_once.specs.declared.OncePlace.{OncePlace}
 use Rattle.steps_once.specs.declared.OncePlace.TheVariants as onces
-use Rattle.steps_once.specs.Table.{once_intent, found_after}
+use Rattle.steps_once.specs.Table.{found_after}
 use Rattle.steps_once.specs.Closures.{is_begin, is_end, is_load, begins_in, ends_in}
 use Rattle.steps_once.proofs.Laws.{AtOnce, seen_after, begin_after, closure_intent, has_begun}
-use Rattle.steps_once.proofs.Closures.{is_running, is_miss, missed_since, IsClosureIntent, RunsOneClosure, at_most_one, complete_ended, closure_front, stays_complete, tells_state, own_began}
+use Rattle.steps_once.proofs.Closures.{is_miss, missed_since, IsClosureIntent, RunsOneClosure, at_most_one, complete_ended, closure_front, stays_complete, tells_state, own_began}
 use Rattle.steps_lazy.specs.declared.LazyPlace.{LazyPlace}
 use Rattle.steps_lazy.specs.declared.LazyPlace.TheVariants as places
 use Rattle.steps_lazy.specs.Table.{lazy_table, lazy_begins, lazy_intent, reads_next, lazy_after}

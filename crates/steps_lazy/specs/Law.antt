@@ -1,12 +1,11 @@
 -- What a lazy value keeps at every front of every run: one closure runs, once, and every answer is its value, read after its end.
-use Rattle.std.specs.Prelude.{◌≡◌, ◌≤◌, ℕ, ◌==◌, Bool, true, false, Option, Some, None, List, [], ◌∷◌, MatchBool, MatchOption}
+use Rattle.std.specs.Prelude.{◌≡◌, ◌≤◌, ℕ, ◌==◌, Bool, true, false, List, [], ◌∷◌, MatchBool, MatchOption}
 use Rattle.steps_events.specs.declared.event.Word.TheVariants as words
 use Rattle.steps_events.specs.declared.event.Act.{Act}
 use Rattle.steps_events.specs.declared.event.Act.TheVariants as acts
 use Rattle.steps_events.specs.declared.event.Answer.TheVariants as answers
 use Rattle.steps_events.specs.declared.event.Call.{Call}
 use Rattle.steps_events.specs.declared.event.Call.TheVariants as calls
-use Rattle.steps_events.specs.declared.event.Then.{Then}
 use Rattle.steps_events.specs.declared.event.Then.TheVariants as thens
 use Rattle.steps_events.specs.declared.event.Event.{Event}
 use Rattle.steps_events.specs.Past.{call_of, holds_of, word_in}

@@ -6,10 +6,12 @@ ghost use Rattle.std.specs.Prelude.{◌≡◌, ◌≤◌};
 
 mod barrier;
 mod condvar;
+mod lazy_lock;
 mod mutex;
 mod once;
 mod rwreader;
 mod semaphore;
+mod spin_lock;
 mod yardsticks;
 
 use std::alloc::{AllocError, Global};
@@ -38,12 +40,16 @@ pub enum Line {
     BarrierOfOne,
     StdOnceLockGet,
     OnceAfter,
+    BareSwaps,
+    StdMutexAddUnlock,
+    SpinLockUnlock,
+    LazyForce,
     StdCondvarNotifyOne,
     CondvarNotifyOne,
 }
 
 /// Every line, in the order of the table.
-pub const LINES: [Line; 19] = [
+pub const LINES: [Line; 23] = [
     Line::BareExchangeStore,
     Line::StdMutexLockUnlock,
     Line::MutexLockUnlock,
@@ -61,6 +67,10 @@ pub const LINES: [Line; 19] = [
     Line::BarrierOfOne,
     Line::StdOnceLockGet,
     Line::OnceAfter,
+    Line::BareSwaps,
+    Line::StdMutexAddUnlock,
+    Line::SpinLockUnlock,
+    Line::LazyForce,
     Line::StdCondvarNotifyOne,
     Line::CondvarNotifyOne,
 ];
@@ -90,6 +100,10 @@ impl Line {
             Line::BarrierOfOne => "barrier of one",
             Line::StdOnceLockGet => "std once_lock get",
             Line::OnceAfter => "once after",
+            Line::BareSwaps => "bare swaps",
+            Line::StdMutexAddUnlock => "std mutex add unlock",
+            Line::SpinLockUnlock => "spin lock unlock",
+            Line::LazyForce => "lazy force",
             Line::StdCondvarNotifyOne => "std condvar notify_one",
             Line::CondvarNotifyOne => "condvar notify_one",
         }
@@ -116,6 +130,10 @@ impl Line {
             Line::BarrierOfOne => barrier::of_one(rt, alloc),
             Line::StdOnceLockGet => Ok(yardsticks::std_once_lock_get()),
             Line::OnceAfter => once::after(rt, alloc),
+            Line::BareSwaps => Ok(yardsticks::bare_swaps()),
+            Line::StdMutexAddUnlock => Ok(yardsticks::std_mutex_add_unlock(rt)),
+            Line::SpinLockUnlock => spin_lock::lock_unlock(rt, alloc),
+            Line::LazyForce => lazy_lock::force(rt, alloc),
             Line::StdCondvarNotifyOne => Ok(yardsticks::std_condvar_notify_one()),
             Line::CondvarNotifyOne => condvar::notify_one(alloc),
         }

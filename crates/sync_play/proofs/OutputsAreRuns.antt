@@ -123,6 +123,7 @@ call_values (objects.Semaphore initial) = (tt, (tt, (tt, (tt, tt))))
 call_values objects.ReaderLock = (tt, (tt, (tt, (tt, (tt, tt)))))
 call_values objects.WriterLock = (tt, (tt, (tt, (tt, (tt, tt)))))
 call_values (objects.Barrier n) = (tt, tt)
+call_values objects.Condvar = (tt, (tt, (tt, (tt, (tt, (tt, tt))))))
 call_values objects.Once = (tt, (tt, tt))
 call_values (objects.Lazy v) = (tt, tt)
 call_values other = tt

@@ -70,6 +70,15 @@ rw_lock_calls =
 abbrev pub barrier_calls : List (List ℕ × Form)
 barrier_calls = (codes "start_wait", begins calls.Wait) ∷ []
 
+-- its mutex's, and its own
+abbrev pub condvar_calls : List (List ℕ × Form)
+condvar_calls =
+    mutex_calls
+    ++ ((codes "notify_one", begins calls.NotifyOne)
+    ∷ (codes "notify_all", begins calls.NotifyAll)
+    ∷ (codes "start_wait", begins calls.Wait)
+    ∷ [])
+
 abbrev pub once_calls : List (List ℕ × Form)
 once_calls =
     (codes "call_once", begins calls.CallOnce)
@@ -86,6 +95,7 @@ calls_of (objects.Semaphore initial) = semaphore_calls
 calls_of objects.ReaderLock = rw_lock_calls
 calls_of objects.WriterLock = rw_lock_calls
 calls_of (objects.Barrier n) = barrier_calls
+calls_of objects.Condvar = condvar_calls
 calls_of objects.Once = once_calls
 calls_of (objects.Lazy v) = lazy_calls
 calls_of o = []

@@ -25,6 +25,7 @@ party_line party words = decimal (party + 1) ++ (codes " " ++ (words ++ codes "\
 abbrev pub answer_words : Answer ℕ → List ℕ
 answer_words answers.Success = codes "success"
 answer_words answers.Interrupted = codes "interrupted"
+answer_words answers.InterruptedHeld = codes "interrupted held"
 answer_words answers.Done = codes "done"
 answer_words answers.Ok = codes "ok"
 answer_words answers.Full = codes "full"
@@ -68,7 +69,7 @@ further_words (objects.Semaphore initial) = []
 further_words (objects.Barrier n) = []
 further_words objects.ReaderLock = []
 further_words objects.WriterLock = (codes "counter", words.Counter) ∷ []
-further_words objects.Condvar = []
+further_words objects.Condvar = (codes "waiters", words.Waiters) ∷ (codes "value", words.Value) ∷ []
 further_words objects.Once = []
 further_words (objects.Lazy v) = []
 further_words (objects.Atomic v) = []

@@ -147,6 +147,21 @@ fn barrier_call(name: &[u8]) -> Option<Form>
     }
 }
 
+/// The calls of its mutex, and its own.
+fn condvar_call(name: &[u8]) -> Option<Form>
+    ensures { result ≡ meaning.find name.now meaning.condvar_calls }
+{
+    if is(name, b"notify_one") {
+        Some(begins(Call::NotifyOne))
+    } else if is(name, b"notify_all") {
+        Some(begins(Call::NotifyAll))
+    } else if is(name, b"start_wait") {
+        Some(begins(Call::Wait))
+    } else {
+        mutex_call(name)
+    }
+}
+
 fn once_call(name: &[u8]) -> Option<Form>
     ensures { result ≡ meaning.find name.now meaning.once_calls }
 {
@@ -179,6 +194,7 @@ fn named_call(object: Object<u64>, name: &[u8]) -> Option<Form>
         Object::Semaphore(_) => semaphore_call(name),
         Object::ReaderLock | Object::WriterLock => rw_lock_call(name),
         Object::Barrier(_) => barrier_call(name),
+        Object::Condvar => condvar_call(name),
         Object::Once => once_call(name),
         Object::Lazy(_) => lazy_call(name),
         _ => None,

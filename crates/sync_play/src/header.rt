@@ -96,6 +96,12 @@ impl Header {
                 object: Object::WriterLock,
                 parties,
             })
+        } else if is(name, b"condvar") {
+            let parties = parties(rest)?;
+            Ok(Header {
+                object: Object::Condvar,
+                parties,
+            })
         } else if is(name, b"once") {
             let parties = parties(rest)?;
             Ok(Header {

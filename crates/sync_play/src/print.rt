@@ -16,6 +16,7 @@ fn print_answer(out: &mut String, answer: Answer<u64>) -> Result<(), AllocError>
     match answer {
         Answer::Success => write!(out, "success"),
         Answer::Interrupted => write!(out, "interrupted"),
+        Answer::InterruptedHeld => write!(out, "interrupted held"),
         Answer::Done => write!(out, "done"),
         Answer::Ok => write!(out, "ok"),
         Answer::Full => write!(out, "full"),
@@ -89,12 +90,16 @@ fn print_further_words(
             let counter = machine.counter();
             write!(out, " counter {counter}")
         }
+        Object::Condvar => {
+            let waiters = machine.waiters();
+            let value = machine.value();
+            write!(out, " waiters {waiters} value {value}")
+        }
         Object::Mutex
         | Object::Spin
         | Object::Semaphore(_)
         | Object::Barrier(_)
         | Object::ReaderLock
-        | Object::Condvar
         | Object::Once
         | Object::Lazy(_)
         | Object::Atomic(_) => Ok(()),

@@ -1,6 +1,9 @@
 //! Each text is played by `run`, from a slice to a vector.
+ghost use Rattle.std.specs.Prelude.{◌≡◌, true};
+ghost use Rattle.sync_steps.specs.Objects.{is_served};
 
 mod barrier;
+mod condvar;
 mod faults;
 mod lazy;
 mod long;
@@ -72,7 +75,9 @@ fn run_meanwhile(
     first: &[(usize, Input<u64>)],
     steps: u64,
     last: &[(usize, Input<u64>)],
-) -> Result<Result<Option<Then<u64>>, LineFault>, Fail> {
+) -> Result<Result<Option<Then<u64>>, LineFault>, Fail>
+    requires { is_served object ≡ true }
+{
     let mut machine = Machine::<u64>::new(alloc, object, 2)?;
     for (party, input) in first {
         machine.step(*party, *input).ok().ok_or("it is allowed")?;

@@ -12,6 +12,7 @@ use Rattle.steps_semaphore.specs.Law.{SemaphoreCause, SemaphoreLaw}
 use Rattle.steps_barrier.specs.Law.{BarrierCause, BarrierLaw}
 use Rattle.steps_rw_reader.specs.Law.{RwReaderCause, RwReaderLaw}
 use Rattle.steps_rw_writer.specs.Law.{RwWriterCause, RwWriterLaw}
+use Rattle.steps_condvar.specs.Law.{CondvarCause, CondvarLaw}
 use Rattle.steps_once.specs.Law.{OnceCause, OnceLaw}
 use Rattle.steps_lazy.specs.Law.{LazyCause, LazyLaw}
 use Rattle.sync_steps.specs.Objects.{table_of}
@@ -25,7 +26,7 @@ CauseOf (objects.Semaphore initial) call party events = SemaphoreCause initial c
 CauseOf (objects.Barrier n) call party events = BarrierCause n call party events
 CauseOf objects.ReaderLock call party events = RwReaderCause call party events
 CauseOf objects.WriterLock call party events = RwWriterCause call party events
-CauseOf objects.Condvar call party events = ⊥
+CauseOf objects.Condvar call party events = CondvarCause call party events
 CauseOf objects.Once call party events = OnceCause call party events
 CauseOf (objects.Lazy v) call party events = LazyCause call party events
 CauseOf (objects.Atomic v) call party events = ⊥
@@ -38,7 +39,7 @@ LawOf (objects.Semaphore initial) past = SemaphoreLaw initial past
 LawOf (objects.Barrier n) past = BarrierLaw n past
 LawOf objects.ReaderLock past = RwReaderLaw past
 LawOf objects.WriterLock past = RwWriterLaw past
-LawOf objects.Condvar past = past ≡ []
+LawOf objects.Condvar past = CondvarLaw past
 LawOf objects.Once past = OnceLaw past
 LawOf (objects.Lazy v) past = LazyLaw v past
 LawOf (objects.Atomic v) past = past ≡ []

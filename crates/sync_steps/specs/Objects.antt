@@ -18,6 +18,8 @@ use Rattle.steps_rw_reader.specs.declared.RwReaderPlace.{RwReaderPlace}
 use Rattle.steps_rw_reader.specs.Table.{rw_reader_table}
 use Rattle.steps_rw_writer.specs.declared.RwWriterPlace.{RwWriterPlace}
 use Rattle.steps_rw_writer.specs.Table.{rw_writer_table}
+use Rattle.steps_condvar.specs.declared.CondvarPlace.{CondvarPlace}
+use Rattle.steps_condvar.specs.Table.{condvar_table}
 use Rattle.steps_once.specs.declared.OncePlace.{OncePlace}
 use Rattle.steps_once.specs.Table.{once_table}
 use Rattle.steps_lazy.specs.declared.LazyPlace.{LazyPlace}
@@ -31,7 +33,7 @@ is_served (objects.Semaphore initial) = true
 is_served (objects.Barrier n) = true
 is_served objects.ReaderLock = true
 is_served objects.WriterLock = true
-is_served objects.Condvar = false
+is_served objects.Condvar = true
 is_served objects.Once = true
 is_served (objects.Lazy v) = true
 is_served (objects.Atomic v) = false
@@ -43,7 +45,7 @@ place_of (objects.Semaphore initial) = SemaphorePlace
 place_of (objects.Barrier n) = BarrierPlace
 place_of objects.ReaderLock = RwReaderPlace
 place_of objects.WriterLock = RwWriterPlace
-place_of objects.Condvar = ⊥
+place_of objects.Condvar = CondvarPlace
 place_of objects.Once = OncePlace
 place_of (objects.Lazy v) = LazyPlace
 place_of (objects.Atomic v) = ⊥
@@ -55,7 +57,7 @@ table_of z (objects.Semaphore initial) = semaphore_table initial
 table_of z (objects.Barrier n) = barrier_table n
 table_of z objects.ReaderLock = rw_reader_table
 table_of z objects.WriterLock = rw_writer_table
-table_of z objects.Condvar = no_calls
+table_of z objects.Condvar = condvar_table
 table_of z objects.Once = once_table
 table_of z (objects.Lazy v) = lazy_table v
 table_of z (objects.Atomic v) = no_calls

@@ -1,6 +1,7 @@
 //! The steps of every primitive, one atomic step at a time.
 
 pub mod barrier;
+pub mod condvar;
 mod fault;
 mod headline;
 mod machine;

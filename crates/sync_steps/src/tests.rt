@@ -5,7 +5,7 @@ ghost use Rattle.sync_steps.specs.Objects.{is_served};
 use crate::atomic::internal::AtomicInteger;
 use crate::steps::{
     Act, Answer, Call, Event, Input, Machine, Object, PlayFault, StepFault, Then, Wake, Word,
-    at_every_front, barrier, mutex, once, play, rw_reader, rw_writer, semaphore,
+    at_every_front, barrier, condvar, mutex, once, play, rw_reader, rw_writer, semaphore,
 };
 use crate::{SPIN_REPETITIONS, WaitAction};
 use linked_list_allocator::LocalHeap;
@@ -21,6 +21,7 @@ fn word_functions_at_their_paths(rt: HostRuntime) {
     assert_eq!(rt; rw_writer::writer_enters(1), Some(u64::MAX));
     assert_eq!(rt; rw_writer::marks(u64::MAX - 3), Some(u64::MAX - 2));
     assert_eq!(rt; rw_writer::unmarks(3), Some(2));
+    assert_eq!(rt; condvar::permits_for(Wake::One, u64::MAX), 1);
     assert_eq!(rt; semaphore::taken(u64::MAX), Some(u64::MAX - 1));
     assert_eq!(rt; semaphore::posted(u64::MAX, 2), 1);
     assert_eq!(rt; barrier::arrived(1, 2), Some(4294967296));
@@ -507,6 +508,93 @@ fn a_writer_that_gives_up_leaves_no_mark(rt: HostRuntime) -> Result<(), Fail> {
     assert_eq!(rt; machine.word(), 2);
     assert_eq!(rt; machine.counter(), 1);
     assert_eq!(rt; machine.waiters(), 0);
+    assert_eq!(rt; machine.failed(), 0);
+    Ok(())
+}
+
+#[test]
+fn a_notified_wait_succeeds_in_one_piece_and_in_two(rt: HostRuntime) -> Result<(), Fail> {
+    let schedule = [
+        (0, Input::Begin(Call::Lock)),
+        (0, Input::Go),
+        (0, Input::Begin(Call::Wait)),
+        (0, Input::Go),
+        (0, Input::Go),
+        (0, Input::Go),
+        (1, Input::Begin(Call::NotifyOne)),
+        (1, Input::Go),
+        (1, Input::Go),
+        (1, Input::Go),
+        (0, Input::Go),
+        (0, Input::Go),
+        (0, Input::Go),
+        (0, Input::Go),
+    ];
+    let counts = Act::Add {
+        word: Word::Waiters,
+        old: 0,
+        put: 1,
+    };
+    let posts = Act::Add {
+        word: Word::Value,
+        old: 0,
+        put: 1,
+    };
+    let takes = Act::Exchange {
+        word: Word::Value,
+        from: 1,
+        to: 0,
+        found: 1,
+        done: true,
+    };
+    let success = Then::Answers(Answer::Success);
+    let done = Then::Answers(Answer::Done);
+    for at in 0..14 {
+        let (whole, parts, word) = in_two_pieces(rt.alloc(), Object::Condvar, &schedule, at)?;
+        assert!(rt; whole.get(3).map(|event| event.act) == Some(counts));
+        assert!(rt; whole.get(5).map(|event| event.act) == Some(Act::Woke(Wake::One)));
+        assert!(rt; whole.get(8).map(|event| event.act) == Some(posts));
+        assert_eq!(rt; outcome(&whole, 9), Some((1, done)));
+        assert!(rt; whole.get(11).map(|event| event.act) == Some(takes));
+        assert_eq!(rt; outcome(&whole, 13), Some((0, success)));
+        assert!(rt; whole.as_slice() == parts.as_slice());
+        assert_eq!(rt; word, 1);
+    }
+    Ok(())
+}
+
+#[test]
+fn a_wait_that_gives_up_holds_the_mutex_again(rt: HostRuntime) -> Result<(), Fail> {
+    let mut machine = Machine::<u64>::new(rt.alloc(), Object::Condvar, 1)?;
+    let begins = [
+        (0, Input::Begin(Call::TryLock)),
+        (0, Input::Go),
+        (0, Input::Begin(Call::Wait)),
+        (0, Input::Go),
+        (0, Input::Go),
+        (0, Input::Go),
+    ];
+    play(rt.alloc(), &mut machine, &begins).map_err(|_| "refused")?;
+    assert_eq!(rt; machine.word(), 0);
+    assert_eq!(rt; machine.waiters(), 1);
+    // 10001 looks that see no permit.
+    let steps = vec![in rt.alloc(); (0, Input::Go); 10001]?;
+    let waits = play(rt.alloc(), &mut machine, &steps).map_err(|_| "refused")?;
+    assert_eq!(rt; outcome(&waits, 9999), Some((0, Then::GoesOn)));
+    assert_eq!(rt; outcome(&waits, 10000), Some((0, Then::Waits(0))));
+
+    let ends = [
+        (0, Input::Answer(WaitAction::Abort)),
+        (0, Input::Go),
+        (0, Input::Go),
+        (0, Input::Go),
+    ];
+    let ended = play(rt.alloc(), &mut machine, &ends).map_err(|_| "refused")?;
+    let held = Then::Answers(Answer::InterruptedHeld);
+    assert_eq!(rt; outcome(&ended, 3), Some((0, held)));
+    assert_eq!(rt; machine.word(), 1);
+    assert_eq!(rt; machine.waiters(), 0);
+    assert_eq!(rt; machine.value(), 0);
     assert_eq!(rt; machine.failed(), 0);
     Ok(())
 }

@@ -21,6 +21,7 @@ use Rattle.steps_semaphore.specs.Table.{semaphore_opening, semaphore_begins, sem
 use Rattle.steps_barrier.specs.Table.{barrier_begins, barrier_intent, barrier_after}
 use Rattle.steps_rw_reader.specs.Table.{rw_reader_begins, rw_reader_intent, rw_reader_after, rw_reader_answered, rw_reader_grant, rw_reader_needs_hold}
 use Rattle.steps_rw_writer.specs.Table.{rw_writer_begins, rw_writer_intent, rw_writer_after, rw_writer_answered, rw_writer_grant, rw_writer_needs_hold}
+use Rattle.steps_condvar.specs.Table.{condvar_begins, condvar_intent, condvar_after, condvar_answered, condvar_grant, condvar_needs_hold}
 use Rattle.steps_once.specs.Table.{once_begins, once_intent, once_after}
 use Rattle.steps_lazy.specs.Table.{lazy_begins, lazy_intent, lazy_after}
 use Rattle.sync_steps.specs.declared.steps.place.Closure.{Closure}
@@ -39,7 +40,7 @@ place_in (objects.Semaphore initial) place = places.Semaphore place
 place_in (objects.Barrier n) place = places.Barrier place
 place_in objects.ReaderLock place = places.RwReader place
 place_in objects.WriterLock place = places.RwWriter place
-place_in objects.Condvar place = absurd place
+place_in objects.Condvar place = places.Condvar place
 place_in objects.Once place = places.Once place
 place_in (objects.Lazy v) place = places.Lazy place v
 place_in (objects.Atomic v) place = absurd place
@@ -94,7 +95,7 @@ begins_at (objects.Semaphore initial) call = map_place places.Semaphore (semapho
 begins_at (objects.Barrier n) call = map_place places.Barrier (barrier_begins n call)
 begins_at objects.ReaderLock call = map_place places.RwReader (rw_reader_begins call)
 begins_at objects.WriterLock call = map_place places.RwWriter (rw_writer_begins call)
-begins_at objects.Condvar call = None
+begins_at objects.Condvar call = map_place places.Condvar (condvar_begins call)
 begins_at objects.Once call = map_place places.Once (once_begins call)
 begins_at (objects.Lazy v) call = map_place (λ place. places.Lazy place v) (lazy_begins call)
 begins_at (objects.Atomic v) call = None
@@ -106,6 +107,7 @@ intent_at (places.Semaphore place) hold = semaphore_intent words.State place
 intent_at (places.Barrier place) hold = barrier_intent words.State place
 intent_at (places.RwReader place) hold = rw_reader_intent words.State place hold
 intent_at (places.RwWriter place) hold = rw_writer_intent words.State words.Counter place hold
+intent_at (places.Condvar place) hold = condvar_intent place
 intent_at (places.Once place) hold = once_intent words.State place
 intent_at (places.Lazy place v) hold = lazy_intent v words.State place
 
@@ -116,6 +118,7 @@ after_at (places.Semaphore place) told = within places.Semaphore (semaphore_afte
 after_at (places.Barrier place) told = within places.Barrier (barrier_after place told)
 after_at (places.RwReader place) told = within places.RwReader (rw_reader_after place told)
 after_at (places.RwWriter place) told = within places.RwWriter (rw_writer_after place told)
+after_at (places.Condvar place) told = within places.Condvar (condvar_after place told)
 after_at (places.Once place) told = within places.Once (once_after place told)
 after_at (places.Lazy place v) told = within (λ next. places.Lazy next v) (lazy_after v place told)
 
@@ -126,6 +129,7 @@ answered_at (places.Semaphore place) action = places.Semaphore (semaphore_answer
 answered_at (places.Barrier place) action = places.Barrier place
 answered_at (places.RwReader place) action = places.RwReader (rw_reader_answered place action)
 answered_at (places.RwWriter place) action = places.RwWriter (rw_writer_answered place action)
+answered_at (places.Condvar place) action = places.Condvar (condvar_answered place action)
 answered_at (places.Once place) action = places.Once place
 answered_at (places.Lazy place v) action = places.Lazy place v
 
@@ -136,6 +140,7 @@ chosen_at (places.Semaphore place) choice = places.Semaphore place
 chosen_at (places.Barrier place) choice = places.Barrier place
 chosen_at (places.RwReader place) choice = places.RwReader place
 chosen_at (places.RwWriter place) choice = places.RwWriter place
+chosen_at (places.Condvar place) choice = places.Condvar place
 chosen_at (places.Once place) choice = places.Once place
 chosen_at (places.Lazy place v) choice = places.Lazy place v
 
@@ -146,7 +151,7 @@ grant_at (objects.Semaphore initial) call from to = None
 grant_at (objects.Barrier n) call from to = None
 grant_at objects.ReaderLock call from to = rw_reader_grant call from to
 grant_at objects.WriterLock call from to = rw_writer_grant call from to
-grant_at objects.Condvar call from to = None
+grant_at objects.Condvar call from to = condvar_grant call from to
 grant_at objects.Once call from to = None
 grant_at (objects.Lazy v) call from to = None
 grant_at (objects.Atomic v) call from to = None
@@ -158,7 +163,7 @@ needs_hold_at (objects.Semaphore initial) call = false
 needs_hold_at (objects.Barrier n) call = false
 needs_hold_at objects.ReaderLock call = rw_reader_needs_hold call
 needs_hold_at objects.WriterLock call = rw_writer_needs_hold call
-needs_hold_at objects.Condvar call = false
+needs_hold_at objects.Condvar call = condvar_needs_hold call
 needs_hold_at objects.Once call = false
 needs_hold_at (objects.Lazy v) call = false
 needs_hold_at (objects.Atomic v) call = false

@@ -37,7 +37,7 @@ impl<T, A: Allocator> Model for Machine<T, A> {
 
 impl<T: AtomicInteger, A: Allocator> Machine<T, A> {
     /// A machine of the object, where no party has begun a call yet. So far it serves mutexes, spin locks, semaphores, barriers, both
-    /// reader-writer locks, onces and lazy values.
+    /// reader-writer locks, condition variables, onces and lazy values.
     ///
     /// It takes memory for the places of its parties, and answers `AllocError` where there is none.
     pub fn new(alloc: A, object: Object<T>, parties: usize) -> Result<Machine<T, A>, AllocError>

@@ -4,6 +4,7 @@ ghost use Rattle.sync_steps.specs.Machine.Places.{begins_at, intent_at, after_at
 
 use std::alloc::AllocError;
 use steps_barrier::BarrierPlace;
+use steps_condvar::CondvarPlace;
 use steps_events::WaitAction;
 use steps_events::event::{Call, Object, Word};
 use steps_events::hold::HoldKind;
@@ -25,6 +26,7 @@ pub enum Place<T> {
     Barrier(BarrierPlace),
     RwReader(RwReaderPlace),
     RwWriter(RwWriterPlace),
+    Condvar(CondvarPlace),
     Once(OncePlace),
     /// With the value that the closure gives.
     Lazy(LazyPlace, T),
@@ -86,9 +88,10 @@ impl<T: Copy> Place<T> {
             Object::Barrier(n) => Some(Place::Barrier(BarrierPlace::begin(call, *n)?)),
             Object::ReaderLock => Some(Place::RwReader(RwReaderPlace::begin(call)?)),
             Object::WriterLock => Some(Place::RwWriter(RwWriterPlace::begin(call)?)),
+            Object::Condvar => Some(Place::Condvar(CondvarPlace::begin(call)?)),
             Object::Once => Some(Place::Once(OncePlace::begin(call)?)),
             Object::Lazy(value) => Some(Place::Lazy(LazyPlace::begin(call)?, *value)),
-            Object::Condvar | Object::Atomic(_) => None,
+            Object::Atomic(_) => None,
         }
     }
 
@@ -104,6 +107,7 @@ impl<T: Copy> Place<T> {
             Place::Barrier(place) => place.intent(Word::State),
             Place::RwReader(place) => place.intent(Word::State, hold),
             Place::RwWriter(place) => place.intent(Word::State, Word::Counter, hold),
+            Place::Condvar(place) => place.intent(),
             Place::Once(place) => place.intent(Word::State),
             Place::Lazy(place, value) => place.intent(Word::State, *value),
         }
@@ -121,6 +125,7 @@ impl<T: Copy> Place<T> {
             Place::Barrier(place) => within!(place.after(told), Place::Barrier),
             Place::RwReader(place) => within!(place.after(told), Place::RwReader),
             Place::RwWriter(place) => within!(place.after(told), Place::RwWriter),
+            Place::Condvar(place) => within!(place.after(told), Place::Condvar),
             Place::Once(place) => within!(place.after(told), Place::Once),
             Place::Lazy(place, value) => within!(place.after(told, *value), Place::Lazy, *value),
         }
@@ -137,6 +142,7 @@ impl<T: Copy> Place<T> {
             Place::Barrier(place) => Place::Barrier(place.answered(action)),
             Place::RwReader(place) => Place::RwReader(place.answered(action)),
             Place::RwWriter(place) => Place::RwWriter(place.answered(action)),
+            Place::Condvar(place) => Place::Condvar(place.answered(action)),
             Place::Once(place) => Place::Once(place.answered(action)),
             Place::Lazy(place, value) => Place::Lazy(place.answered(action), *value),
         }
@@ -153,6 +159,7 @@ impl<T: Copy> Place<T> {
             Place::Barrier(place) => Place::Barrier(*place),
             Place::RwReader(place) => Place::RwReader(*place),
             Place::RwWriter(place) => Place::RwWriter(*place),
+            Place::Condvar(place) => Place::Condvar(*place),
             Place::Once(place) => Place::Once(*place),
             Place::Lazy(place, value) => Place::Lazy(*place, *value),
         }
@@ -169,9 +176,9 @@ pub fn grant<T>(object: &Object<T>, call: &Call<T>, from: u64, to: u64) -> Optio
         Object::Spin => steps_spin::grant(call),
         Object::ReaderLock => steps_rw_reader::grant(call),
         Object::WriterLock => steps_rw_writer::grant(call, from, to),
+        Object::Condvar => steps_condvar::grant(call),
         Object::Semaphore(_)
         | Object::Barrier(_)
-        | Object::Condvar
         | Object::Once
         | Object::Lazy(_)
         | Object::Atomic(_) => None,
@@ -186,9 +193,9 @@ pub fn needs_hold<T>(object: &Object<T>, call: &Call<T>) -> bool
         Object::Mutex | Object::Spin | Object::ReaderLock | Object::WriterLock => {
             matches!(call, Call::Unlock)
         }
+        Object::Condvar => matches!(call, Call::Unlock | Call::Wait),
         Object::Semaphore(_)
         | Object::Barrier(_)
-        | Object::Condvar
         | Object::Once
         | Object::Lazy(_)
         | Object::Atomic(_) => false,
