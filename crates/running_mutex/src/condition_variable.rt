@@ -196,8 +196,7 @@ impl<A: Allocator> ConditionVariable<A> {
         ensures woke { HasWoken W.Fn wake_one }
     {
         let waiting = self.waiting(&mut pass.waits);
-        self.semaphore
-            .post(&mut pass.permits, wake_one, permits_for(Wake::One, waiting));
+        self.semaphore.post(&mut pass.permits, wake_one, permits_for(Wake::One, waiting));
     }
 
     /// Looks at the count of those that wait, gives as many permits, and then calls the wake closure once, also for none.
@@ -209,8 +208,7 @@ impl<A: Allocator> ConditionVariable<A> {
         ensures woke { HasWoken W.Fn wake_all }
     {
         let waiting = self.waiting(&mut pass.waits);
-        self.semaphore
-            .post(&mut pass.permits, wake_all, permits_for(Wake::All, waiting));
+        self.semaphore.post(&mut pass.permits, wake_all, permits_for(Wake::All, waiting));
     }
 
     /// Counts the wait in, unlocks the mutex and calls its wake closure, waits for a permit as the semaphore's `wait` does, counts the
