@@ -160,10 +160,34 @@ fn a_buffer_over_condition_variables(rt: HostRuntime) -> Result<(), Fail> {
     };
     thread::join(
         &rt,
-        || requires { IsMutexPass mutex producer.locks × IsCondPass not_full producer.waits × IsCondPass not_empty producer.notifies × (holds_of producer.locks ≡ 0) }
-        { make_often(&rt, &mutex, &not_full, &not_empty, &items, producer, Move::Put, 1000) },
-        || requires { IsMutexPass mutex consumer.locks × IsCondPass not_empty consumer.waits × IsCondPass not_full consumer.notifies × (holds_of consumer.locks ≡ 0) }
-        { make_often(&rt, &mutex, &not_empty, &not_full, &items, consumer, Move::Take, 1000) },
+        ||
+            requires { IsMutexPass mutex producer.locks × IsCondPass not_full producer.waits × IsCondPass not_empty producer.notifies × (holds_of producer.locks ≡ 0) }
+        {
+            make_often(
+                &rt,
+                &mutex,
+                &not_full,
+                &not_empty,
+                &items,
+                producer,
+                Move::Put,
+                1000,
+            )
+        },
+        ||
+            requires { IsMutexPass mutex consumer.locks × IsCondPass not_empty consumer.waits × IsCondPass not_full consumer.notifies × (holds_of consumer.locks ≡ 0) }
+        {
+            make_often(
+                &rt,
+                &mutex,
+                &not_empty,
+                &not_full,
+                &items,
+                consumer,
+                Move::Take,
+                1000,
+            )
+        },
     );
     assert_eq!(rt; items.into_inner(), 0);
     Ok(())
