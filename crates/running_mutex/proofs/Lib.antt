@@ -1,1 +1,2 @@
 pub mod MutexKeeps
+pub mod CondKeeps

@@ -1,2 +1,5 @@
 pub mod MutexSteps
 pub mod MutexShown
+pub mod CondRule
+pub mod CondTally
+pub mod CondShown

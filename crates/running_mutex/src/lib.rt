@@ -10,6 +10,8 @@ ghost use Rattle.passes.specs.Objects.{count_of};
 ghost use Rattle.passes.specs.Passes.{tally_of};
 ghost use Rattle.running_mutex.specs.MutexSteps.{OneHolder};
 
+pub mod condition_variable;
+
 use passes::{Attempt, Deed, Pass, WaitResult, Words, try_again, wake};
 use std::alloc::{AllocError, Allocator, Global};
 use std::ops::Deref;

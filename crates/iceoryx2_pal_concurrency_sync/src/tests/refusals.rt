@@ -2,6 +2,7 @@
 //! one or for both.
 use crate::once::Once;
 use crate::strategy::barrier::Barrier;
+use crate::strategy::condition_variable::ConditionVariable;
 use crate::strategy::mutex::Mutex;
 use crate::strategy::rwlock::{RwLockReaderPreference, RwLockWriterPreference};
 use crate::strategy::semaphore::Semaphore;
@@ -80,6 +81,26 @@ fn a_once_that_finds_no_memory(rt: HostRuntime) -> Result<(), Fail> {
         let made = Once::new(&heap);
         assert_eq!(rt; made.is_ok(), room);
         assert_eq!(rt; heap.used(), if room { 32 } else { 0 });
+        drop(made);
+        assert_eq!(rt; heap.used(), 0);
+    }
+    Ok(())
+}
+
+/// A condition variable is four blocks of 16 bytes: its count and its permits.
+#[test]
+fn a_condition_variable_that_finds_no_memory(rt: HostRuntime) -> Result<(), Fail> {
+    for (size, room) in [
+        (0, false),
+        (16, false),
+        (32, false),
+        (48, false),
+        (64, true),
+    ] {
+        let heap = LocalHeap::new(rt.alloc(), size)?;
+        let made = ConditionVariable::new(&heap);
+        assert_eq!(rt; made.is_ok(), room);
+        assert_eq!(rt; heap.used(), if room { 64 } else { 0 });
         drop(made);
         assert_eq!(rt; heap.used(), 0);
     }

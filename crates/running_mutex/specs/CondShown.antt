@@ -1,0 +1,108 @@
+-- What contracts see of a condition variable and its pass, and what a call changes in a pass.
+use Rattle.std.specs.Prelude.{◌≡◌, ℕ, Some, None}
+use Rattle.std.specs.Borrow.{Bor}
+use Rattle.std.specs.Fn.{Shared}
+use Rattle.steps_events.specs.declared.WaitAction.{WaitAction}
+use Rattle.passes.specs.declared.part.Part.{Part}
+use Rattle.passes.specs.declared.pass.Pass.{Pass}
+use Rattle.passes.specs.Parts.{IsWhole}
+use Rattle.passes.specs.Sights.{HasLooked}
+use Rattle.passes.specs.Passes.{IsSamePass, part_of, sights_of, tally_of, HasSeen, HasDone, HasMoved, WasRefused}
+use Rattle.passes.specs.Answers.{MayAnswerAbort, HasAsked}
+use Rattle.passes.specs.declared.wait.WaitResult.{WaitResult}
+use Rattle.passes.specs.declared.wait.WaitResult.TheVariants.{Success, Interrupted}
+use Rattle.passes.specs.Objects.{IsPassOf}
+use Rattle.tallies.specs.declared.mutex.Holds.{Holds}
+use Rattle.tallies.specs.declared.semaphore.Permits.{Permits}
+use Rattle.running_semaphore.specs.SemaphoreShown.{IsSemPass, IsEmpty}
+use Rattle.running_semaphore.specs.SemaphoreSteps.{gave}
+use Rattle.running_mutex.specs.declared.condition_variable.Waits.{Waits}
+use Rattle.running_mutex.specs.declared.condition_variable.CondPass.{CondPass}
+use Rattle.running_mutex.specs.declared.condition_variable.ConditionVariable.{ConditionVariable}
+use Rattle.running_mutex.specs.declared.condition_variable.CondResult.{CondResult}
+use Rattle.running_mutex.specs.declared.condition_variable.CondResult.TheVariants as answers
+use Rattle.running_mutex.specs.declared.condition_variable.Woken.{Woken}
+use Rattle.running_mutex.specs.declared.condition_variable.Woken.TheVariants.{Signalled, Unsignalled}
+use Rattle.running_mutex.specs.MutexSteps.{granted, released}
+use Rattle.running_mutex.specs.MutexShown.{IsLocked, holds_of}
+use Rattle.running_mutex.specs.CondRule.{one_more}
+
+-- the two passes inside: that of the count, and that of the permits
+abbrev pub waits_in : CondPass → Pass Waits
+waits_in p = p.waits
+
+abbrev pub permits_in : CondPass → Pass Permits
+permits_in p = p.permits
+
+abbrev pub IsCondPass : {A : Type 0} → ConditionVariable A → CondPass → Type 0
+IsCondPass c p = IsPassOf c.number_of_waiters (waits_in p) × IsSemPass c.semaphore (permits_in p)
+
+-- so many were seen to wait, in one look; so many permits were given; and nothing else changed
+pub record HasGiven (permits waiting : ℕ) (p q : CondPass) : Type 0 where
+  pub saw : HasSeen waiting (waits_in p) (waits_in q)
+  pub gave : HasDone (gave permits) (permits_in p) (permits_in q)
+
+-- it was seen once how many wait, as many permits were given as are for them, and nothing else changed
+pub record HasNotified (for : ℕ → ℕ) (p q : CondPass) : Type 0 where
+  pub waiting : ℕ
+  pub given : HasGiven (for waiting) waiting p q
+
+-- It may have notified and waited. A helper, a loop and a closure carry this one fact.
+pub record HasStayed (p q : CondPass) : Type 0 where
+  pub waits : IsSamePass (waits_in p) (waits_in q)
+  pub permits : IsSamePass (permits_in p) (permits_in q)
+  pub part_of_waits : part_of (waits_in q) ≡ part_of (waits_in p)
+  pub part_of_permits : part_of (permits_in q) ≡ part_of (permits_in p)
+
+module _ {H : Type 0} where
+  -- the hold that a wait came back with
+  abbrev pub held_by : Woken H → H
+  held_by (Signalled h) = h
+  held_by (Unsignalled h) = h
+
+  -- P holds where the wait has the mutex again, and took a permit
+  abbrev pub IfSignalled : WaitResult (Woken H) → Type 0 → Type 0
+  IfSignalled (Success (Signalled h)) P = P
+  IfSignalled (Success (Unsignalled h)) P = Unit {0}
+  IfSignalled Interrupted P = Unit {0}
+
+  -- P holds where it has the mutex again, and took none
+  abbrev pub IfUnsignalled : WaitResult (Woken H) → Type 0 → Type 0
+  IfUnsignalled (Success (Signalled h)) P = Unit {0}
+  IfUnsignalled (Success (Unsignalled h)) P = P
+  IfUnsignalled Interrupted P = Unit {0}
+
+  -- both forms of answer tell the same
+  abbrev pub woken_of : CondResult H → WaitResult (Woken H)
+  woken_of (answers.Success h) = Success (Signalled h)
+  woken_of (answers.Interrupted (Some h)) = Success (Unsignalled h)
+  woken_of (answers.Interrupted None) = Interrupted
+
+-- one wait more was counted in and out again, and nothing else changed
+abbrev pub HasWaited : CondPass → CondPass → Type 0
+HasWaited p q = HasDone one_more (waits_in p) (waits_in q)
+
+-- No permit was taken: none was seen in 10002 looks or more, and the wait closure may answer Abort, told 0. Where no other pass is left,
+-- the looks are counted by the closure's answers.
+pub record HasNotTaken {F W : Type 0} (g : Shared F (Bor W × (Bor ℕ × Unit {0})) WaitAction) (wait : F) (p q : CondPass) : Type 0 where
+  pub refused : WasRefused IsEmpty 10002 (permits_in p) (permits_in q)
+  pub aborted : MayAnswerAbort g wait IsEmpty
+  pub asked : IsWhole (part_of (permits_in p)) → HasAsked g wait IsEmpty 10001 (permits_in p) (permits_in q)
+
+-- the hold, which was on, went off, and is on again by one more grant
+pub record Regains (part : Part) (t u : Holds) (last : ℕ) : Type 0 where
+  pub on : t.holds ≡ 1
+  pub again : u ≡ granted (released t)
+
+-- so, and nothing else changed but what was seen on the way
+abbrev pub HasRegained : Pass Holds → Pass Holds → Type 0
+HasRegained = HasMoved Regains
+
+-- The hold, which was on, is off. The mutex was seen locked at last, after 10001 looks and those that the call made once it had asked.
+pub record HasLeft {F W : Type 0} (g : Shared F (Bor W × (Bor ℕ × Unit {0})) WaitAction) (wait : F) (p q : Pass Holds) : Type 0 where
+  pub same : IsSamePass p q
+  pub on : holds_of p ≡ 1
+  pub off : tally_of q ≡ released (tally_of p)
+  pub part : part_of q ≡ part_of p
+  pub looked : HasLooked IsLocked 10002 (sights_of p) (sights_of q)
+  pub asked : HasAsked g wait IsLocked 10001 p q

@@ -1,0 +1,395 @@
+//! A condition variable: a call that has a mutex lets it go, waits to be notified, and locks it again.
+//!
+//! It does what `strategy::condition_variable` of the Rust crate does, but that a wait that gives up locks the mutex again too. It
+//! stands on the public calls of `Mutex` and `Semaphore`, and in this crate, since a wait takes the pass out of the hold that it was
+//! handed, and nobody else is to reach it there. No closure sees the count of those that wait; so its tally stands here.
+
+ghost use Rattle.std.specs.Prelude.{◌≡◌, true, false, MatchBool, IfOk};
+ghost use Rattle.passes.specs.Answers.{MayAnswerAbort, HasGivenUp};
+ghost use Rattle.passes.specs.Objects.{count_of};
+ghost use Rattle.passes.specs.Passes.{tally_of};
+ghost use Rattle.running_mutex.specs.MutexShown.{IsMutexPass, IsAlone, IsLocked, HasEntered};
+ghost use Rattle.running_mutex.specs.CondRule.{CountIsInside};
+
+use crate::{Mutex, MutexHold, MutexPass};
+use passes::{Deed, Pass, Rule, Tally, WaitResult, Words};
+use running_semaphore::{SemPass, Semaphore};
+use std::alloc::{AllocError, Allocator, Global};
+use std::sync::Wait;
+use steps_condvar::permits_for;
+use steps_events::WaitAction;
+use steps_events::event::Wake;
+use tallies::WaitWord;
+
+/// What a pass of a condition variable counts. No value of it is made.
+pub struct Waits {
+    /// How many waits its owner began.
+    pub begun: u64,
+    /// How many of them are counted as waiting: 0 or 1, and 0 between its calls.
+    pub inside: u64,
+}
+
+impl Tally for Waits {
+    ghost use Rattle.running_mutex.specs.CondRule.{no_waits, both_waits};
+    ghost use Rattle.running_mutex.specs.CondTally.{waits_add_up};
+
+    ghost none = { no_waits };
+
+    ghost add = { both_waits };
+
+    ghost core = { λ _. no_waits };
+
+    ghost adds_up = { waits_add_up };
+}
+
+/// The word is the number of waits that are counted as waiting, modulo 2^64.
+impl Rule<(), ()> for Waits {
+    ghost use Rattle.running_mutex.specs.CondRule.{no_waits, CondAgrees};
+
+    ghost first = { λ _. no_waits };
+
+    ghost agrees = { λ _. CondAgrees };
+}
+
+/// A condition variable.
+#[derive(Drop)]
+pub struct ConditionVariable<A: Allocator = Global> {
+    number_of_waiters: Words<(), Waits, A>,
+    semaphore: Semaphore<A>,
+    ghost one_word: { count_of number_of_waiters ≡ 1 },
+}
+
+/// The right to call a condition variable, and what its owner did and saw there. No wait of its owner is under way.
+#[derive(Drop)]
+pub struct CondPass {
+    waits: Pass<Waits>,
+    permits: SemPass,
+    ghost outside: { (tally_of waits).inside ≡ 0 },
+}
+
+/// What a wait came to that has the mutex again.
+#[derive(Debug, Drop, PartialEq, Eq)]
+pub enum Woken<H> {
+    /// It took a permit, which a notify had given.
+    Signalled(H),
+    /// It gave up, and took none.
+    Unsignalled(H),
+}
+
+/// How a wait answers.
+#[derive(Debug, Drop, PartialEq, Eq)]
+pub enum CondResult<H> {
+    /// It took a permit, which a notify had given, and has the mutex.
+    Success(H),
+    /// With the mutex, it gave up and took no permit. Without it, the mutex was refused; it does not tell whether a permit was taken.
+    Interrupted(Option<H>),
+}
+
+/// A load of the count.
+struct Look;
+
+impl Deed<(), Waits> for Look {
+    ghost use Rattle.running_mutex.specs.CondRule.{Loaded};
+
+    ghost tells = { λ _ _ _. Loaded };
+}
+
+/// An add of 1 to the count.
+struct CountIn;
+
+impl Deed<(), Waits> for CountIn {
+    ghost use Rattle.running_mutex.specs.CondRule.{CountedIn};
+
+    ghost tells = { λ _ _ _ before _. CountedIn before };
+}
+
+/// A subtraction of 1 from the count.
+struct CountOut;
+
+impl Deed<(), Waits> for CountOut {
+    ghost use Rattle.running_mutex.specs.CondRule.{CountedOut};
+
+    ghost tells = { λ _ _ _ before _. CountedOut before };
+}
+
+impl CondPass {
+    ghost use Rattle.std.specs.Prelude.{is_ok};
+    ghost use Rattle.passes.specs.Parts.{AddUp};
+    ghost use Rattle.passes.specs.Passes.{view, part_of};
+    ghost use Rattle.passes.specs.Views.{left_view, right_view};
+    ghost use Rattle.tallies.specs.SemaphoreRule.{no_permits};
+    ghost use Rattle.running_mutex.specs.CondRule.{no_waits};
+    ghost use Rattle.running_mutex.specs.CondShown.{IsCondPass, waits_in, permits_in};
+
+    /// Two passes of the same condition variable. What they counted adds up to what this one had counted, and they weigh together what
+    /// it weighed. `Err`, which never comes today, would hand the pass back.
+    pub fn split<A: Allocator>(
+        self,
+        of: &ConditionVariable<A>,
+    ) -> Result<(CondPass, CondPass), CondPass>
+        requires own { IsCondPass of.now self }
+        ensures never_refused { is_ok result ≡ true }
+        ensures own { IfOk result (λ parts. IsCondPass of.now parts.0 × IsCondPass of.now parts.1) }
+        ensures first { IfOk result (λ parts. (view (waits_in parts.0) ≡ left_view (view (waits_in self))) × (view (permits_in parts.0) ≡ left_view (view (permits_in self)))) }
+        ensures second { IfOk result (λ parts. (view (waits_in parts.1) ≡ right_view (λ _. no_waits) (view (waits_in self))) × (view (permits_in parts.1) ≡ right_view (λ _. no_permits) (view (permits_in self)))) }
+        ensures weights { IfOk result (λ parts. AddUp (part_of (waits_in self)) (part_of (waits_in parts.0)) (part_of (waits_in parts.1)) × AddUp (part_of (permits_in self)) (part_of (permits_in parts.0)) (part_of (permits_in parts.1))) }
+    {
+        let CondPass { waits, permits } = self;
+        let Ok((waits, other_waits)) = waits.split(&of.number_of_waiters) else {
+            unreachable!()
+        };
+        let Ok((permits, other_permits)) = permits.split(&of.semaphore) else {
+            unreachable!()
+        };
+        Ok((
+            CondPass { waits, permits },
+            CondPass {
+                waits: other_waits,
+                permits: other_permits,
+            },
+        ))
+    }
+}
+
+impl<A: Allocator> ConditionVariable<A> {
+    ghost use Rattle.std.specs.Borrow.{sem};
+    ghost use Rattle.std.specs.Prelude.{◌<◌, ◌⊎◌, min};
+    ghost use Rattle.passes.specs.Answers.{IfSuccess, IfInterrupted, IsSuccess, RestsIfInterrupted, HasWoken};
+    ghost use Rattle.passes.specs.contracts.pass.Pass.{the_row};
+    ghost use Rattle.tallies.specs.contracts.mutex.Holds as holds_row;
+    ghost use Rattle.passes.specs.Parts.{IsWhole};
+    ghost use Rattle.passes.specs.Objects.{IsPassOf};
+    ghost use Rattle.passes.specs.Passes.{view, part_of, IsSamePass, HasDone};
+    ghost use Rattle.passes.specs.Views.{first_view};
+    ghost use Rattle.tallies.specs.SemaphoreRule.{first_permits};
+    ghost use Rattle.running_mutex.specs.CondRule.{no_waits, Loaded, went_in, went_out};
+    ghost use Rattle.running_semaphore.specs.SemaphoreShown.{worth_of, HasTaken};
+    ghost use Rattle.running_mutex.specs.MutexShown.{holds_of, pass_of, borrow_of, HasUnlocked};
+    ghost use Rattle.running_mutex.specs.CondShown.{IsCondPass, waits_in, permits_in, HasGiven, HasNotified, held_by, woken_of, IfSignalled, IfUnsignalled, HasWaited, HasNotTaken, HasRegained, HasLeft};
+
+    /// A condition variable at which nobody waits, and the pass that is whole. `Err` where there was no memory; then nothing was made.
+    pub fn new(alloc: A) -> Result<(ConditionVariable<A>, CondPass), AllocError>
+    where
+        A: Copy,
+        ensures own { IfOk result (λ made. IsCondPass made.0 made.1) }
+        ensures first { IfOk result (λ made. (view (waits_in made.1) ≡ first_view no_waits) × (view (permits_in made.1) ≡ first_view (first_permits 0))) }
+    {
+        let (number_of_waiters, waits) = Words::new(alloc, &[0], &())?;
+        let (semaphore, permits) = Semaphore::new(alloc, 0)?;
+        Ok((
+            ConditionVariable {
+                number_of_waiters,
+                semaphore,
+            },
+            CondPass { waits, permits },
+        ))
+    }
+
+    /// Looks at the count of those that wait, gives one permit where it is not 0 and none where it is, and then calls the wake closure
+    /// once, also for none.
+    #[inline(always)]
+    pub fn notify_one<W: Fn(&WaitWord)>(&self, pass: &mut CondPass, wake_one: W)
+        requires own { IsCondPass self.now pass.old }
+        requires may { W.IsAlwaysCallable wake_one }
+        ensures posted { HasNotified (λ waiting. min 1 waiting) pass.old pass.new }
+        ensures exact { IsWhole (part_of (waits_in pass.old)) → HasGiven 0 0 pass.old pass.new }
+        ensures woke { HasWoken W.Fn wake_one }
+    {
+        let waiting = self.waiting(&mut pass.waits);
+        self.semaphore.post(&mut pass.permits, wake_one, permits_for(Wake::One, waiting));
+    }
+
+    /// Looks at the count of those that wait, gives as many permits, and then calls the wake closure once, also for none.
+    #[inline(always)]
+    pub fn notify_all<W: Fn(&WaitWord)>(&self, pass: &mut CondPass, wake_all: W)
+        requires own { IsCondPass self.now pass.old }
+        requires may { W.IsAlwaysCallable wake_all }
+        ensures posted { HasNotified (λ waiting. waiting) pass.old pass.new }
+        ensures woke { HasWoken W.Fn wake_all }
+    {
+        let waiting = self.waiting(&mut pass.waits);
+        self.semaphore.post(&mut pass.permits, wake_all, permits_for(Wake::All, waiting));
+    }
+
+    /// Counts the wait in, unlocks the mutex and calls its wake closure, waits for a permit as the semaphore's `wait` does, counts the
+    /// wait out, and locks the mutex again as its `lock` does. So `Interrupted` is without the mutex, after `mtx_wait` had answered
+    /// `Abort`; and `Unsignalled` is with it, after `wait` had.
+    #[inline(always)]
+    pub fn wait_held<
+        'p,
+        B: Allocator,
+        R: Wait,
+        K: Fn(&WaitWord),
+        W: Fn(&WaitWord, &u64) -> WaitAction,
+        M: Fn(&WaitWord, &u64) -> WaitAction,
+    >(
+        hold: MutexHold<'p>,
+        this: &Self,
+        rt: &R,
+        pass: &mut CondPass,
+        mtx: &Mutex<B>,
+        mtx_wake_one: K,
+        wait: W,
+        mtx_wait: M,
+    ) -> WaitResult<Woken<MutexHold<'p>>>
+        requires own { IsCondPass this.now pass.old × IsMutexPass mtx.now (pass_of hold) }
+        requires may { K.IsAlwaysCallable mtx_wake_one × W.IsAlwaysCallable wait × M.IsAlwaysCallable mtx_wait }
+        ensures* left { sem 𝓛 (RestsIfInterrupted (the_row holds_row.the_row) hold.entry.pass (λ woken. borrow_of (held_by woken)) result (HasLeft M.Fn mtx_wait (pass_of hold.entry))) }
+        ensures same_borrow { IfSuccess result (λ woken. borrow_of (held_by woken) ≡ borrow_of hold.entry) }
+        ensures regained { IfSuccess result (λ woken. HasRegained (pass_of hold.entry) (pass_of (held_by woken))) }
+        ensures counted { HasWaited pass.old pass.new }
+        ensures signalled { IfSignalled result (HasTaken (permits_in pass.old) (permits_in pass.new)) }
+        ensures unsignalled { IfUnsignalled result (HasNotTaken W.Fn wait pass.old pass.new) }
+        ensures gave_up { IfInterrupted result (HasTaken (permits_in pass.old) (permits_in pass.new) ⊎ HasNotTaken W.Fn wait pass.old pass.new) }
+        ensures aborted { IfInterrupted result (MayAnswerAbort M.Fn mtx_wait IsLocked) }
+        ensures exact { IsWhole (part_of (pass_of hold.entry)) → IsSuccess result }
+        ensures some { IsWhole (part_of (permits_in pass.old)) → 0 < worth_of (permits_in pass.old) → HasTaken (permits_in pass.old) (permits_in pass.new) }
+        ensures none { IsWhole (part_of (permits_in pass.old)) → worth_of (permits_in pass.old) ≡ 0 → HasNotTaken W.Fn wait pass.old pass.new }
+        ensures woke { HasWoken K.Fn mtx_wake_one }
+    {
+        let MutexHold { pass: mtx_pass } = hold;
+        let signalled = this.sleep(rt, pass, mtx, mtx_pass, mtx_wake_one, wait);
+        if !lock_again(mtx_pass, mtx, rt, mtx_wait) {
+            return WaitResult::Interrupted;
+        }
+        if signalled {
+            WaitResult::Success(Woken::Signalled(MutexHold { pass: mtx_pass }))
+        } else {
+            WaitResult::Success(Woken::Unsignalled(MutexHold { pass: mtx_pass }))
+        }
+    }
+
+    /// What `wait_held` does, with the answer of the Rust crate's later form: `Success` with the mutex and a permit, `Interrupted` with
+    /// the mutex and no permit, and `Interrupted` without the mutex, which does not tell whether a permit was taken.
+    ///
+    /// No clause says how the mutex's pass stands after the last; where that is wanted, call `wait_held`.
+    #[inline(always)]
+    pub fn wait<
+        'p,
+        B: Allocator,
+        R: Wait,
+        K: Fn(&WaitWord),
+        W: Fn(&WaitWord, &u64) -> WaitAction,
+        M: Fn(&WaitWord, &u64) -> WaitAction,
+    >(
+        hold: MutexHold<'p>,
+        this: &Self,
+        rt: &R,
+        pass: &mut CondPass,
+        mtx: &Mutex<B>,
+        mtx_wake_one: K,
+        wait: W,
+        mtx_wait: M,
+    ) -> CondResult<MutexHold<'p>>
+        requires own { IsCondPass this.now pass.old × IsMutexPass mtx.now (pass_of hold) }
+        requires may { K.IsAlwaysCallable mtx_wake_one × W.IsAlwaysCallable wait × M.IsAlwaysCallable mtx_wait }
+        ensures same_borrow { IfSuccess (woken_of result) (λ woken. borrow_of (held_by woken) ≡ borrow_of hold.entry) }
+        ensures regained { IfSuccess (woken_of result) (λ woken. HasRegained (pass_of hold.entry) (pass_of (held_by woken))) }
+        ensures counted { HasWaited pass.old pass.new }
+        ensures signalled { IfSignalled (woken_of result) (HasTaken (permits_in pass.old) (permits_in pass.new)) }
+        ensures unsignalled { IfUnsignalled (woken_of result) (HasNotTaken W.Fn wait pass.old pass.new) }
+        ensures gave_up { IfInterrupted (woken_of result) (HasTaken (permits_in pass.old) (permits_in pass.new) ⊎ HasNotTaken W.Fn wait pass.old pass.new) }
+        ensures aborted { IfInterrupted (woken_of result) (MayAnswerAbort M.Fn mtx_wait IsLocked) }
+        ensures exact { IsWhole (part_of (pass_of hold.entry)) → IsSuccess (woken_of result) }
+        ensures some { IsWhole (part_of (permits_in pass.old)) → 0 < worth_of (permits_in pass.old) → HasTaken (permits_in pass.old) (permits_in pass.new) }
+        ensures none { IsWhole (part_of (permits_in pass.old)) → worth_of (permits_in pass.old) ≡ 0 → HasNotTaken W.Fn wait pass.old pass.new }
+        ensures woke { HasWoken K.Fn mtx_wake_one }
+    {
+        match Self::wait_held(hold, this, rt, pass, mtx, mtx_wake_one, wait, mtx_wait) {
+            WaitResult::Success(Woken::Signalled(hold)) => CondResult::Success(hold),
+            WaitResult::Success(Woken::Unsignalled(hold)) => CondResult::Interrupted(Some(hold)),
+            WaitResult::Interrupted => CondResult::Interrupted(None),
+        }
+    }
+
+    /// What `wait_held` does until it locks the mutex again, and whether a permit was taken.
+    fn sleep<B: Allocator, R: Wait, K: Fn(&WaitWord), W: Fn(&WaitWord, &u64) -> WaitAction>(
+        &self,
+        rt: &R,
+        pass: &mut CondPass,
+        mtx: &Mutex<B>,
+        mtx_pass: &mut MutexPass,
+        mtx_wake_one: K,
+        wait: W,
+    ) -> bool
+        requires own { IsCondPass self.now pass.old × IsMutexPass mtx.now mtx_pass.old }
+        requires on { holds_of mtx_pass.old ≡ 1 }
+        requires may { K.IsAlwaysCallable mtx_wake_one × W.IsAlwaysCallable wait }
+        ensures unlocked { HasUnlocked mtx_pass.old mtx_pass.new }
+        ensures counted { HasWaited pass.old pass.new }
+        ensures slept { MatchBool result (HasTaken (permits_in pass.old) (permits_in pass.new)) (HasNotTaken W.Fn wait pass.old pass.new) }
+        ensures some { IsWhole (part_of (permits_in pass.old)) → MatchBool result (0 < worth_of (permits_in pass.old)) (worth_of (permits_in pass.old) ≡ 0) }
+        ensures woke { HasWoken K.Fn mtx_wake_one }
+    {
+        self.count_in(&mut pass.waits);
+        mtx.unlock(MutexHold { pass: mtx_pass }, mtx_wake_one);
+        let slept = self.semaphore.wait(rt, &mut pass.permits, wait);
+        self.count_out(&mut pass.waits);
+        match slept {
+            WaitResult::Success(()) => true,
+            WaitResult::Interrupted => false,
+        }
+    }
+
+    /// How many are counted as waiting.
+    #[tactic(auto, using(crate::proofs::CondKeeps::loads))]
+    #[inline(always)]
+    fn waiting(&self, pass: &mut Pass<Waits>) -> u64
+        requires own { IsPassOf self.now.number_of_waiters pass.old }
+        ensures same { IsSamePass pass.old pass.new }
+        ensures told { Loaded (view pass.old) result (view pass.new) }
+    {
+        self.number_of_waiters.load::<Look>(pass, 0)
+    }
+
+    /// Counts a wait in.
+    #[tactic(auto, using(crate::proofs::CondKeeps::counts_in))]
+    #[inline(always)]
+    fn count_in(&self, pass: &mut Pass<Waits>)
+        requires own { IsPassOf self.now.number_of_waiters pass.old }
+        requires outside { (tally_of pass.old).inside ≡ 0 }
+        ensures counted { HasDone went_in pass.old pass.new }
+    {
+        self.number_of_waiters.fetch_add::<CountIn>(pass, 0, 1);
+    }
+
+    /// Counts a wait out again.
+    #[tactic(auto, using(crate::proofs::CondKeeps::counts_out))]
+    #[inline(always)]
+    fn count_out(&self, pass: &mut Pass<Waits>)
+        requires own { IsPassOf self.now.number_of_waiters pass.old }
+        requires inside { (tally_of pass.old).inside ≡ 1 }
+        ensures counted { HasDone went_out pass.old pass.new }
+    {
+        self.number_of_waiters.fetch_sub::<CountOut>(pass, 0, 1);
+    }
+}
+
+/// Locks the mutex, and tells whether it is locked.
+#[inline(always)]
+fn lock_again<A: Allocator, R: Wait, M: Fn(&WaitWord, &u64) -> WaitAction>(
+    pass: &mut MutexPass,
+    mtx: &Mutex<A>,
+    rt: &R,
+    mtx_wait: M,
+) -> bool
+    requires own { IsMutexPass mtx.now pass.old }
+    requires may { M.IsAlwaysCallable mtx_wait }
+    ensures locked { MatchBool result (HasEntered pass.old pass.new) (HasGivenUp M.Fn mtx_wait IsLocked pass.old pass.new) }
+    ensures exact { IsAlone pass.old → result ≡ true }
+    ensures aborted { result ≡ false → MayAnswerAbort M.Fn mtx_wait IsLocked }
+{
+    match Mutex::lock(pass, mtx, rt, mtx_wait) {
+        WaitResult::Success(hold) => {
+            let MutexHold { pass: _ } = hold;
+            true
+        }
+        WaitResult::Interrupted => false,
+    }
+}
+
+/// Whenever the rule of a condition variable holds, its word is the number of waits that all passes together have inside, modulo 2^64.
+/// Says so of the rule alone, and does nothing.
+pub fn count_is_those_inside()
+    ensures { CountIsInside }
+{}
