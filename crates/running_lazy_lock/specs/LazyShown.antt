@@ -26,7 +26,7 @@ ended_of p = once.ended_of p.once
 abbrev pub IsComplete : LazyPass → Type 0
 IsComplete p = once.IsComplete p.once
 
--- The pass knows that the closure has ended. It ran none, and has looked; or it ran the one, and has taken it out of its lock.
+-- The pass knows that the closure has ended. It ran none, and has looked; or it ran the one, and may have been granted its lock.
 pub record HasForced (p q : LazyPass) : Type 0 where
   pub completed : once.HasCompleted p.once q.once
   pub init : spin.HasStayed p.init q.init
