@@ -18,7 +18,7 @@ use Rattle.sync_play.specs.declared.command.Task.TheVariants as tasks
 use Rattle.sync_play.specs.declared.fault.LineFault.{LineFault}
 use Rattle.sync_play.specs.declared.fault.LineFault.TheVariants as faults
 use Rattle.sync_play.specs.Fault.{◌>>=◌, line_fault_of}
-use Rattle.sync_play.specs.Player.{event_of, events_of, run_of, steps_of, task_events, command_events, steps_left, next_input, left_after, IsTurn}
+use Rattle.sync_play.specs.Player.{event_of, events_of, run_of, steps_of, task_events, command_events, steps_left, next_input, left_after, first_event, IsTurn}
 
 abbrev Ev : Type 0
 Ev = Event ℕ
@@ -197,3 +197,19 @@ pub turn_refused : (o : Object ℕ) (parties : ℕ) (past : List Ev) (old : Comm
     → StandsAt u64_arithmetic o parties past machine → RefusesStep u64_arithmetic machine old.party input fault → command_events o parties past old ≡ Err (line_fault_of fault)
 turn_refused o parties past old input fault machine next stands refuses =
     task_refused o parties past old.party old.task input (line_fault_of fault) next (event_refused o parties past old.party input fault (refuses o parties past stands))
+
+-- the event that a command gives first
+
+pub first_is_none : (o : Object ℕ) (parties : ℕ) (past : List Ev) (command : Command) → next_input command.task ≡ Ok None → Ok None ≡ first_event o parties past command
+first_is_none o parties past command next = rw next refl
+
+pub first_is_limited : (o : Object ℕ) (parties : ℕ) (past : List Ev) (command : Command) (fault : LineFault) → next_input command.task ≡ Err fault → Err fault ≡ first_event o parties past command
+first_is_limited o parties past command fault next = rw next refl
+
+pub first_is_made : (o : Object ℕ) (parties : ℕ) (past : List Ev) (command : Command) (input : Input ℕ) (e : Ev) (machine machine' : Configuration ℕ) → next_input command.task ≡ Ok (Some input) → StandsAt u64_arithmetic o parties past machine
+    → Steps u64_arithmetic machine command.party input e machine' → Ok (Some e) ≡ first_event o parties past command
+first_is_made o parties past command input e machine machine' next stands steps = rw (next, event_is o parties past command.party input e (steps o parties past stands).0) refl
+
+pub first_is_refused : (o : Object ℕ) (parties : ℕ) (past : List Ev) (command : Command) (input : Input ℕ) (fault : StepFault) (machine : Configuration ℕ) → next_input command.task ≡ Ok (Some input) → StandsAt u64_arithmetic o parties past machine
+    → RefusesStep u64_arithmetic machine command.party input fault → Err (line_fault_of fault) ≡ first_event o parties past command
+first_is_refused o parties past command input fault machine next stands refuses = rw (next, event_refused o parties past command.party input fault (refuses o parties past stands)) refl

@@ -82,6 +82,14 @@ left_after going (tasks.Give input) = tasks.Go 0
 left_after going (tasks.Go n) = tasks.Go (n - 1)
 left_after going (tasks.Run limit) = if going then tasks.Run (limit - 1) else tasks.Go 0
 
+abbrev pub event_if : Object ℕ → ℕ → List (Event ℕ) → ℕ → Option (Input ℕ) → Result (Option (Event ℕ)) LineFault
+event_if o parties past party None = Ok None
+event_if o parties past party (Some input) = event_of o parties past party input >>= λ e. Ok (Some e)
+
+-- the event that a command gives first, or why it gives none; there is none once all of it is done
+abbrev pub first_event : Object ℕ → ℕ → List (Event ℕ) → Command → Result (Option (Event ℕ)) LineFault
+first_event o parties past command = next_input command.task >>= λ input. event_if o parties past command.party input
+
 -- the event is the one that the next input of the command gives, what is left gives the others, and the run with it stands at the machine
 pub record MakesTurn (o : Object ℕ) (parties : ℕ) (past : List (Event ℕ)) (old new : Command) (machine : Configuration ℕ) (e : Event ℕ) : Type 0 where
   pub input : Input ℕ

@@ -81,7 +81,10 @@ pub fn next_event(
 ) -> Result<Option<Event<u64>>, LineFault>
     ensures turn { (o : AnObject ℕ) (parties : ℕ) (past : List (AnEvent ℕ)) → StandsAt u64_arithmetic o parties past machine.old →
         meaning.IsTurn o parties past left.old left.new machine.new result }
+    ensures first { (o : AnObject ℕ) (parties : ℕ) (past : List (AnEvent ℕ)) → StandsAt u64_arithmetic o parties past machine.old →
+        result ≡ meaning.first_event o parties past left.old }
     ensures party { left.new.party ≡ left.old.party }
+    ensures counted { IfOk result (λ event. IfSome event (λ e. left.new.task ≡ meaning.left_after (goes_on e.then) left.old.task)) }
     ensures machine_kept { OnErr result (machine.new ≡ machine.old) }
     ensures left_kept { OnErr result (left.new ≡ left.old) }
     ensures shorter { IfOk result (λ event. IfSome event (λ _. meaning.steps_left left.new.task < meaning.steps_left left.old.task)) }

@@ -1,9 +1,9 @@
 -- A turn leads from where a run stands to where it stands with one more event.
-use Rattle.std.proofs.Common.{◌≡◌, ◌≢◌, ℕ, zero, suc, ◌<◌, refl, sym, ◌∙◌, ap, subst, List, [], ◌∷◌, length, false, Option, Some, None, Result, Ok, Err, IfOk, IfErr, ◌⊎◌, inl, inr, slice_get, slice_set, get_or, arith}
+use Rattle.std.proofs.Common.{◌≡◌, ◌≢◌, ℕ, zero, suc, ◌<◌, ◌≤◌, refl, sym, ◌∙◌, ap, subst, List, [], ◌∷◌, length, false, Option, Some, None, Result, Ok, Err, IfOk, IfErr, ◌⊎◌, inl, inr, slice_get, slice_set, get_or, Bool, true, cond, nat_lt, arith}
 use Rattle.std.proofs.lemmas.Option.{slice_get-get_or}
 use std.Path.{fun_ext}
 use Rattle.std.specs.Option.{ForSome}
-use Rattle.std.proofs.lemmas.Bool.{lt-ltb}
+use Rattle.std.proofs.lemmas.Bool.{lt-ltb, ltb-true}
 use Rattle.std.proofs.lemmas.Bool.Decides.{eqb_tells}
 use Rattle.std.proofs.Math.ListN.{length-set}
 use Rattle.std.proofs.lemmas.List.{length-replicate}
@@ -12,6 +12,7 @@ use Rattle.steps_events.specs.declared.event.Event.{Event}
 use Rattle.steps_events.specs.declared.event.Input.{Input}
 use Rattle.steps_events.specs.declared.event.Object.{Object}
 use Rattle.steps_events.specs.declared.event.StepFault.{StepFault}
+use Rattle.steps_events.specs.declared.event.StepFault.TheVariants as faults
 use Rattle.steps_events.specs.declared.event.Act.{Act}
 use Rattle.steps_events.specs.declared.event.Then.{Then}
 use Rattle.steps_events.specs.declared.event.Word.{Word}
@@ -19,7 +20,10 @@ use Rattle.steps_events.specs.declared.hold.HoldKind.{HoldKind}
 use Rattle.steps_events.specs.WordsAt.{word_at}
 use Rattle.steps_events.specs.Arithmetic.{Arithmetic}
 use Rattle.steps_events.specs.Past.{PendingCall, call_of, call_after, hold_of, hold_after, word_after, failures_in, event}
+use Rattle.steps_events.specs.Moves as moves
 use Rattle.steps_events.specs.Moves.{InputValues, fault_at}
+use Rattle.steps_events.specs.Runs as runs
+use Rattle.steps_events.specs.Tables.{Table}
 use Rattle.steps_events.proofs.Holds.{call_of_same, call_of_other, hold_of_same, hold_of_other}
 use Rattle.sync_steps.specs.declared.steps.place.Doing.{Doing}
 use Rattle.sync_steps.specs.declared.steps.place.Party.{Party}
@@ -248,3 +252,34 @@ pub refused_in_place :
     TurnsTo (turn_at old.object found (word_at old.words) input) found after (Err fault) → HasRefused party input old fault
 refused_in_place party input found after fault old within there turned =
     record { found = found; there = slice_get-get_or old.parties party found within ∙ ap Some (sym there); is = turned.0 }
+
+-- What the machine tells of a hold.
+
+there_to_move : {T P : Type 0} (t : Table T P) (parties : ℕ) (past : List (Event T)) (party : ℕ) (input : Input T) → moves.fault_of t parties past party input ≡ None → party < parties
+there_to_move t parties past party input allowed = by_test (nat_lt party parties) (fault_at t (call_of party past) (hold_of t party past) input) refl allowed
+  where
+    by_test : (b : Bool) (fault : Option StepFault) → nat_lt party parties ≡ b → cond b fault (Some faults.NoParty) ≡ None → party < parties
+    by_test true fault is allowed = ltb-true party parties is
+    by_test false fault is allowed = absurd cc
+
+-- a party that is not there holds nothing
+absent_party : {T P : Type 0} (z : Arithmetic T) (t : Table T P) (parties p : ℕ) → (p < parties → ⊥) → (past : List (Event T)) → runs.IsPast z t parties past → hold_of t p past ≡ None
+absent_party z t parties p beyond [] run = refl
+absent_party z t parties p beyond (e ∷ past) run =
+    let below = there_to_move t parties past e.party run.0.0 run.0.1.allowed in
+    hold_of_other t e.party p e.act e.then past (λ same. beyond (rw same below)) ∙ absent_party z t parties p beyond past run.1
+
+pub held_at :
+    {T : Type 0} (z : Arithmetic T) (o : Object T) (parties : ℕ) (past : List (Event T)) (m : Configuration T) (xs : List (Party T)) (p : ℕ) (found : Party T) → StandsAt z o parties past m → xs ≡ m.parties →
+    p < length xs → found ≡ get_or xs p found → found.hold ≡ hold_of (table_of z o) p past
+held_at {T} z o parties past m xs p found at same within there =
+    let is : slice_get m.parties p ≡ Some found = subst (λ (l : List (Party T)). slice_get l p ≡ Some found) same (slice_get-get_or xs p found within ∙ ap Some (sym there)) in
+    let below : p < parties = rw (at.count) at (rw same at within) in
+    (at.each p below found is).hold_is
+
+pub unheld_at :
+    {T : Type 0} (z : Arithmetic T) (o : Object T) (parties : ℕ) (past : List (Event T)) (m : Configuration T) (xs : List (Party T)) (p : ℕ) → StandsAt z o parties past m → xs ≡ m.parties →
+    length xs ≤ p → None ≡ hold_of (table_of z o) p past
+unheld_at {T} z o parties past m xs p at same beyond =
+    let count : length xs ≡ parties = ap length same ∙ at.count in
+    sym (absent_party z (table_of z o) parties p (λ below. absurd (omega (arith, count, beyond, below))) past at.run.1)

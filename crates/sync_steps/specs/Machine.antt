@@ -1,11 +1,12 @@
 -- What contracts see of a machine, when a run stands at it, and what its calls promise.
-use Rattle.std.specs.Prelude.{◌≡◌, ℕ, ◌-◌, ◌^◌, ◌<◌, min, List, ◌∷◌, length, take, Some, slice_get, false}
+use Rattle.std.specs.Prelude.{◌≡◌, ℕ, ◌-◌, ◌^◌, ◌<◌, min, List, ◌∷◌, length, take, Option, Some, slice_get, false}
 use Rattle.std.specs.Option.{ForSome}
 use Rattle.steps_events.specs.declared.event.Event.{Event}
 use Rattle.steps_events.specs.declared.event.Input.{Input}
 use Rattle.steps_events.specs.declared.event.Object.{Object}
 use Rattle.steps_events.specs.declared.event.StepFault.{StepFault}
 use Rattle.steps_events.specs.declared.event.Word.{Word}
+use Rattle.steps_events.specs.declared.hold.HoldKind.{HoldKind}
 use Rattle.steps_events.specs.declared.words.Words.{Words}
 use Rattle.steps_events.specs.Arithmetic.{Arithmetic}
 use Rattle.steps_events.specs.Past.{call_of, hold_of, failures_in}
@@ -58,6 +59,10 @@ IsNoneWithout z m word value = ForRunAt z m (λ o parties past. has_word o word 
 -- the count is that of the run's exchanges that failed, up to 2 ^ 64 - 1
 abbrev pub TellsFailed : {T : Type 0} → Arithmetic T → Configuration T → ℕ → Type 0
 TellsFailed z m count = ForRunAt z m (λ o parties past. count ≡ min (failures_in past) (2 ^ 64 - 1))
+
+-- the hold is what the run tells that the party holds
+abbrev pub TellsHold : {T : Type 0} → Arithmetic T → Configuration T → ℕ → Option HoldKind → Type 0
+TellsHold z m party hold = ForRunAt z m (λ o parties past. hold ≡ hold_of (table_of z o) party past)
 
 -- the event is the one that the input gives after the run, and the run with it stands at the machine afterwards
 abbrev pub Steps : {T : Type 0} → Arithmetic T → Configuration T → ℕ → Input T → Event T → Configuration T → Type 0

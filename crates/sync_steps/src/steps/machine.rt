@@ -3,7 +3,7 @@ ghost use Rattle.steps_events.specs.declared.event.Input.TheVariants as inputs;
 ghost use Rattle.steps_events.specs.declared.event.Word.TheVariants as words;
 ghost use Rattle.steps_events.specs.Past.{event};
 ghost use Rattle.sync_steps.specs.Objects.{is_served, IsObject};
-ghost use Rattle.sync_steps.specs.Machine.{StandsAt, Tells, IsNoneWithout, TellsFailed, Steps, RefusesStep, KeepsHeadline};
+ghost use Rattle.sync_steps.specs.Machine.{StandsAt, Tells, IsNoneWithout, TellsFailed, TellsHold, Steps, RefusesStep, KeepsHeadline};
 ghost use Rattle.sync_steps.specs.Machine.Applies.{HasWritten, HasTurned, HasRefused};
 ghost use Rattle.sync_steps.specs.Machine.Places.{opening_at};
 ghost use Rattle.steps_events.specs.declared.event.Word.{Word as AnyWord};
@@ -17,6 +17,7 @@ use std::marker::Model;
 use steps_events::WaitAction;
 use steps_events::atomic::internal::AtomicInteger;
 use steps_events::event::{Act, Call, Event, Input, Object, StepFault, Then};
+use steps_events::hold::HoldKind;
 use steps_events::words::{Words, failed_after};
 
 /// One object and its parties, numbered from 0, each with at most one call under way and at most one hold.
@@ -104,6 +105,16 @@ impl<T: AtomicInteger, A: Allocator> Machine<T, A> {
         ensures { TellsFailed T.arithmetic self.now result }
     {
         self.failed
+    }
+
+    /// What a party holds, counted from 0; nothing where there is no such party.
+    pub fn hold(&self, party: usize) -> Option<HoldKind>
+        ensures { TellsHold T.arithmetic self.now party result }
+    {
+        match self.parties.get(party) {
+            Some(found) => found.hold,
+            None => None,
+        }
     }
 
     /// Plays one input of a party, counted from 0: the event that it gives, or why it is refused.
