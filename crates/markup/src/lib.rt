@@ -6,4 +6,6 @@
 pub mod markup;
 pub mod name;
 pub mod opening;
+#[cfg(test)]
+mod tests;
 pub mod words;

@@ -8,6 +8,7 @@ use std::alloc::{AllocError, Global};
 /// Text and elements, each of which is closed.
 #[derive(Debug, Drop)]
 pub struct Markup {
+    pub(crate) alloc: Global,
     pub(crate) bytes: String,
     ghost closed: { ∥ IsMarkup (string_bytes bytes) ∥₁ },
 }
@@ -17,6 +18,7 @@ impl Markup {
     #[tactic(auto, using(crate::proofs::Trees::markup_none))]
     pub fn new(alloc: Global) -> Markup {
         Markup {
+            alloc,
             bytes: String::new(alloc),
         }
     }
@@ -29,6 +31,12 @@ impl Markup {
     /// This text more. Where memory runs out, nothing more.
     pub fn add_words(&mut self, words: &Words) -> Result<(), AllocError> {
         self.bytes.push_str(words.as_str())
+    }
+
+    /// This text more. Where memory runs out, nothing more.
+    pub fn say(&mut self, text: &str) -> Result<(), AllocError> {
+        let words = Words::of(self.alloc, text)?;
+        self.add_words(&words)
     }
 
     /// The bytes.

@@ -11,7 +11,8 @@ use std::alloc::{AllocError, Global};
 #[derive(Debug, Drop)]
 pub struct Opening {
     alloc: Global,
-    tag: Tag,
+    /// What the element is.
+    pub tag: Tag,
     bytes: String,
     ghost open: { ∥ IsOpening tag (string_bytes bytes) ∥₁ },
 }
@@ -19,7 +20,9 @@ pub struct Opening {
 impl Opening {
     /// An element without attributes yet.
     #[tactic(auto, using(crate::proofs::Trees::opening_first))]
-    pub fn new(alloc: Global, tag: Tag) -> Result<Opening, AllocError> {
+    pub fn new(alloc: Global, tag: Tag) -> Result<Opening, AllocError>
+        ensures { IfOk result (λ opening. opening.tag ≡ tag) }
+    {
         let mut bytes = String::from_str(alloc, "<")?;
         bytes.push_str(tag_name(tag))?;
         Ok(Opening { alloc, tag, bytes })
@@ -27,7 +30,9 @@ impl Opening {
 
     /// An attribute more, with this value.
     #[tactic(auto, using(crate::proofs::Trees::opening_more))]
-    pub fn with_words(self, key: Key, value: &Words) -> Result<Opening, AllocError> {
+    pub fn with_words(self, key: Key, value: &Words) -> Result<Opening, AllocError>
+        ensures { IfOk result (λ opening. opening.tag ≡ self.tag) }
+    {
         let Opening {
             alloc,
             tag,
@@ -42,22 +47,40 @@ impl Opening {
     }
 
     /// An attribute more, with this text.
-    pub fn with(self, key: Key, value: &str) -> Result<Opening, AllocError> {
+    pub fn with(self, key: Key, value: &str) -> Result<Opening, AllocError>
+        ensures { IfOk result (λ opening. opening.tag ≡ self.tag) }
+    {
         let words = Words::of(self.alloc, value)?;
         self.with_words(key, &words)
     }
 
     /// An attribute more, with this number.
-    pub fn at(self, key: Key, value: u64) -> Result<Opening, AllocError> {
+    pub fn at(self, key: Key, value: u64) -> Result<Opening, AllocError>
+        ensures { IfOk result (λ opening. opening.tag ≡ self.tag) }
+    {
         let digits = format!(in self.alloc; "{value}")?;
         self.with(key, digits.as_str())
+    }
+
+    /// The element whole: with nothing inside, and closed.
+    pub fn empty(self) -> Result<Markup, AllocError> {
+        let nothing = Markup::new(self.alloc);
+        self.around(&nothing)
+    }
+
+    /// The element whole: with this text inside, and closed.
+    pub fn saying(self, text: &str) -> Result<Markup, AllocError> {
+        let mut inside = Markup::new(self.alloc);
+        inside.say(text)?;
+        self.around(&inside)
     }
 
     /// The element whole: with this inside, and closed.
     #[tactic(auto, using(crate::proofs::Trees::markup_of_element))]
     pub fn around(self, inside: &Markup) -> Result<Markup, AllocError> {
+        let alloc = self.alloc;
         let bytes = self.whole(inside)?;
-        Ok(Markup { bytes })
+        Ok(Markup { alloc, bytes })
     }
 
     /// The bytes of the element whole.

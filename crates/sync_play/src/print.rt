@@ -6,7 +6,8 @@ ghost use Rattle.sync_play.specs.Print.{answer_words, counts_line, act_line, the
 use std::alloc::AllocError;
 use sync_steps::steps::{Act, Answer, Event, Then, Wake};
 
-fn print_answer(out: &mut String, answer: Answer<u64>) -> Result<(), AllocError>
+/// Prints what a call answers.
+pub fn print_answer(out: &mut String, answer: Answer<u64>) -> Result<(), AllocError>
     ensures { OnOk result (string_bytes out.new ≡ string_bytes out.old ++ answer_words answer) }
 {
     match answer {

@@ -12,7 +12,7 @@ use std::io::{Read, Write};
 const CHUNK: usize = 4096;
 
 /// Reads to the end. An error of any kind ends it, also an interruption.
-fn read_all<R: Read>(alloc: Global, reader: &mut R) -> Result<Vec<u8>, RunFault>
+pub fn read_all<R: Read>(alloc: Global, reader: &mut R) -> Result<Vec<u8>, RunFault>
     ensures ok { IfOk result (λ text. HasRead (R.remaining reader.old) (R.remaining reader.new) text.items) }
     ensures err { IfErr result EndsReading }
 {
@@ -28,7 +28,7 @@ fn read_all<R: Read>(alloc: Global, reader: &mut R) -> Result<Vec<u8>, RunFault>
 }
 
 /// Writes all the bytes. An error of any kind ends it, and so does a write that takes none.
-fn write_all<W: Write>(writer: &mut W, bytes: &[u8]) -> Result<(), RunFault>
+pub fn write_all<W: Write>(writer: &mut W, bytes: &[u8]) -> Result<(), RunFault>
     ensures ok { OnOk result (Appends (W.contents writer.old) (W.contents writer.new) bytes.now) }
     ensures write { IfErr result (λ e. e ≡ RunFault.Write) }
     ensures begun { Begins (W.contents writer.old) (W.contents writer.new) bytes.now }
