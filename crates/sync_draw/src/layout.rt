@@ -452,6 +452,7 @@ impl Layout {
     pub fn of(alloc: Global, story: &Story) -> Result<Layout, AllocError> {
         let bands_left = SCHEDULE
             .saturating_add(schedule_width(story))
+            .max(text_width(&story.title) + 12)
             .saturating_add(14);
         let bands = bands_of(alloc, story, bands_left)?;
         let lanes_left = bands_right(&bands, bands_left);

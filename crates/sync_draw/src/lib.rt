@@ -16,3 +16,5 @@ mod shape;
 pub mod story;
 mod style;
 mod terms;
+#[cfg(test)]
+mod tests;
