@@ -6,7 +6,9 @@
 //! and here under its name.
 #![tactic(auto)]
 
+pub mod lazy_lock;
 pub mod once;
+pub mod spin_lock;
 pub mod strategy;
 #[cfg(test)]
 mod tests;

@@ -1,5 +1,5 @@
 -- What becomes of a pass over several tries.
-use Rattle.std.proofs.Common.{◌≡◌, ◌+◌, ◌≤◌, ℕ, ap, ◌∙◌, subst, arith}
+use Rattle.std.proofs.Common.{◌≡◌, ◌+◌, ◌≤◌, ℕ, ap, ◌∙◌, sym, subst, arith}
 use Rattle.std.specs.Borrow.{Bor}
 use Rattle.std.specs.Fn.{Shared}
 use Rattle.steps_events.specs.declared.WaitAction.{WaitAction}
@@ -8,7 +8,7 @@ use Rattle.passes.specs.declared.part.Sights.{Sights}
 use Rattle.passes.specs.declared.pass.Pass.{Pass}
 use Rattle.passes.specs.Sights.{stale, HasOnlyRead, HasWritten}
 use Rattle.passes.specs.Passes.{tally_of, sights_of, HasOnlySeen, HasMoved}
-use Rattle.passes.specs.Answers.{MayAnswerContinue, HasAsked}
+use Rattle.passes.specs.Answers.{MayAnswer, MayAnswerContinue, HasAsked}
 
 read_twice : (a b c : Sights) → HasOnlyRead a b → HasOnlyRead b c → HasOnlyRead a c
 read_twice a b c first second = record {
@@ -65,3 +65,8 @@ module _ {F W T : Type 0} (g : Shared F (Bor W × (Bor ℕ × Unit {0})) WaitAct
     some = omega arith;
     again = λ often. gone.before (omega (arith, often));
   }
+
+-- what was told one value was told one of its kind
+pub told_of_its_kind : {F W : Type 0} (g : Shared F (Bor W × (Bor ℕ × Unit {0})) WaitAction) (wait : F) (P : ℕ → Type 0) (action : WaitAction) (seen : ℕ)
+    → MayAnswer g wait (λ n. n ≡ seen) action → P seen → MayAnswer g wait P action
+told_of_its_kind g wait P action seen may has = record { word = may.word; seen = may.seen; named = subst P (sym may.named) has; says = may.says }

@@ -2,6 +2,5 @@ pub mod Parts
 pub mod Sums
 pub mod Steps
 pub mod Attempts
-pub mod AttemptsAt
 pub mod Updates
 pub mod Counters

@@ -6,7 +6,6 @@
 #![tactic(auto)]
 
 mod attempt;
-mod attempt_at;
 mod deed;
 mod part;
 mod pass;
@@ -18,8 +17,7 @@ mod view;
 mod wait;
 mod words;
 
-pub use attempt::{Attempt, ask, spin};
-pub use attempt_at::{AttemptAt, try_again};
+pub use attempt::{Attempt, try_again};
 pub use deed::Deed;
 pub use part::{Part, Sights};
 pub use pass::Pass;

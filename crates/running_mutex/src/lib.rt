@@ -10,7 +10,7 @@ ghost use Rattle.passes.specs.Objects.{count_of};
 ghost use Rattle.passes.specs.Passes.{tally_of};
 ghost use Rattle.running_mutex.specs.MutexSteps.{OneHolder};
 
-use passes::{Attempt, Deed, Pass, WaitResult, Words, ask, spin, wake};
+use passes::{Attempt, Deed, Pass, WaitResult, Words, try_again, wake};
 use std::alloc::{AllocError, Allocator, Global};
 use std::ops::Deref;
 use std::sync::Wait;
@@ -186,7 +186,7 @@ impl<A: Allocator> Mutex<A> {
         ensures exact { IsAlone pass.old → result ≡ true }
         ensures aborted { result ≡ false → MayAnswerAbort W.Fn wait.now IsLocked }
     {
-        self.exchange(pass) || spin(rt, self, pass) || ask(rt, self, pass, &self.word(), 1, wait)
+        self.exchange(pass) || try_again(rt, self, pass, &self.word(), locked(), wait)
     }
 
     /// What `unlock` does, by the pass that has the hold.
@@ -247,8 +247,12 @@ impl<A: Allocator> Attempt<Holds> for Mutex<A> {
     ghost looks_once = { λ _. Unit {0} };
 
     #[inline(always)]
-    fn attempt<R: Wait>(&self, _rt: &R, pass: &mut MutexPass) -> bool {
-        self.exchange(pass)
+    fn attempt<R: Wait>(&self, _rt: &R, pass: &mut MutexPass) -> Result<(), u64> {
+        if self.exchange(pass) {
+            Ok(())
+        } else {
+            Err(locked())
+        }
     }
 }
 

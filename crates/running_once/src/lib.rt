@@ -135,7 +135,8 @@ impl OncePass {
 }
 
 impl<A: Allocator> Once<A> {
-    ghost use Rattle.std.specs.Prelude.{true, false, ◌+◌, ◌*◌, ◌<◌, ◌≢◌, MatchBool};
+    ghost use Rattle.std.specs.Fn.{FnOnceTakesAtMut, FnOnceReturnsAtMut};
+    ghost use Rattle.std.specs.Prelude.{IfSome, IfNone, true, false, ◌+◌, ◌*◌, ◌<◌, ◌≢◌, MatchBool};
     ghost use Rattle.passes.specs.Parts.{IsWhole};
     ghost use Rattle.passes.specs.Views.{first_view};
     ghost use Rattle.passes.specs.Objects.{IsPassOf};
@@ -164,15 +165,48 @@ impl<A: Allocator> Once<A> {
         ensures kept { IsComplete pass.old → HasSeenOnce pass.old pass.new }
         ensures exact { IsWhole (part_of_once pass.old) → ended_of pass.new ≡ 1 }
     {
+        self.call_once_on(
+            rt,
+            pass,
+            &mut (),
+            |_: &mut ()|
+                requires { F.IsAlwaysCallable f }
+                ensures { F.post f tt }
+            {
+                f();
+            },
+        );
+    }
+
+    /// What `call_once` does, with a closure that is lent `on`, and what that gave if this call ran it. For a closure that has to change
+    /// what its caller lends: captured, it would be gone at the end of the call.
+    #[inline(always)]
+    pub fn call_once_on<X, Y, R: Wait, F: FnOnce(&mut X) -> Y>(
+        &self,
+        rt: &R,
+        pass: &mut OncePass,
+        on: &mut X,
+        f: F,
+    ) -> Option<Y>
+        requires own { IsOncePass self.now pass.old }
+        requires may { FnOnceTakesAtMut F.FnOnce f on.old }
+        ensures completed { HasCompleted pass.old pass.new }
+        ensures ran { IfSome result (λ given. FnOnceReturnsAtMut F.FnOnce f on.old given on.new) }
+        ensures counted { IfSome result (λ _. ended_of pass.old < ended_of pass.new) }
+        ensures let_go { IfNone result ((ended_of pass.new ≡ ended_of pass.old) × (on.new ≡ on.old)) }
+        ensures kept { IsComplete pass.old → HasSeenOnce pass.old pass.new }
+        ensures exact { IsWhole (part_of_once pass.old) → ended_of pass.new ≡ 1 }
+    {
         if self.look(&mut pass.pass) == COMPLETE {
-            return;
+            return None;
         }
         if self.begin(&mut pass.pass) {
-            f();
+            let given = f(on);
             self.end(&mut pass.pass);
-            return;
+            return Some(given);
         }
         self.stay(rt, &mut pass.pass);
+        None
     }
 
     /// Whether a closure has ended: one load.

@@ -5,7 +5,7 @@ ghost use Rattle.passes.specs.Objects.{count_of};
 ghost use Rattle.running_rwlock.specs.RwReaderSteps.{NoHoldBesideAWriteHold};
 
 use crate::hold::{ReadHold, RwHold, WriteHold};
-use passes::{AttemptAt, Deed, Pass, WaitResult, Words, try_again, wake};
+use passes::{Attempt, Deed, Pass, WaitResult, Words, try_again, wake};
 use std::alloc::{AllocError, Allocator, Global};
 use std::ops::Deref;
 use std::sync::Wait;
@@ -451,7 +451,7 @@ struct Reader<'l, A: Allocator> {
 }
 
 /// A look of `read_lock`, and its exchanges.
-impl<A: Allocator> AttemptAt<Held<()>> for Reader<'_, A> {
+impl<A: Allocator> Attempt<Held<()>> for Reader<'_, A> {
     ghost use Rattle.passes.specs.Parts.{IsWhole};
     ghost use Rattle.passes.specs.Objects.{id_of};
     ghost use Rattle.running_rwlock.specs.RwReaderShown.{IsShut, EntersToRead};
@@ -465,7 +465,7 @@ impl<A: Allocator> AttemptAt<Held<()>> for Reader<'_, A> {
     ghost looks_once = { IsWhole };
 
     #[inline(always)]
-    fn attempt_at<R: Wait>(&self, rt: &R, pass: &mut RwReaderPass) -> Result<(), u64> {
+    fn attempt<R: Wait>(&self, rt: &R, pass: &mut RwReaderPass) -> Result<(), u64> {
         self.lock.read_unless_shut(rt, pass)
     }
 }
@@ -477,7 +477,7 @@ struct Writer<'l, A: Allocator> {
 }
 
 /// An exchange of `write_lock`.
-impl<A: Allocator> AttemptAt<Held<()>> for Writer<'_, A> {
+impl<A: Allocator> Attempt<Held<()>> for Writer<'_, A> {
     ghost use Rattle.passes.specs.Objects.{id_of};
     ghost use Rattle.running_rwlock.specs.RwReaderShown.{IsTaken, EntersToWrite};
 
@@ -490,7 +490,7 @@ impl<A: Allocator> AttemptAt<Held<()>> for Writer<'_, A> {
     ghost looks_once = { λ _. Unit {0} };
 
     #[inline(always)]
-    fn attempt_at<R: Wait>(&self, _rt: &R, pass: &mut RwReaderPass) -> Result<(), u64> {
+    fn attempt<R: Wait>(&self, _rt: &R, pass: &mut RwReaderPass) -> Result<(), u64> {
         self.lock.try_to_write(pass)
     }
 }

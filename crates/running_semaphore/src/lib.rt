@@ -6,7 +6,7 @@
 ghost use Rattle.std.specs.Prelude.{◌≡◌, ◌<◌, ◌≤◌, IfOk};
 ghost use Rattle.passes.specs.Objects.{count_of};
 
-use passes::{Attempt, Deed, Pass, WaitResult, Words, ask, spin, success_if, wake};
+use passes::{Attempt, Deed, Pass, WaitResult, Words, success_if, try_again, wake};
 use std::alloc::{AllocError, Allocator, Global};
 use std::ops::Deref;
 use std::sync::Wait;
@@ -200,7 +200,7 @@ impl<A: Allocator> Semaphore<A> {
         ensures aborted { result ≡ false → MayAnswerAbort W.Fn wait.now IsEmpty }
         ensures asked { IsWhole (part_of pass.old) → result ≡ false → HasAsked W.Fn wait.now IsEmpty 10001 pass.old pass.new }
     {
-        self.take(rt, pass) || spin(rt, self, pass) || ask(rt, self, pass, &self.word(), 0, wait)
+        self.take(rt, pass) || try_again(rt, self, pass, &self.word(), 0, wait)
     }
 
     /// An exchange of the value seen for one less, and the value that it found.
@@ -270,7 +270,7 @@ impl<A: Allocator> Attempt<Permits> for Semaphore<A> {
     ghost looks_once = { IsWhole };
 
     #[inline(always)]
-    fn attempt<R: Wait>(&self, rt: &R, pass: &mut SemPass) -> bool {
-        self.take(rt, pass)
+    fn attempt<R: Wait>(&self, rt: &R, pass: &mut SemPass) -> Result<(), u64> {
+        if self.take(rt, pass) { Ok(()) } else { Err(0) }
     }
 }

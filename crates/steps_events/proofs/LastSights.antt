@@ -52,7 +52,7 @@ told_here w word memory told seen true is sees tells =
     ap memory (sym (same_words w word is)) ∙ sym tells ∙ was
 told_here w word memory told seen false is sees tells = absurd cc
 
-sight_is_told : {T : Type 0} (word : Word) (act : Act T) (memory : Word → ℕ) (seen : ℕ) → sight_of word act ≡ Some seen → IsTold act memory → memory word ≡ seen
+pub sight_is_told : {T : Type 0} (word : Word) (act : Act T) (memory : Word → ℕ) (seen : ℕ) → sight_of word act ≡ Some seen → IsTold act memory → memory word ≡ seen
 sight_is_told word (acts.Load w told) memory seen sees tells = told_here w word memory told seen (same_word w word) refl sees tells
 sight_is_told word (acts.Swap w told put) memory seen sees tells = told_here w word memory told seen (same_word w word) refl sees tells
 sight_is_told word (acts.Add w told put) memory seen sees tells = told_here w word memory told seen (same_word w word) refl sees tells

@@ -38,6 +38,7 @@ IsLocked t past = 0 < length (holds_of t past)
 
 abbrev pub is_refusal : {T : Type 0} → Then T → Bool
 is_refusal (thens.Answers answers.Interrupted) = true
+is_refusal (thens.Answers answers.InterruptedHeld) = true
 is_refusal (thens.Answers answers.Full) = true
 is_refusal other = false
 

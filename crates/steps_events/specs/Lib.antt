@@ -9,4 +9,5 @@ pub mod HoldCounts
 pub mod Moves
 pub mod Runs
 pub mod Sights
+pub mod Waits
 pub mod Laws

@@ -5,6 +5,7 @@ use Rattle.steps_events.specs.declared.WaitAction.TheVariants as actions
 use Rattle.steps_events.specs.declared.event.Word.{Word}
 use Rattle.steps_events.specs.declared.event.Act.{Act}
 use Rattle.steps_events.specs.declared.event.Act.TheVariants as acts
+use Rattle.steps_events.specs.declared.event.Answer.{Answer}
 use Rattle.steps_events.specs.declared.event.Answer.TheVariants as answers
 use Rattle.steps_events.specs.declared.event.Then.{Then}
 use Rattle.steps_events.specs.declared.event.Then.TheVariants as thens
@@ -54,6 +55,13 @@ within wrap (afters.At place) = afters.At (wrap place)
 within wrap (afters.Waits place seen) = afters.Waits (wrap place) seen
 within wrap (afters.Chooses place old) = afters.Chooses (wrap place) old
 within wrap (afters.Ends answer) = afters.Ends answer
+
+-- the same, but where this ends the larger thing goes on as its answer tells
+abbrev pub within_then : {T P Q : Type 0} → (P → Q) → (Answer T → After T Q) → After T P → After T Q
+within_then wrap next (afters.At place) = afters.At (wrap place)
+within_then wrap next (afters.Waits place seen) = afters.Waits (wrap place) seen
+within_then wrap next (afters.Chooses place old) = afters.Chooses (wrap place) old
+within_then wrap next (afters.Ends answer) = next answer
 
 -- after a call of a closure that wraps places
 abbrev pub IsWithin : {T P Q : Type 0} → (P → Q → Type 0) → After T P → After T Q → Type 0

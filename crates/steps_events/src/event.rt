@@ -147,8 +147,10 @@ pub enum Act<T> {
 pub enum Answer<T> {
     /// The hold or the permit is taken.
     Success,
-    /// It gave up: nothing is held or taken by this call.
+    /// It gave up. Nothing is held by this call, and nothing taken; but a `Wait` at a `Condvar` may have taken a permit.
     Interrupted,
+    /// A `Wait` at a `Condvar` gave up its wait for a permit, and holds the mutex again.
+    InterruptedHeld,
     /// A call without a value has ended.
     Done,
     /// The call's round of a barrier is full.

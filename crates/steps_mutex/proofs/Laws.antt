@@ -13,10 +13,12 @@ use Rattle.steps_events.specs.declared.event.Answer.TheVariants as answers
 use Rattle.steps_events.specs.declared.event.Event.{Event}
 use Rattle.steps_events.specs.declared.event.Then.TheVariants as thens
 use Rattle.steps_events.specs.declared.hold.HoldKind.{HoldKind}
+use Rattle.steps_events.specs.declared.hold.HoldKind.TheVariants as kinds
 use Rattle.steps_events.specs.declared.patience.Patience.{Patience}
 use Rattle.steps_events.specs.declared.row.After.{After}
 use Rattle.steps_events.specs.declared.row.After.TheVariants as afters
 use Rattle.steps_events.specs.Arithmetic.{Arithmetic}
+use Rattle.steps_events.specs.Tables.{Table}
 use Rattle.steps_events.specs.Rows.{carried_out, value_told, outcome_of, place_after, within}
 use Rattle.steps_events.specs.Past.{same_word, PendingCall, call_of, holds_of, hold_of, word_in, latest_outcome, event, is_failure, failures_in}
 use Rattle.steps_events.specs.Moves.{Move, step_at, hold_fault, answer_fault}
@@ -25,24 +27,15 @@ use Rattle.steps_events.specs.Sights.{is_sight, HasAborted, spins_in, stands_at_
 use Rattle.steps_events.specs.Laws.{Lacks, is_refusal}
 use Rattle.steps_events.proofs.Holds.{eqb_same}
 use Rattle.steps_events.proofs.Steps.{by_move, tells_memory}
-use Rattle.steps_events.proofs.Spins.{HasSpun, spins_left, spins_spent, answered_keep, waits_by}
 use Rattle.steps_events.proofs.Parties.{IsKept, at_place}
 use Rattle.steps_events.proofs.Locks.{IsLock, IsLockIntent, IsFreeOrHeld, lock_word, lock_exclusive, locked_at, free_exactly}
 use Rattle.steps_mutex.specs.declared.MutexPlace.{MutexPlace}
 use Rattle.steps_mutex.specs.declared.MutexPlace.TheVariants as places
 use Rattle.steps_mutex.specs.Table.{mutex_table, mutex_begins, mutex_intent, mutex_after, mutex_answered}
-use Rattle.steps_mutex.specs.Law.{MutexCause, HasTried, KeepsMutex}
+use Rattle.steps_mutex.specs.Law.{LockCause, HasTried, KeepsMutex}
+use Rattle.steps_mutex.proofs.LockSteps.{HasTriedSo, AtLock, lock_begins, LockLeads, lock_leads, lock_goes_on, lock_answered, lock_chosen}
 
 -- What is kept of a call at its place.
-
--- the own events of a `Lock`: each exchange failed, and after each it spun or stood
-pub record HasTriedSo {T : Type 0} (patience : Patience) (own : List (Event T)) : Type 0 where
-  pub so : HasSpun is_failure patience own
-  pub tried : exchanges_in own ≡ patience.spins + stands_in own
-  pub failed : failures_in own ≡ exchanges_in own
-  -- it stands and gives up only after all its spins
-  pub stands : stands_at_wait (latest_outcome own) ≡ true → patience.spins ≡ 10000
-  pub gives_up : patience.keep ≡ false → patience.spins ≡ 10000
 
 abbrev pub AtMutex : {T : Type 0} → MutexPlace → PendingCall T → Option HoldKind → Type 0
 AtMutex places.TryLock c hold = c.call ≡ calls.TryLock
@@ -52,7 +45,7 @@ AtMutex places.Wake c hold = c.call ≡ calls.Unlock
 
 -- Where a call begins.
 
-begins_at :
+pub begins_at :
     {T : Type 0} (call : Call T) (place : MutexPlace) (hold : Option HoldKind) → mutex_begins call ≡ Some place → hold_fault {T = T} mutex_table call hold ≡ None →
     AtMutex {T = T} place (record { call = call; own = [] }) hold
 begins_at {T} calls.TryLock place hold is allowed =
@@ -61,7 +54,7 @@ begins_at {T} calls.TryLock place hold is allowed =
 begins_at {T} calls.Lock place hold is allowed =
     let made : places.Lock (record { spins = 0; keep = true }) ≡ place = cc in
     subst (λ p. AtMutex {T = T} p (record { call = calls.Lock; own = [] }) hold) made
-    (refl, record { so = record { spun = refl; keeps = refl; within_limit = omega arith }; tried = refl; failed = refl; stands = λ waits. absurd cc; gives_up = λ gave. absurd cc })
+    (refl, lock_begins)
 begins_at {T} calls.Unlock place None is allowed = absurd cc
 begins_at {T} calls.Unlock place (Some kind) is allowed =
     let made : places.Release ≡ place = cc in
@@ -74,53 +67,19 @@ try_lock_ends : (T : Type 0) (b : Bool) (next : MutexPlace) → place_after {T =
 try_lock_ends T true next is = absurd cc
 try_lock_ends T false next is = absurd cc
 
--- how a `Lock` goes on, by three tests: the mutex was free, the call keeps on asking, it has spins left
-abbrev lock_after : {T : Type 0} → Patience → Bool → Bool → Bool → After T MutexPlace
-lock_after patience free keep spins =
-    cond free (afters.Ends answers.Success)
-    (within places.Lock (cond keep (cond spins (afters.At (record { spins = patience.spins + 1; keep = patience.keep })) (afters.Waits patience 1)) (afters.Ends answers.Interrupted)))
+-- a call that is at an exchange of its `Lock`
+at_lock : {T : Type 0} (place : MutexPlace) (call : Call T) (own : List (Event T)) (hold : Option HoldKind) → call ≡ calls.Lock → AtLock place own → AtMutex {T = T} place (record { call = call; own = own }) hold
+at_lock (places.Lock patience) call own hold lock at = (lock, at)
+at_lock other call own hold lock at = absurd at
 
-lock_steps :
-    {T : Type 0} (patience : Patience) (c : PendingCall T) (hold : Option HoldKind) (w number : ℕ) (next : MutexPlace) (free keep left : Bool) → c.call ≡ calls.Lock → HasTriedSo patience c.own →
-    patience.keep ≡ keep → nat_lt patience.spins 10000 ≡ left → place_after {T = T} (lock_after patience free keep left) ≡ Some next →
-    AtMutex next (record { call = c.call; own = event number (acts.Exchange words.State 0 1 w free) (outcome_of {T = T} (lock_after patience free keep left)) ∷ c.own }) hold
-lock_steps patience c hold w number next true keep left lock spun keeps spins is = absurd cc
-lock_steps patience c hold w number next false false left lock spun keeps spins is = absurd cc
-lock_steps {T} patience c hold w number next false true true lock spun keeps spins is =
-    let more : Patience = record { spins = patience.spins + 1; keep = patience.keep } in
-    let made : places.Lock more ≡ next = cc in
-    let e : Event T = event number (acts.Exchange words.State 0 1 w false) thens.GoesOn in
-    subst (λ p. AtMutex {T = T} p (record { call = c.call; own = e ∷ c.own }) hold) made (
-      lock,
-      record {
-        so = record { spun = omega (arith, spun.so.spun); keeps = spun.so.keeps; within_limit = spins_left patience.spins spins };
-        tried = omega (arith, spun.tried);
-        failed = omega (arith, spun.failed);
-        stands = λ waits. absurd cc;
-        gives_up = λ gave. let no : true ≡ false = sym keeps ∙ gave in absurd cc;
-      },
-    )
-lock_steps {T} patience c hold w number next false true false lock spun keeps spins is =
-    let made : places.Lock patience ≡ next = cc in
-    let e : Event T = event number (acts.Exchange words.State 0 1 w false) (thens.Waits 1) in
-    subst (λ p. AtMutex {T = T} p (record { call = c.call; own = e ∷ c.own }) hold) made (
-      lock,
-      record {
-        so = record { spun = omega (arith, spun.so.spun); keeps = spun.so.keeps; within_limit = spun.so.within_limit };
-        tried = omega (arith, spun.tried);
-        failed = omega (arith, spun.failed);
-        stands = λ waits. spins_spent patience.spins spun.so.within_limit spins;
-        gives_up = λ gave. let no : true ≡ false = sym keeps ∙ gave in absurd cc;
-      },
-    )
-
-steps_at :
+pub steps_at :
     {T : Type 0} (place : MutexPlace) (c : PendingCall T) (hold left : Option HoldKind) (memory : Word → ℕ) (number : ℕ) (next : MutexPlace) → AtMutex place c hold →
     place_after {T = T} (mutex_after place (value_told {T = T} (carried_out (mutex_intent words.State place) memory))) ≡ Some next →
     AtMutex next (record { call = c.call; own = event number (step_at mutex_table place hold memory).act (step_at mutex_table place hold memory).outcome ∷ c.own }) left
 steps_at {T} places.TryLock c hold left memory number next at is = absurd (try_lock_ends T (memory words.State == 0) next is)
 steps_at (places.Lock patience) c hold left memory number next at is =
-    lock_steps patience c left (memory words.State) number next (memory words.State == 0) patience.keep (nat_lt patience.spins 10000) at.0 at.1 refl refl is
+    let w = memory words.State in
+    at_lock next c.call _ left at.0 (lock_goes_on c.own number w _ (mutex_after (places.Lock patience) (Some w)) next (lock_leads words.State patience c.own number w at.1) is)
 steps_at {T} places.Release c hold left memory number next at is =
     let made : places.Wake ≡ next = cc in
     subst (λ p. AtMutex {T = T} p (record { call = c.call; own = event number (acts.Store words.State 0) thens.GoesOn ∷ c.own }) left) made at.0
@@ -128,37 +87,19 @@ steps_at places.Wake c hold left memory number next at is = absurd cc
 
 -- Where an answer leads.
 
-answers_at :
+pub answers_at :
     {T : Type 0} (place : MutexPlace) (c : PendingCall T) (hold : Option HoldKind) (action : WaitAction) (number : ℕ) → AtMutex place c hold → answer_fault (latest_outcome c.own) ≡ None →
     AtMutex {T = T} (mutex_answered place action) (record { call = c.call; own = event number (acts.Answered action) thens.GoesOn ∷ c.own }) hold
 answers_at places.TryLock c hold action number at waits = at
-answers_at (places.Lock patience) c hold action number at waits = (
-  at.0,
-  record {
-    so = record { spun = omega (arith, at.1.so.spun); keeps = answered_keep patience.keep action c.own number at.1.so.keeps; within_limit = at.1.so.within_limit };
-    tried = omega (arith, at.1.tried);
-    failed = omega (arith, at.1.failed);
-    stands = λ stands. at.1.stands (waits_by (latest_outcome c.own) waits);
-    gives_up = λ gave. at.1.stands (waits_by (latest_outcome c.own) waits);
-  },
-)
+answers_at (places.Lock patience) c hold action number at waits = (at.0, lock_answered patience c.own number action at.1 waits)
 answers_at places.Release c hold action number at waits = at
 answers_at places.Wake c hold action number at waits = at
 
-chooses_at :
+pub chooses_at :
     {T : Type 0} (place : MutexPlace) (c : PendingCall T) (hold : Option HoldKind) (choice : Option T) (number : ℕ) → AtMutex place c hold →
     AtMutex {T = T} place (record { call = c.call; own = event number (acts.Chosen choice) thens.GoesOn ∷ c.own }) hold
 chooses_at places.TryLock c hold choice number at = at
-chooses_at (places.Lock patience) c hold choice number at = (
-  at.0,
-  record {
-    so = record { spun = omega (arith, at.1.so.spun); keeps = at.1.so.keeps; within_limit = at.1.so.within_limit };
-    tried = omega (arith, at.1.tried);
-    failed = omega (arith, at.1.failed);
-    stands = λ stands. absurd cc;
-    gives_up = at.1.gives_up;
-  },
-)
+chooses_at (places.Lock patience) c hold choice number at = (at.0, lock_chosen patience c.own number choice at.1)
 chooses_at places.Release c hold choice number at = at
 chooses_at places.Wake c hold choice number at = at
 
@@ -173,94 +114,93 @@ mutex_kept =
 
 -- A mutex is a lock for one.
 
-lock_intent : {T : Type 0} (place : MutexPlace) (c : PendingCall T) (hold : Option HoldKind) → AtMutex place c hold → IsLockIntent {T = T} (mutex_table.grant c.call 0 1) hold (mutex_table.intent place hold)
-lock_intent {T} places.TryLock c hold at = (refl, refl, ap (λ (k : Call T). mutex_table.grant k 0 1) at)
-lock_intent {T} (places.Lock patience) c hold at = (refl, refl, ap (λ (k : Call T). mutex_table.grant k 0 1) at.0)
-lock_intent places.Release c hold at = (refl, at.1)
-lock_intent places.Wake c hold at = tt
+-- a step of a mutex, where its locking calls are granted the write hold
+pub lock_intent :
+    {T : Type 0} (grant : Call T → Option HoldKind) (place : MutexPlace) (c : PendingCall T) (hold : Option HoldKind) → grant calls.Lock ≡ Some kinds.Write → grant calls.TryLock ≡ Some kinds.Write → AtMutex place c hold →
+    IsLockIntent {T = T} (grant c.call) hold (mutex_intent words.State place)
+lock_intent grant places.TryLock c hold locks tries at = (refl, refl, ap grant at ∙ tries)
+lock_intent grant (places.Lock patience) c hold locks tries at = (refl, refl, ap grant at.0 ∙ locks)
+lock_intent grant places.Release c hold locks tries at = (refl, at.1)
+lock_intent grant places.Wake c hold locks tries at = tt
 
 pub mutex_is_lock : {T : Type 0} (z : Arithmetic T) (parties : ℕ) → IsLock {T = T} z mutex_table parties
 mutex_is_lock z parties =
     record {
       opens = refl;
-      steps = λ past party c place run called stage. lock_intent place c (hold_of mutex_table party past) (at_place z mutex_table parties AtMutex mutex_kept past run party c place called stage);
+      steps = λ past party c place run called stage. lock_intent (λ call. mutex_table.grant call 0 1) place c (hold_of mutex_table party past) refl refl (at_place z mutex_table parties AtMutex mutex_kept past run party c place called stage);
     }
 
 -- What one more event tells.
 
--- at every front: the word counts the holds
-abbrev IsHeld : {T : Type 0} → List (Event T) → Type 0
-IsHeld past = IsFreeOrHeld (word_in mutex_table past words.State) (holds_of mutex_table past)
-
-pub record EventLaw {T : Type 0} (party : ℕ) (past : List (Event T)) (pending : Option (PendingCall T)) (m : Move T) : Type 0 where
-  pub cause : MatchBool (is_refusal m.outcome) (MatchOption pending ⊥ (λ c. MutexCause c.call party (event party m.act m.outcome ∷ past))) (Unit {0})
+-- of a step of a mutex, alone or inside another object
+pub record EventLaw {T P : Type 0} (t : Table T P) (party : ℕ) (past : List (Event T)) (pending : Option (PendingCall T)) (m : Move T) : Type 0 where
+  pub cause : MatchBool (is_refusal m.outcome) (MatchOption pending ⊥ (λ c. LockCause t c.call party (event party m.act m.outcome ∷ past))) (Unit {0})
   pub exact :
       MatchOption pending (Unit {0})
-      (λ c. c.call ≡ calls.TryLock → is_sight words.State m.act ≡ true → ((m.outcome ≡ thens.Answers answers.Success) ↔ (holds_of mutex_table past ≡ [])))
+      (λ c. c.call ≡ calls.TryLock → is_sight words.State m.act ≡ true → ((m.outcome ≡ thens.Answers answers.Success) ↔ (holds_of t past ≡ [])))
   pub asks : MatchBool (stands_at_wait m.outcome) (MatchOption pending ⊥ (λ c. spins_in is_failure c.own ≡ 10000)) (Unit {0})
   pub tries : MatchBool (is_refusal m.outcome) (MatchOption pending ⊥ (λ c. HasTried c.call (event party m.act m.outcome ∷ c.own))) (Unit {0})
 
-another : {T : Type 0} (one other : Call T) (A : Type 0) → one ≡ other → (one ≡ calls.TryLock → ⊥) → other ≡ calls.TryLock → A
+pub another : {T : Type 0} (one other : Call T) (A : Type 0) → one ≡ other → (one ≡ calls.TryLock → ⊥) → other ≡ calls.TryLock → A
 another one other A is not_try try = absurd (not_try (is ∙ try))
 
 try_lock_law :
-    {T : Type 0} (party : ℕ) (past : List (Event T)) (c : PendingCall T) (w : ℕ) (b : Bool) → c.call ≡ calls.TryLock → (w == 0) ≡ b → IsFreeOrHeld w (holds_of mutex_table past) →
-    EventLaw party past (Some c) (record { act = acts.Exchange words.State 0 1 w b; outcome = outcome_of {T = T} {P = MutexPlace} (cond b (afters.Ends answers.Success) (afters.Ends answers.Interrupted)) })
-try_lock_law {T} party past c w true is e law =
+    {T P : Type 0} (t : Table T P) (party : ℕ) (past : List (Event T)) (c : PendingCall T) (w : ℕ) (b : Bool) → c.call ≡ calls.TryLock → (w == 0) ≡ b → IsFreeOrHeld w (holds_of t past) →
+    EventLaw t party past (Some c) (record { act = acts.Exchange words.State 0 1 w b; outcome = outcome_of {T = T} {P = MutexPlace} (cond b (afters.Ends answers.Success) (afters.Ends answers.Interrupted)) })
+try_lock_law t party past c w true is e law =
     record {
       cause = tt;
-      exact = λ try sees. (λ granted. (free_exactly w (holds_of mutex_table past) law).0 (eqb-true w 0 e), λ none. refl);
+      exact = λ try sees. (λ granted. (free_exactly w (holds_of t past) law).0 (eqb-true w 0 e), λ none. refl);
       asks = tt;
       tries = tt;
     }
-try_lock_law {T} party past c w false is e law =
+try_lock_law {T} t party past c w false is e law =
     let refuses : Event T = event party (acts.Exchange words.State 0 1 w false) (thens.Answers answers.Interrupted) in
     record {
-      cause = subst (λ (k : Call T). MutexCause k party (refuses ∷ past)) (sym is) (rw (eqb_same party) (locked_at mutex_table past w law (eqb-false w 0 e)));
-      exact = λ try sees. (λ granted. absurd cc, λ none. absurd (eqb-false w 0 e ((free_exactly w (holds_of mutex_table past) law).1 none)));
+      cause = subst (λ (k : Call T). LockCause t k party (refuses ∷ past)) (sym is) (rw (eqb_same party) (locked_at t past w law (eqb-false w 0 e)));
+      exact = λ try sees. (λ granted. absurd cc, λ none. absurd (eqb-false w 0 e ((free_exactly w (holds_of t past) law).1 none)));
       asks = tt;
       tries = subst (λ (k : Call T). HasTried k (refuses ∷ c.own)) (sym is) tt;
     }
 
 lock_law :
-    {T : Type 0} (party : ℕ) (past : List (Event T)) (c : PendingCall T) (patience : Patience) (w : ℕ) (free keep left : Bool) → call_of party past ≡ Some c → c.call ≡ calls.Lock → HasTriedSo patience c.own →
-    (w == 0) ≡ free → patience.keep ≡ keep → nat_lt patience.spins 10000 ≡ left → IsFreeOrHeld w (holds_of mutex_table past) →
-    EventLaw party past (Some c) (record { act = acts.Exchange words.State 0 1 w free; outcome = outcome_of {T = T} (lock_after patience free keep left) })
-lock_law {T} party past c patience w true keep left called is spun e keeps spins law = record { cause = tt; exact = another calls.Lock c.call _ (sym is) (λ same. absurd cc); asks = tt; tries = tt }
-lock_law {T} party past c patience w false true true called is spun e keeps spins law =
-    record { cause = tt; exact = another calls.Lock c.call _ (sym is) (λ same. absurd cc); asks = tt; tries = tt }
-lock_law {T} party past c patience w false true false called is spun e keeps spins law =
-    record { cause = tt; exact = another calls.Lock c.call _ (sym is) (λ same. absurd cc); asks = spun.so.spun ∙ spins_spent patience.spins spun.so.within_limit spins; tries = tt }
-lock_law {T} party past c patience w false false left called is spun e keeps spins law =
-    let refuses : Event T = event party (acts.Exchange words.State 0 1 w false) (thens.Answers answers.Interrupted) in
-    let aborted : HasAborted party past = rw called (spun.so.keeps ∙ keeps) in
+    {T P : Type 0} (t : Table T P) (party : ℕ) (past : List (Event T)) (c : PendingCall T) (w : ℕ) (done : Bool) (a : After T MutexPlace) → call_of party past ≡ Some c → c.call ≡ calls.Lock → IsFreeOrHeld w (holds_of t past) →
+    LockLeads c.own party w (acts.Exchange words.State 0 1 w done) a → EventLaw t party past (Some c) (record { act = acts.Exchange words.State 0 1 w done; outcome = outcome_of {T = T} a })
+lock_law t party past c w done (afters.At next) called is law leads = record { cause = tt; exact = another calls.Lock c.call _ (sym is) (λ same. absurd cc); asks = tt; tries = tt }
+lock_law t party past c w done (afters.Waits next seen) called is law leads = record { cause = tt; exact = another calls.Lock c.call _ (sym is) (λ same. absurd cc); asks = leads.2; tries = tt }
+lock_law t party past c w done (afters.Ends answers.Success) called is law leads = record { cause = tt; exact = another calls.Lock c.call _ (sym is) (λ same. absurd cc); asks = tt; tries = tt }
+lock_law {T} t party past c w done (afters.Ends answers.Interrupted) called is law leads =
+    let refuses : Event T = event party (acts.Exchange words.State 0 1 w done) (thens.Answers answers.Interrupted) in
+    let aborted : HasAborted party past = rw called leads.1 in
     record {
-      cause = subst (λ (k : Call T). MutexCause k party (refuses ∷ past)) (sym is) (rw (eqb_same party) (aborted, locked_at mutex_table past w law (eqb-false w 0 e)));
+      cause = subst (λ (k : Call T). LockCause t k party (refuses ∷ past)) (sym is) (rw (eqb_same party) (aborted, locked_at t past w law leads.0));
       exact = another calls.Lock c.call _ (sym is) (λ same. absurd cc);
       asks = tt;
-      tries = subst (λ (k : Call T). HasTried k (refuses ∷ c.own)) (sym is) (omega (arith, spun.tried, spun.gives_up keeps), omega (arith, spun.failed));
+      tries = subst (λ (k : Call T). HasTried k (refuses ∷ c.own)) (sym is) leads.2;
     }
+lock_law t party past c w done other called is law leads = absurd leads
 
-step_law :
-    {T : Type 0} (party : ℕ) (past : List (Event T)) (c : PendingCall T) (place : MutexPlace) (hold : Option HoldKind) (memory : Word → ℕ) → call_of party past ≡ Some c → AtMutex place c hold →
-    IsFreeOrHeld (memory words.State) (holds_of mutex_table past) → EventLaw party past (Some c) (step_at mutex_table place hold memory)
-step_law party past c places.TryLock hold memory called at law = try_lock_law party past c (memory words.State) (memory words.State == 0) at refl law
-step_law party past c (places.Lock patience) hold memory called at law =
-    lock_law party past c patience (memory words.State) (memory words.State == 0) patience.keep (nat_lt patience.spins 10000) called at.0 at.1 refl refl refl law
-step_law party past c places.Release hold memory called at law = record { cause = tt; exact = another calls.Unlock c.call _ (sym at.0) (λ same. absurd cc); asks = tt; tries = tt }
-step_law party past c places.Wake hold memory called at law = record { cause = tt; exact = another calls.Unlock c.call _ (sym at) (λ same. absurd cc); asks = tt; tries = tt }
+pub step_law :
+    {T P : Type 0} (t : Table T P) (party : ℕ) (past : List (Event T)) (c : PendingCall T) (place : MutexPlace) (hold : Option HoldKind) (memory : Word → ℕ) → call_of party past ≡ Some c → AtMutex place c hold →
+    IsFreeOrHeld (memory words.State) (holds_of t past) → EventLaw t party past (Some c) (step_at mutex_table place hold memory)
+step_law t party past c places.TryLock hold memory called at law = try_lock_law t party past c (memory words.State) (memory words.State == 0) at refl law
+step_law t party past c (places.Lock patience) hold memory called at law =
+    let w = memory words.State in
+    lock_law t party past c w (w == 0) (mutex_after (places.Lock patience) (Some w)) called at.0 law (lock_leads words.State patience c.own party w at.1)
+step_law t party past c places.Release hold memory called at law = record { cause = tt; exact = another calls.Unlock c.call _ (sym at.0) (λ same. absurd cc); asks = tt; tries = tt }
+step_law t party past c places.Wake hold memory called at law = record { cause = tt; exact = another calls.Unlock c.call _ (sym at) (λ same. absurd cc); asks = tt; tries = tt }
 
-silent : {T : Type 0} (party : ℕ) (past : List (Event T)) (pending : Option (PendingCall T)) (act : Act T) → is_sight words.State act ≡ false → EventLaw party past pending (record { act = act; outcome = thens.GoesOn })
-silent party past None act quiet = record { cause = tt; exact = tt; asks = tt; tries = tt }
-silent party past (Some c) act quiet = record { cause = tt; exact = λ try sees. let no : true ≡ false = sym sees ∙ quiet in absurd cc; asks = tt; tries = tt }
+silent : {T P : Type 0} (t : Table T P) (party : ℕ) (past : List (Event T)) (pending : Option (PendingCall T)) (act : Act T) → is_sight words.State act ≡ false → EventLaw t party past pending (record { act = act; outcome = thens.GoesOn })
+silent t party past None act quiet = record { cause = tt; exact = tt; asks = tt; tries = tt }
+silent t party past (Some c) act quiet = record { cause = tt; exact = λ try sees. let no : true ≡ false = sym sees ∙ quiet in absurd cc; asks = tt; tries = tt }
 
-event_law : {T : Type 0} (z : Arithmetic T) (parties : ℕ) (past : List (Event T)) (e : Event T) → IsPast z mutex_table parties (e ∷ past) → EventLaw e.party past (call_of e.party past) (record { act = e.act; outcome = e.then })
+event_law : {T : Type 0} (z : Arithmetic T) (parties : ℕ) (past : List (Event T)) (e : Event T) → IsPast z mutex_table parties (e ∷ past) → EventLaw mutex_table e.party past (call_of e.party past) (record { act = e.act; outcome = e.then })
 event_law {T} z parties past e run =
-    by_move mutex_table (call_of e.party past) (hold_of mutex_table e.party past) (word_in mutex_table past) (λ (k : Option (PendingCall T)) (m : Move T). EventLaw e.party past k m)
+    by_move mutex_table (call_of e.party past) (hold_of mutex_table e.party past) (word_in mutex_table past) (λ (k : Option (PendingCall T)) (m : Move T). EventLaw mutex_table e.party past k m)
     run.0.0 (record { act = e.act; outcome = e.then })
-    (λ call _. silent e.party past (call_of e.party past) (acts.Begun call) refl) (λ action _. silent e.party past (call_of e.party past) (acts.Answered action) refl) (λ choice _. silent e.party past (call_of e.party past) (acts.Chosen choice) refl)
+    (λ call _. silent mutex_table e.party past (call_of e.party past) (acts.Begun call) refl) (λ action _. silent mutex_table e.party past (call_of e.party past) (acts.Answered action) refl) (λ choice _. silent mutex_table e.party past (call_of e.party past) (acts.Chosen choice) refl)
     (λ c place _ called stage.
-    step_law e.party past c place (hold_of mutex_table e.party past) (word_in mutex_table past) called (at_place z mutex_table parties AtMutex mutex_kept past run.1 e.party c place called stage)
+    step_law mutex_table e.party past c place (hold_of mutex_table e.party past) (word_in mutex_table past) called (at_place z mutex_table parties AtMutex mutex_kept past run.1 e.party c place called stage)
     (lock_word z mutex_table parties (mutex_is_lock z parties) past run.1))
     run.0.1.moved
 

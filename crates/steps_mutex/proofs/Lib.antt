@@ -1,1 +1,2 @@
+pub mod LockSteps
 pub mod Laws

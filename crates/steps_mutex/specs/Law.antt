@@ -6,20 +6,29 @@ use Rattle.steps_events.specs.declared.event.Call.TheVariants as calls
 use Rattle.steps_events.specs.declared.event.Answer.TheVariants as answers
 use Rattle.steps_events.specs.declared.event.Then.TheVariants as thens
 use Rattle.steps_events.specs.declared.event.Event.{Event}
+use Rattle.steps_events.specs.Tables.{Table}
 use Rattle.steps_events.specs.Past.{call_of, holds_of, is_failure, failures_in}
 use Rattle.steps_events.specs.Sights.{is_sight, AtLastSight, HasAborted, AsksAfterSpinning, stands_in, exchanges_in}
 use Rattle.steps_events.specs.Laws.{TellsMemory, IsExclusive, IsLocked, is_refusal, HasCause}
 use Rattle.steps_mutex.specs.Table.{mutex_table}
 
 -- `TryLock`: a hold stood at its last sight. `Lock`: its own closure had answered Abort before its last sight, and a hold stood at it.
-abbrev pub MutexCause : {T : Type 0} → Call T → ℕ → List (Event T) → Type 0
-MutexCause calls.TryLock party events = AtLastSight words.State (IsLocked mutex_table) party events
-MutexCause calls.Lock party events = AtLastSight words.State (λ before. HasAborted party before × IsLocked mutex_table before) party events
-MutexCause other party events = ⊥
+-- So it is of the mutex inside another object too.
+abbrev pub LockCause : {T P : Type 0} → Table T P → Call T → ℕ → List (Event T) → Type 0
+LockCause t calls.TryLock party events = AtLastSight words.State (IsLocked t) party events
+LockCause t calls.Lock party events = AtLastSight words.State (λ before. HasAborted party before × IsLocked t before) party events
+LockCause t other party events = ⊥
 
--- a `Lock` that gives up has made 10001 exchanges and one more for each time that it stood, and all have failed
+abbrev pub MutexCause : {T : Type 0} → Call T → ℕ → List (Event T) → Type 0
+MutexCause call party events = LockCause mutex_table call party events
+
+-- 10001 exchanges and one more for each time that the call stood, and all have failed
+abbrev pub HasTriedAll : {T : Type 0} → List (Event T) → Type 0
+HasTriedAll own = (exchanges_in own ≡ 10001 + stands_in own) × (failures_in own ≡ exchanges_in own)
+
+-- so many has a `Lock` made that gives up
 abbrev pub HasTried : {T : Type 0} → Call T → List (Event T) → Type 0
-HasTried calls.Lock own = (exchanges_in own ≡ 10001 + stands_in own) × (failures_in own ≡ exchanges_in own)
+HasTried calls.Lock own = HasTriedAll own
 HasTried other own = Unit {0}
 
 abbrev pub GivesUpAfterTrying : {T : Type 0} → List (Event T) → Type 0
@@ -27,16 +36,16 @@ GivesUpAfterTrying [] = Unit {0}
 GivesUpAfterTrying (e ∷ past) = MatchBool (is_refusal e.then) (MatchOption (call_of e.party past) ⊥ (λ c. HasTried c.call (e ∷ c.own))) (Unit {0})
 
 -- Exact: the event in which a `TryLock` sees the word grants the mutex exactly where there was no hold before it.
-abbrev pub IsExactGrant : {T : Type 0} → List (Event T) → Type 0
-IsExactGrant [] = Unit {0}
-IsExactGrant (e ∷ past) =
+abbrev pub IsExactGrant : {T P : Type 0} → Table T P → List (Event T) → Type 0
+IsExactGrant t [] = Unit {0}
+IsExactGrant t (e ∷ past) =
     MatchOption (call_of e.party past) (Unit {0})
-    (λ c. c.call ≡ calls.TryLock → is_sight words.State e.act ≡ true → ((e.then ≡ thens.Answers answers.Success) ↔ (holds_of mutex_table past ≡ [])))
+    (λ c. c.call ≡ calls.TryLock → is_sight words.State e.act ≡ true → ((e.then ≡ thens.Answers answers.Success) ↔ (holds_of t past ≡ [])))
 
 -- What a mutex keeps beside what every object does.
 pub record MutexLaw {T : Type 0} (past : List (Event T)) : Type 0 where
   -- `TryLock` is granted exactly where nobody holds the mutex
-  pub exact : IsExactGrant past
+  pub exact : IsExactGrant mutex_table past
   -- a wait closure is asked after 10000 spins, which are exchanges that failed
   pub asks : AsksAfterSpinning is_failure past
   -- and each `Lock` that gives up has tried so often

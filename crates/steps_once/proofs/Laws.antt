@@ -1,5 +1,5 @@
 -- A once keeps its law at every front of every run.
-use Rattle.std.proofs.Common.{◌≡◌, ◌≢◌, ℕ, ◌+◌, ◌≤◌, ◌==◌, refl, sym, ◌∙◌, ap, subst, Bool, true, false, cond, List, [], ◌∷◌, Option, Some, None, ◌⊎◌, inl, inr, ◌↔◌, arith}
+use Rattle.std.proofs.Common.{◌≡◌, ℕ, ◌≤◌, ◌==◌, refl, sym, ◌∙◌, ap, subst, Bool, true, false, cond, List, [], ◌∷◌, Option, Some, None, arith}
 use Rattle.std.specs.Prelude.{IfSome, MatchBool, MatchOption, not}
 use Rattle.std.proofs.lemmas.Bool.{eqb-true, eq-eqb}
 use Rattle.steps_events.specs.declared.WaitAction.{WaitAction}
@@ -23,30 +23,27 @@ use Rattle.steps_events.specs.Past.{same_word, PendingCall, call_of, hold_of, wo
 use Rattle.steps_events.specs.Moves.{Move, step_at, is_step}
 use Rattle.steps_events.specs.Runs.{IsPast}
 use Rattle.steps_events.specs.Sights.{AtLast, last_of}
+use Rattle.steps_events.specs.Waits.{stands, is_wake}
 use Rattle.steps_events.specs.Laws.{Lacks, is_refusal}
 use Rattle.steps_events.proofs.Holds.{some_same, no_holds}
 use Rattle.steps_events.proofs.Steps.{by_move, carried_is_step, tells_memory}
 use Rattle.steps_events.proofs.Parties.{IsKept, at_place}
-use Rattle.steps_events.proofs.Own.{IsCallAfter, call_was, own_among, IsToldOf, own_at_last, at_last_maps}
+use Rattle.steps_events.proofs.Own.{own_among}
 use Rattle.steps_once.specs.declared.OncePlace.{OncePlace}
 use Rattle.steps_once.specs.declared.OncePlace.TheVariants as places
 use Rattle.steps_once.specs.Table.{once_table, once_begins, once_intent, found_after, once_after}
-use Rattle.steps_once.specs.Law.{OnceCause, is_begin, is_end, begins_in, ends_in, IsNextStep, RunsToItsEnd, IsAnswerOf, answer_of, tells_end, flag_of, IsLeftAt, load_of, is_done, stands, is_wake, TellsState, KeepsOnce}
+use Rattle.steps_once.specs.Closures.{is_begin, is_end, is_load, begins_in, ends_in}
+use Rattle.steps_once.specs.Law.{OnceCause, IsNextStep, RunsToItsEnd, IsAnswerOf, answer_of, tells_end, flag_of, IsLeftAt, load_of, is_done, KeepsOnce}
+use Rattle.steps_once.proofs.Closures.{is_running, has_missed, missed_since, IsClosureIntent, RunsOneClosure, IsState, at_most_one, complete_ended, closure_front, stays_complete, tells_state, own_began}
 
 -- What is kept of a call at its place.
 
--- the call's closure runs: it has begun, and not ended since
-abbrev pub is_running : {T : Type 0} → List (Event T) → Bool
-is_running [] = false
-is_running (e ∷ own) = cond (is_begin e.act) true (cond (is_end e.act) false (is_running own))
-
--- the call's own exchange began the closure
-abbrev pub HasBegun : {T : Type 0} → List (Event T) → Type 0
-HasBegun own = (found : ℕ) × (last_of is_begin own ≡ Some (acts.Exchange words.State 0 1 found true))
-
 abbrev pub AtOnce : {T : Type 0} → OncePlace → PendingCall T → Option HoldKind → Type 0
-AtOnce places.Run c hold = HasBegun c.own × (is_running c.own ≡ true)
+AtOnce places.Run c hold = is_running c.own ≡ true
 AtOnce places.Complete c hold = 1 ≤ ends_in c.own
+AtOnce places.IsCompleted c hold = last_of is_step c.own ≡ None
+AtOnce places.Look c hold = last_of is_step c.own ≡ None
+AtOnce places.Stay c hold = has_missed c.own ≡ true
 AtOnce place c hold = Unit {0}
 
 -- Where a call begins.
@@ -54,16 +51,16 @@ AtOnce place c hold = Unit {0}
 begins_at : {T : Type 0} (call : Call T) (place : OncePlace) (hold : Option HoldKind) → once_begins call ≡ Some place → AtOnce {T = T} place (record { call = call; own = [] }) hold
 begins_at {T} calls.IsCompleted place hold is =
     let made : places.IsCompleted ≡ place = cc in
-    subst (λ p. AtOnce {T = T} p (record { call = calls.IsCompleted; own = [] }) hold) made tt
+    subst (λ p. AtOnce {T = T} p (record { call = calls.IsCompleted; own = [] }) hold) made refl
 begins_at {T} calls.CallOnce place hold is =
     let made : places.Look ≡ place = cc in
-    subst (λ p. AtOnce {T = T} p (record { call = calls.CallOnce; own = [] }) hold) made tt
+    subst (λ p. AtOnce {T = T} p (record { call = calls.CallOnce; own = [] }) hold) made refl
 begins_at other place hold is = absurd cc
 
 -- Where a step leads.
 
 -- how a call goes on after a look, by whether it saw 2
-abbrev seen_after : {T : Type 0} → OncePlace → Bool → After T OncePlace
+abbrev pub seen_after : {T : Type 0} → OncePlace → Bool → After T OncePlace
 seen_after on complete = cond complete (afters.Ends answers.Done) (afters.At on)
 
 look_steps : {T : Type 0} (c : PendingCall T) (hold : Option HoldKind) (e : Event T) (next : OncePlace) (complete : Bool) → place_after {T = T} (seen_after places.Begin complete) ≡ Some next → AtOnce next (record { call = c.call; own = e ∷ c.own }) hold
@@ -72,14 +69,15 @@ look_steps {T} c hold e next false is =
     let made : places.Begin ≡ next = cc in
     subst (λ p. AtOnce {T = T} p (record { call = c.call; own = e ∷ c.own }) hold) made tt
 
-stay_steps : {T : Type 0} (c : PendingCall T) (hold : Option HoldKind) (e : Event T) (next : OncePlace) (complete : Bool) → place_after {T = T} (seen_after places.Stay complete) ≡ Some next → AtOnce next (record { call = c.call; own = e ∷ c.own }) hold
-stay_steps c hold e next true is = absurd cc
-stay_steps {T} c hold e next false is =
+stay_steps :
+    {T : Type 0} (c : PendingCall T) (hold : Option HoldKind) (e : Event T) (next : OncePlace) (complete : Bool) → AtOnce places.Stay (record { call = c.call; own = e ∷ c.own }) hold → place_after {T = T} (seen_after places.Stay complete) ≡ Some next → AtOnce next (record { call = c.call; own = e ∷ c.own }) hold
+stay_steps c hold e next true at is = absurd cc
+stay_steps {T} c hold e next false at is =
     let made : places.Stay ≡ next = cc in
-    subst (λ p. AtOnce {T = T} p (record { call = c.call; own = e ∷ c.own }) hold) made tt
+    subst (λ p. AtOnce {T = T} p (record { call = c.call; own = e ∷ c.own }) hold) made at
 
 -- and after its exchange, by whether it was done
-abbrev begin_after : {T : Type 0} → Bool → After T OncePlace
+abbrev pub begin_after : {T : Type 0} → Bool → After T OncePlace
 begin_after done = cond done (afters.At places.Run) (afters.At places.Stay)
 
 begin_steps :
@@ -87,10 +85,10 @@ begin_steps :
     AtOnce next (record { call = c.call; own = event number (acts.Exchange words.State 0 1 w done) outcome ∷ c.own }) hold
 begin_steps {T} c hold w number outcome next true is =
     let made : places.Run ≡ next = cc in
-    subst (λ p. AtOnce {T = T} p (record { call = c.call; own = event number (acts.Exchange words.State 0 1 w true) outcome ∷ c.own }) hold) made ((w, refl), refl)
+    subst (λ p. AtOnce {T = T} p (record { call = c.call; own = event number (acts.Exchange words.State 0 1 w true) outcome ∷ c.own }) hold) made refl
 begin_steps {T} c hold w number outcome next false is =
     let made : places.Stay ≡ next = cc in
-    subst (λ p. AtOnce {T = T} p (record { call = c.call; own = event number (acts.Exchange words.State 0 1 w false) outcome ∷ c.own }) hold) made tt
+    subst (λ p. AtOnce {T = T} p (record { call = c.call; own = event number (acts.Exchange words.State 0 1 w false) outcome ∷ c.own }) hold) made refl
 
 steps_at :
     {T : Type 0} (place : OncePlace) (c : PendingCall T) (hold left : Option HoldKind) (memory : Word → ℕ) (number : ℕ) (next : OncePlace) → AtOnce place c hold →
@@ -103,29 +101,29 @@ steps_at {T} places.Run c hold left memory number next at is =
     let made : places.Complete ≡ next = cc in
     subst (λ p. AtOnce {T = T} p (record { call = c.call; own = event number acts.Ended thens.GoesOn ∷ c.own }) left) made (omega arith)
 steps_at places.Complete c hold left memory number next at is = absurd cc
-steps_at places.Stay c hold left memory number next at is = stay_steps c left _ next (memory words.State == 2) is
+steps_at places.Stay c hold left memory number next at is = stay_steps c left _ next (memory words.State == 2) at is
 
 -- Where an answer leads: no call of a once stands.
 
 answers_at :
     {T : Type 0} (place : OncePlace) (c : PendingCall T) (hold : Option HoldKind) (action : WaitAction) (number : ℕ) → AtOnce place c hold →
     AtOnce {T = T} place (record { call = c.call; own = event number (acts.Answered action) thens.GoesOn ∷ c.own }) hold
-answers_at places.IsCompleted c hold action number at = tt
-answers_at places.Look c hold action number at = tt
+answers_at places.IsCompleted c hold action number at = at
+answers_at places.Look c hold action number at = at
 answers_at places.Begin c hold action number at = tt
 answers_at places.Run c hold action number at = at
 answers_at places.Complete c hold action number at = omega (arith, at)
-answers_at places.Stay c hold action number at = tt
+answers_at places.Stay c hold action number at = at
 
 chooses_at :
     {T : Type 0} (place : OncePlace) (c : PendingCall T) (hold : Option HoldKind) (choice : Option T) (number : ℕ) → AtOnce place c hold →
     AtOnce {T = T} place (record { call = c.call; own = event number (acts.Chosen choice) thens.GoesOn ∷ c.own }) hold
-chooses_at places.IsCompleted c hold choice number at = tt
-chooses_at places.Look c hold choice number at = tt
+chooses_at places.IsCompleted c hold choice number at = at
+chooses_at places.Look c hold choice number at = at
 chooses_at places.Begin c hold choice number at = tt
 chooses_at places.Run c hold choice number at = at
 chooses_at places.Complete c hold choice number at = omega (arith, at)
-chooses_at places.Stay c hold choice number at = tt
+chooses_at places.Stay c hold choice number at = at
 
 pub once_kept : {T : Type 0} → IsKept {T = T} once_table AtOnce
 once_kept =
@@ -247,184 +245,29 @@ runs_to_its_end {T} z parties (e ∷ past) run =
     move_runs c place (hold_of once_table e.party past) (word_in once_table past) (at_place z once_table parties IsWhereLed led_kept past run.1 e.party c place called stage))
     run.0.1.moved
 
--- What a step does: nothing to the word and the closure; it begins the closure, where the word is 0; it ends its own, which runs; or it puts 2, where its own has ended.
+-- A once runs one closure.
 
-abbrev Effect : {T : Type 0} → Option (PendingCall T) → ℕ → ℕ → Bool → Bool → Type 0
-Effect pending w word begins ends =
-    ((word ≡ w) × (begins ≡ false) × (ends ≡ false))
-    ⊎ (((w ≡ 0) × (word ≡ 1) × (begins ≡ true) × (ends ≡ false))
-    ⊎ (((word ≡ w) × (begins ≡ false) × (ends ≡ true) × MatchOption pending ⊥ (λ c. is_running c.own ≡ true))
-    ⊎ ((word ≡ 2) × (begins ≡ false) × (ends ≡ false) × MatchOption pending ⊥ (λ c. 1 ≤ ends_in c.own))))
+pub closure_intent : {T : Type 0} (place : OncePlace) (c : PendingCall T) (hold : Option HoldKind) → AtOnce place c hold → IsClosureIntent {T = T} c.own (once_intent words.State place)
+closure_intent places.IsCompleted c hold at = tt
+closure_intent places.Look c hold at = tt
+closure_intent places.Begin c hold at = (refl, refl)
+closure_intent places.Run c hold at = at
+closure_intent places.Complete c hold at = (refl, at)
+closure_intent places.Stay c hold at = tt
 
-abbrev EffectOf : {T : Type 0} → Option (PendingCall T) → ℕ → Act T → Type 0
-EffectOf pending w act = Effect pending w (word_after words.State act w) (is_begin act) (is_end act)
-
-begin_effect : {T : Type 0} (c : PendingCall T) (w : ℕ) (done : Bool) → (w == 0) ≡ done → EffectOf (Some c) w (acts.Exchange words.State 0 1 w done)
-begin_effect c w true is = inr (inl (eqb-true w 0 is, refl, refl, refl))
-begin_effect c w false is = inl (refl, refl, refl)
-
-step_effect : {T : Type 0} (c : PendingCall T) (place : OncePlace) (hold : Option HoldKind) (memory : Word → ℕ) → AtOnce place c hold → EffectOf (Some c) (memory words.State) (step_at once_table place hold memory).act
-step_effect c places.IsCompleted hold memory at = inl (refl, refl, refl)
-step_effect c places.Look hold memory at = inl (refl, refl, refl)
-step_effect c places.Begin hold memory at = begin_effect c (memory words.State) (memory words.State == 0) refl
-step_effect c places.Run hold memory at = inr (inr (inl (refl, refl, refl, at.1)))
-step_effect c places.Complete hold memory at = inr (inr (inr (refl, refl, refl, at)))
-step_effect c places.Stay hold memory at = inl (refl, refl, refl)
-
-event_effect : {T : Type 0} (z : Arithmetic T) (parties : ℕ) (past : List (Event T)) (e : Event T) → IsPast z once_table parties (e ∷ past) → EffectOf (call_of e.party past) (word_in once_table past words.State) e.act
-event_effect {T} z parties past e run =
-    by_move once_table (call_of e.party past) (hold_of once_table e.party past) (word_in once_table past)
-    (λ (k : Option (PendingCall T)) (m : Move T). EffectOf k (word_in once_table past words.State) m.act)
-    run.0.0 (record { act = e.act; outcome = e.then })
-    (λ call _. inl (refl, refl, refl)) (λ action _. inl (refl, refl, refl)) (λ choice _. inl (refl, refl, refl))
-    (λ c place _ called stage.
-    step_effect c place (hold_of once_table e.party past) (word_in once_table past) (at_place z once_table parties AtOnce once_kept past run.1 e.party c place called stage))
-    run.0.1.moved
-
--- a word that is 2 is left so
-stays_complete : {T : Type 0} (z : Arithmetic T) (parties : ℕ) (past : List (Event T)) (e : Event T) → IsPast z once_table parties (e ∷ past) → word_in once_table past words.State ≡ 2 → word_in once_table (e ∷ past) words.State ≡ 2
-stays_complete {T} z parties past e run complete = by_effect (call_of e.party past) (event_effect z parties past e run)
-  where
-    by_effect : (pending : Option (PendingCall T)) → EffectOf pending (word_in once_table past words.State) e.act → word_in once_table (e ∷ past) words.State ≡ 2
-    by_effect pending (inl quiet) = quiet.0 ∙ complete
-    by_effect pending (inr (inl first)) = absurd (omega (arith, first.0, complete))
-    by_effect pending (inr (inr (inl last))) = last.0 ∙ complete
-    by_effect pending (inr (inr (inr puts))) = puts.0
-
--- At every front.
-
--- the party whose exchange began the closure
-abbrev pub runner_of : {T : Type 0} → List (Event T) → Option ℕ
-runner_of [] = None
-runner_of (e ∷ past) = cond (is_begin e.act) (Some e.party) (runner_of past)
-
--- no closure has begun; one has; or it has ended, and the word says so
-abbrev pub IsState : ℕ → ℕ → ℕ → Type 0
-IsState w begins ends = ((w ≡ 0) × (begins ≡ 0) × (ends ≡ 0)) ⊎ (((w ≡ 1) × (begins ≡ 1) × (ends ≤ 1)) ⊎ ((w ≡ 2) × (begins ≡ 1) × (ends ≡ 1)))
-
--- a party whose closure runs is the one that began, and nothing has ended
-abbrev pub RunsAlone : {T : Type 0} → List (Event T) → Type 0
-RunsAlone {T} past = (party : ℕ) (c : PendingCall T) → call_of party past ≡ Some c → is_running c.own ≡ true → (ends_in past ≡ 0) × (1 ≤ begins_in past) × (runner_of past ≡ Some party)
-
-state_after :
-    (w begins ends word : ℕ) (begun ended : Bool) → IsState w begins ends →
-    ((word ≡ w) × (begun ≡ false) × (ended ≡ false))
-    ⊎ (((w ≡ 0) × (word ≡ 1) × (begun ≡ true) × (ended ≡ false))
-    ⊎ (((word ≡ w) × (begun ≡ false) × (ended ≡ true) × (ends ≡ 0) × (1 ≤ begins))
-    ⊎ ((word ≡ 2) × (begun ≡ false) × (ended ≡ false) × (1 ≤ ends)))) →
-    IsState word (cond begun 1 0 + begins) (cond ended 1 0 + ends)
-state_after w begins ends word begun ended (inl empty) (inl quiet) = rw (quiet.1, quiet.2) (inl (omega (arith, quiet.0, empty.0), omega (arith, empty.1), omega (arith, empty.2)))
-state_after w begins ends word begun ended (inr (inl runs)) (inl quiet) = rw (quiet.1, quiet.2) (inr (inl (omega (arith, quiet.0, runs.0), omega (arith, runs.1), omega (arith, runs.2))))
-state_after w begins ends word begun ended (inr (inr done)) (inl quiet) = rw (quiet.1, quiet.2) (inr (inr (omega (arith, quiet.0, done.0), omega (arith, done.1), omega (arith, done.2))))
-state_after w begins ends word begun ended (inl empty) (inr (inl first)) = rw (first.2, first.3) (inr (inl (first.1, omega (arith, empty.1), omega (arith, empty.2))))
-state_after w begins ends word begun ended (inr (inl runs)) (inr (inl first)) = absurd (omega (arith, runs.0, first.0))
-state_after w begins ends word begun ended (inr (inr done)) (inr (inl first)) = absurd (omega (arith, done.0, first.0))
-state_after w begins ends word begun ended (inl empty) (inr (inr (inl last))) = absurd (omega (arith, empty.1, last.4))
-state_after w begins ends word begun ended (inr (inl runs)) (inr (inr (inl last))) = rw (last.1, last.2) (inr (inl (omega (arith, last.0, runs.0), omega (arith, runs.1), omega (arith, last.3))))
-state_after w begins ends word begun ended (inr (inr done)) (inr (inr (inl last))) = absurd (omega (arith, done.2, last.3))
-state_after w begins ends word begun ended (inl empty) (inr (inr (inr puts))) = absurd (omega (arith, empty.2, puts.3))
-state_after w begins ends word begun ended (inr (inl runs)) (inr (inr (inr puts))) = rw (puts.1, puts.2) (inr (inr (puts.0, omega (arith, runs.1), omega (arith, runs.2, puts.3))))
-state_after w begins ends word begun ended (inr (inr done)) (inr (inr (inr puts))) = rw (puts.1, puts.2) (inr (inr (puts.0, omega (arith, done.1), omega (arith, done.2))))
-
--- what the effect of an event is on the numbers, where the closure that ends runs alone
-numbered :
-    {T : Type 0} (past : List (Event T)) (party w word : ℕ) (begun ended : Bool) → RunsAlone past → (pending : Option (PendingCall T)) → call_of party past ≡ pending → Effect pending w word begun ended →
-    ((word ≡ w) × (begun ≡ false) × (ended ≡ false))
-    ⊎ (((w ≡ 0) × (word ≡ 1) × (begun ≡ true) × (ended ≡ false))
-    ⊎ (((word ≡ w) × (begun ≡ false) × (ended ≡ true) × (ends_in past ≡ 0) × (1 ≤ begins_in past))
-    ⊎ ((word ≡ 2) × (begun ≡ false) × (ended ≡ false) × (1 ≤ ends_in past))))
-numbered past party w word begun ended alone pending called (inl quiet) = inl quiet
-numbered past party w word begun ended alone pending called (inr (inl first)) = inr (inl first)
-numbered past party w word begun ended alone None called (inr (inr (inl last))) = absurd last.3
-numbered past party w word begun ended alone (Some c) called (inr (inr (inl last))) =
-    let own = alone party c called last.3 in
-    inr (inr (inl (last.0, last.1, last.2, own.0, own.1)))
-numbered past party w word begun ended alone None called (inr (inr (inr puts))) = absurd puts.3
-numbered past party w word begun ended alone (Some c) called (inr (inr (inr puts))) = inr (inr (inr (puts.0, puts.1, puts.2, omega (arith, puts.3, own_among is_end past party c called))))
-
--- another party's event leaves a closure that runs alone
-still_alone :
-    {T : Type 0} (past : List (Event T)) (e : Event T) (party w word : ℕ) → IsState w (begins_in past) (ends_in past) → RunsAlone past → e.party ≢ party → (c : PendingCall T) → call_of party past ≡ Some c → is_running c.own ≡ true →
-    (pending : Option (PendingCall T)) → call_of e.party past ≡ pending → Effect pending w word (is_begin e.act) (is_end e.act) → (ends_in (e ∷ past) ≡ 0) × (1 ≤ begins_in (e ∷ past)) × (runner_of (e ∷ past) ≡ Some party)
-still_alone past e party w word state alone other c called runs pending has (inl quiet) = let own = alone party c called runs in rw (quiet.1, quiet.2) (omega (arith, own.0), omega (arith, own.1), own.2)
-still_alone past e party w word (inl empty) alone other c called runs pending has (inr (inl first)) = absurd (omega (arith, empty.1, (alone party c called runs).1))
-still_alone past e party w word (inr (inl running)) alone other c called runs pending has (inr (inl first)) = absurd (omega (arith, running.0, first.0))
-still_alone past e party w word (inr (inr done)) alone other c called runs pending has (inr (inl first)) = absurd (omega (arith, done.0, first.0))
-still_alone past e party w word state alone other c called runs None has (inr (inr (inl last))) = absurd last.3
-still_alone past e party w word state alone other c called runs (Some k) has (inr (inr (inl last))) =
-    let one : runner_of past ≡ Some party = (alone party c called runs).2 in
-    let two : runner_of past ≡ Some e.party = (alone e.party k has last.3).2 in
-    absurd (other (some_same e.party party (sym two ∙ one)))
-still_alone past e party w word state alone other c called runs pending has (inr (inr (inr puts))) = let own = alone party c called runs in rw (puts.1, puts.2) (omega (arith, own.0), omega (arith, own.1), own.2)
-
--- and so does the party's own, where its closure goes on or has just begun
-own_alone :
-    {T : Type 0} (past : List (Event T)) (e : Event T) (party w word : ℕ) → IsState w (begins_in past) (ends_in past) → RunsAlone past → e.party ≡ party → (before : PendingCall T) → call_of party past ≡ Some before →
-    cond (is_begin e.act) true (cond (is_end e.act) false (is_running before.own)) ≡ true →
-    (pending : Option (PendingCall T)) → Effect pending w word (is_begin e.act) (is_end e.act) → (ends_in (e ∷ past) ≡ 0) × (1 ≤ begins_in (e ∷ past)) × (runner_of (e ∷ past) ≡ Some party)
-own_alone past e party w word state alone mine before called runs pending (inl quiet) =
-    let own = alone party before called (rw (quiet.1, quiet.2) at runs) in
-    rw (quiet.1, quiet.2) (omega (arith, own.0), omega (arith, own.1), own.2)
-own_alone past e party w word (inl empty) alone mine before called runs pending (inr (inl first)) = rw (first.2, first.3) (omega (arith, empty.2), omega arith, ap (λ p. Some p) mine)
-own_alone past e party w word (inr (inl running)) alone mine before called runs pending (inr (inl first)) = absurd (omega (arith, running.0, first.0))
-own_alone past e party w word (inr (inr done)) alone mine before called runs pending (inr (inl first)) = absurd (omega (arith, done.0, first.0))
-own_alone past e party w word state alone mine before called runs pending (inr (inr (inl last))) = let no : false ≡ true = rw (last.1, last.2) at runs in absurd cc
-own_alone past e party w word state alone mine before called runs pending (inr (inr (inr puts))) =
-    let own = alone party before called (rw (puts.1, puts.2) at runs) in
-    rw (puts.1, puts.2) (omega (arith, own.0), omega (arith, own.1), own.2)
-
-pub record IsOnce {T : Type 0} (past : List (Event T)) : Type 0 where
-  pub state : IsState (word_in once_table past words.State) (begins_in past) (ends_in past)
-  pub alone : RunsAlone past
-
-pub once_front : {T : Type 0} (z : Arithmetic T) (parties : ℕ) (past : List (Event T)) → IsPast z once_table parties past → IsOnce past
-once_front z parties [] run = record { state = inl (refl, refl, refl); alone = λ party c called runs. absurd cc }
-once_front {T} z parties (e ∷ past) run = one_more (once_front z parties past run.1)
-  where
-    effect : EffectOf (call_of e.party past) (word_in once_table past words.State) e.act
-    effect = event_effect z parties past e run
-
-    one_more : IsOnce past → IsOnce (e ∷ past)
-    one_more before =
-        record {
-          state = state_after _ _ _ _ (is_begin e.act) (is_end e.act) before.state (numbered past e.party _ _ (is_begin e.act) (is_end e.act) before.alone (call_of e.party past) refl effect);
-          alone = λ party c called runs. by_call before party c runs (call_was past e party c called);
-        }
-      where
-        by_call : IsOnce past → (party : ℕ) (c : PendingCall T) → is_running c.own ≡ true → IsCallAfter past e party c → (ends_in (e ∷ past) ≡ 0) × (1 ≤ begins_in (e ∷ past)) × (runner_of (e ∷ past) ≡ Some party)
-        by_call front party c runs (inl other) = still_alone past e party _ _ front.state front.alone other.0 c other.1 runs (call_of e.party past) refl effect
-        by_call front party c runs (inr (inl begun)) = let no : is_running {T = T} [] ≡ true = subst (λ (own : List (Event T)). is_running own ≡ true) begun.1 runs in absurd cc
-        by_call front party c runs (inr (inr on)) =
-            own_alone past e party _ _ front.state front.alone on.0 on.1.0 on.1.1 (subst (λ (own : List (Event T)). is_running own ≡ true) on.1.2 runs) (call_of e.party past) effect
+runs_one : {T : Type 0} (z : Arithmetic T) (parties : ℕ) → RunsOneClosure {T = T} z once_table parties
+runs_one z parties =
+    record {
+      opens = refl;
+      steps = λ past party c place run called stage. closure_intent place c (hold_of once_table party past) (at_place z once_table parties AtOnce once_kept past run party c place called stage);
+    }
 
 -- What one more event tells.
-
-at_most_one : (w begins ends : ℕ) → IsState w begins ends → (begins ≤ 1) × (ends ≤ 1) × (ends ≤ begins)
-at_most_one w begins ends (inl empty) = (omega (arith, empty.1), omega (arith, empty.2), omega (arith, empty.2))
-at_most_one w begins ends (inr (inl runs)) = (omega (arith, runs.1), runs.2, omega (arith, runs.1, runs.2))
-at_most_one w begins ends (inr (inr done)) = (omega (arith, done.1), omega (arith, done.2), omega (arith, done.1, done.2))
-
-complete_ended : (w begins ends : ℕ) → IsState w begins ends → w ≡ 2 → ends ≡ 1
-complete_ended w begins ends (inl empty) is = absurd (omega (arith, empty.0, is))
-complete_ended w begins ends (inr (inl runs)) is = absurd (omega (arith, runs.0, is))
-complete_ended w begins ends (inr (inr done)) is = done.2
-
-tells_state : {T : Type 0} (past : List (Event T)) → IsState (word_in once_table past words.State) (begins_in past) (ends_in past) → TellsState past
-tells_state past state = record { begun = begun state; ended = complete_ended _ _ _ state; known = known state }
-  where
-    begun : {w begins ends : ℕ} → IsState w begins ends → (w ≡ 0) ↔ (begins ≡ 0)
-    begun (inl empty) = (λ _. empty.1, λ _. empty.0)
-    begun (inr (inl runs)) = (λ is. absurd (omega (arith, runs.0, is)), λ is. absurd (omega (arith, runs.1, is)))
-    begun (inr (inr done)) = (λ is. absurd (omega (arith, done.0, is)), λ is. absurd (omega (arith, done.1, is)))
-
-    known : {w begins ends : ℕ} → IsState w begins ends → w ≤ 2
-    known (inl empty) = omega (arith, empty.0)
-    known (inr (inl runs)) = omega (arith, runs.0)
-    known (inr (inr done)) = omega (arith, done.0)
 
 pub record EventLaw {T : Type 0} (party : ℕ) (past : List (Event T)) (w : ℕ) (pending : Option (PendingCall T)) (m : Move T) : Type 0 where
   pub cause : MatchBool (is_refusal m.outcome) (MatchOption pending ⊥ (λ c. OnceCause c.call party (event party m.act m.outcome ∷ past))) (Unit {0})
   pub own : MatchBool (is_end m.act) (AtLast is_begin (λ before. begins_in before ≡ 0) party past) (Unit {0})
+  pub waits : MatchBool (is_load m.act) (MatchOption pending ⊥ (λ c. IfSome (last_of is_step c.own) (λ before. 1 ≤ begins_in past))) (Unit {0})
   pub suits : IfSome (answer_of m.outcome) (λ answer. MatchOption pending ⊥ (λ c. IsAnswerOf c.call answer))
   pub answers : MatchBool (tells_end m.outcome) (ends_in past ≡ 1) (Unit {0})
   pub tells : IfSome (flag_of m.outcome) (λ flag. flag ≡ (w == 2))
@@ -446,43 +289,40 @@ goes_on_unless_2 w sees = (λ is. absurd cc, λ is. let no : true ≡ false = sy
 
 -- of a load
 flag_law :
-    {T : Type 0} (party : ℕ) (past : List (Event T)) (c : PendingCall T) (w : ℕ) (flag : Bool) → c.call ≡ calls.IsCompleted → IsState w (begins_in past) (ends_in past) → (w == 2) ≡ flag →
+    {T : Type 0} (party : ℕ) (past : List (Event T)) (c : PendingCall T) (w : ℕ) (flag : Bool) → c.call ≡ calls.IsCompleted → last_of is_step c.own ≡ None → IsState w (begins_in past) (ends_in past) → (w == 2) ≡ flag →
     EventLaw party past w (Some c) (record { act = acts.Load words.State w; outcome = thens.Answers (answers.Flag flag) })
-flag_law party past c w true its state sees = record { cause = tt; own = tt; suits = suits_at c places.IsCompleted _ its (true, refl); answers = complete_ended _ _ _ state (eqb-true w 2 sees); tells = sym sees; leaves = left_at c places.IsCompleted w _ its (ap (λ flag. thens.Answers (answers.Flag flag)) (sym sees)); done = tt; spins = (refl, refl) }
-flag_law party past c w false its state sees = record { cause = tt; own = tt; suits = suits_at c places.IsCompleted _ its (false, refl); answers = tt; tells = sym sees; leaves = left_at c places.IsCompleted w _ its (ap (λ flag. thens.Answers (answers.Flag flag)) (sym sees)); done = tt; spins = (refl, refl) }
+flag_law party past c w true its first state sees = record { cause = tt; own = tt; waits = rw first tt; suits = suits_at c places.IsCompleted _ its (true, refl); answers = complete_ended _ _ _ state (eqb-true w 2 sees); tells = sym sees; leaves = left_at c places.IsCompleted w _ its (ap (λ flag. thens.Answers (answers.Flag flag)) (sym sees)); done = tt; spins = (refl, refl) }
+flag_law party past c w false its first state sees = record { cause = tt; own = tt; waits = rw first tt; suits = suits_at c places.IsCompleted _ its (false, refl); answers = tt; tells = sym sees; leaves = left_at c places.IsCompleted w _ its (ap (λ flag. thens.Answers (answers.Flag flag)) (sym sees)); done = tt; spins = (refl, refl) }
 
 seen_law :
-    {T : Type 0} (party : ℕ) (past : List (Event T)) (c : PendingCall T) (w : ℕ) (on : OncePlace) (complete : Bool) → c.call ≡ calls.CallOnce → IsState w (begins_in past) (ends_in past) → (w == 2) ≡ complete →
+    {T : Type 0} (party : ℕ) (past : List (Event T)) (c : PendingCall T) (w : ℕ) (on : OncePlace) (complete : Bool) → c.call ≡ calls.CallOnce → IfSome (last_of is_step c.own) (λ before. 1 ≤ begins_in past) → IsState w (begins_in past) (ends_in past) → (w == 2) ≡ complete →
     EventLaw party past w (Some c) (record { act = acts.Load words.State w; outcome = outcome_of {T = T} (seen_after on complete) })
-seen_law party past c w on true its state sees = record { cause = tt; own = tt; suits = suits_at c places.Look _ its refl; answers = complete_ended _ _ _ state (eqb-true w 2 sees); tells = tt; leaves = left_at c places.Look w _ its (λ _. eqb-true w 2 sees, λ _. refl); done = eqb-true w 2 sees; spins = (refl, refl) }
-seen_law party past c w on false its state sees = record { cause = tt; own = tt; suits = tt; answers = tt; tells = tt; leaves = left_at c places.Look w _ its (goes_on_unless_2 w sees); done = tt; spins = (refl, refl) }
+seen_law party past c w on true its waits state sees = record { cause = tt; own = tt; waits = waits; suits = suits_at c places.Look _ its refl; answers = complete_ended _ _ _ state (eqb-true w 2 sees); tells = tt; leaves = left_at c places.Look w _ its (λ _. eqb-true w 2 sees, λ _. refl); done = eqb-true w 2 sees; spins = (refl, refl) }
+seen_law party past c w on false its waits state sees = record { cause = tt; own = tt; waits = waits; suits = tt; answers = tt; tells = tt; leaves = left_at c places.Look w _ its (goes_on_unless_2 w sees); done = tt; spins = (refl, refl) }
+
+-- whatever its step before was
+pub has_begun : {T : Type 0} {begins : ℕ} (last : Option (Act T)) → 1 ≤ begins → IfSome last (λ before. 1 ≤ begins)
+has_begun None begun = tt
+has_begun (Some before) begun = begun
 
 begin_law :
     {T : Type 0} (party : ℕ) (past : List (Event T)) (c : PendingCall T) (w : ℕ) (done : Bool) →
     EventLaw party past w (Some c) (record { act = acts.Exchange words.State 0 1 w done; outcome = outcome_of {T = T} (begin_after done) })
-begin_law party past c w true = record { cause = tt; own = tt; suits = tt; answers = tt; tells = tt; leaves = tt; done = tt; spins = (refl, refl) }
-begin_law party past c w false = record { cause = tt; own = tt; suits = tt; answers = tt; tells = tt; leaves = tt; done = tt; spins = (refl, refl) }
-
--- the closure that ends is the call's own, and was the first to begin
-own_began :
-    {T : Type 0} (z : Arithmetic T) (parties party : ℕ) (past : List (Event T)) → IsPast z once_table parties past → (c : PendingCall T) → call_of party past ≡ Some c → HasBegun c.own → begins_in past ≤ 1 →
-    AtLast is_begin (λ before. begins_in before ≡ 0) party past
-own_began z parties party past run c called begun most =
-    at_last_maps is_begin (IsToldOf z once_table parties is_begin (acts.Exchange words.State 0 1 begun.0 true) past) (λ before. begins_in before ≡ 0) (λ before told. omega (arith, told.2, most)) party past
-    (own_at_last z once_table parties is_begin party (acts.Exchange words.State 0 1 begun.0 true) past run c called begun.1)
+begin_law party past c w true = record { cause = tt; own = tt; waits = tt; suits = tt; answers = tt; tells = tt; leaves = tt; done = tt; spins = (refl, refl) }
+begin_law party past c w false = record { cause = tt; own = tt; waits = tt; suits = tt; answers = tt; tells = tt; leaves = tt; done = tt; spins = (refl, refl) }
 
 step_law :
     {T : Type 0} (z : Arithmetic T) (parties party : ℕ) (past : List (Event T)) → IsPast z once_table parties past → (c : PendingCall T) → call_of party past ≡ Some c →
     (place : OncePlace) (hold : Option HoldKind) (memory : Word → ℕ) → AtOnce place c hold → c.call ≡ call_at place → IsState (memory words.State) (begins_in past) (ends_in past) →
     EventLaw party past (memory words.State) (Some c) (step_at once_table place hold memory)
-step_law z parties party past run c called places.IsCompleted hold memory at its state = flag_law party past c (memory words.State) (memory words.State == 2) its state refl
-step_law z parties party past run c called places.Look hold memory at its state = seen_law party past c (memory words.State) places.Begin (memory words.State == 2) its state refl
+step_law z parties party past run c called places.IsCompleted hold memory at its state = flag_law party past c (memory words.State) (memory words.State == 2) its at state refl
+step_law z parties party past run c called places.Look hold memory at its state = seen_law party past c (memory words.State) places.Begin (memory words.State == 2) its (rw at tt) state refl
 step_law z parties party past run c called places.Begin hold memory at its state = begin_law party past c (memory words.State) (memory words.State == 0)
 step_law z parties party past run c called places.Run hold memory at its state =
-    record { cause = tt; own = own_began z parties party past run c called at.0 (at_most_one _ _ _ state).0; suits = tt; answers = tt; tells = tt; leaves = tt; done = tt; spins = (refl, refl) }
+    record { cause = tt; own = own_began z once_table parties party past run c called at (at_most_one _ _ _ state).0; waits = tt; suits = tt; answers = tt; tells = tt; leaves = tt; done = tt; spins = (refl, refl) }
 step_law z parties party past run c called places.Complete hold memory at its state =
-    record { cause = tt; own = tt; suits = suits_at c places.Complete _ its refl; answers = omega (arith, at, own_among is_end past party c called, (at_most_one _ _ _ state).1); tells = tt; leaves = tt; done = refl; spins = (refl, refl) }
-step_law z parties party past run c called places.Stay hold memory at its state = seen_law party past c (memory words.State) places.Stay (memory words.State == 2) its state refl
+    record { cause = tt; own = tt; waits = tt; suits = suits_at c places.Complete _ its refl; answers = omega (arith, at, own_among is_end past party c called, (at_most_one _ _ _ state).1); tells = tt; leaves = tt; done = refl; spins = (refl, refl) }
+step_law z parties party past run c called places.Stay hold memory at its state = seen_law party past c (memory words.State) places.Stay (memory words.State == 2) its (has_begun (last_of is_step c.own) (missed_since z once_table parties (runs_one z parties) past run party c called at)) state refl
 
 event_law :
     {T : Type 0} (z : Arithmetic T) (parties : ℕ) (past : List (Event T)) (e : Event T) → IsPast z once_table parties (e ∷ past) →
@@ -491,27 +331,27 @@ event_law {T} z parties past e run =
     by_move once_table (call_of e.party past) (hold_of once_table e.party past) (word_in once_table past)
     (λ (k : Option (PendingCall T)) (m : Move T). EventLaw e.party past (word_in once_table past words.State) k m)
     run.0.0 (record { act = e.act; outcome = e.then })
-    (λ call _. record { cause = tt; own = tt; suits = tt; answers = tt; tells = tt; leaves = tt; done = tt; spins = (refl, refl) })
-    (λ action _. record { cause = tt; own = tt; suits = tt; answers = tt; tells = tt; leaves = tt; done = tt; spins = (refl, refl) })
-    (λ choice _. record { cause = tt; own = tt; suits = tt; answers = tt; tells = tt; leaves = tt; done = tt; spins = (refl, refl) })
+    (λ call _. record { cause = tt; own = tt; waits = tt; suits = tt; answers = tt; tells = tt; leaves = tt; done = tt; spins = (refl, refl) })
+    (λ action _. record { cause = tt; own = tt; waits = tt; suits = tt; answers = tt; tells = tt; leaves = tt; done = tt; spins = (refl, refl) })
+    (λ choice _. record { cause = tt; own = tt; waits = tt; suits = tt; answers = tt; tells = tt; leaves = tt; done = tt; spins = (refl, refl) })
     (λ c place _ called stage.
     step_law z parties e.party past run.1 c called place (hold_of once_table e.party past) (word_in once_table past)
     (at_place z once_table parties AtOnce once_kept past run.1 e.party c place called stage) (at_place z once_table parties IsItsCall its_call_kept past run.1 e.party c place called stage)
-    (once_front z parties past run.1).state)
+    (closure_front z once_table parties (runs_one z parties) past run.1).state)
     run.0.1.moved
 
 pub keeps_once : {T : Type 0} (z : Arithmetic T) (parties : ℕ) (past : List (Event T)) → IsPast z once_table parties past → KeepsOnce past
 keeps_once z parties [] run =
-    record { told = tt; unheld = refl; cause = tt; law = record { one = omega arith; ends = omega arith; own = tt; runs = tt; suits = tt; answers = tt; tells = tt; leaves = tt; done = tt; stays = tt; spins = tt; state = tells_state [] (once_front z parties [] run).state } }
+    record { told = tt; unheld = refl; cause = tt; law = record { one = omega arith; ends = omega arith; own = tt; runs = tt; waits = tt; suits = tt; answers = tt; tells = tt; leaves = tt; done = tt; stays = tt; spins = tt; state = tells_state once_table [] (closure_front z once_table parties (runs_one z parties) [] run).state } }
 keeps_once z parties (e ∷ past) run =
     let event = event_law z parties past e run in
-    let front = once_front z parties (e ∷ past) run in
+    let front = closure_front z once_table parties (runs_one z parties) (e ∷ past) run in
     let most = at_most_one _ _ _ front.state in
     record {
       told = tells_memory z once_table parties (e ∷ past) run;
       unheld = no_holds once_table (λ call from to. refl) (e ∷ past);
       cause = event.cause;
-      law = record { one = most.0; ends = most.2; own = event.own; runs = runs_to_its_end z parties (e ∷ past) run; suits = event.suits; answers = event.answers; tells = event.tells; leaves = event.leaves; done = event.done; stays = stays_complete z parties past e run; spins = event.spins; state = tells_state (e ∷ past) front.state };
+      law = record { one = most.0; ends = most.2; own = event.own; runs = runs_to_its_end z parties (e ∷ past) run; waits = event.waits; suits = event.suits; answers = event.answers; tells = event.tells; leaves = event.leaves; done = event.done; stays = stays_complete z once_table parties (runs_one z parties) past e run; spins = event.spins; state = tells_state once_table (e ∷ past) front.state };
     }
 
 -- a once has no other word

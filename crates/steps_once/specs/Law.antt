@@ -12,8 +12,10 @@ use Rattle.steps_events.specs.declared.event.Then.TheVariants as thens
 use Rattle.steps_events.specs.declared.event.Event.{Event}
 use Rattle.steps_events.specs.Past.{call_of, holds_of, word_in}
 use Rattle.steps_events.specs.Moves.{is_step}
-use Rattle.steps_events.specs.Sights.{AtLast, is_done_exchange, acts_in, last_of}
+use Rattle.steps_events.specs.Sights.{last_of}
+use Rattle.steps_events.specs.Waits.{OnlySpins}
 use Rattle.steps_events.specs.Laws.{TellsMemory, HasCause}
+use Rattle.steps_once.specs.Closures.{is_begin, is_end, begins_in, ends_in, EndsItsOwn, WaitsForAnother, StaysTwo, TellsState}
 use Rattle.steps_once.specs.Table.{once_table}
 
 -- no call of a once is refused
@@ -21,25 +23,6 @@ abbrev pub OnceCause : {T : Type 0} → Call T → ℕ → List (Event T) → Ty
 OnceCause call party events = ⊥
 
 -- The closure.
-
--- a closure begins with an exchange that is done
-abbrev pub is_begin : {T : Type 0} → Act T → Bool
-is_begin act = is_done_exchange words.State act
-
-abbrev pub is_end : {T : Type 0} → Act T → Bool
-is_end acts.Ended = true
-is_end act = false
-
-abbrev pub begins_in : {T : Type 0} → List (Event T) → ℕ
-begins_in past = acts_in is_begin past
-
-abbrev pub ends_in : {T : Type 0} → List (Event T) → ℕ
-ends_in past = acts_in is_end past
-
--- the latest event ends a closure only where its own call began it, and it was the first to begin
-abbrev pub EndsItsOwn : {T : Type 0} → List (Event T) → Type 0
-EndsItsOwn [] = Unit {0}
-EndsItsOwn (e ∷ past) = MatchBool (is_end e.act) (AtLast is_begin (λ before. begins_in before ≡ 0) e.party past) (Unit {0})
 
 -- what follows a step of a call, by whether that began its closure, or ended it: its end; or the store of 2, which answers `Done`
 abbrev pub IsNextStep : {T : Type 0} → Bool → Bool → Act T → Then T → Type 0
@@ -114,33 +97,6 @@ abbrev pub DoneAtTwo : {T : Type 0} → List (Event T) → Type 0
 DoneAtTwo [] = Unit {0}
 DoneAtTwo (e ∷ past) = MatchBool (is_done e.then) (word_in once_table (e ∷ past) words.State ≡ 2) (Unit {0})
 
--- a word that is 2 is so for good: the latest event leaves it
-abbrev pub StaysTwo : {T : Type 0} → List (Event T) → Type 0
-StaysTwo [] = Unit {0}
-StaysTwo (e ∷ past) = word_in once_table past words.State ≡ 2 → word_in once_table (e ∷ past) words.State ≡ 2
-
--- How a call waits.
-
-abbrev pub stands : {T : Type 0} → Then T → Bool
-stands (thens.Waits seen) = true
-stands (thens.Chooses old) = true
-stands other = false
-
-abbrev pub is_wake : {T : Type 0} → Act T → Bool
-is_wake (acts.Woke wake) = true
-is_wake act = false
-
--- the latest event leaves its call at no wait or choice closure, and wakes nobody
-abbrev pub OnlySpins : {T : Type 0} → List (Event T) → Type 0
-OnlySpins [] = Unit {0}
-OnlySpins (e ∷ past) = (stands e.then ≡ false) × (is_wake e.act ≡ false)
-
--- The word: 0 until a closure begins, and 2 only once it has ended.
-pub record TellsState {T : Type 0} (past : List (Event T)) : Type 0 where
-  pub begun : (word_in once_table past words.State ≡ 0) ↔ (begins_in past ≡ 0)
-  pub ended : word_in once_table past words.State ≡ 2 → ends_in past ≡ 1
-  pub known : word_in once_table past words.State ≤ 2
-
 -- What a once keeps beside what every object does.
 pub record OnceLaw {T : Type 0} (past : List (Event T)) : Type 0 where
   -- one closure begins at most
@@ -151,6 +107,8 @@ pub record OnceLaw {T : Type 0} (past : List (Event T)) : Type 0 where
   pub own : EndsItsOwn past
   -- that call ends it at its next step, and then stores 2 and answers `Done`
   pub runs : RunsToItsEnd past
+  -- a call waits only for a closure that has begun
+  pub waits : WaitsForAnother past
   -- `CallOnce` answers `Done` alone, and `IsCompleted` a flag
   pub suits : AnswersItsCall past
   -- `Done` and `true` come after its end
@@ -162,10 +120,10 @@ pub record OnceLaw {T : Type 0} (past : List (Event T)) : Type 0 where
   -- once `Done` has been answered the word is 2
   pub done : DoneAtTwo past
   -- and 2 it stays
-  pub stays : StaysTwo past
+  pub stays : StaysTwo once_table past
   -- a call that waits spins: none stands at a closure, and none wakes
   pub spins : OnlySpins past
-  pub state : TellsState past
+  pub state : TellsState once_table past
 
 pub record KeepsOnce {T : Type 0} (past : List (Event T)) : Type 0 where
   -- each act that tells a word's value tells what the memory holds there

@@ -36,7 +36,8 @@ use Rattle.steps_rw_writer.specs.Table.{is_odd, lets_readers_in, lets_writer_in,
 use Rattle.steps_rw_writer.specs.Marks.{is_marked_after}
 use Rattle.steps_rw_writer.specs.Law.{CountsHolds, HasMissedAfterAbort, RwWriterCause, IsExactGrant, KeepsRwWriter}
 use Rattle.steps_rw_writer.proofs.WordLaws.{held_by_none, writer_lock_exclusive}
-use Rattle.steps_rw_writer.proofs.PlaceLaws.{AtRwWriter, Asks, MayGiveUp, failed_after_abort, IsLeaver, held_above, here}
+use Rattle.steps_rw_writer.proofs.StageLaws.{same_call}
+use Rattle.steps_rw_writer.proofs.PlaceLaws.{AtRwWriter, Asks, MayGiveUp, failed_after_abort, IsLeaver, even_word, held_above, here}
 use Rattle.steps_rw_writer.proofs.DebtLaws.{no_wake_is_lost}
 use Rattle.steps_rw_writer.proofs.WakeLaws.{readers_are_woken}
 use Rattle.steps_rw_writer.proofs.SpinLaws.{event_asks}
@@ -61,9 +62,6 @@ full_by false v even is = above v is
     above : (n : ℕ) → nat_lt n (2 ^ 64 - 4) ≡ false → 2 ^ 64 - 4 ≤ n
     above n no_room = grind (arith, nat_tests)
 
-even_word : (w : ℕ) → w % 2 ≡ 0 → is_odd w ≡ false
-even_word w even = rw even refl
-
 shut_at : (w : ℕ) (holds : List Hold) (marked : Bool) → CountsHolds w holds marked → lets_readers_in w ≡ false → (0 < writes_in holds) ⊎ ((marked ≡ true) ⊎ (reads_in holds ≡ 2 ^ 63 - 2))
 shut_at w holds true (inl read) shut = inr (inl refl)
 shut_at w holds false (inl read) shut =
@@ -80,9 +78,6 @@ failed_exchange :
 failed_exchange party past seen to w true is fails law = absurd cc
 failed_exchange party past seen to w false is fails (inl wrote) = wrote
 failed_exchange party past seen to w false is fails (inr kept) = absurd (eqb-false w seen is kept)
-
-same_call : {T : Type 0} (c d : PendingCall T) → Some c ≡ Some d → c ≡ d
-same_call c d is = cc
 
 other_call : {T : Type 0} (A : Type 0) (call one other : Call T) → call ≡ one → call ≡ other → (one ≡ other → ⊥) → A
 other_call A call one other is also apart = absurd (apart (sym is ∙ also))

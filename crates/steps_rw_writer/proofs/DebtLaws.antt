@@ -12,7 +12,6 @@ use Rattle.steps_events.specs.declared.event.Act.{Act}
 use Rattle.steps_events.specs.declared.event.Act.TheVariants as acts
 use Rattle.steps_events.specs.declared.event.Answer.TheVariants as answers
 use Rattle.steps_events.specs.declared.event.Event.{Event}
-use Rattle.steps_events.specs.declared.event.Input.{Input}
 use Rattle.steps_events.specs.declared.event.Input.TheVariants as inputs
 use Rattle.steps_events.specs.declared.event.Then.{Then}
 use Rattle.steps_events.specs.declared.event.Then.TheVariants as thens
@@ -26,7 +25,7 @@ use Rattle.steps_events.specs.Rows.{carried_out, value_told, outcome_of, place_a
 use Rattle.steps_events.specs.Past.{PendingCall, call_of, call_after, call_going_on, Hold, holds_of, hold_of, word_in, word_after, event, latest_outcome}
 use Rattle.steps_events.specs.HoldCounts.{reads_in, writes_in}
 use Rattle.steps_events.specs.Sights.{is_beginning}
-use Rattle.steps_events.specs.Moves.{Move, step_at, stage_of, next_stage, fault_at}
+use Rattle.steps_events.specs.Moves.{Move, step_at, stage_of, next_stage}
 use Rattle.steps_events.specs.Runs.{IsPast}
 use Rattle.steps_events.proofs.Holds.{call_of_same, call_of_other}
 use Rattle.steps_events.proofs.Steps.{by_move, carried_goes_on, carried_stage}
@@ -40,7 +39,9 @@ use Rattle.steps_rw_writer.specs.Table.{is_odd, lets_writer_in, lets_mark, is_ma
 use Rattle.steps_rw_writer.specs.Marks.{is_marked_after}
 use Rattle.steps_rw_writer.specs.Law.{CountsHolds}
 use Rattle.steps_rw_writer.specs.Debts.{blocks, is_blocked_after, is_answer, adds_count, owes_count, loads_count, counts_since_load, StandsWith, NoWakeIsLost}
+use Rattle.steps_rw_writer.proofs.BoolLaws.{clash, neither, none_below}
 use Rattle.steps_rw_writer.proofs.PlaceLaws.{AtRwWriter, here}
+use Rattle.steps_rw_writer.proofs.StageLaws.{same_call, same_place, unlike, IsAt, fact_here, begins_none, answered_at, chosen_at, stepped_at}
 use Rattle.steps_rw_writer.proofs.Laws.{writer_lock_word}
 
 -- What the word says: the lock is blocked exactly where it is odd and above 1.
@@ -60,9 +61,6 @@ small false above is = refl
 
 not_above : (w : ℕ) → w < 2 → is_blocked w ≡ false
 not_above w below = small (is_odd w) (nat_lt 1 w) (grind (arith, nat_tests))
-
-none_below : (n : ℕ) → n ≡ 0 → nat_lt 0 n ≡ false
-none_below n is = rw is refl
 
 some_above : (n : ℕ) → 0 < n → nat_lt 0 n ≡ true
 some_above n above = grind (arith, nat_tests)
@@ -90,9 +88,6 @@ pub record LeadsToCount {T : Type 0} (act : Act T) (a : After T RwWriterPlace) :
   pub who : Leaver
   pub counts : a ≡ afters.At (places.Count who)
   pub is_before : adds_count act ≡ false
-
-clash : {A : Type 0} (b : Bool) → b ≡ true → b ≡ false → A
-clash b is also = let no : true ≡ false = sym is ∙ also in absurd cc
 
 even_done :
     (T A : Type 0) (w from to : ℕ) (b : Bool) → (w == from) ≡ b → is_blocked from ≡ false → is_blocked w ≡ true → is_blocked (word_after {T = T} words.State (acts.Exchange words.State from to w b) w) ≡ false → A
@@ -157,72 +152,35 @@ fits_word {T} z parties past run = by_counts (word_in rw_writer_table past words
 
 -- Who owes a counter step is about to make it.
 
-pub record OwesAt {T : Type 0} (pending : Option (PendingCall T)) : Type 0 where
-  pub call : PendingCall T
-  pub under_way : pending ≡ Some call
-  pub who : Leaver
-  pub stage : stage_of rw_writer_table call ≡ Some (places.Count who)
+abbrev IsCounting : RwWriterPlace → Type 0
+IsCounting (places.Count who) = Unit {0}
+IsCounting place = ⊥
 
-same_call : {T : Type 0} (c d : PendingCall T) → Some c ≡ Some d → c ≡ d
-same_call c d is = cc
+abbrev OwesAt : {T : Type 0} → Option (PendingCall T) → Type 0
+OwesAt {T} pending = IsAt (λ (place : RwWriterPlace) (own : List (Event T)). IsCounting place) pending
 
-same_place : (p q : RwWriterPlace) → Some p ≡ Some q → p ≡ q
-same_place p q is = cc
-
-begun_not : {T : Type 0} (pending : Option (PendingCall T)) (hold : Option HoldKind) (call : Call T) (input : Input T) → OwesAt pending → fault_at rw_writer_table pending hold input ≡ None → input ≡ inputs.Begin call → ⊥
-begun_not {T} pending hold call input owes allowed is =
-    let P : Option (PendingCall T) → Type 0 = λ k. fault_at rw_writer_table k hold input ≡ None in
-    let Q : Input T → Type 0 = λ i. fault_at rw_writer_table (Some owes.call) hold i ≡ None in
-    let busy : fault_at rw_writer_table (Some owes.call) hold (inputs.Begin call) ≡ None = subst Q is (subst P owes.under_way allowed) in
-    absurd cc
-
-answered_owes : {T : Type 0} (r : ℕ) (action : WaitAction) (pending : Option (PendingCall T)) → OwesAt pending → OwesAt (call_going_on (acts.Answered action) (event r (acts.Answered action) thens.GoesOn) pending)
-answered_owes {T} r action pending owes =
-    let e : Event T = event r (acts.Answered action) thens.GoesOn in
-    record {
-      call = record { call = owes.call.call; own = e ∷ owes.call.own };
-      under_way = ap (call_going_on (acts.Answered action) e) owes.under_way;
-      who = owes.who;
-      stage = ap (next_stage {T = T} rw_writer_table (acts.Answered action)) owes.stage;
-    }
-
-chosen_owes : {T : Type 0} (r : ℕ) (choice : Option T) (pending : Option (PendingCall T)) → OwesAt pending → OwesAt (call_going_on (acts.Chosen choice) (event r (acts.Chosen choice) thens.GoesOn) pending)
-chosen_owes {T} r choice pending owes =
-    let e : Event T = event r (acts.Chosen choice) thens.GoesOn in
-    record {
-      call = record { call = owes.call.call; own = e ∷ owes.call.own };
-      under_way = ap (call_going_on (acts.Chosen choice) e) owes.under_way;
-      who = owes.who;
-      stage = ap (next_stage {T = T} rw_writer_table (acts.Chosen choice)) owes.stage;
-    }
+answered_counting : (place : RwWriterPlace) (action : WaitAction) → IsCounting place → IsCounting (rw_writer_answered place action)
+answered_counting (places.Count who) action counting = counting
+answered_counting place action counting = absurd counting
 
 -- a step that leads to the counter
 stepped_owes :
     {T : Type 0} (r : ℕ) (c : PendingCall T) (place : RwWriterPlace) (hold : Option HoldKind) (memory : Word → ℕ) → stage_of rw_writer_table c ≡ Some place →
     LeadsToCount (step_at {T = T} rw_writer_table place hold memory).act (rw_writer_table.after place (value_told {T = T} (carried_out (rw_writer_table.intent place hold) memory))) →
     OwesAt (call_after (step_at rw_writer_table place hold memory).outcome (event r (step_at rw_writer_table place hold memory).act (step_at rw_writer_table place hold memory).outcome) (Some c))
-stepped_owes {T} r c place hold memory stage led = subst Goal (sym led.counts) owes
-  where
-    act : Act T
-    act = (step_at {T = T} rw_writer_table place hold memory).act
-
-    Goal : After T RwWriterPlace → Type 0
-    Goal a = OwesAt (call_after (outcome_of a) (event r act (outcome_of a)) (Some c))
-
-    owes : Goal (afters.At (places.Count led.who))
-    owes =
-        let e : Event T = event r act thens.GoesOn in
-        let leads : next_stage rw_writer_table act (stage_of rw_writer_table c) ≡ Some (places.Count led.who) =
-        ap (next_stage rw_writer_table act) stage ∙ carried_stage rw_writer_table place (rw_writer_table.intent place hold) memory ∙ ap place_after led.counts in
-        record { call = record { call = c.call; own = e ∷ c.own }; under_way = carried_goes_on (rw_writer_table.intent place hold) memory e c; who = led.who; stage = leads }
+stepped_owes {T} r c place hold memory stage led =
+    stepped_at (λ (next : RwWriterPlace) (own : List (Event T)). IsCounting next) r c place (places.Count led.who) hold memory stage (ap place_after led.counts) (λ e is. tt)
 
 -- at the counter's place the step is the add
-count_adds : (T : Type 0) (place : RwWriterPlace) (hold : Option HoldKind) (memory : Word → ℕ) (who : Leaver) → place ≡ places.Count who → adds_count (step_at {T = T} rw_writer_table place hold memory).act ≡ true
-count_adds T place hold memory who is = ap (λ p. adds_count (step_at {T = T} rw_writer_table p hold memory).act) is
+count_adds : (T : Type 0) (place : RwWriterPlace) (hold : Option HoldKind) (memory : Word → ℕ) → IsCounting place → adds_count (step_at {T = T} rw_writer_table place hold memory).act ≡ true
+count_adds T (places.Count who) hold memory counting = refl
+count_adds T place hold memory counting = absurd counting
 
-place_owes : {T : Type 0} (c : PendingCall T) (place : RwWriterPlace) → stage_of rw_writer_table c ≡ Some place → (owes : OwesAt (Some c)) → place ≡ places.Count owes.who
-place_owes {T} c place stage owes =
-    same_place place (places.Count owes.who) (sym stage ∙ ap (λ (k : PendingCall T). stage_of rw_writer_table k) (same_call c owes.call owes.under_way) ∙ owes.stage)
+-- so it is of a call that owes
+owed_adds :
+    {T : Type 0} (c : PendingCall T) (place : RwWriterPlace) (hold : Option HoldKind) (memory : Word → ℕ) → stage_of rw_writer_table c ≡ Some place → OwesAt (Some c) →
+    adds_count (step_at {T = T} rw_writer_table place hold memory).act ≡ true
+owed_adds {T} c place hold memory stage owes = count_adds T place hold memory (fact_here (λ (at : RwWriterPlace) (own : List (Event T)). IsCounting at) c place stage owes)
 
 -- what is owed after an event of the party itself: where it neither answered nor counted, and owed before or ended that the lock was blocked
 abbrev Ended : {T : Type 0} → ℕ → Act T → Type 0
@@ -245,30 +203,25 @@ own_owes {T} z parties past e run why quiet =
     w = word_in rw_writer_table past words.State
 
     begun : (call : Call T) → run.0.0 ≡ inputs.Begin call → OwesAt (call_of e.party past) ⊎ Ended w (acts.Begun call) → OwesAt (call_going_on (acts.Begun call) (event e.party (acts.Begun call) thens.GoesOn) (call_of e.party past))
-    begun call is (inl owes) = absurd (begun_not (call_of e.party past) (hold_of rw_writer_table e.party past) call run.0.0 owes (fault_at_none rw_writer_table parties past e.party run.0.0 run.0.1.allowed) is)
+    begun call is (inl owes) = absurd (begins_none (call_of e.party past) owes.call (hold_of rw_writer_table e.party past) call run.0.0 owes.under_way (fault_at_none rw_writer_table parties past e.party run.0.0 run.0.1.allowed) is)
     begun call is (inr ended) = clash (is_blocked w) ended.0 ended.1
 
     answered : (action : WaitAction) → OwesAt (call_of e.party past) ⊎ Ended {T = T} w (acts.Answered action) → OwesAt (call_going_on (acts.Answered action) (event e.party (acts.Answered action) thens.GoesOn) (call_of e.party past))
-    answered action (inl owes) = answered_owes e.party action (call_of e.party past) owes
+    answered action (inl owes) = answered_at (λ (place : RwWriterPlace) (own : List (Event T)). IsCounting place) e.party action (call_of e.party past) (λ place own d counting. answered_counting place action counting) owes
     answered action (inr ended) = clash (is_blocked w) ended.0 ended.1
 
     chosen : (choice : Option T) → OwesAt (call_of e.party past) ⊎ Ended w (acts.Chosen choice) → OwesAt (call_going_on (acts.Chosen choice) (event e.party (acts.Chosen choice) thens.GoesOn) (call_of e.party past))
-    chosen choice (inl owes) = chosen_owes e.party choice (call_of e.party past) owes
+    chosen choice (inl owes) = chosen_at (λ (place : RwWriterPlace) (own : List (Event T)). IsCounting place) e.party choice (call_of e.party past) (λ place own d counting. counting) owes
     chosen choice (inr ended) = clash (is_blocked w) ended.0 ended.1
 
     stepped : (c : PendingCall T) (place : RwWriterPlace) → call_of e.party past ≡ Some c → stage_of rw_writer_table c ≡ Some place →
         OwesAt (Some c) ⊎ Ended {T = T} w (step_at {T = T} rw_writer_table place (hold_of rw_writer_table e.party past) (word_in rw_writer_table past)).act →
         adds_count (step_at {T = T} rw_writer_table place (hold_of rw_writer_table e.party past) (word_in rw_writer_table past)).act ≡ false →
         OwesAt (call_after (step_at rw_writer_table place (hold_of rw_writer_table e.party past) (word_in rw_writer_table past)).outcome (event e.party (step_at rw_writer_table place (hold_of rw_writer_table e.party past) (word_in rw_writer_table past)).act (step_at rw_writer_table place (hold_of rw_writer_table e.party past) (word_in rw_writer_table past)).outcome) (Some c))
-    stepped c place called stage (inl owes) no_add = clash _ (count_adds T place (hold_of rw_writer_table e.party past) (word_in rw_writer_table past) owes.who (place_owes c place stage owes)) no_add
+    stepped c place called stage (inl owes) no_add = clash _ (owed_adds c place (hold_of rw_writer_table e.party past) (word_in rw_writer_table past) stage owes) no_add
     stepped c place called stage (inr ended) no_add =
         let at = here z parties past run.1 e.party c place called stage in
         stepped_owes e.party c place (hold_of rw_writer_table e.party past) (word_in rw_writer_table past) stage (ends_blocked place c (hold_of rw_writer_table e.party past) (word_in rw_writer_table past) at (fits_word z parties past run.1) ended.0 ended.1)
-
-neither : (a b : Bool) (x : Bool) → cond (a || b) false x ≡ true → (b ≡ false) × (x ≡ true)
-neither true b x is = absurd cc
-neither false true x is = absurd cc
-neither false false x is = (refl, is)
 
 which : (a b owed : Bool) → cond (a && not b) true owed ≡ true → ((a ≡ true) × (b ≡ false)) ⊎ (owed ≡ true)
 which true false owed is = inl (refl, refl)
@@ -418,19 +371,16 @@ last_look_stands T count w patience = by_test (is_blocked w) refl
     by_test true is = inr (record { count = count; patience = patience; from = refl; leads = refl; looks = refl; blocked = is })
     by_test false is = inl (plain_look T patience w)
 
-unlike : {T : Type 0} (A : Type 0) (call other : Call T) → call ≡ other → call ≡ calls.WriteLock → (other ≡ calls.WriteLock → ⊥) → A
-unlike A call other is write apart = absurd (apart (sym is ∙ write))
-
 write_step :
     {T : Type 0} (place : RwWriterPlace) (c : PendingCall T) (hold : Option HoldKind) (memory : Word → ℕ) → AtRwWriter place c hold → c.call ≡ calls.WriteLock →
     IsPlain {T = T} (rw_writer_table.after place (value_told {T = T} (carried_out (rw_writer_table.intent place hold) memory)))
     ⊎ (LoadsCount (memory words.Counter) (step_at {T = T} rw_writer_table place hold memory).act (rw_writer_table.after place (value_told {T = T} (carried_out (rw_writer_table.intent place hold) memory)))
     ⊎ StandsNow (memory words.State) place (step_at {T = T} rw_writer_table place hold memory).act (rw_writer_table.after place (value_told {T = T} (carried_out (rw_writer_table.intent place hold) memory))))
-write_step places.TryReadLook c hold memory at write = unlike _ c.call calls.TryReadLock at.0 write (λ same. absurd cc)
-write_step (places.TryRead seen to) c hold memory at write = unlike _ c.call calls.TryReadLock at.0 write (λ same. absurd cc)
-write_step (places.ReadLook patience) c hold memory at write = unlike _ c.call calls.ReadLock at.0 write (λ same. absurd cc)
-write_step (places.Read seen to patience) c hold memory at write = unlike _ c.call calls.ReadLock at.0 write (λ same. absurd cc)
-write_step places.TryWrite c hold memory at write = unlike _ c.call calls.TryWriteLock at.0 write (λ same. absurd cc)
+write_step places.TryReadLook c hold memory at write = unlike c.call calls.TryReadLock calls.WriteLock at.0 write (λ same. absurd cc)
+write_step (places.TryRead seen to) c hold memory at write = unlike c.call calls.TryReadLock calls.WriteLock at.0 write (λ same. absurd cc)
+write_step (places.ReadLook patience) c hold memory at write = unlike c.call calls.ReadLock calls.WriteLock at.0 write (λ same. absurd cc)
+write_step (places.Read seen to patience) c hold memory at write = unlike c.call calls.ReadLock calls.WriteLock at.0 write (λ same. absurd cc)
+write_step places.TryWrite c hold memory at write = unlike c.call calls.TryWriteLock calls.WriteLock at.0 write (λ same. absurd cc)
 write_step {T} (places.WriteLook patience) c hold memory at write = inl (plain_look T patience (memory words.State))
 write_step {T} (places.Enter seen patience) c hold memory at write = inl (plain_if (memory words.State == seen) (afters.Ends answers.Success) (write_refused patience (memory words.State)) tt (plain_refused T patience (memory words.State)))
 write_step {T} (places.Mark seen to patience) c hold memory at write = inl (plain_if (memory words.State == seen) (spins patience) (write_look patience (memory words.State)) (plain_spins T patience) (plain_look T patience (memory words.State)))
@@ -444,7 +394,7 @@ write_step {T} (places.LastLook count patience) c hold memory at write = by_look
         ⊎ StandsNow {T = T} (memory words.State) (places.LastLook count patience) (acts.Load words.State (memory words.State)) (last_look count patience (memory words.State)))
     by_look (inl plain) = inl plain
     by_look (inr stands) = inr (inr stands)
-write_step places.Release c hold memory at write = unlike _ c.call calls.Unlock at.0 write (λ same. absurd cc)
+write_step places.Release c hold memory at write = unlike c.call calls.Unlock calls.WriteLock at.0 write (λ same. absurd cc)
 write_step (places.Count who) c hold memory at write = inl refl
 write_step (places.WakeOne leavers.Reader) c hold memory at write = inl tt
 write_step (places.WakeOne leavers.Writer) c hold memory at write = inl refl
@@ -757,7 +707,7 @@ owing_adds {T} z parties past e run owes =
     by_move rw_writer_table (call_of e.party past) (hold_of rw_writer_table e.party past) (word_in rw_writer_table past)
     (λ (k : Option (PendingCall T)) (x : Move T). OwesAt k → (adds_count x.act ≡ true) ⊎ (is_answer x.outcome ≡ false))
     run.0.0 (record { act = e.act; outcome = e.then }) (λ call _ so. inr refl) (λ action _ so. inr refl) (λ choice _ so. inr refl)
-    (λ c place _ called stage so. inl (count_adds T place (hold_of rw_writer_table e.party past) (word_in rw_writer_table past) so.who (place_owes c place stage so)))
+    (λ c place _ called stage so. inl (owed_adds c place (hold_of rw_writer_table e.party past) (word_in rw_writer_table past) stage so))
     run.0.1.moved owes
 
 still_heard :

@@ -12,23 +12,20 @@ use Rattle.steps_events.specs.declared.event.Act.{Act}
 use Rattle.steps_events.specs.declared.event.Act.TheVariants as acts
 use Rattle.steps_events.specs.declared.event.Answer.TheVariants as answers
 use Rattle.steps_events.specs.declared.event.Event.{Event}
-use Rattle.steps_events.specs.declared.event.Input.{Input}
-use Rattle.steps_events.specs.declared.event.Input.TheVariants as inputs
-use Rattle.steps_events.specs.declared.event.Then.TheVariants as thens
 use Rattle.steps_events.specs.declared.hold.HoldKind.{HoldKind}
 use Rattle.steps_events.specs.declared.hold.HoldKind.TheVariants as kinds
 use Rattle.steps_events.specs.declared.patience.Patience.{Patience}
 use Rattle.steps_events.specs.declared.row.After.{After}
 use Rattle.steps_events.specs.declared.row.After.TheVariants as afters
 use Rattle.steps_events.specs.Arithmetic.{Arithmetic}
-use Rattle.steps_events.specs.Rows.{carried_out, value_told, outcome_of, place_after}
-use Rattle.steps_events.specs.Past.{same_word, PendingCall, call_of, call_after, call_going_on, Hold, holds_of, hold_of, word_in, word_after, event}
-use Rattle.steps_events.specs.Moves.{Move, step_at, stage_of, next_stage, fault_at}
+use Rattle.steps_events.specs.Rows.{carried_out, value_told, place_after}
+use Rattle.steps_events.specs.Past.{same_word, PendingCall, call_of, call_after, Hold, holds_of, hold_of, word_in, word_after, event}
+use Rattle.steps_events.specs.Moves.{Move, step_at, stage_of}
 use Rattle.steps_events.specs.Runs.{IsPast}
 use Rattle.steps_events.specs.Laws.{Lacks}
 use Rattle.steps_events.proofs.Holds.{eqb_other, call_of_same, call_of_other}
 use Rattle.steps_events.proofs.Locks.{holds_after}
-use Rattle.steps_events.proofs.Steps.{by_move, carried_goes_on, carried_stage}
+use Rattle.steps_events.proofs.Steps.{by_move}
 use Rattle.steps_events.proofs.Parties.{fault_at_none}
 use Rattle.steps_rw_writer.specs.declared.Leaver.TheVariants as leavers
 use Rattle.steps_rw_writer.specs.declared.RwWriterPlace.{RwWriterPlace}
@@ -37,6 +34,7 @@ use Rattle.steps_rw_writer.specs.Table.{lets_writer_in, lets_mark, is_marked, is
 use Rattle.steps_rw_writer.specs.Marks.{is_writing, setter_after, setter_of, sets_mark, has_marked}
 use Rattle.steps_rw_writer.specs.Law.{CountsHolds, IsSetter, SetterIsUnderWay}
 use Rattle.steps_rw_writer.proofs.WordLaws.{IsKeptWord, Keeps, nobody, unchanged, step_keeps, no_mark}
+use Rattle.steps_rw_writer.proofs.StageLaws.{IsAt, fact_here, begins_none, answered_at, chosen_at, stepped_at}
 use Rattle.steps_rw_writer.proofs.PlaceLaws.{AtRwWriter, writer_intent, here}
 
 -- The word counts the holds and the mark.
@@ -238,13 +236,12 @@ step_live {T} r (places.WakeOne who) c hold memory setter at live marked is = no
 step_live {T} r (places.WakeAll who) c hold memory setter at live marked is = not_live false refl (live is)
 
 -- the party's call is under way at such a place, and has set the mark
-pub record SetterAt {T : Type 0} (pending : Option (PendingCall T)) : Type 0 where
-  pub call : PendingCall T
-  pub under_way : pending ≡ Some call
-  pub place : RwWriterPlace
-  pub stage : stage_of rw_writer_table call ≡ Some place
+pub record HasSet {T : Type 0} (place : RwWriterPlace) (own : List (Event T)) : Type 0 where
   pub live : is_live place ≡ true
-  pub marked : has_marked call.own ≡ true
+  pub marked : has_marked own ≡ true
+
+abbrev SetterAt : {T : Type 0} → Option (PendingCall T) → Type 0
+SetterAt {T} pending = IsAt (HasSet {T = T}) pending
 
 answered_live : (place : RwWriterPlace) (action : WaitAction) → is_live place ≡ true → is_live (rw_writer_answered place action) ≡ true
 answered_live (places.WriteLook patience) action live = refl
@@ -261,11 +258,15 @@ marked_still {T} e own marked = by_test (sets_mark e.act)
 marked_now : {T : Type 0} (e : Event T) (own : List (Event T)) → sets_mark e.act ≡ true → has_marked (e ∷ own) ≡ true
 marked_now e own sets = rw sets refl
 
-same_call : {T : Type 0} (c d : PendingCall T) → Some c ≡ Some d → c ≡ d
-same_call c d is = cc
+-- the place where a call goes on so
+abbrev LiveNext : {T : Type 0} → After T RwWriterPlace → Type 0
+LiveNext a = (next : RwWriterPlace) × (place_after a ≡ Some next) × (is_live next ≡ true)
 
-same_place : (p q : RwWriterPlace) → Some p ≡ Some q → p ≡ q
-same_place p q is = cc
+live_next : {T : Type 0} (a : After T RwWriterPlace) → IsLiveAfter a → LiveNext a
+live_next (afters.At next) live = (next, refl, live)
+live_next (afters.Waits next seen) live = (next, refl, live)
+live_next (afters.Chooses next old) live = (next, refl, live)
+live_next (afters.Ends answer) live = absurd live
 
 -- after a step of the call
 stepped_setter :
@@ -273,66 +274,11 @@ stepped_setter :
     ((e : Event T) → e.act ≡ (step_at rw_writer_table place hold memory).act → has_marked (e ∷ c.own) ≡ true) →
     IsLiveAfter {T = T} (rw_writer_table.after place (value_told {T = T} (carried_out (rw_writer_table.intent place hold) memory))) →
     SetterAt (call_after (step_at rw_writer_table place hold memory).outcome (event r (step_at rw_writer_table place hold memory).act (step_at rw_writer_table place hold memory).outcome) (Some c))
-stepped_setter {T} r c place hold memory stage marked live = by_after (rw_writer_table.after place (value_told act)) refl live
+stepped_setter {T} r c place hold memory stage marked live = on (live_next (rw_writer_table.after place (value_told (step_at {T = T} rw_writer_table place hold memory).act)) live)
   where
-    act : Act T
-    act = (step_at {T = T} rw_writer_table place hold memory).act
-
-    on : (a : After T RwWriterPlace) (next : RwWriterPlace) → rw_writer_table.after place (value_told act) ≡ a → place_after a ≡ Some next → is_live next ≡ true → SetterAt (call_going_on act (event r act (outcome_of a)) (Some c))
-    on a next is to lives =
-        let e : Event T = event r act (outcome_of a) in
-        let leads : next_stage rw_writer_table act (stage_of rw_writer_table c) ≡ Some next = ap (next_stage rw_writer_table act) stage ∙ carried_stage rw_writer_table place (rw_writer_table.intent place hold) memory ∙ ap place_after is ∙ to in
-        record { call = record { call = c.call; own = e ∷ c.own }; under_way = carried_goes_on (rw_writer_table.intent place hold) memory e c; place = next; stage = leads; live = lives; marked = marked e refl }
-
-    by_after : (a : After T RwWriterPlace) → rw_writer_table.after place (value_told act) ≡ a → IsLiveAfter a → SetterAt (call_after (outcome_of a) (event r act (outcome_of a)) (Some c))
-    by_after (afters.At next) is lives = on (afters.At next) next is refl lives
-    by_after (afters.Waits next seen) is lives = on (afters.Waits next seen) next is refl lives
-    by_after (afters.Chooses next old) is lives = on (afters.Chooses next old) next is refl lives
-    by_after (afters.Ends answer) is lives = absurd lives
-
--- after an answer of a closure
-answered_setter :
-    {T : Type 0} (r : ℕ) (action : WaitAction) (pending : Option (PendingCall T)) → SetterAt pending → SetterAt (call_going_on (acts.Answered action) (event r (acts.Answered action) thens.GoesOn) pending)
-answered_setter {T} r action pending setter =
-    let e : Event T = event r (acts.Answered action) thens.GoesOn in
-    record {
-      call = record { call = setter.call.call; own = e ∷ setter.call.own };
-      under_way = ap (call_going_on (acts.Answered action) e) setter.under_way;
-      place = rw_writer_answered setter.place action;
-      stage = ap (next_stage {T = T} rw_writer_table (acts.Answered action)) setter.stage;
-      live = answered_live setter.place action setter.live;
-      marked = marked_still e setter.call.own setter.marked;
-    }
-
-chosen_setter :
-    {T : Type 0} (r : ℕ) (choice : Option T) (pending : Option (PendingCall T)) → SetterAt pending → SetterAt (call_going_on (acts.Chosen choice) (event r (acts.Chosen choice) thens.GoesOn) pending)
-chosen_setter {T} r choice pending setter =
-    let e : Event T = event r (acts.Chosen choice) thens.GoesOn in
-    record {
-      call = record { call = setter.call.call; own = e ∷ setter.call.own };
-      under_way = ap (call_going_on (acts.Chosen choice) e) setter.under_way;
-      place = setter.place;
-      stage = ap (next_stage {T = T} rw_writer_table (acts.Chosen choice)) setter.stage;
-      live = setter.live;
-      marked = marked_still e setter.call.own setter.marked;
-    }
-
--- a party with a call under way begins none
-begun_setter : {T : Type 0} (pending : Option (PendingCall T)) (hold : Option HoldKind) (call : Call T) (input : Input T) → SetterAt pending → fault_at rw_writer_table pending hold input ≡ None → input ≡ inputs.Begin call → ⊥
-begun_setter {T} pending hold call input setter allowed is =
-    let P : Option (PendingCall T) → Type 0 = λ k. fault_at rw_writer_table k hold input ≡ None in
-    let Q : Input T → Type 0 = λ i. fault_at rw_writer_table (Some setter.call) hold i ≡ None in
-    let busy : fault_at rw_writer_table (Some setter.call) hold (inputs.Begin call) ≡ None = subst Q is (subst P setter.under_way allowed) in
-    absurd cc
-
-live_here : {T : Type 0} (c : PendingCall T) (place : RwWriterPlace) → stage_of rw_writer_table c ≡ Some place → SetterAt (Some c) → is_live place ≡ true
-live_here {T} c place stage setter =
-    let same : c ≡ setter.call = same_call c setter.call setter.under_way in
-    let at : Some place ≡ Some setter.place = sym stage ∙ ap (λ (k : PendingCall T). stage_of rw_writer_table k) same ∙ setter.stage in
-    subst (λ p. is_live p ≡ true) (sym (same_place place setter.place at)) setter.live
-
-marked_here : {T : Type 0} (c : PendingCall T) → SetterAt (Some c) → has_marked c.own ≡ true
-marked_here {T} c setter = subst (λ (k : PendingCall T). has_marked k.own ≡ true) (sym (same_call c setter.call setter.under_way)) setter.marked
+    on : LiveNext {T = T} (rw_writer_table.after place (value_told (step_at {T = T} rw_writer_table place hold memory).act)) →
+        SetterAt (call_after (step_at rw_writer_table place hold memory).outcome (event r (step_at rw_writer_table place hold memory).act (step_at rw_writer_table place hold memory).outcome) (Some c))
+    on next = stepped_at (HasSet {T = T}) r c place next.0 hold memory stage next.1 (λ e is. record { live = next.2; marked = marked e is })
 
 marked_by : {T : Type 0} (act : Act T) (e : Event T) (c : PendingCall T) (SetBefore : Type 0) → e.act ≡ act → (SetBefore → has_marked c.own ≡ true) → SetBefore ⊎ (sets_mark act ≡ true) → has_marked (e ∷ c.own) ≡ true
 marked_by act e c SetBefore is was (inl set_before) = marked_still e c.own (was set_before)
@@ -346,9 +292,9 @@ own_setter {T} z parties past e run before set =
     (λ (k : Option (PendingCall T)) (x : Move T).
     (setter_of past ≡ Some e.party → SetterAt k) → setter_after e.party x.act k (setter_of past) ≡ Some e.party → SetterAt (call_after x.outcome (event e.party x.act x.outcome) k))
     run.0.0 (record { act = e.act; outcome = e.then })
-    (λ call is was sets. absurd (begun_setter (call_of e.party past) (hold_of rw_writer_table e.party past) call run.0.0 (was sets) (fault_at_none rw_writer_table parties past e.party run.0.0 run.0.1.allowed) is))
-    (λ action _ was sets. answered_setter e.party action (call_of e.party past) (was sets))
-    (λ choice _ was sets. chosen_setter e.party choice (call_of e.party past) (was sets))
+    (λ call is was sets. absurd (begins_none (call_of e.party past) (was sets).call (hold_of rw_writer_table e.party past) call run.0.0 (was sets).under_way (fault_at_none rw_writer_table parties past e.party run.0.0 run.0.1.allowed) is))
+    (λ action _ was sets. answered_at (HasSet {T = T}) e.party action (call_of e.party past) (λ place own d set. record { live = answered_live place action set.live; marked = marked_still d own set.marked }) (was sets))
+    (λ choice _ was sets. chosen_at (HasSet {T = T}) e.party choice (call_of e.party past) (λ place own d set. record { live = set.live; marked = marked_still d own set.marked }) (was sets))
     (λ c place _ called stage was sets. stepped c place called stage was sets)
     run.0.1.moved before set
   where
@@ -361,8 +307,8 @@ own_setter {T} z parties past e run before set =
         let act : Act T = (step_at rw_writer_table place hold memory).act in
         let word = writer_lock_word z parties past run.1 in
         stepped_setter e.party c place hold memory stage
-        (λ d is. marked_by act d c (setter_of past ≡ Some e.party) is (λ set_before. marked_here c (was set_before)) (setter_new e.party act (Some c) (setter_of past) sets))
-        (step_live e.party place c hold memory (setter_of past) (here z parties past run.1 e.party c place called stage) (λ set_before. live_here c place stage (was set_before))
+        (λ d is. marked_by act d c (setter_of past ≡ Some e.party) is (λ set_before. (fact_here (HasSet {T = T}) c place stage (was set_before)).marked) (setter_new e.party act (Some c) (setter_of past) sets))
+        (step_live e.party place c hold memory (setter_of past) (here z parties past run.1 e.party c place called stage) (λ set_before. (fact_here (HasSet {T = T}) c place stage (was set_before)).live)
         (λ set_before. marked_at past (memory words.State) (holds_of rw_writer_table past) word.counts (ap is_some set_before)) sets)
 
 setter_at : {T : Type 0} (z : Arithmetic T) (parties : ℕ) (past : List (Event T)) → IsPast z rw_writer_table parties past → (p : ℕ) → setter_of past ≡ Some p → SetterAt (call_of p past)
@@ -395,8 +341,8 @@ setter_is_under_way {T} z parties past run = by_setter (setter_of past) refl
     by_setter None is = tt
     by_setter (Some p) is =
         let setter = setter_at z parties past run p is in
-        let writes : setter.call.call ≡ calls.WriteLock = live_calls setter.place setter.call (hold_of rw_writer_table p past) setter.live (here z parties past run p setter.call setter.place setter.under_way setter.stage) in
-        rw setter.under_way (writes, setter.marked)
+        let writes : setter.call.call ≡ calls.WriteLock = live_calls setter.place setter.call (hold_of rw_writer_table p past) setter.fact.live (here z parties past run p setter.call setter.place setter.under_way setter.stage) in
+        rw setter.under_way (writes, setter.fact.marked)
 
 -- a writer-preferring lock has no words but its own and its wake counter
 pub rw_writer_lacks : (T : Type 0) (word : Word) → same_word words.State word ≡ false → same_word words.Counter word ≡ false → Lacks {T = T} rw_writer_table word

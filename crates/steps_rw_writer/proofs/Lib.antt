@@ -1,5 +1,7 @@
+pub mod BoolLaws
 pub mod WordLaws
 pub mod PlaceLaws
+pub mod StageLaws
 pub mod Laws
 pub mod DebtLaws
 pub mod WakeLaws

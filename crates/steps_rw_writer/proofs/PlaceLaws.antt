@@ -159,6 +159,12 @@ even_of v is = let other : v % 2 ≢ 1 = eqb-false (v % 2) 1 is in omega (arith,
 pub odd_of : (v : ℕ) → is_odd v ≡ true → v % 2 ≡ 1
 odd_of v is = eqb-true (v % 2) 1 is
 
+pub even_word : (v : ℕ) → v % 2 ≡ 0 → is_odd v ≡ false
+even_word v even = rw even refl
+
+pub odd_word : (v : ℕ) → v % 2 ≡ 1 → is_odd v ≡ true
+odd_word v odd = eq-eqb (v % 2) 1 odd
+
 reader_enters : (v : ℕ) → lets_readers_in v ≡ true → ReaderEnters v (v + 2)
 reader_enters v is =
     let fits : nat_lt v (2 ^ 64 - 4) ≡ true = and_right (not (is_odd v)) (nat_lt v (2 ^ 64 - 4)) is in

@@ -12,7 +12,6 @@ use Rattle.steps_events.specs.declared.event.Act.{Act}
 use Rattle.steps_events.specs.declared.event.Act.TheVariants as acts
 use Rattle.steps_events.specs.declared.event.Answer.TheVariants as answers
 use Rattle.steps_events.specs.declared.event.Event.{Event}
-use Rattle.steps_events.specs.declared.event.Input.{Input}
 use Rattle.steps_events.specs.declared.event.Input.TheVariants as inputs
 use Rattle.steps_events.specs.declared.event.Then.{Then}
 use Rattle.steps_events.specs.declared.event.Then.TheVariants as thens
@@ -26,10 +25,10 @@ use Rattle.steps_events.specs.Rows.{carried_out, value_told, outcome_of, place_a
 use Rattle.steps_events.specs.Past.{PendingCall, call_of, call_after, call_going_on, Hold, holds_of, hold_of, word_in, word_after, event, latest_outcome}
 use Rattle.steps_events.specs.HoldCounts.{writes_in}
 use Rattle.steps_events.specs.Sights.{is_beginning}
-use Rattle.steps_events.specs.Moves.{Move, step_at, stage_of, next_stage, fault_at}
+use Rattle.steps_events.specs.Moves.{Move, step_at, stage_of}
 use Rattle.steps_events.specs.Runs.{IsPast}
 use Rattle.steps_events.proofs.Holds.{call_of_same, call_of_other}
-use Rattle.steps_events.proofs.Steps.{by_move, carried_goes_on, carried_stage}
+use Rattle.steps_events.proofs.Steps.{by_move}
 use Rattle.steps_events.proofs.Parties.{fault_at_none}
 use Rattle.steps_events.proofs.LastSights.{longer}
 use Rattle.steps_rw_writer.specs.declared.Leaver.{Leaver}
@@ -40,22 +39,15 @@ use Rattle.steps_rw_writer.specs.Table.{is_odd, lets_readers_in, unmarks_or_leav
 use Rattle.steps_rw_writer.specs.Marks.{is_marked_after}
 use Rattle.steps_rw_writer.specs.Law.{CountsHolds}
 use Rattle.steps_rw_writer.specs.Debts.{is_answer, is_even_after, makes_even, wakes_all, owes_wake, Evener, evener_after, evener_of, ReaderStands, ReadersAreWoken}
-use Rattle.steps_rw_writer.proofs.PlaceLaws.{AtRwWriter, IsLeaver, here}
+use Rattle.steps_rw_writer.proofs.BoolLaws.{clash, neither, none_below}
+use Rattle.steps_rw_writer.proofs.PlaceLaws.{AtRwWriter, IsLeaver, even_word, odd_word, here}
+use Rattle.steps_rw_writer.proofs.StageLaws.{same_call, unlike, IsAt, fact_here, begins_none, answered_at, chosen_at, stepped_at}
 use Rattle.steps_rw_writer.proofs.Laws.{writer_lock_word}
 
 -- What the word says: it is even exactly where neither a write hold stands nor the mark is set.
 
 even_by : (a b odd : Bool) → a ≡ false → b ≡ odd → not (a || b) ≡ not odd
 even_by a b odd none is = rw (none, is) refl
-
-none_below : (n : ℕ) → n ≡ 0 → nat_lt 0 n ≡ false
-none_below n is = rw is refl
-
-odd_word : (w : ℕ) → w % 2 ≡ 1 → is_odd w ≡ true
-odd_word w odd = eq-eqb (w % 2) 1 odd
-
-even_word : (w : ℕ) → w % 2 ≡ 0 → is_odd w ≡ false
-even_word w even = rw even refl
 
 word_evens : (w : ℕ) (holds : List Hold) (marked : Bool) → CountsHolds w holds marked → not (nat_lt 0 (writes_in holds) || marked) ≡ not (is_odd w)
 word_evens w holds true (inl read) = even_by (nat_lt 0 (writes_in holds)) true (is_odd w) (none_below (writes_in holds) read.unwritten) (sym (odd_word w (omega (arith, read.counts))))
@@ -68,9 +60,6 @@ even_at z parties past run = word_evens (word_in rw_writer_table past words.Stat
 -- an event makes the word even
 abbrev Evens : {T : Type 0} → ℕ → Act T → Type 0
 Evens w act = (is_odd w ≡ true) × (is_odd (word_after words.State act w) ≡ false)
-
-clash : {A : Type 0} (b : Bool) → b ≡ true → b ≡ false → A
-clash b is also = let no : true ≡ false = sym is ∙ also in absurd cc
 
 -- who leaves and wakes all
 abbrev WakesAll : Leaver → Type 0
@@ -142,30 +131,8 @@ waking_step place hold memory waking = absurd waking
 
 -- Who owes a wake of all is on the way to it.
 
-pub record OwesWakeAt {T : Type 0} (pending : Option (PendingCall T)) : Type 0 where
-  pub call : PendingCall T
-  pub under_way : pending ≡ Some call
-  pub place : RwWriterPlace
-  pub stage : stage_of rw_writer_table call ≡ Some place
-  pub waking : IsWaking place
-
-same_call : {T : Type 0} (c d : PendingCall T) → Some c ≡ Some d → c ≡ d
-same_call c d is = cc
-
-same_place : (p q : RwWriterPlace) → Some p ≡ Some q → p ≡ q
-same_place p q is = cc
-
-waking_place : {T : Type 0} (c : PendingCall T) (place : RwWriterPlace) → stage_of rw_writer_table c ≡ Some place → OwesWakeAt (Some c) → IsWaking place
-waking_place {T} c place stage owes =
-    let at : place ≡ owes.place = same_place place owes.place (sym stage ∙ ap (λ (k : PendingCall T). stage_of rw_writer_table k) (same_call c owes.call owes.under_way) ∙ owes.stage) in
-    subst IsWaking (sym at) owes.waking
-
-begun_not : {T : Type 0} (pending : Option (PendingCall T)) (hold : Option HoldKind) (call : Call T) (input : Input T) → OwesWakeAt pending → fault_at rw_writer_table pending hold input ≡ None → input ≡ inputs.Begin call → ⊥
-begun_not {T} pending hold call input owes allowed is =
-    let P : Option (PendingCall T) → Type 0 = λ k. fault_at rw_writer_table k hold input ≡ None in
-    let Q : Input T → Type 0 = λ i. fault_at rw_writer_table (Some owes.call) hold i ≡ None in
-    let busy : fault_at rw_writer_table (Some owes.call) hold (inputs.Begin call) ≡ None = subst Q is (subst P owes.under_way allowed) in
-    absurd cc
+abbrev OwesWakeAt : {T : Type 0} → Option (PendingCall T) → Type 0
+OwesWakeAt {T} pending = IsAt (λ (place : RwWriterPlace) (own : List (Event T)). IsWaking place) pending
 
 answered_waking : (place : RwWriterPlace) (action : WaitAction) → IsWaking place → IsWaking (rw_writer_answered place action)
 answered_waking (places.Count who) action waking = waking
@@ -173,46 +140,12 @@ answered_waking (places.WakeOne who) action waking = waking
 answered_waking (places.WakeAll who) action waking = waking
 answered_waking place action waking = absurd waking
 
-answered_owes : {T : Type 0} (r : ℕ) (action : WaitAction) (pending : Option (PendingCall T)) → OwesWakeAt pending → OwesWakeAt (call_going_on (acts.Answered action) (event r (acts.Answered action) thens.GoesOn) pending)
-answered_owes {T} r action pending owes =
-    let e : Event T = event r (acts.Answered action) thens.GoesOn in
-    record {
-      call = record { call = owes.call.call; own = e ∷ owes.call.own };
-      under_way = ap (call_going_on (acts.Answered action) e) owes.under_way;
-      place = rw_writer_answered owes.place action;
-      stage = ap (next_stage {T = T} rw_writer_table (acts.Answered action)) owes.stage;
-      waking = answered_waking owes.place action owes.waking;
-    }
-
-chosen_owes : {T : Type 0} (r : ℕ) (choice : Option T) (pending : Option (PendingCall T)) → OwesWakeAt pending → OwesWakeAt (call_going_on (acts.Chosen choice) (event r (acts.Chosen choice) thens.GoesOn) pending)
-chosen_owes {T} r choice pending owes =
-    let e : Event T = event r (acts.Chosen choice) thens.GoesOn in
-    record {
-      call = record { call = owes.call.call; own = e ∷ owes.call.own };
-      under_way = ap (call_going_on (acts.Chosen choice) e) owes.under_way;
-      place = owes.place;
-      stage = ap (next_stage {T = T} rw_writer_table (acts.Chosen choice)) owes.stage;
-      waking = owes.waking;
-    }
-
 stepped_owes :
     {T : Type 0} (r : ℕ) (c : PendingCall T) (place : RwWriterPlace) (hold : Option HoldKind) (memory : Word → ℕ) → stage_of rw_writer_table c ≡ Some place →
     LeadsToWake (step_at {T = T} rw_writer_table place hold memory).act (rw_writer_table.after place (value_told {T = T} (carried_out (rw_writer_table.intent place hold) memory))) →
     OwesWakeAt (call_after (step_at rw_writer_table place hold memory).outcome (event r (step_at rw_writer_table place hold memory).act (step_at rw_writer_table place hold memory).outcome) (Some c))
-stepped_owes {T} r c place hold memory stage led = subst Goal (sym led.leads) owes
-  where
-    act : Act T
-    act = (step_at {T = T} rw_writer_table place hold memory).act
-
-    Goal : After T RwWriterPlace → Type 0
-    Goal a = OwesWakeAt (call_after (outcome_of a) (event r act (outcome_of a)) (Some c))
-
-    owes : Goal (afters.At led.next)
-    owes =
-        let e : Event T = event r act thens.GoesOn in
-        let to : next_stage rw_writer_table act (stage_of rw_writer_table c) ≡ Some led.next =
-        ap (next_stage rw_writer_table act) stage ∙ carried_stage rw_writer_table place (rw_writer_table.intent place hold) memory ∙ ap place_after led.leads in
-        record { call = record { call = c.call; own = e ∷ c.own }; under_way = carried_goes_on (rw_writer_table.intent place hold) memory e c; place = led.next; stage = to; waking = led.waking }
+stepped_owes {T} r c place hold memory stage led =
+    stepped_at (λ (next : RwWriterPlace) (own : List (Event T)). IsWaking next) r c place led.next hold memory stage (ap place_after led.leads) (λ e is. led.waking)
 
 -- what an event leaves of a party that owes, or has just made the word even: it owes on, and has not answered, unless it woke all
 own_owes :
@@ -233,15 +166,15 @@ own_owes {T} z parties past e run why =
 
     begun : (call : Call T) → run.0.0 ≡ inputs.Begin call → OwesWakeAt (call_of e.party past) ⊎ Evens w (acts.Begun call) →
         (wakes_all (acts.Begun call) ≡ true) ⊎ (OwesWakeAt (call_going_on (acts.Begun call) (event e.party (acts.Begun call) thens.GoesOn) (call_of e.party past)) × (false ≡ false) × (false ≡ false))
-    begun call is (inl owes) = absurd (begun_not (call_of e.party past) (hold_of rw_writer_table e.party past) call run.0.0 owes (fault_at_none rw_writer_table parties past e.party run.0.0 run.0.1.allowed) is)
+    begun call is (inl owes) = absurd (begins_none (call_of e.party past) owes.call (hold_of rw_writer_table e.party past) call run.0.0 owes.under_way (fault_at_none rw_writer_table parties past e.party run.0.0 run.0.1.allowed) is)
     begun call is (inr so) = clash (is_odd w) so.0 so.1
 
     answered : (action : WaitAction) → OwesWakeAt (call_of e.party past) ⊎ Evens {T = T} w (acts.Answered action) → OwesWakeAt (call_going_on (acts.Answered action) (event e.party (acts.Answered action) thens.GoesOn) (call_of e.party past))
-    answered action (inl owes) = answered_owes e.party action (call_of e.party past) owes
+    answered action (inl owes) = answered_at (λ (place : RwWriterPlace) (own : List (Event T)). IsWaking place) e.party action (call_of e.party past) (λ place own d waking. answered_waking place action waking) owes
     answered action (inr so) = clash (is_odd w) so.0 so.1
 
     chosen : (choice : Option T) → OwesWakeAt (call_of e.party past) ⊎ Evens w (acts.Chosen choice) → OwesWakeAt (call_going_on (acts.Chosen choice) (event e.party (acts.Chosen choice) thens.GoesOn) (call_of e.party past))
-    chosen choice (inl owes) = chosen_owes e.party choice (call_of e.party past) owes
+    chosen choice (inl owes) = chosen_at (λ (place : RwWriterPlace) (own : List (Event T)). IsWaking place) e.party choice (call_of e.party past) (λ place own d waking. waking) owes
     chosen choice (inr so) = clash (is_odd w) so.0 so.1
 
     stepped : (c : PendingCall T) (place : RwWriterPlace) → call_of e.party past ≡ Some c → stage_of rw_writer_table c ≡ Some place →
@@ -249,7 +182,7 @@ own_owes {T} z parties past e run why =
         (wakes_all (step_at {T = T} rw_writer_table place (hold_of rw_writer_table e.party past) (word_in rw_writer_table past)).act ≡ true)
         ⊎ (OwesWakeAt (call_after (step_at {T = T} rw_writer_table place (hold_of rw_writer_table e.party past) (word_in rw_writer_table past)).outcome (event e.party (step_at {T = T} rw_writer_table place (hold_of rw_writer_table e.party past) (word_in rw_writer_table past)).act (step_at {T = T} rw_writer_table place (hold_of rw_writer_table e.party past) (word_in rw_writer_table past)).outcome) (Some c))
         × (is_answer (step_at {T = T} rw_writer_table place (hold_of rw_writer_table e.party past) (word_in rw_writer_table past)).outcome ≡ false) × (wakes_all (step_at {T = T} rw_writer_table place (hold_of rw_writer_table e.party past) (word_in rw_writer_table past)).act ≡ false))
-    stepped c place called stage (inl owes) = by_step (waking_step {T = T} place (hold_of rw_writer_table e.party past) (word_in rw_writer_table past) (waking_place c place stage owes))
+    stepped c place called stage (inl owes) = by_step (waking_step {T = T} place (hold_of rw_writer_table e.party past) (word_in rw_writer_table past) (fact_here (λ (at : RwWriterPlace) (own : List (Event T)). IsWaking at) c place stage owes))
       where
         by_step : (wakes_all (step_at {T = T} rw_writer_table place (hold_of rw_writer_table e.party past) (word_in rw_writer_table past)).act ≡ true) ⊎ LeadsToWake (step_at {T = T} rw_writer_table place (hold_of rw_writer_table e.party past) (word_in rw_writer_table past)).act (rw_writer_table.after place (value_told {T = T} (carried_out (rw_writer_table.intent place (hold_of rw_writer_table e.party past)) (word_in rw_writer_table past)))) →
             (wakes_all (step_at {T = T} rw_writer_table place (hold_of rw_writer_table e.party past) (word_in rw_writer_table past)).act ≡ true)
@@ -260,11 +193,6 @@ own_owes {T} z parties past e run why =
     stepped c place called stage (inr so) =
         let led = evens place c (hold_of rw_writer_table e.party past) (word_in rw_writer_table past) (here z parties past run.1 e.party c place called stage) so in
         inr (stepped_owes e.party c place (hold_of rw_writer_table e.party past) (word_in rw_writer_table past) stage led, ap (λ (b : After T RwWriterPlace). is_answer (outcome_of b)) led.leads, led.is_before)
-
-neither : (a b x : Bool) → cond (a || b) false x ≡ true → (b ≡ false) × (x ≡ true)
-neither true b x is = absurd cc
-neither false true x is = absurd cc
-neither false false x is = (refl, is)
 
 which : (evens_now owed : Bool) → cond evens_now true owed ≡ true → (evens_now ≡ true) ⊎ (owed ≡ true)
 which true owed is = inl refl
@@ -425,29 +353,26 @@ enter_waits :
 enter_waits T patience seen_at to w seen true is = absurd cc
 enter_waits T patience seen_at to w seen false is = (look_waits T patience w seen is, refl)
 
-unlike : {T : Type 0} (A : Type 0) (call other : Call T) → call ≡ other → call ≡ calls.ReadLock → (other ≡ calls.ReadLock → ⊥) → A
-unlike A call other is read apart = absurd (apart (sym is ∙ read))
-
 leaver_reads : {T : Type 0} (A : Type 0) (who : Leaver) (c : PendingCall T) → IsLeaver who c → c.call ≡ calls.ReadLock → A
-leaver_reads A leavers.Reader c at read = unlike A c.call calls.Unlock at read (λ same. absurd cc)
-leaver_reads A leavers.Writer c at read = unlike A c.call calls.Unlock at read (λ same. absurd cc)
-leaver_reads A leavers.GivenUp c at read = unlike A c.call calls.WriteLock at.0 read (λ same. absurd cc)
+leaver_reads A leavers.Reader c at read = unlike c.call calls.Unlock calls.ReadLock at read (λ same. absurd cc)
+leaver_reads A leavers.Writer c at read = unlike c.call calls.Unlock calls.ReadLock at read (λ same. absurd cc)
+leaver_reads A leavers.GivenUp c at read = unlike c.call calls.WriteLock calls.ReadLock at.0 read (λ same. absurd cc)
 
 read_step :
     {T : Type 0} (place : RwWriterPlace) (c : PendingCall T) (hold : Option HoldKind) (memory : Word → ℕ) (seen : ℕ) → AtRwWriter place c hold → c.call ≡ calls.ReadLock → (step_at {T = T} rw_writer_table place hold memory).outcome ≡ thens.Waits seen →
     (memory words.State ≡ seen) × (word_after words.State (step_at {T = T} rw_writer_table place hold memory).act (memory words.State) ≡ memory words.State)
 read_step {T} (places.ReadLook patience) c hold memory seen at read is = (look_waits T patience (memory words.State) seen is, refl)
 read_step {T} (places.Read seen_at to patience) c hold memory seen at read is = enter_waits T patience seen_at to (memory words.State) seen (memory words.State == seen_at) is
-read_step places.TryReadLook c hold memory seen at read is = unlike _ c.call calls.TryReadLock at.0 read (λ same. absurd cc)
-read_step (places.TryRead seen_at to) c hold memory seen at read is = unlike _ c.call calls.TryReadLock at.0 read (λ same. absurd cc)
-read_step places.TryWrite c hold memory seen at read is = unlike _ c.call calls.TryWriteLock at.0 read (λ same. absurd cc)
-read_step (places.WriteLook patience) c hold memory seen at read is = unlike _ c.call calls.WriteLock at.0 read (λ same. absurd cc)
-read_step (places.Enter seen_at patience) c hold memory seen at read is = unlike _ c.call calls.WriteLock at.0 read (λ same. absurd cc)
-read_step (places.Mark seen_at to patience) c hold memory seen at read is = unlike _ c.call calls.WriteLock at.0 read (λ same. absurd cc)
-read_step (places.Unmark seen_at to) c hold memory seen at read is = unlike _ c.call calls.WriteLock at.0 read (λ same. absurd cc)
-read_step (places.LoadCounter patience) c hold memory seen at read is = unlike _ c.call calls.WriteLock at.0 read (λ same. absurd cc)
-read_step (places.LastLook count patience) c hold memory seen at read is = unlike _ c.call calls.WriteLock at.0 read (λ same. absurd cc)
-read_step places.Release c hold memory seen at read is = unlike _ c.call calls.Unlock at.0 read (λ same. absurd cc)
+read_step places.TryReadLook c hold memory seen at read is = unlike c.call calls.TryReadLock calls.ReadLock at.0 read (λ same. absurd cc)
+read_step (places.TryRead seen_at to) c hold memory seen at read is = unlike c.call calls.TryReadLock calls.ReadLock at.0 read (λ same. absurd cc)
+read_step places.TryWrite c hold memory seen at read is = unlike c.call calls.TryWriteLock calls.ReadLock at.0 read (λ same. absurd cc)
+read_step (places.WriteLook patience) c hold memory seen at read is = unlike c.call calls.WriteLock calls.ReadLock at.0 read (λ same. absurd cc)
+read_step (places.Enter seen_at patience) c hold memory seen at read is = unlike c.call calls.WriteLock calls.ReadLock at.0 read (λ same. absurd cc)
+read_step (places.Mark seen_at to patience) c hold memory seen at read is = unlike c.call calls.WriteLock calls.ReadLock at.0 read (λ same. absurd cc)
+read_step (places.Unmark seen_at to) c hold memory seen at read is = unlike c.call calls.WriteLock calls.ReadLock at.0 read (λ same. absurd cc)
+read_step (places.LoadCounter patience) c hold memory seen at read is = unlike c.call calls.WriteLock calls.ReadLock at.0 read (λ same. absurd cc)
+read_step (places.LastLook count patience) c hold memory seen at read is = unlike c.call calls.WriteLock calls.ReadLock at.0 read (λ same. absurd cc)
+read_step places.Release c hold memory seen at read is = unlike c.call calls.Unlock calls.ReadLock at.0 read (λ same. absurd cc)
 read_step (places.Count who) c hold memory seen at read is = leaver_reads _ who c at read
 read_step (places.WakeOne who) c hold memory seen at read is = leaver_reads _ who c at read
 read_step (places.WakeAll who) c hold memory seen at read is = leaver_reads _ who c at read

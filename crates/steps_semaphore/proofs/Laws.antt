@@ -23,10 +23,10 @@ use Rattle.steps_events.specs.Past.{same_word, PendingCall, call_of, hold_of, wo
 use Rattle.steps_events.specs.Moves.{Move, step_at, answer_fault}
 use Rattle.steps_events.specs.Runs.{IsPast}
 use Rattle.steps_events.specs.Sights.{sight_of, is_sight, is_abort, HasAborted, spins_in, stands_at_wait}
-use Rattle.steps_events.specs.Laws.{Lacks, is_refusal}
-use Rattle.steps_events.proofs.Holds.{eqb_same, no_holds}
+use Rattle.steps_events.specs.Laws.{is_apart, Lacks, is_refusal}
+use Rattle.steps_events.proofs.Holds.{some_same, eqb_same, no_holds}
 use Rattle.steps_events.proofs.Steps.{by_move, tells_memory}
-use Rattle.steps_events.proofs.Spins.{HasSpun, spins_left, spins_spent, answered_keep}
+use Rattle.steps_events.proofs.Spins.{begun_spun}
 use Rattle.steps_events.proofs.Parties.{IsKept, at_place}
 use Rattle.steps_semaphore.specs.declared.SemaphorePlace.{SemaphorePlace}
 use Rattle.steps_semaphore.specs.declared.SemaphorePlace.TheVariants as places
@@ -34,6 +34,7 @@ use Rattle.steps_semaphore.specs.Table.{semaphore_table, semaphore_begins, semap
 use Rattle.steps_semaphore.specs.Permits.{permits_given, permits_taken, is_take, number_answered}
 use Rattle.steps_semaphore.specs.Law.{permits_posted, semaphore_gives, semaphore_value, SemaphoreCause, is_empty_look, KeepsSemaphore}
 use Rattle.steps_semaphore.proofs.Permits.{Effect, Tallies, tallies_first, tallies_after, lowered}
+use Rattle.steps_semaphore.proofs.WaitSteps.{one_less, AtWait, WaitLeads, wait_leads, wait_goes_on, wait_effect, wait_answered, wait_chosen}
 
 -- What is kept of a call at its place.
 
@@ -43,8 +44,8 @@ AtSemaphore (places.Post n) c hold = c.call ≡ calls.Post n
 AtSemaphore places.Wake c hold = (n : ℕ) × (c.call ≡ calls.Post n)
 AtSemaphore places.TryLook c hold = c.call ≡ calls.TryWait
 AtSemaphore (places.TryTake seen to) c hold = (c.call ≡ calls.TryWait) × (seen ≡ to + 1)
-AtSemaphore (places.Look patience) c hold = (c.call ≡ calls.Wait) × HasSpun is_empty_look patience c.own
-AtSemaphore (places.Take seen to patience) c hold = (c.call ≡ calls.Wait) × HasSpun is_empty_look patience c.own × (seen ≡ to + 1) × (latest_outcome c.own ≡ thens.GoesOn)
+AtSemaphore (places.Look patience) c hold = (c.call ≡ calls.Wait) × AtWait (places.Look patience) c.own
+AtSemaphore (places.Take seen to patience) c hold = (c.call ≡ calls.Wait) × AtWait (places.Take seen to patience) c.own
 
 -- Where a call begins.
 
@@ -61,13 +62,10 @@ begins_at {T} calls.TryWait place hold is =
     subst (λ p. AtSemaphore {T = T} p (record { call = calls.TryWait; own = [] }) hold) made refl
 begins_at {T} calls.Wait place hold is =
     let made : places.Look (record { spins = 0; keep = true }) ≡ place = cc in
-    subst (λ p. AtSemaphore {T = T} p (record { call = calls.Wait; own = [] }) hold) made (refl, record { spun = refl; keeps = refl; within_limit = omega arith })
+    subst (λ p. AtSemaphore {T = T} p (record { call = calls.Wait; own = [] }) hold) made (refl, begun_spun is_empty_look)
 begins_at other place hold is = absurd cc
 
 -- Where a step leads.
-
-one_less : (v : ℕ) → v ≢ 0 → v ≡ (v - 1) + 1
-one_less v other = omega arith
 
 -- how `TryWait` goes on after a look, by whether it saw 0
 abbrev try_after : {T : Type 0} → ℕ → Bool → After T SemaphorePlace
@@ -81,30 +79,18 @@ try_steps {T} c hold v e next false try sees is =
     let made : places.TryTake v (v - 1) ≡ next = cc in
     subst (λ p. AtSemaphore {T = T} p (record { call = c.call; own = e ∷ c.own }) hold) made (try, one_less v (eqb-false v 0 sees))
 
--- how `Wait` goes on after a look, by three tests: it saw 0, it keeps on asking, it has spins left
-abbrev wait_after : {T : Type 0} → Patience → ℕ → Bool → Bool → Bool → After T SemaphorePlace
-wait_after patience v gone keep left =
-    cond gone (within places.Look (cond keep (cond left (afters.At (record { spins = patience.spins + 1; keep = patience.keep })) (afters.Waits patience 0)) (afters.Ends answers.Interrupted)))
-    (afters.At (places.Take v (v - 1) patience))
+-- a call that waits for a permit
+at_wait : {T : Type 0} (place : SemaphorePlace) (call : Call T) (own : List (Event T)) (hold : Option HoldKind) → call ≡ calls.Wait → AtWait place own → AtSemaphore {T = T} place (record { call = call; own = own }) hold
+at_wait (places.Look patience) call own hold wait at = (wait, at)
+at_wait (places.Take seen to patience) call own hold wait at = (wait, at)
+at_wait other call own hold wait at = absurd at
 
 wait_steps :
-    {T : Type 0} (patience : Patience) (c : PendingCall T) (hold : Option HoldKind) (act : Act T) (v number : ℕ) (next : SemaphorePlace) (gone keep left : Bool) → c.call ≡ calls.Wait → HasSpun is_empty_look patience c.own →
-    is_abort act ≡ false → is_empty_look act ≡ gone → (v == 0) ≡ gone → nat_lt patience.spins 10000 ≡ left → place_after {T = T} (wait_after patience v gone keep left) ≡ Some next →
-    AtSemaphore next (record { call = c.call; own = event number act (outcome_of {T = T} (wait_after patience v gone keep left)) ∷ c.own }) hold
-wait_steps patience c hold act v number next true false left wait spun quiet empty sees spins is = absurd cc
-wait_steps {T} patience c hold act v number next true true true wait spun quiet empty sees spins is =
-    let more : Patience = record { spins = patience.spins + 1; keep = patience.keep } in
-    let made : places.Look more ≡ next = cc in
-    subst (λ p. AtSemaphore {T = T} p (record { call = c.call; own = event number act thens.GoesOn ∷ c.own }) hold) made
-    (wait, record { spun = rw empty (omega (arith, spun.spun)); keeps = rw quiet spun.keeps; within_limit = spins_left patience.spins spins })
-wait_steps {T} patience c hold act v number next true true false wait spun quiet empty sees spins is =
-    let made : places.Look patience ≡ next = cc in
-    subst (λ p. AtSemaphore {T = T} p (record { call = c.call; own = event number act (thens.Waits 0) ∷ c.own }) hold) made
-    (wait, record { spun = rw empty (omega (arith, spun.spun)); keeps = rw quiet spun.keeps; within_limit = spun.within_limit })
-wait_steps {T} patience c hold act v number next false keep left wait spun quiet empty sees spins is =
-    let made : places.Take v (v - 1) patience ≡ next = cc in
-    subst (λ p. AtSemaphore {T = T} p (record { call = c.call; own = event number act thens.GoesOn ∷ c.own }) hold) made
-    (wait, record { spun = rw empty (omega (arith, spun.spun)); keeps = rw quiet spun.keeps; within_limit = spun.within_limit }, one_less v (eqb-false v 0 sees), refl)
+    {T : Type 0} (place : SemaphorePlace) (c : PendingCall T) (hold : Option HoldKind) (memory : Word → ℕ) (number : ℕ) (next : SemaphorePlace) → c.call ≡ calls.Wait → AtWait place c.own →
+    place_after {T = T} (semaphore_after place (value_told {T = T} (carried_out (semaphore_intent words.State place) memory))) ≡ Some next →
+    AtSemaphore next
+    (record { call = c.call; own = event number (carried_out (semaphore_intent words.State place) memory) (outcome_of {T = T} (semaphore_after place (value_told {T = T} (carried_out (semaphore_intent words.State place) memory)))) ∷ c.own }) hold
+wait_steps place c hold memory number next wait at is = at_wait next c.call _ hold wait (wait_goes_on words.State c.own number _ _ next (wait_leads words.State place c.own number memory at) is)
 
 -- an exchange from the value seen, by whether it was done
 try_takes :
@@ -112,15 +98,6 @@ try_takes :
     place_after {T = T} (cond done (afters.Ends answers.Success) (try_after v (v == 0))) ≡ Some next → AtSemaphore next (record { call = c.call; own = e ∷ c.own }) hold
 try_takes c hold v e next true try is = absurd cc
 try_takes c hold v e next false try is = try_steps c hold v e next (v == 0) try refl is
-
-wait_takes :
-    {T : Type 0} (patience : Patience) (c : PendingCall T) (hold : Option HoldKind) (v seen to number : ℕ) (next : SemaphorePlace) (done : Bool) → c.call ≡ calls.Wait → HasSpun is_empty_look patience c.own →
-    place_after {T = T} (cond done (afters.Ends answers.Success) (wait_after patience v (v == 0) patience.keep (nat_lt patience.spins 10000))) ≡ Some next →
-    AtSemaphore next
-    (record { call = c.call; own = event number (acts.Exchange words.State seen to v done) (outcome_of {T = T} (cond done (afters.Ends answers.Success) (wait_after patience v (v == 0) patience.keep (nat_lt patience.spins 10000)))) ∷ c.own }) hold
-wait_takes patience c hold v seen to number next true wait spun is = absurd cc
-wait_takes patience c hold v seen to number next false wait spun is =
-    wait_steps patience c hold (acts.Exchange words.State seen to v false) v number next (v == 0) patience.keep (nat_lt patience.spins 10000) wait spun refl refl refl refl is
 
 steps_at :
     {T : Type 0} (initial : ℕ) (place : SemaphorePlace) (c : PendingCall T) (hold left : Option HoldKind) (memory : Word → ℕ) (number : ℕ) (next : SemaphorePlace) → AtSemaphore place c hold →
@@ -133,9 +110,8 @@ steps_at {T} initial (places.Post n) c hold left memory number next at is =
 steps_at initial places.Wake c hold left memory number next at is = absurd cc
 steps_at initial places.TryLook c hold left memory number next at is = try_steps c left (memory words.State) _ next (memory words.State == 0) at refl is
 steps_at initial (places.TryTake seen to) c hold left memory number next at is = try_takes c left (memory words.State) _ next (memory words.State == seen) at.0 is
-steps_at initial (places.Look patience) c hold left memory number next at is =
-    wait_steps patience c left (acts.Load words.State (memory words.State)) (memory words.State) number next (memory words.State == 0) patience.keep (nat_lt patience.spins 10000) at.0 at.1 refl refl refl refl is
-steps_at initial (places.Take seen to patience) c hold left memory number next at is = wait_takes patience c left (memory words.State) seen to number next (memory words.State == seen) at.0 at.1 is
+steps_at initial (places.Look patience) c hold left memory number next at is = wait_steps (places.Look patience) c left memory number next at.0 at.1 is
+steps_at initial (places.Take seen to patience) c hold left memory number next at is = wait_steps (places.Take seen to patience) c left memory number next at.0 at.1 is
 
 -- Where an answer leads.
 
@@ -147,10 +123,8 @@ answers_at (places.Post n) c hold action number at waits = at
 answers_at places.Wake c hold action number at waits = at
 answers_at places.TryLook c hold action number at waits = at
 answers_at (places.TryTake seen to) c hold action number at waits = at
-answers_at (places.Look patience) c hold action number at waits =
-    (at.0, record { spun = omega (arith, at.1.spun); keeps = answered_keep patience.keep action c.own number at.1.keeps; within_limit = at.1.within_limit })
-answers_at {T} (places.Take seen to patience) c hold action number at waits =
-    let no : answer_fault {T = T} thens.GoesOn ≡ None = subst (λ (o : Then T). answer_fault o ≡ None) at.3 waits in absurd cc
+answers_at (places.Look patience) c hold action number at waits = (at.0, wait_answered (places.Look patience) c.own number action at.1 waits)
+answers_at (places.Take seen to patience) c hold action number at waits = (at.0, wait_answered (places.Take seen to patience) c.own number action at.1 waits)
 
 chooses_at :
     {T : Type 0} (place : SemaphorePlace) (c : PendingCall T) (hold : Option HoldKind) (choice : Option T) (number : ℕ) → AtSemaphore place c hold →
@@ -160,9 +134,8 @@ chooses_at (places.Post n) c hold choice number at = at
 chooses_at places.Wake c hold choice number at = at
 chooses_at places.TryLook c hold choice number at = at
 chooses_at (places.TryTake seen to) c hold choice number at = at
-chooses_at (places.Look patience) c hold choice number at = (at.0, record { spun = omega (arith, at.1.spun); keeps = at.1.keeps; within_limit = at.1.within_limit })
-chooses_at (places.Take seen to patience) c hold choice number at =
-    (at.0, record { spun = omega (arith, at.1.spun); keeps = at.1.keeps; within_limit = at.1.within_limit }, at.2, refl)
+chooses_at (places.Look patience) c hold choice number at = (at.0, wait_chosen (places.Look patience) c.own number choice at.1)
+chooses_at (places.Take seen to patience) c hold choice number at = (at.0, wait_chosen (places.Take seen to patience) c.own number choice at.1)
 
 pub semaphore_kept : {T : Type 0} (initial : ℕ) → IsKept {T = T} (semaphore_table initial) AtSemaphore
 semaphore_kept initial =
@@ -201,21 +174,21 @@ try_law {T} initial party past c w act true try law sight sees =
 try_law initial party past c w act false try law sight sees = record { answered = tt; cause = tt; asks = tt }
 
 wait_law :
-    {T : Type 0} (initial party : ℕ) (past : List (Event T)) (c : PendingCall T) (patience : Patience) (w : ℕ) (act : Act T) (gone keep left : Bool) → call_of party past ≡ Some c → c.call ≡ calls.Wait →
-    HasSpun is_empty_look patience c.own → w ≡ semaphore_value initial past → is_sight words.State act ≡ true → (w == 0) ≡ gone → patience.keep ≡ keep → nat_lt patience.spins 10000 ≡ left →
-    LookLaw initial party past c w act (outcome_of {T = T} (wait_after patience w gone keep left))
-wait_law initial party past c patience w act true true true called wait spun law sight sees keeps spins = record { answered = tt; cause = tt; asks = tt }
-wait_law initial party past c patience w act true true false called wait spun law sight sees keeps spins =
-    record { answered = tt; cause = tt; asks = spun.spun ∙ spins_spent patience.spins spun.within_limit spins }
-wait_law {T} initial party past c patience w act true false left called wait spun law sight sees keeps spins =
+    {T : Type 0} (initial party : ℕ) (past : List (Event T)) (c : PendingCall T) (w : ℕ) (act : Act T) (a : After T SemaphorePlace) → call_of party past ≡ Some c → c.call ≡ calls.Wait →
+    w ≡ semaphore_value initial past → sight_of words.State act ≡ Some w → WaitLeads words.State c.own party act a → LookLaw initial party past c w act (outcome_of {T = T} a)
+wait_law initial party past c w act (afters.At next) called wait law told leads = record { answered = tt; cause = tt; asks = tt }
+wait_law initial party past c w act (afters.Waits next seen) called wait law told leads = record { answered = tt; cause = tt; asks = leads.2 }
+wait_law initial party past c w act (afters.Ends answers.Success) called wait law told leads = record { answered = tt; cause = tt; asks = tt }
+wait_law {T} initial party past c w act (afters.Ends answers.Interrupted) called wait law told leads =
     let refuses : Event T = event party act (thens.Answers answers.Interrupted) in
-    let aborted : HasAborted party past = rw called (spun.keeps ∙ keeps) in
+    let aborted : HasAborted party past = rw called leads.2 in
+    let none : w ≡ 0 = some_same w 0 (sym told ∙ leads.0) in
     record {
       answered = tt;
-      cause = subst (λ (k : Call T). SemaphoreCause initial k party (refuses ∷ past)) (sym wait) (rw (eqb_same party, sight) (aborted, sym law ∙ eqb-true w 0 sees));
+      cause = subst (λ (k : Call T). SemaphoreCause initial k party (refuses ∷ past)) (sym wait) (rw (eqb_same party, leads.0) (aborted, sym law ∙ none));
       asks = tt;
     }
-wait_law initial party past c patience w act false keep left called wait spun law sight sees keeps spins = record { answered = tt; cause = tt; asks = tt }
+wait_law initial party past c w act other called wait law told leads = absurd leads
 
 -- a load of the word
 load_law : {T : Type 0} (initial party : ℕ) (past : List (Event T)) (c : PendingCall T) (w : ℕ) (outcome : Then T) → LookLaw initial party past c w (acts.Load words.State w) outcome →
@@ -247,12 +220,11 @@ step_law initial party past c (places.TryTake seen to) hold memory called at law
     let w = memory words.State in
     take_law initial party past c w seen to (try_after w (w == 0)) (w == seen) at.1 refl (try_law initial party past c w (acts.Exchange words.State seen to w false) (w == 0) at.0 law refl refl)
 step_law initial party past c (places.Look patience) hold memory called at law =
-    let w = memory words.State in
-    load_law initial party past c w _ (wait_law initial party past c patience w (acts.Load words.State w) (w == 0) patience.keep (nat_lt patience.spins 10000) called at.0 at.1 law refl refl refl refl)
+    let looks = wait_law initial party past c (memory words.State) _ _ called at.0 law refl (wait_leads words.State (places.Look patience) c.own party memory at.1) in
+    record { effect = wait_effect words.State (places.Look patience) c.own memory at.1; told = refl; answered = looks.answered; cause = looks.cause; asks = looks.asks }
 step_law initial party past c (places.Take seen to patience) hold memory called at law =
-    let w = memory words.State in
-    take_law initial party past c w seen to (wait_after patience w (w == 0) patience.keep (nat_lt patience.spins 10000)) (w == seen) at.2 refl
-    (wait_law initial party past c patience w (acts.Exchange words.State seen to w false) (w == 0) patience.keep (nat_lt patience.spins 10000) called at.0 at.1 law refl refl refl refl)
+    let looks = wait_law initial party past c (memory words.State) _ _ called at.0 law refl (wait_leads words.State (places.Take seen to patience) c.own party memory at.1) in
+    record { effect = wait_effect words.State (places.Take seen to patience) c.own memory at.1; told = refl; answered = looks.answered; cause = looks.cause; asks = looks.asks }
 
 event_law :
     {T : Type 0} (z : Arithmetic T) (initial parties : ℕ) (past : List (Event T)) (e : Event T) → IsPast z (semaphore_table initial) parties (e ∷ past) → word_in (semaphore_table initial) past words.State ≡ semaphore_value initial past →
@@ -301,11 +273,14 @@ keeps_semaphore z initial parties (e ∷ past) fits run =
     }
 
 -- a semaphore has no other word
+pub semaphore_apart : (T : Type 0) (own word : Word) → same_word own word ≡ false → (place : SemaphorePlace) → is_apart {T = T} word (semaphore_intent own place) ≡ true
+semaphore_apart T own word other places.Value = ap not other
+semaphore_apart T own word other (places.Post n) = ap not other
+semaphore_apart T own word other places.Wake = refl
+semaphore_apart T own word other places.TryLook = ap not other
+semaphore_apart T own word other (places.TryTake seen to) = ap not other
+semaphore_apart T own word other (places.Look patience) = ap not other
+semaphore_apart T own word other (places.Take seen to patience) = ap not other
+
 pub semaphore_lacks : (T : Type 0) (initial : ℕ) (word : Word) → same_word words.State word ≡ false → Lacks {T = T} (semaphore_table initial) word
-semaphore_lacks T initial word other places.Value hold = ap not other
-semaphore_lacks T initial word other (places.Post n) hold = ap not other
-semaphore_lacks T initial word other places.Wake hold = refl
-semaphore_lacks T initial word other places.TryLook hold = ap not other
-semaphore_lacks T initial word other (places.TryTake seen to) hold = ap not other
-semaphore_lacks T initial word other (places.Look patience) hold = ap not other
-semaphore_lacks T initial word other (places.Take seen to patience) hold = ap not other
+semaphore_lacks T initial word other place hold = semaphore_apart T words.State word other place

@@ -1,2 +1,3 @@
-pub mod Permits
 pub mod Laws
+pub mod Permits
+pub mod WaitSteps

@@ -5,10 +5,12 @@
 ghost use Rattle.std.specs.Prelude.{◌≡◌, ◌≤◌};
 
 mod barrier;
+mod lazy_lock;
 mod mutex;
 mod once;
 mod rwreader;
 mod semaphore;
+mod spin_lock;
 mod yardsticks;
 
 use std::alloc::{AllocError, Global};
@@ -37,10 +39,14 @@ pub enum Line {
     BarrierOfOne,
     StdOnceLockGet,
     OnceAfter,
+    BareSwaps,
+    StdMutexAddUnlock,
+    SpinLockUnlock,
+    LazyForce,
 }
 
 /// Every line, in the order of the table.
-pub const LINES: [Line; 17] = [
+pub const LINES: [Line; 21] = [
     Line::BareExchangeStore,
     Line::StdMutexLockUnlock,
     Line::MutexLockUnlock,
@@ -58,6 +64,10 @@ pub const LINES: [Line; 17] = [
     Line::BarrierOfOne,
     Line::StdOnceLockGet,
     Line::OnceAfter,
+    Line::BareSwaps,
+    Line::StdMutexAddUnlock,
+    Line::SpinLockUnlock,
+    Line::LazyForce,
 ];
 
 impl Line {
@@ -85,6 +95,10 @@ impl Line {
             Line::BarrierOfOne => "barrier of one",
             Line::StdOnceLockGet => "std once_lock get",
             Line::OnceAfter => "once after",
+            Line::BareSwaps => "bare swaps",
+            Line::StdMutexAddUnlock => "std mutex add unlock",
+            Line::SpinLockUnlock => "spin lock unlock",
+            Line::LazyForce => "lazy force",
         }
     }
 
@@ -109,6 +123,10 @@ impl Line {
             Line::BarrierOfOne => barrier::of_one(rt, alloc),
             Line::StdOnceLockGet => Ok(yardsticks::std_once_lock_get()),
             Line::OnceAfter => once::after(rt, alloc),
+            Line::BareSwaps => Ok(yardsticks::bare_swaps()),
+            Line::StdMutexAddUnlock => Ok(yardsticks::std_mutex_add_unlock(rt)),
+            Line::SpinLockUnlock => spin_lock::lock_unlock(rt, alloc),
+            Line::LazyForce => lazy_lock::force(rt, alloc),
         }
     }
 }

@@ -15,9 +15,9 @@ pub enum Mark {
     Look,
     /// An exchange that was done.
     Done,
-    /// An exchange that failed.
+    /// An exchange that failed, or a swap that changed nothing.
     Failed,
-    /// A store, a swap or an add.
+    /// A store, an add, or a swap that changed something.
     Written,
     /// A wake.
     Wake,
@@ -31,7 +31,7 @@ pub enum Tone {
     Waiting,
 }
 
-/// A word that a step reads or writes.
+/// A word that a step reads or writes. A swap that puts what it found is told as a read.
 #[derive(Clone, Copy, Debug, PartialEq, Eq)]
 pub struct Reach {
     pub word: Word,
@@ -44,6 +44,7 @@ pub fn mark_of(act: &Act<u64>) -> Mark {
         Act::Begun(_) => Mark::None,
         Act::Load { .. } | Act::Answered(_) | Act::Chosen(_) | Act::Ended | Act::ReadCell(_) =>
             Mark::Look,
+        Act::Swap { old, put, .. } if *old == *put => Mark::Failed,
         Act::Store { .. } | Act::Swap { .. } | Act::Add { .. } => Mark::Written,
         Act::Exchange { done: true, .. } => Mark::Done,
         Act::Exchange { done: false, .. } => Mark::Failed,
@@ -58,9 +59,11 @@ pub fn reach_of(act: &Act<u64>) -> Option<Reach> {
             word,
             writes: false,
         }),
-        Act::Store { word, .. } | Act::Swap { word, .. } | Act::Add { word, .. } => {
-            Some(Reach { word, writes: true })
-        }
+        Act::Store { word, .. } | Act::Add { word, .. } => Some(Reach { word, writes: true }),
+        Act::Swap { word, old, put } => Some(Reach {
+            word,
+            writes: old != put,
+        }),
         Act::Exchange { word, done, .. } => Some(Reach { word, writes: done }),
         Act::Begun(_)
         | Act::Woke(_)
@@ -76,7 +79,9 @@ pub fn tone_of(then: &Then<u64>) -> Option<Tone> {
     match then {
         Then::GoesOn => None,
         Then::Waits(_) | Then::Chooses(_) => Some(Tone::Waiting),
-        Then::Answers(Answer::Interrupted) | Then::Answers(Answer::Full) => Some(Tone::Refused),
+        Then::Answers(Answer::Interrupted)
+        | Then::Answers(Answer::InterruptedHeld)
+        | Then::Answers(Answer::Full) => Some(Tone::Refused),
         Then::Answers(_) => Some(Tone::Granted),
     }
 }
@@ -103,6 +108,10 @@ fn say_act(out: &mut String, object: &Object<u64>, act: &Act<u64>) -> Result<(),
         Act::Store { word, put } => {
             write!(out, "stores ")?;
             say_value(out, object, word, put)
+        }
+        Act::Swap { word, old, put } if old == put => {
+            write!(out, "found ")?;
+            say_value(out, object, word, old)
         }
         Act::Swap { word, old, put } | Act::Add { word, old, put } => {
             say_change(out, object, word, old, put)

@@ -4,12 +4,12 @@
 //! lane for each party that makes a step.
 ghost use Rattle.std.specs.Prelude.{◌<◌, ◌^◌};
 
-use crate::label::{label_of, outcome_of, reach_of};
+use crate::label::{Tone, label_of, outcome_of, reach_of, tone_of};
 use crate::story::{Step, Story};
 use crate::terms::{name_of, say_value, words_of};
 use std::alloc::{AllocError, Global};
 use steps_events::hold::HoldKind;
-use sync_steps::steps::{Act, Answer, Object, Then, Word};
+use sync_steps::steps::{Act, Object, Then, Word};
 
 /// Where the first row begins.
 const FIRST: u64 = 36;
@@ -158,11 +158,11 @@ fn next_colour(colour: Colour) -> Colour {
     }
 }
 
-/// What a step puts into this word, if it writes it.
+/// What a step puts into this word, if it changes it.
 fn put_of(act: &Act<u64>, word: Word) -> Option<u64> {
     match *act {
         Act::Store { word: at, put } if at == word => Some(put),
-        Act::Swap { word: at, put, .. } if at == word => Some(put),
+        Act::Swap { word: at, old, put } if at == word && old != put => Some(put),
         Act::Add { word: at, put, .. } if at == word => Some(put),
         Act::Exchange {
             word: at,
@@ -358,14 +358,6 @@ fn holds_of(alloc: Global, steps: &[Step], party: usize) -> Result<Vec<Hold>, Al
     Ok(holds)
 }
 
-/// Whether a call has given up.
-fn is_refused(then: &Then<u64>) -> bool {
-    matches!(
-        then,
-        Then::Answers(Answer::Interrupted) | Then::Answers(Answer::Full)
-    )
-}
-
 /// What the refused calls of a party saw last.
 fn sights_of(alloc: Global, steps: &[Step], party: usize) -> Result<Vec<u32>, AllocError> {
     let mut sights = Vec::new(alloc);
@@ -380,7 +372,7 @@ fn sights_of(alloc: Global, steps: &[Step], party: usize) -> Result<Vec<u32>, Al
             seen = Some(step.row);
         }
         if let Some(row) = seen
-            && is_refused(&step.event.then)
+            && tone_of(&step.event.then) == Some(Tone::Refused)
         {
             sights.push(row)?;
         }

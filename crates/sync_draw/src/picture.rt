@@ -20,7 +20,6 @@ use markup::opening::Opening;
 use std::alloc::{AllocError, Global};
 use steps_events::hold::HoldKind;
 use sync_play::fault::TextFault;
-use sync_play::print::print_last;
 use sync_steps::steps::Act;
 
 /// How high the notes below the rows are.
@@ -418,9 +417,7 @@ fn draw_notes(
     layout: &Layout,
 ) -> Result<(), AllocError> {
     let bottom = layout.bottom();
-    let mut last = String::new(alloc);
-    print_last(&mut last, story.word, story.failed)?;
-    let words = text(alloc, "soft", 12, bottom + 26, last.as_str().trim_end())?;
+    let words = text(alloc, "soft", 12, bottom + 26, story.last.as_str().trim_end())?;
     put(picture, &words)?;
     let note = left_out(alloc, story, layout)?;
     if note.is_empty() {

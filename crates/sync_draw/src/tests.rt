@@ -19,7 +19,7 @@ fn a_spin_is_one_step_of_a_story(rt: HostRuntime) -> Result<(), Fail> {
     // try_lock, its exchange; lock, its 10000 exchanges, the one after which it stands, its answer, the last exchange.
     assert_eq!(rt; counts.as_slice(), [1, 1, 1, 10000, 1, 1, 1].as_slice());
     assert_eq!(rt; story.left_out, 0);
-    assert_eq!(rt; story.failed, 10002);
+    assert_eq!(rt; story.last.as_str(), "word 1 failed 10002\n");
     Ok(())
 }
 

@@ -1,6 +1,7 @@
 pub mod LexerLaws
 pub mod CommandLaws
 pub mod PlayerLaws
+pub mod PrintLaws
 pub mod TextLaws
 pub mod RunLaws
 pub mod OutputsAreRuns

@@ -118,10 +118,14 @@ verb_values = (tt, (tt, (tt, (tt, (tt, (tt, tt))))))
 
 call_values : (o : Object ℕ) → RowValues (calls_of o)
 call_values objects.Mutex = (tt, (tt, (tt, tt)))
+call_values objects.Spin = (tt, (tt, (tt, (tt, tt))))
 call_values (objects.Semaphore initial) = (tt, (tt, (tt, (tt, tt))))
 call_values objects.ReaderLock = (tt, (tt, (tt, (tt, (tt, tt)))))
+call_values objects.WriterLock = (tt, (tt, (tt, (tt, (tt, tt)))))
 call_values (objects.Barrier n) = (tt, tt)
+call_values objects.Condvar = (tt, (tt, (tt, (tt, (tt, (tt, tt))))))
 call_values objects.Once = (tt, (tt, tt))
+call_values (objects.Lazy v) = (tt, tt)
 call_values other = tt
 
 at_most : (b : Bool) (n m : ℕ) (fault : LineFault) → cond b (Ok n) (Err fault) ≡ Ok m → (b ≡ true) × (n ≡ m)

@@ -1,13 +1,10 @@
 -- Events make up a command, commands the lines, and lines a text.
-use Rattle.std.proofs.Common.{◌≡◌, ℕ, ◌+◌, ◌-◌, ◌^◌, min, List, [], ◌∷◌, ◌++◌, Option, Some, None, Result, Ok, Err, refl, sym, ap, subst, ◌∙◌, append_assoc}
+use Rattle.std.proofs.Common.{◌≡◌, ℕ, ◌+◌, List, [], ◌∷◌, ◌++◌, Option, Some, None, Result, Ok, Err, refl, sym, ap, subst, ◌∙◌, append_assoc}
 use Rattle.std.proofs.lemmas.List.{append-nil}
 use Rattle.std.proofs.lemmas.List.Concat.{flat_map-append}
 use Rattle.steps_events.specs.declared.event.Event.{Event}
 use Rattle.steps_events.specs.declared.event.Object.{Object}
-use Rattle.steps_events.specs.declared.event.Word.TheVariants as words
 use Rattle.steps_events.specs.Integers.{u64_arithmetic}
-use Rattle.steps_events.specs.Past.{failures_in}
-use Rattle.sync_steps.specs.Runs.{word_in}
 use Rattle.steps_events.specs.Runs.{after}
 use Rattle.sync_steps.specs.Machine.{Configuration, StandsAt}
 use Rattle.sync_play.specs.declared.command.Command.{Command}
@@ -21,7 +18,7 @@ use Rattle.sync_play.specs.Fault.{◌>>=◌, FaultAt, at_line, IsFaultOf}
 use Rattle.sync_play.specs.Header.{header_of}
 use Rattle.sync_play.specs.Lexer.{lines_of, words_of}
 use Rattle.sync_play.specs.Player.{command_events, IsTurn}
-use Rattle.sync_play.specs.Print.{printed, event_lines, counts_line, last_line}
+use Rattle.sync_play.specs.Print.{printed, event_lines, last_line}
 use Rattle.sync_play.specs.Text.{line_events, output_after, output_of_lines, output_of, Advances, IsOutcome, PlaysLines}
 use Rattle.sync_play.proofs.PlayerLaws.{with_front, with_none, with_fronts}
 
@@ -226,20 +223,13 @@ pub header_is : (text line : List ℕ) (lines : List (List ℕ)) (header : Heade
 unfolding output_of_lines
 header_is text line lines header same e = rw (same, ← e) refl
 
-pub last_is : (o : Object ℕ) (past : List Ev) (word failed : ℕ) → word ≡ word_in u64_arithmetic o past words.State → failed ≡ min (failures_in past) (2 ^ 64 - 1) → last_line o past ≡ counts_line word failed
-unfolding last_line
-last_is o past word failed e f = rw (e, f) refl
-
 pub faults_so : (text : List ℕ) (o : Object ℕ) (parties : ℕ) (lines : List (List ℕ)) (fault : TextFault) → output_of text ≡ output_after o parties 2 lines [] → IsFaultOf fault (output_after o parties 2 lines []) → IsFaultOf fault (output_of text)
 faults_so text o parties lines fault e h = rw e h
 
-pub text_done : (text : List ℕ) (o : Object ℕ) (parties : ℕ) (lines : List (List ℕ)) (old new end : List ℕ) (machine : Configuration ℕ) (word failed : ℕ) → old ≡ [] → output_of text ≡ output_after o parties 2 lines []
+pub text_done : (text : List ℕ) (o : Object ℕ) (parties : ℕ) (lines : List (List ℕ)) (old new end : List ℕ) (machine : Configuration ℕ) → old ≡ [] → output_of text ≡ output_after o parties 2 lines []
     → PlaysLines o parties 2 lines [] old new machine
-    → ((at : List Ev) → StandsAt u64_arithmetic o parties at machine → word ≡ word_in u64_arithmetic o at words.State)
-    → ((at : List Ev) → StandsAt u64_arithmetic o parties at machine → failed ≡ min (failures_in at) (2 ^ 64 - 1))
-    → end ≡ new ++ counts_line word failed → output_of text ≡ Ok end
-text_done text o parties lines old new end machine word failed none e p w f written =
+    → ((at : List Ev) → StandsAt u64_arithmetic o parties at machine → end ≡ new ++ last_line o at) → output_of text ≡ Ok end
+text_done text o parties lines old new end machine none e p written =
     let there = after p.events [] in
     let front : new ≡ printed p.events = p.output ∙ ap (λ (l : List ℕ). l ++ printed p.events) none in
-    e ∙ p.is_output ∙ ap (λ (l : List ℕ). Ok (printed p.events ++ l)) (last_is o there word failed (w there p.stands) (f there p.stands))
-    ∙ ap (λ (l : List ℕ). Ok l) (ap (λ (l : List ℕ). l ++ counts_line word failed) (sym front) ∙ sym written)
+    e ∙ p.is_output ∙ ap (λ (l : List ℕ). Ok l) (ap (λ (l : List ℕ). l ++ last_line o there) (sym front) ∙ sym (written there p.stands))

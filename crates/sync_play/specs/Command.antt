@@ -40,6 +40,14 @@ mutex_calls =
     ∷ (codes "unlock", begins calls.Unlock)
     ∷ []
 
+abbrev pub spin_calls : List (List ℕ × Form)
+spin_calls =
+    (codes "lock", begins calls.Lock)
+    ∷ (codes "blocking_lock", begins calls.BlockingLock)
+    ∷ (codes "try_lock", begins calls.TryLock)
+    ∷ (codes "unlock", begins calls.Unlock)
+    ∷ []
+
 -- a call that is named `wait` is written `start_wait`, since `wait` is the closure's answer
 abbrev pub semaphore_calls : List (List ℕ × Form)
 semaphore_calls =
@@ -62,18 +70,34 @@ rw_lock_calls =
 abbrev pub barrier_calls : List (List ℕ × Form)
 barrier_calls = (codes "start_wait", begins calls.Wait) ∷ []
 
+-- its mutex's, and its own
+abbrev pub condvar_calls : List (List ℕ × Form)
+condvar_calls =
+    mutex_calls
+    ++ ((codes "notify_one", begins calls.NotifyOne)
+    ∷ (codes "notify_all", begins calls.NotifyAll)
+    ∷ (codes "start_wait", begins calls.Wait)
+    ∷ [])
+
 abbrev pub once_calls : List (List ℕ × Form)
 once_calls =
     (codes "call_once", begins calls.CallOnce)
     ∷ (codes "is_completed", begins calls.IsCompleted)
     ∷ []
 
+abbrev pub lazy_calls : List (List ℕ × Form)
+lazy_calls = (codes "force", begins calls.Force) ∷ []
+
 abbrev pub calls_of : Object ℕ → List (List ℕ × Form)
 calls_of objects.Mutex = mutex_calls
+calls_of objects.Spin = spin_calls
 calls_of (objects.Semaphore initial) = semaphore_calls
 calls_of objects.ReaderLock = rw_lock_calls
+calls_of objects.WriterLock = rw_lock_calls
 calls_of (objects.Barrier n) = barrier_calls
+calls_of objects.Condvar = condvar_calls
 calls_of objects.Once = once_calls
+calls_of (objects.Lazy v) = lazy_calls
 calls_of o = []
 
 -- the first row of this name

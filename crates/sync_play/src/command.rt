@@ -84,6 +84,22 @@ fn mutex_call(name: &[u8]) -> Option<Form>
     }
 }
 
+fn spin_call(name: &[u8]) -> Option<Form>
+    ensures { result ≡ meaning.find name.now meaning.spin_calls }
+{
+    if is(name, b"lock") {
+        Some(begins(Call::Lock))
+    } else if is(name, b"blocking_lock") {
+        Some(begins(Call::BlockingLock))
+    } else if is(name, b"try_lock") {
+        Some(begins(Call::TryLock))
+    } else if is(name, b"unlock") {
+        Some(begins(Call::Unlock))
+    } else {
+        None
+    }
+}
+
 /// A call that is named `wait` is written `start_wait`, since `wait` is the closure's answer.
 fn semaphore_call(name: &[u8]) -> Option<Form>
     ensures { result ≡ meaning.find name.now meaning.semaphore_calls }
@@ -131,6 +147,21 @@ fn barrier_call(name: &[u8]) -> Option<Form>
     }
 }
 
+/// The calls of its mutex, and its own.
+fn condvar_call(name: &[u8]) -> Option<Form>
+    ensures { result ≡ meaning.find name.now meaning.condvar_calls }
+{
+    if is(name, b"notify_one") {
+        Some(begins(Call::NotifyOne))
+    } else if is(name, b"notify_all") {
+        Some(begins(Call::NotifyAll))
+    } else if is(name, b"start_wait") {
+        Some(begins(Call::Wait))
+    } else {
+        mutex_call(name)
+    }
+}
+
 fn once_call(name: &[u8]) -> Option<Form>
     ensures { result ≡ meaning.find name.now meaning.once_calls }
 {
@@ -143,16 +174,29 @@ fn once_call(name: &[u8]) -> Option<Form>
     }
 }
 
+fn lazy_call(name: &[u8]) -> Option<Form>
+    ensures { result ≡ meaning.find name.now meaning.lazy_calls }
+{
+    if is(name, b"force") {
+        Some(begins(Call::Force))
+    } else {
+        None
+    }
+}
+
 /// The calls of an object.
 fn named_call(object: Object<u64>, name: &[u8]) -> Option<Form>
     ensures { result ≡ meaning.find name.now (meaning.calls_of object) }
 {
     match object {
         Object::Mutex => mutex_call(name),
+        Object::Spin => spin_call(name),
         Object::Semaphore(_) => semaphore_call(name),
-        Object::ReaderLock => rw_lock_call(name),
+        Object::ReaderLock | Object::WriterLock => rw_lock_call(name),
         Object::Barrier(_) => barrier_call(name),
+        Object::Condvar => condvar_call(name),
         Object::Once => once_call(name),
+        Object::Lazy(_) => lazy_call(name),
         _ => None,
     }
 }

@@ -66,6 +66,12 @@ impl Header {
                 object: Object::Mutex,
                 parties,
             })
+        } else if is(name, b"spin") {
+            let parties = parties(rest)?;
+            Ok(Header {
+                object: Object::Spin,
+                parties,
+            })
         } else if is(name, b"semaphore") {
             let (parties, initial) = parties_and_value(u64::MAX, rest)?;
             Ok(Header {
@@ -84,10 +90,28 @@ impl Header {
                 object: Object::ReaderLock,
                 parties,
             })
+        } else if is(name, b"rwwriter") {
+            let parties = parties(rest)?;
+            Ok(Header {
+                object: Object::WriterLock,
+                parties,
+            })
+        } else if is(name, b"condvar") {
+            let parties = parties(rest)?;
+            Ok(Header {
+                object: Object::Condvar,
+                parties,
+            })
         } else if is(name, b"once") {
             let parties = parties(rest)?;
             Ok(Header {
                 object: Object::Once,
+                parties,
+            })
+        } else if is(name, b"lazy") {
+            let (parties, value) = parties_and_value(u64::MAX, rest)?;
+            Ok(Header {
+                object: Object::Lazy(value),
                 parties,
             })
         } else {

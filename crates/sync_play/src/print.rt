@@ -1,10 +1,14 @@
 //! What an event prints, and the last line.
-ghost use Rattle.std.specs.Prelude.{◌≡◌, ◌++◌, OnOk, string_bytes};
+ghost use Rattle.std.specs.Prelude.{◌≡◌, ◌++◌, ℕ, List, OnOk, string_bytes};
 ghost use Rattle.steps_events.specs.declared.event.Act.TheVariants as acts;
-ghost use Rattle.sync_play.specs.Print.{answer_words, counts_line, act_line, then_line, event_lines};
+ghost use Rattle.steps_events.specs.declared.event.Event.{Event as AnEvent};
+ghost use Rattle.steps_events.specs.Integers.{u64_arithmetic};
+ghost use Rattle.sync_steps.specs.Machine.{StandsAt};
+ghost use Rattle.sync_steps.specs.Runs.{word_in};
+ghost use Rattle.sync_play.specs.Print.{answer_words, act_line, then_line, event_lines, further_words, named_words, last_line};
 
 use std::alloc::AllocError;
-use sync_steps::steps::{Act, Answer, Event, Then, Wake};
+use sync_steps::steps::{Act, Answer, Event, Machine, Object, Then, Wake};
 
 /// Prints what a call answers.
 pub fn print_answer(out: &mut String, answer: Answer<u64>) -> Result<(), AllocError>
@@ -13,6 +17,7 @@ pub fn print_answer(out: &mut String, answer: Answer<u64>) -> Result<(), AllocEr
     match answer {
         Answer::Success => write!(out, "success"),
         Answer::Interrupted => write!(out, "interrupted"),
+        Answer::InterruptedHeld => write!(out, "interrupted held"),
         Answer::Done => write!(out, "done"),
         Answer::Ok => write!(out, "ok"),
         Answer::Full => write!(out, "full"),
@@ -72,9 +77,48 @@ pub fn print_event(out: &mut String, event: &Event<u64>) -> Result<(), AllocErro
     }
 }
 
-/// Prints the last line.
-pub fn print_last(out: &mut String, word: u64, failed: u64) -> Result<(), AllocError>
-    ensures { OnOk result (string_bytes out.new ≡ string_bytes out.old ++ counts_line word failed) }
+/// Prints the words that the last line tells after the first.
+fn print_further_words(
+    out: &mut String,
+    object: Object<u64>,
+    machine: &Machine<u64>,
+) -> Result<(), AllocError>
+    ensures { (parties : ℕ) (past : List (AnEvent ℕ)) → StandsAt u64_arithmetic object parties past machine.now →
+        OnOk result (string_bytes out.new ≡ string_bytes out.old ++ named_words (word_in u64_arithmetic object past) (further_words object)) }
 {
-    writeln!(out, "word {word} failed {failed}")
+    match object {
+        Object::WriterLock => {
+            let counter = machine.counter();
+            write!(out, " counter {counter}")
+        }
+        Object::Condvar => {
+            let waiters = machine.waiters();
+            let value = machine.value();
+            write!(out, " waiters {waiters} value {value}")
+        }
+        Object::Mutex
+        | Object::Spin
+        | Object::Semaphore(_)
+        | Object::Barrier(_)
+        | Object::ReaderLock
+        | Object::Once
+        | Object::Lazy(_)
+        | Object::Atomic(_) => Ok(()),
+    }
+}
+
+/// Prints the last line: the words of the object, and how many exchanges failed.
+pub fn print_last(
+    out: &mut String,
+    object: Object<u64>,
+    machine: &Machine<u64>,
+) -> Result<(), AllocError>
+    ensures { (parties : ℕ) (past : List (AnEvent ℕ)) → StandsAt u64_arithmetic object parties past machine.now →
+        OnOk result (string_bytes out.new ≡ string_bytes out.old ++ last_line object past) }
+{
+    let word = machine.word();
+    let failed = machine.failed();
+    write!(out, "word {word}")?;
+    print_further_words(out, object, machine)?;
+    writeln!(out, " failed {failed}")
 }

@@ -1,18 +1,28 @@
 //! Each text is played by `run`, from a slice to a vector.
+ghost use Rattle.std.specs.Prelude.{◌≡◌, true};
+ghost use Rattle.sync_steps.specs.Objects.{is_served};
 
 mod barrier;
+mod condvar;
 mod faults;
+mod lazy;
 mod long;
 mod once;
 mod permits;
 mod player;
 mod plays;
 mod rwreader;
+mod rwwriter;
+mod spin;
 mod streams;
 
-use crate::fault::RunFault;
+use crate::command::Command;
+use crate::fault::{LineFault, RunFault};
+use crate::player::next_event;
 use crate::run::run;
 use std::alloc::{AllocError, Global};
+use std::test::Fail;
+use sync_steps::steps::{Input, Machine, Object, Then};
 
 /// What a text prints, or its fault's line and the exit status.
 fn played(alloc: Global, text: &[u8]) -> Result<String, AllocError> {
@@ -55,4 +65,40 @@ fn text(alloc: Global, lines: &str, end: &str) -> Result<String, AllocError> {
         text.push_str(end)?;
     }
     Ok(text)
+}
+
+/// After the first inputs party 2 runs, and its call goes on by itself. After so many of its steps the last inputs are given: how the
+/// next step of the run goes.
+fn run_meanwhile(
+    alloc: Global,
+    object: Object<u64>,
+    first: &[(usize, Input<u64>)],
+    steps: u64,
+    last: &[(usize, Input<u64>)],
+) -> Result<Result<Option<Then<u64>>, LineFault>, Fail>
+    requires { is_served object ≡ true }
+{
+    let mut machine = Machine::<u64>::new(alloc, object, 2)?;
+    for (party, input) in first {
+        machine.step(*party, *input).ok().ok_or("it is allowed")?;
+    }
+    let command = Command::parse(object, b"2 run");
+    let mut left = command.ok().flatten().ok_or("it asks something")?;
+    for _ in 0..steps {
+        let event = next_event(&mut machine, &mut left)
+            .ok()
+            .flatten()
+            .ok_or("it goes on")?;
+        if event.then != Then::GoesOn {
+            return Err("it ends before")?;
+        }
+    }
+    for (party, input) in last {
+        machine.step(*party, *input).ok().ok_or("it is allowed")?;
+    }
+    match next_event(&mut machine, &mut left) {
+        Ok(Some(event)) => Ok(Ok(Some(event.then))),
+        Ok(None) => Ok(Ok(None)),
+        Err(fault) => Ok(Err(fault)),
+    }
 }

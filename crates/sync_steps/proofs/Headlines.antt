@@ -18,14 +18,23 @@ use Rattle.steps_events.proofs.Steps.{lacked_word}
 use Rattle.steps_events.proofs.Parties.{fault_at_none}
 use Rattle.steps_mutex.specs.Table.{mutex_table}
 use Rattle.steps_mutex.proofs.Laws.{keeps_mutex, mutex_lacks}
+use Rattle.steps_spin.specs.Table.{spin_table}
+use Rattle.steps_spin.proofs.Laws.{keeps_spin, spin_lacks}
 use Rattle.steps_semaphore.specs.Table.{semaphore_table, semaphore_opening}
 use Rattle.steps_semaphore.proofs.Laws.{keeps_semaphore, semaphore_lacks}
 use Rattle.steps_barrier.specs.Table.{barrier_table}
 use Rattle.steps_barrier.proofs.Laws.{keeps_barrier, barrier_lacks}
 use Rattle.steps_rw_reader.specs.Table.{rw_reader_table}
 use Rattle.steps_rw_reader.proofs.Laws.{keeps_rw_reader, rw_reader_lacks}
+use Rattle.steps_rw_writer.specs.Table.{rw_writer_table}
+use Rattle.steps_rw_writer.proofs.Laws.{rw_writer_lacks}
+use Rattle.steps_rw_writer.proofs.Causes.{keeps_rw_writer}
+use Rattle.steps_condvar.specs.Table.{condvar_table}
+use Rattle.steps_condvar.proofs.Laws.{keeps_condvar, condvar_lacks}
 use Rattle.steps_once.specs.Table.{once_table}
 use Rattle.steps_once.proofs.Laws.{keeps_once, once_lacks}
+use Rattle.steps_lazy.specs.Table.{lazy_table}
+use Rattle.steps_lazy.proofs.Laws.{keeps_lazy, lazy_lacks}
 use Rattle.sync_steps.specs.Objects.{has_word}
 use Rattle.sync_steps.specs.Runs.{word_in, IsNext, IsPast, IsRun}
 use Rattle.sync_steps.specs.Law.{Headline}
@@ -59,16 +68,24 @@ headline z (objects.Semaphore initial) parties past run =
 headline z objects.ReaderLock parties past run =
     let keeps = keeps_rw_reader z parties past run.1 in
     record { told = keeps.told; exclusive = keeps.exclusive; law = keeps.law; cause = keeps.cause }
-headline {T} z objects.Spin parties past run = subst (λ (p : List (Event T)). Headline z objects.Spin p) (sym (no_events z parties past run.1)) (record { told = tt; exclusive = none_held; law = refl; cause = tt })
+headline z objects.Spin parties past run =
+    let keeps = keeps_spin z parties past run.1 in
+    record { told = keeps.told; exclusive = keeps.exclusive; law = keeps.law; cause = keeps.cause }
 headline z (objects.Barrier n) parties past run =
     let keeps = keeps_barrier z n parties past run.0 run.1 in
     record { told = keeps.told; exclusive = rw keeps.unheld none_held; law = keeps.law; cause = keeps.cause }
-headline {T} z objects.WriterLock parties past run = subst (λ (p : List (Event T)). Headline z objects.WriterLock p) (sym (no_events z parties past run.1)) (record { told = tt; exclusive = none_held; law = refl; cause = tt })
-headline {T} z objects.Condvar parties past run = subst (λ (p : List (Event T)). Headline z objects.Condvar p) (sym (no_events z parties past run.1)) (record { told = tt; exclusive = none_held; law = refl; cause = tt })
+headline z objects.WriterLock parties past run =
+    let keeps = keeps_rw_writer z parties past run.1 in
+    record { told = keeps.told; exclusive = keeps.exclusive; law = keeps.law; cause = keeps.cause }
+headline z objects.Condvar parties past run =
+    let keeps = keeps_condvar z parties past run.1 in
+    record { told = keeps.told; exclusive = keeps.exclusive; law = keeps.law; cause = keeps.cause }
 headline z objects.Once parties past run =
     let keeps = keeps_once z parties past run.1 in
     record { told = keeps.told; exclusive = rw keeps.unheld none_held; law = keeps.law; cause = keeps.cause }
-headline {T} z (objects.Lazy v) parties past run = subst (λ (p : List (Event T)). Headline z (objects.Lazy v) p) (sym (no_events z parties past run.1)) (record { told = tt; exclusive = none_held; law = refl; cause = tt })
+headline z (objects.Lazy v) parties past run =
+    let keeps = keeps_lazy z v parties past run.1 in
+    record { told = keeps.told; exclusive = rw keeps.unheld none_held; law = keeps.law; cause = keeps.cause }
 headline {T} z (objects.Atomic v) parties past run = subst (λ (p : List (Event T)). Headline z (objects.Atomic v) p) (sym (no_events z parties past run.1)) (record { told = tt; exclusive = none_held; law = refl; cause = tt })
 
 -- at every front of a run that goes on from a past
@@ -94,6 +111,30 @@ not_state T o words.Value lacks = refl
 not_state T o words.Low lacks = refl
 not_state T o words.High lacks = refl
 
+not_waiters : (T : Type 0) (word : Word) → has_word {T = T} objects.Condvar word ≡ false → same_word words.Waiters word ≡ false
+not_waiters T words.State lacks = refl
+not_waiters T words.Counter lacks = refl
+not_waiters T words.Waiters lacks = absurd cc
+not_waiters T words.Value lacks = refl
+not_waiters T words.Low lacks = refl
+not_waiters T words.High lacks = refl
+
+not_value : (T : Type 0) (word : Word) → has_word {T = T} objects.Condvar word ≡ false → same_word words.Value word ≡ false
+not_value T words.State lacks = refl
+not_value T words.Counter lacks = refl
+not_value T words.Waiters lacks = refl
+not_value T words.Value lacks = absurd cc
+not_value T words.Low lacks = refl
+not_value T words.High lacks = refl
+
+not_counter : (T : Type 0) (word : Word) → has_word {T = T} objects.WriterLock word ≡ false → same_word words.Counter word ≡ false
+not_counter T words.State lacks = refl
+not_counter T words.Counter lacks = absurd cc
+not_counter T words.Waiters lacks = refl
+not_counter T words.Value lacks = refl
+not_counter T words.Low lacks = refl
+not_counter T words.High lacks = refl
+
 unopened : (initial : ℕ) (word : Word) → same_word words.State word ≡ false → semaphore_opening initial word ≡ 0
 unopened initial words.State other = absurd cc
 unopened initial words.Counter other = refl
@@ -110,11 +151,12 @@ absent_word {T} z objects.Mutex parties past word run lacks = lacked_word z mute
 absent_word {T} z (objects.Semaphore initial) parties past word run lacks =
     let other = not_state T (objects.Semaphore initial) word lacks in
     lacked_word z (semaphore_table initial) parties word (semaphore_lacks T initial word other) past run.1 ∙ unopened initial word other
-absent_word z objects.Spin parties past word run lacks = silent_word z objects.Spin parties past word run.1 refl
+absent_word {T} z objects.Spin parties past word run lacks = lacked_word z spin_table parties word (spin_lacks T word (not_state T objects.Spin word lacks)) past run.1
 absent_word {T} z (objects.Barrier n) parties past word run lacks = lacked_word z (barrier_table n) parties word (barrier_lacks T n word (not_state T (objects.Barrier n) word lacks)) past run.1
 absent_word {T} z objects.ReaderLock parties past word run lacks = lacked_word z rw_reader_table parties word (rw_reader_lacks T word (not_state T objects.ReaderLock word lacks)) past run.1
-absent_word z objects.WriterLock parties past word run lacks = silent_word z objects.WriterLock parties past word run.1 refl
-absent_word z objects.Condvar parties past word run lacks = silent_word z objects.Condvar parties past word run.1 refl
+absent_word {T} z objects.WriterLock parties past word run lacks = lacked_word z rw_writer_table parties word (rw_writer_lacks T word (not_state T objects.WriterLock word lacks) (not_counter T word lacks)) past run.1
+absent_word {T} z objects.Condvar parties past word run lacks =
+    lacked_word z condvar_table parties word (condvar_lacks T word (not_state T objects.Condvar word lacks) (not_waiters T word lacks) (not_value T word lacks)) past run.1
 absent_word {T} z objects.Once parties past word run lacks = lacked_word z once_table parties word (once_lacks T word (not_state T objects.Once word lacks)) past run.1
-absent_word z (objects.Lazy v) parties past word run lacks = silent_word z (objects.Lazy v) parties past word run.1 refl
+absent_word {T} z (objects.Lazy v) parties past word run lacks = lacked_word z (lazy_table v) parties word (lazy_lacks T v word (not_state T (objects.Lazy v) word lacks)) past run.1
 absent_word z (objects.Atomic v) parties past word run lacks = silent_word z (objects.Atomic v) parties past word run.1 refl

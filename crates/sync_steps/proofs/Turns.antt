@@ -45,20 +45,20 @@ TurnsOr z o pending hold memory input (Err fault) = fault_at (table_of z o) pend
 
 -- A beginning.
 
-begins_some : {P : Type 0} (wrap : P → Place) (found : Option P) (place : Place) → map_place wrap found ≡ Some place → (p : P) × (found ≡ Some p) × (wrap p ≡ place)
+begins_some : {T P : Type 0} (wrap : P → Place T) (found : Option P) (place : Place T) → map_place wrap found ≡ Some place → (p : P) × (found ≡ Some p) × (wrap p ≡ place)
 begins_some wrap None place is = absurd cc
-begins_some wrap (Some p) place is = (p, refl, some_is (wrap p) place is)
+begins_some {T} wrap (Some p) place is = (p, refl, some_is (wrap p) place is)
   where
-    some_is : (x y : Place) → Some x ≡ Some y → x ≡ y
+    some_is : (x y : Place T) → Some x ≡ Some y → x ≡ y
     some_is x y same = cc
 
-begins_none : {P : Type 0} (wrap : P → Place) (found : Option P) → map_place wrap found ≡ None → found ≡ None
+begins_none : {T P : Type 0} (wrap : P → Place T) (found : Option P) → map_place wrap found ≡ None → found ≡ None
 begins_none wrap None is = refl
 begins_none wrap (Some p) is = absurd cc
 
 -- an input that may begin the call, by two tests: who holds may not lock, and who does not may not unlock
 begins_by :
-    {T : Type 0} (z : Arithmetic T) (o : Object T) (call : Call T) (hold : Option HoldKind) (memory : Word → ℕ) (place : Place) (p : place_of o) (holds lacks : Bool) → (table_of z o).begins call ≡ Some p → place_in o p ≡ place →
+    {T : Type 0} (z : Arithmetic T) (o : Object T) (call : Call T) (hold : Option HoldKind) (memory : Word → ℕ) (place : Place T) (p : place_of o) (holds lacks : Bool) → (table_of z o).begins call ≡ Some p → place_in o p ≡ place →
     (is_locking call && is_some hold) ≡ holds → (needs_hold_at o call && is_none hold) ≡ lacks →
     TurnsOr z o None hold memory (inputs.Begin call) (cond holds (Err faults.Holding) (cond lacks (Err faults.NoHold) (Ok (begun (record { doing = None; hold = hold }) call place))))
 begins_by z o call hold memory place p true lacks begins is locks needs = rw (begins, locks) refl
@@ -82,7 +82,7 @@ begin_turns z o (Some doing) hold memory call None at = absurd at
 begin_turns z o (Some doing) hold memory call (Some c) at = refl
 begin_turns {T} z o None hold memory call None at = by_place (begins_at o call) (sym (begins_is z o call))
   where
-    by_place : (found : Option Place) → map_place (place_in o) ((table_of z o).begins call) ≡ found →
+    by_place : (found : Option (Place T)) → map_place (place_in o) ((table_of z o).begins call) ≡ found →
         TurnsOr z o None hold memory (inputs.Begin call) (begin_at o (record { doing = None; hold = hold }) call found)
     by_place None is = rw (begins_none (place_in o) ((table_of z o).begins call) is) refl
     by_place (Some place) is =
@@ -150,8 +150,8 @@ steps_at {T} z o doing c hold memory at free =
     let p = at.place.0 in
     let act = carried_out ((table_of z o).intent p hold) memory in
     let I : Intent T → Type 0 = λ i. Turns z o (Some c) hold memory inputs.Go (stepped_by o (record { call = c.call; place = place_in o p; stands = doing.stands }) hold (carried_out i memory)) in
-    let A : After T Place → Type 0 = λ a. Turns z o (Some c) hold memory inputs.Go (turn_after o c.call hold act a) in
-    let D : Place → Type 0 = λ place. Turns z o (Some c) hold memory inputs.Go (stepped o (record { call = c.call; place = place; stands = doing.stands }) hold memory) in
+    let A : After T (Place T) → Type 0 = λ a. Turns z o (Some c) hold memory inputs.Go (turn_after o c.call hold act a) in
+    let D : Place T → Type 0 = λ place. Turns z o (Some c) hold memory inputs.Go (stepped o (record { call = c.call; place = place; stands = doing.stands }) hold memory) in
     let C : Call T → Type 0 = λ call. Turns z o (Some c) hold memory inputs.Go (stepped o (record { call = call; place = doing.place; stands = doing.stands }) hold memory) in
     let by_table = subst A (sym (after_is z o p (value_told act))) (table_steps z o c hold memory p at.place.2 free) in
     subst C (sym at.call_is) (subst D at.place.1 (subst I (sym (intent_is z o p hold)) by_table))
@@ -180,11 +180,11 @@ go_turns {T} z o (Some doing) hold memory (Some c) at = by_outcome (goes_by (lat
 
 -- the closure of a call has answered, and it goes on from another place of the table
 leaves_at :
-    {T : Type 0} (z : Arithmetic T) (o : Object T) (c : PendingCall T) (act : Act T) (p q : place_of o) (place : Place) → place ≡ place_in o q → stage_of (table_of z o) c ≡ Some p → stage_after (table_of z o) act p ≡ Some q → (number : ℕ) →
+    {T : Type 0} (z : Arithmetic T) (o : Object T) (c : PendingCall T) (act : Act T) (p q : place_of o) (place : Place T) → place ≡ place_in o q → stage_of (table_of z o) c ≡ Some p → stage_after (table_of z o) act p ≡ Some q → (number : ℕ) →
     IsDoing z o (record { call = c.call; place = place; stands = None }) (record { call = c.call; own = event number act thens.GoesOn ∷ c.own })
 leaves_at z o c act p q place is stage to number = record { call_is = refl; place = (q, sym is, ap (next_stage (table_of z o) act) stage ∙ to); stands_is = refl }
 
-at_place_of : {T : Type 0} (z : Arithmetic T) (o : Object T) (doing : Doing T) (c : PendingCall T) (f : Place → Place) (p q : place_of o) → place_in o p ≡ doing.place → f (place_in o p) ≡ place_in o q → f doing.place ≡ place_in o q
+at_place_of : {T : Type 0} (z : Arithmetic T) (o : Object T) (doing : Doing T) (c : PendingCall T) (f : Place T → Place T) (p q : place_of o) → place_in o p ≡ doing.place → f (place_in o p) ≡ place_in o q → f doing.place ≡ place_in o q
 at_place_of z o doing c f p q is to = ap f (sym is) ∙ to
 
 answers_by : {T : Type 0} (outcome : Then T) → ((is_at_wait (closure_of outcome) ≡ true) × (answer_fault outcome ≡ None)) ⊎ ((is_at_wait (closure_of outcome) ≡ false) × (answer_fault outcome ≡ Some faults.NotWaiting))

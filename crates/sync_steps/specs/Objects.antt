@@ -8,50 +8,58 @@ use Rattle.steps_events.specs.Arithmetic.{Arithmetic, IsValue}
 use Rattle.steps_events.specs.Tables.{Table, no_calls}
 use Rattle.steps_mutex.specs.declared.MutexPlace.{MutexPlace}
 use Rattle.steps_mutex.specs.Table.{mutex_table}
+use Rattle.steps_spin.specs.declared.SpinPlace.{SpinPlace}
+use Rattle.steps_spin.specs.Table.{spin_table}
 use Rattle.steps_semaphore.specs.declared.SemaphorePlace.{SemaphorePlace}
 use Rattle.steps_semaphore.specs.Table.{semaphore_table}
 use Rattle.steps_barrier.specs.declared.BarrierPlace.{BarrierPlace}
 use Rattle.steps_barrier.specs.Table.{barrier_table}
 use Rattle.steps_rw_reader.specs.declared.RwReaderPlace.{RwReaderPlace}
 use Rattle.steps_rw_reader.specs.Table.{rw_reader_table}
+use Rattle.steps_rw_writer.specs.declared.RwWriterPlace.{RwWriterPlace}
+use Rattle.steps_rw_writer.specs.Table.{rw_writer_table}
+use Rattle.steps_condvar.specs.declared.CondvarPlace.{CondvarPlace}
+use Rattle.steps_condvar.specs.Table.{condvar_table}
 use Rattle.steps_once.specs.declared.OncePlace.{OncePlace}
 use Rattle.steps_once.specs.Table.{once_table}
+use Rattle.steps_lazy.specs.declared.LazyPlace.{LazyPlace}
+use Rattle.steps_lazy.specs.Table.{lazy_table}
 
 -- the objects that a machine serves; the others have no places and no calls yet
 abbrev pub is_served : {T : Type 0} → Object T → Bool
 is_served objects.Mutex = true
-is_served objects.Spin = false
+is_served objects.Spin = true
 is_served (objects.Semaphore initial) = true
 is_served (objects.Barrier n) = true
 is_served objects.ReaderLock = true
-is_served objects.WriterLock = false
-is_served objects.Condvar = false
+is_served objects.WriterLock = true
+is_served objects.Condvar = true
 is_served objects.Once = true
-is_served (objects.Lazy v) = false
+is_served (objects.Lazy v) = true
 is_served (objects.Atomic v) = false
 
 abbrev pub place_of : {T : Type 0} → Object T → Type 0
 place_of objects.Mutex = MutexPlace
-place_of objects.Spin = ⊥
+place_of objects.Spin = SpinPlace
 place_of (objects.Semaphore initial) = SemaphorePlace
 place_of (objects.Barrier n) = BarrierPlace
 place_of objects.ReaderLock = RwReaderPlace
-place_of objects.WriterLock = ⊥
-place_of objects.Condvar = ⊥
+place_of objects.WriterLock = RwWriterPlace
+place_of objects.Condvar = CondvarPlace
 place_of objects.Once = OncePlace
-place_of (objects.Lazy v) = ⊥
+place_of (objects.Lazy v) = LazyPlace
 place_of (objects.Atomic v) = ⊥
 
 abbrev pub table_of : {T : Type 0} → Arithmetic T → (o : Object T) → Table T (place_of o)
 table_of z objects.Mutex = mutex_table
-table_of z objects.Spin = no_calls
+table_of z objects.Spin = spin_table
 table_of z (objects.Semaphore initial) = semaphore_table initial
 table_of z (objects.Barrier n) = barrier_table n
 table_of z objects.ReaderLock = rw_reader_table
-table_of z objects.WriterLock = no_calls
-table_of z objects.Condvar = no_calls
+table_of z objects.WriterLock = rw_writer_table
+table_of z objects.Condvar = condvar_table
 table_of z objects.Once = once_table
-table_of z (objects.Lazy v) = no_calls
+table_of z (objects.Lazy v) = lazy_table v
 table_of z (objects.Atomic v) = no_calls
 
 -- what an object is opened with is a value of its type
@@ -67,7 +75,7 @@ IsObject z objects.Once = Unit {0}
 IsObject z (objects.Lazy v) = IsValue z v
 IsObject z (objects.Atomic v) = IsValue z v
 
--- a mutex, a semaphore, a barrier and a once have one word; the others have more, or another
+-- a mutex, a spin lock, a semaphore, a barrier, a once and a lazy value have one word; the others have more, or another
 abbrev pub has_word : {T : Type 0} → Object T → Word → Bool
 has_word o words.State = true
 has_word objects.WriterLock words.Counter = true

@@ -1,6 +1,7 @@
 //! The steps of every primitive, one atomic step at a time.
 
 pub mod barrier;
+pub mod condvar;
 mod fault;
 mod headline;
 mod machine;
@@ -9,6 +10,7 @@ pub mod once;
 mod place;
 mod playing;
 pub mod rw_reader;
+pub mod rw_writer;
 pub mod semaphore;
 mod turn;
 

@@ -5,7 +5,7 @@ ghost use Rattle.sync_steps.specs.Objects.{is_served};
 use crate::atomic::internal::AtomicInteger;
 use crate::steps::{
     Act, Answer, Call, Event, Input, Machine, Object, PlayFault, StepFault, Then, Wake, Word,
-    at_every_front, barrier, mutex, once, play, rw_reader, semaphore,
+    at_every_front, barrier, condvar, mutex, once, play, rw_reader, rw_writer, semaphore,
 };
 use crate::{SPIN_REPETITIONS, WaitAction};
 use linked_list_allocator::LocalHeap;
@@ -16,6 +16,12 @@ use std::test::Fail;
 fn word_functions_at_their_paths(rt: HostRuntime) {
     assert_eq!(rt; mutex::granted(0), Some(1));
     assert_eq!(rt; rw_reader::writer_enters(0), Some(u64::MAX));
+    assert_eq!(rt; rw_writer::reader_enters(u64::MAX - 5), Some(u64::MAX - 3));
+    assert_eq!(rt; rw_writer::reader_leaves(3), Some(1));
+    assert_eq!(rt; rw_writer::writer_enters(1), Some(u64::MAX));
+    assert_eq!(rt; rw_writer::marks(u64::MAX - 3), Some(u64::MAX - 2));
+    assert_eq!(rt; rw_writer::unmarks(3), Some(2));
+    assert_eq!(rt; condvar::permits_for(Wake::One, u64::MAX), 1);
     assert_eq!(rt; semaphore::taken(u64::MAX), Some(u64::MAX - 1));
     assert_eq!(rt; semaphore::posted(u64::MAX, 2), 1);
     assert_eq!(rt; barrier::arrived(1, 2), Some(4294967296));
@@ -95,6 +101,10 @@ fn an_empty_machine_and_the_law(rt: HostRuntime) -> Result<(), Fail> {
 fn outcome(events: &[Event<u64>], at: usize) -> Option<(usize, Then<u64>)> {
     let event = events.get(at)?;
     Some((event.party, event.then))
+}
+
+fn act_of(events: &[Event<u64>], at: usize) -> Option<Act<u64>> {
+    Some(events.get(at)?.act)
 }
 
 #[test]
@@ -380,6 +390,241 @@ fn a_once_runs_in_one_piece_and_in_two(rt: HostRuntime) -> Result<(), Fail> {
         assert_eq!(rt; outcome(&whole, 8), Some((0, done)));
         let told = Then::Answers(Answer::Flag(true));
         assert_eq!(rt; outcome(&whole, 10), Some((2, told)));
+        assert!(rt; whole.as_slice() == parts.as_slice());
+        assert_eq!(rt; word, 2);
+    }
+    Ok(())
+}
+
+#[test]
+fn a_spin_lock_is_handed_on_in_one_piece_and_in_two(rt: HostRuntime) -> Result<(), Fail> {
+    let schedule = [
+        (1, Input::Begin(Call::BlockingLock)),
+        (1, Input::Go),
+        (0, Input::Begin(Call::Lock)),
+        (0, Input::Go),
+        (2, Input::Begin(Call::TryLock)),
+        (2, Input::Go),
+        (1, Input::Begin(Call::Unlock)),
+        (1, Input::Go),
+        (0, Input::Go),
+    ];
+    let success = Then::Answers(Answer::Success);
+    let interrupted = Then::Answers(Answer::Interrupted);
+    let done = Then::Answers(Answer::Done);
+    for at in 0..9 {
+        let (whole, parts, word) = in_two_pieces(rt.alloc(), Object::Spin, &schedule, at)?;
+        assert_eq!(rt; outcome(&whole, 1), Some((1, success)));
+        assert_eq!(rt; outcome(&whole, 3), Some((0, Then::GoesOn)));
+        assert_eq!(rt; outcome(&whole, 5), Some((2, interrupted)));
+        assert_eq!(rt; outcome(&whole, 7), Some((1, done)));
+        assert_eq!(rt; outcome(&whole, 8), Some((0, success)));
+        assert!(rt; whole.as_slice() == parts.as_slice());
+        assert_eq!(rt; word, 1);
+    }
+    Ok(())
+}
+
+#[test]
+fn a_waiting_writer_enters_in_one_piece_and_in_two(rt: HostRuntime) -> Result<(), Fail> {
+    let schedule = [
+        (0, Input::Begin(Call::ReadLock)),
+        (0, Input::Go),
+        (0, Input::Go),
+        (1, Input::Begin(Call::WriteLock)),
+        (1, Input::Go),
+        (1, Input::Go),
+        (0, Input::Begin(Call::Unlock)),
+        (0, Input::Go),
+        (0, Input::Go),
+        (0, Input::Go),
+        (2, Input::Begin(Call::TryWriteLock)),
+        (2, Input::Go),
+        (1, Input::Go),
+        (1, Input::Go),
+    ];
+    let marks = Act::Exchange {
+        word: Word::State,
+        from: 2,
+        to: 3,
+        found: 2,
+        done: true,
+    };
+    let counts = Act::Add {
+        word: Word::Counter,
+        old: 0,
+        put: 1,
+    };
+    let success = Then::Answers(Answer::Success);
+    let done = Then::Answers(Answer::Done);
+    let interrupted = Then::Answers(Answer::Interrupted);
+    for at in 0..14 {
+        let (whole, parts, word) = in_two_pieces(rt.alloc(), Object::WriterLock, &schedule, at)?;
+        assert_eq!(rt; outcome(&whole, 2), Some((0, success)));
+        assert!(rt; whole.get(5).map(|event| event.act) == Some(marks));
+        assert_eq!(rt; outcome(&whole, 5), Some((1, Then::GoesOn)));
+        assert!(rt; whole.get(8).map(|event| event.act) == Some(counts));
+        assert_eq!(rt; outcome(&whole, 9), Some((0, done)));
+        assert_eq!(rt; outcome(&whole, 11), Some((2, interrupted)));
+        assert_eq!(rt; outcome(&whole, 13), Some((1, success)));
+        assert!(rt; whole.as_slice() == parts.as_slice());
+        assert_eq!(rt; word, u64::MAX);
+    }
+    Ok(())
+}
+
+#[test]
+fn a_writer_that_gives_up_leaves_no_mark(rt: HostRuntime) -> Result<(), Fail> {
+    let mut machine = Machine::<u64>::new(rt.alloc(), Object::WriterLock, 2)?;
+    let begins = [
+        (0, Input::Begin(Call::TryReadLock)),
+        (0, Input::Go),
+        (0, Input::Go),
+        (1, Input::Begin(Call::WriteLock)),
+    ];
+    play(rt.alloc(), &mut machine, &begins).map_err(|_| "refused")?;
+    // Its look and its mark, 10000 looks, the load of the counter and the last look.
+    let steps = vec![in rt.alloc(); (1, Input::Go); 10004]?;
+    let waits = play(rt.alloc(), &mut machine, &steps).map_err(|_| "refused")?;
+    assert_eq!(rt; outcome(&waits, 10002), Some((1, Then::GoesOn)));
+    assert_eq!(rt; outcome(&waits, 10003), Some((1, Then::Waits(0))));
+    assert_eq!(rt; machine.word(), 3);
+    assert_eq!(rt; machine.counter(), 0);
+
+    let ends = [
+        (1, Input::Answer(WaitAction::Abort)),
+        (1, Input::Go),
+        (1, Input::Go),
+        (1, Input::Go),
+        (1, Input::Go),
+        (1, Input::Go),
+    ];
+    let ended = play(rt.alloc(), &mut machine, &ends).map_err(|_| "refused")?;
+    assert_eq!(rt; ended.len(), 6);
+    assert_eq!(rt; ended[4].act, Act::Woke(Wake::One));
+    assert_eq!(rt; ended[5].act, Act::Woke(Wake::All));
+    let interrupted = Then::Answers(Answer::Interrupted);
+    assert_eq!(rt; outcome(&ended, 5), Some((1, interrupted)));
+    assert_eq!(rt; machine.word(), 2);
+    assert_eq!(rt; machine.counter(), 1);
+    assert_eq!(rt; machine.waiters(), 0);
+    assert_eq!(rt; machine.failed(), 0);
+    Ok(())
+}
+
+#[test]
+fn a_notified_wait_succeeds_in_one_piece_and_in_two(rt: HostRuntime) -> Result<(), Fail> {
+    let schedule = [
+        (0, Input::Begin(Call::Lock)),
+        (0, Input::Go),
+        (0, Input::Begin(Call::Wait)),
+        (0, Input::Go),
+        (0, Input::Go),
+        (0, Input::Go),
+        (1, Input::Begin(Call::NotifyOne)),
+        (1, Input::Go),
+        (1, Input::Go),
+        (1, Input::Go),
+        (0, Input::Go),
+        (0, Input::Go),
+        (0, Input::Go),
+        (0, Input::Go),
+    ];
+    let counts = Act::Add {
+        word: Word::Waiters,
+        old: 0,
+        put: 1,
+    };
+    let posts = Act::Add {
+        word: Word::Value,
+        old: 0,
+        put: 1,
+    };
+    let takes = Act::Exchange {
+        word: Word::Value,
+        from: 1,
+        to: 0,
+        found: 1,
+        done: true,
+    };
+    let success = Then::Answers(Answer::Success);
+    let done = Then::Answers(Answer::Done);
+    for at in 0..14 {
+        let (whole, parts, word) = in_two_pieces(rt.alloc(), Object::Condvar, &schedule, at)?;
+        assert!(rt; whole.get(3).map(|event| event.act) == Some(counts));
+        assert!(rt; whole.get(5).map(|event| event.act) == Some(Act::Woke(Wake::One)));
+        assert!(rt; whole.get(8).map(|event| event.act) == Some(posts));
+        assert_eq!(rt; outcome(&whole, 9), Some((1, done)));
+        assert!(rt; whole.get(11).map(|event| event.act) == Some(takes));
+        assert_eq!(rt; outcome(&whole, 13), Some((0, success)));
+        assert!(rt; whole.as_slice() == parts.as_slice());
+        assert_eq!(rt; word, 1);
+    }
+    Ok(())
+}
+
+#[test]
+fn a_wait_that_gives_up_holds_the_mutex_again(rt: HostRuntime) -> Result<(), Fail> {
+    let mut machine = Machine::<u64>::new(rt.alloc(), Object::Condvar, 1)?;
+    let begins = [
+        (0, Input::Begin(Call::TryLock)),
+        (0, Input::Go),
+        (0, Input::Begin(Call::Wait)),
+        (0, Input::Go),
+        (0, Input::Go),
+        (0, Input::Go),
+    ];
+    play(rt.alloc(), &mut machine, &begins).map_err(|_| "refused")?;
+    assert_eq!(rt; machine.word(), 0);
+    assert_eq!(rt; machine.waiters(), 1);
+    // 10001 looks that see no permit.
+    let steps = vec![in rt.alloc(); (0, Input::Go); 10001]?;
+    let waits = play(rt.alloc(), &mut machine, &steps).map_err(|_| "refused")?;
+    assert_eq!(rt; outcome(&waits, 9999), Some((0, Then::GoesOn)));
+    assert_eq!(rt; outcome(&waits, 10000), Some((0, Then::Waits(0))));
+
+    let ends = [
+        (0, Input::Answer(WaitAction::Abort)),
+        (0, Input::Go),
+        (0, Input::Go),
+        (0, Input::Go),
+    ];
+    let ended = play(rt.alloc(), &mut machine, &ends).map_err(|_| "refused")?;
+    let held = Then::Answers(Answer::InterruptedHeld);
+    assert_eq!(rt; outcome(&ended, 3), Some((0, held)));
+    assert_eq!(rt; machine.word(), 1);
+    assert_eq!(rt; machine.waiters(), 0);
+    assert_eq!(rt; machine.value(), 0);
+    assert_eq!(rt; machine.failed(), 0);
+    Ok(())
+}
+
+#[test]
+fn a_lazy_value_is_made_in_one_piece_and_in_two(rt: HostRuntime) -> Result<(), Fail> {
+    let schedule = [
+        (1, Input::Begin(Call::Force)),
+        (1, Input::Go),
+        (1, Input::Go),
+        (0, Input::Begin(Call::Force)),
+        (0, Input::Go),
+        (0, Input::Go),
+        (1, Input::Go),
+        (1, Input::Go),
+        (0, Input::Go),
+        (0, Input::Go),
+        (1, Input::Go),
+    ];
+    let value = u64::MAX;
+    let read = Act::ReadCell(value);
+    let told = Then::Answers(Answer::Value(value));
+    for at in 0..11 {
+        let (whole, parts, word) = in_two_pieces(rt.alloc(), Object::Lazy(value), &schedule, at)?;
+        assert_eq!(rt; act_of(&whole, 6), Some(Act::Ended));
+        assert_eq!(rt; outcome(&whole, 7), Some((1, Then::GoesOn)));
+        assert_eq!(rt; outcome(&whole, 8), Some((0, Then::GoesOn)));
+        assert_eq!(rt; act_of(&whole, 9), Some(read));
+        assert_eq!(rt; outcome(&whole, 9), Some((0, told)));
+        assert_eq!(rt; outcome(&whole, 10), Some((1, told)));
         assert!(rt; whole.as_slice() == parts.as_slice());
         assert_eq!(rt; word, 2);
     }

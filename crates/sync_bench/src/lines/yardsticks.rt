@@ -178,3 +178,48 @@ impl Operation for StdOnceLock {
         matches!(self.lock.get(), Some(true))
     }
 }
+
+/// Swaps 1 into a bare word, and 0: the least that a lock by a swap and an unlock can do.
+pub fn bare_swaps() -> u32 {
+    successes(&mut BareSwaps {
+        word: AtomicU64::new(0),
+    })
+}
+
+#[derive(Drop)]
+struct BareSwaps {
+    word: AtomicU64,
+}
+
+impl Operation for BareSwaps {
+    #[inline(always)]
+    fn once(&mut self) -> bool {
+        let word = &self.word;
+        let found = word.swap(1, Ordering::SeqCst);
+        word.swap(0, Ordering::SeqCst);
+        found == 0
+    }
+}
+
+/// Locks a mutex of std, adds to the number that it guards, and drops the guard.
+pub fn std_mutex_add_unlock(rt: &impl Wait) -> u32 {
+    successes(&mut StdAdd {
+        rt,
+        mutex: Mutex::new(0),
+    })
+}
+
+#[derive(Drop)]
+struct StdAdd<'r, R: Wait> {
+    rt: &'r R,
+    mutex: Mutex<u64>,
+}
+
+impl<R: Wait> Operation for StdAdd<'_, R> {
+    #[inline(always)]
+    fn once(&mut self) -> bool {
+        let mut guard = self.mutex.lock(self.rt);
+        *guard = guard.wrapping_add(1);
+        *guard > 0
+    }
+}

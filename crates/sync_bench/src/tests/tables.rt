@@ -6,7 +6,7 @@ use std::test::Fail;
 use std::time::{Clock, Duration};
 
 /// The names of the lines, in the order of the table.
-const NAMES: [&str; 17] = [
+const NAMES: [&str; 21] = [
     "bare exchange store",
     "std mutex lock unlock",
     "mutex lock unlock",
@@ -24,6 +24,10 @@ const NAMES: [&str; 17] = [
     "barrier of one",
     "std once_lock get",
     "once after",
+    "bare swaps",
+    "std mutex add unlock",
+    "spin lock unlock",
+    "lazy force",
 ];
 
 const HEAD: &str = "name\tmedian\tlower tenth\tupper tenth\n";

@@ -2,7 +2,7 @@ use super::{played, text};
 use std::test::Fail;
 
 /// Texts, their lines parted by ` / `, with the fault of each.
-const FAULTS: [(&str, &str); 55] = [
+const FAULTS: [(&str, &str); 70] = [
     ("mutex 1 / 1 go", "line 2: idle"),
     ("mutex 1 / 1 run", "line 2: idle"),
     ("mutex 1 / 1 lock / 1 lock", "line 3: busy"),
@@ -88,6 +88,31 @@ const FAULTS: [(&str, &str); 55] = [
     (
         "once 2 / 1 call_once / 1 go 2 / 2 call_once / 2 abort",
         "line 5: not waiting",
+    ),
+    ("spin", "line 1: bad line"),
+    ("spin 1 1", "line 1: bad line"),
+    ("spin 65", "line 1: bad number"),
+    ("spin 1 / 1 write_lock", "line 2: bad line"),
+    ("spin 1 / 1 lock 1", "line 2: bad line"),
+    ("spin 1 / 1 unlock", "line 2: no hold"),
+    ("spin 1 / 1 lock / 1 run / 1 try_lock", "line 4: holding"),
+    (
+        "spin 1 / 1 lock / 1 run / 1 blocking_lock",
+        "line 4: holding",
+    ),
+    (
+        "spin 2 / 1 lock / 1 run / 2 lock / 2 go 100000 / 2 wait",
+        "line 6: not waiting",
+    ),
+    ("lazy 1", "line 1: bad line"),
+    ("lazy 1 2 3", "line 1: bad line"),
+    ("lazy 1 18446744073709551616", "line 1: bad number"),
+    ("lazy 1 42 / 1 call_once", "line 2: bad line"),
+    ("lazy 1 42 / 1 force 42", "line 2: bad line"),
+    // Another's closure runs, and nobody ends it within the line.
+    (
+        "lazy 2 42 / 1 force / 1 go 2 / 2 force / 2 run",
+        "line 5: step limit",
     ),
     ("latch 1 2", "line 1: no object"),
 ];

@@ -1,10 +1,8 @@
-use super::{played, text};
-use crate::command::Command;
+use super::{played, run_meanwhile, text};
 use crate::fault::LineFault;
-use crate::player::next_event;
 use std::alloc::Global;
 use std::test::Fail;
-use sync_steps::steps::{Answer, Call, Input, Machine, Object, Then};
+use sync_steps::steps::{Answer, Call, Input, Object, Then};
 
 /// Texts of a once, their lines parted by ` / `, with what each prints.
 const TEXTS: [(&str, &str); 5] = [
@@ -44,34 +42,14 @@ fn one_closure_runs(rt: HostRuntime) -> Result<(), Fail> {
 
 /// Party 2 runs while the closure of party 1 does. After so many of its steps party 1 ends: how the next step of party 2 goes.
 fn step_after(alloc: Global, steps: u64) -> Result<Result<Option<Then<u64>>, LineFault>, Fail> {
-    let mut machine = Machine::<u64>::new(alloc, Object::Once, 2)?;
-    for (party, input) in [
+    let begun = [
         (0, Input::Begin(Call::CallOnce)),
         (0, Input::Go),
         (0, Input::Go),
         (1, Input::Begin(Call::CallOnce)),
-    ] {
-        machine.step(party, input).ok().ok_or("it is allowed")?;
-    }
-    let command = Command::parse(Object::Once, b"2 run");
-    let mut left = command.ok().flatten().ok_or("it asks something")?;
-    for _ in 0..steps {
-        let event = next_event(&mut machine, &mut left)
-            .ok()
-            .flatten()
-            .ok_or("it goes on")?;
-        if event.then != Then::GoesOn {
-            return Err("it ends before")?;
-        }
-    }
-    for _ in 0..2 {
-        machine.step(0, Input::Go).ok().ok_or("it is allowed")?;
-    }
-    match next_event(&mut machine, &mut left) {
-        Ok(Some(event)) => Ok(Ok(Some(event.then))),
-        Ok(None) => Ok(Ok(None)),
-        Err(fault) => Ok(Err(fault)),
-    }
+    ];
+    let ends = [(0, Input::Go), (0, Input::Go)];
+    run_meanwhile(alloc, Object::Once, &begun, steps, &ends)
 }
 
 #[test]

@@ -33,7 +33,7 @@ fn events_one_at_a_time(rt: HostRuntime) -> Result<(), Fail> {
         }
         assert!(rt; next_event(&mut machine, &mut left) == Ok(None));
     }
-    print_last(&mut out, machine.word(), machine.failed())?;
+    print_last(&mut out, Object::Mutex, &machine)?;
     assert_eq!(rt;
         out.as_str(),
         "1 success\n1 wakes one\n1 done\nword 0 failed 0\n"

@@ -46,18 +46,18 @@ hold_won o call act = None
 abbrev pub new_hold : {T : Type 0} → Object T → Call T → Act T → Option HoldKind → Option HoldKind
 new_hold o call act hold = if is_release act then None else hold_or (hold_won o call act) hold
 
-abbrev pub doing_after : {T : Type 0} → Call T → After T Place → Option (Doing T)
+abbrev pub doing_after : {T : Type 0} → Call T → After T (Place T) → Option (Doing T)
 doing_after call (afters.At place) = Some (record { call = call; place = place; stands = None })
 doing_after call (afters.Waits place seen) = Some (record { call = call; place = place; stands = Some closures.Wait })
 doing_after call (afters.Chooses place old) = Some (record { call = call; place = place; stands = Some closures.Choice })
 doing_after call (afters.Ends answer) = None
 
-abbrev pub moved_on : {T : Type 0} → Option (Doing T) → After T Place → Option (Doing T)
+abbrev pub moved_on : {T : Type 0} → Option (Doing T) → After T (Place T) → Option (Doing T)
 moved_on None after = None
 moved_on (Some doing) after = doing_after doing.call after
 
 -- a party begins a call at this place
-abbrev pub begun : {T : Type 0} → Party T → Call T → Place → Turn T
+abbrev pub begun : {T : Type 0} → Party T → Call T → Place T → Turn T
 begun party call place =
     record {
       act = acts.Begun call;
@@ -65,7 +65,7 @@ begun party call place =
       party = record { doing = Some (record { call = call; place = place; stands = None }); hold = party.hold };
     }
 
-abbrev pub begin_at : {T : Type 0} → Object T → Party T → Call T → Option Place → Result (Turn T) StepFault
+abbrev pub begin_at : {T : Type 0} → Object T → Party T → Call T → Option (Place T) → Result (Turn T) StepFault
 begin_at o party call None = Err faults.OtherObject
 begin_at o party call (Some place) =
     if (is_locking call && is_some party.hold)
@@ -76,7 +76,7 @@ abbrev pub begin_turn : {T : Type 0} → Object T → Party T → Call T → Res
 begin_turn o party call = if is_some party.doing then Err faults.Busy else begin_at o party call (begins_at o call)
 
 -- after an act of a call that goes on so
-abbrev pub turn_after : {T : Type 0} → Object T → Call T → Option HoldKind → Act T → After T Place → Turn T
+abbrev pub turn_after : {T : Type 0} → Object T → Call T → Option HoldKind → Act T → After T (Place T) → Turn T
 turn_after o call hold act after =
     record { act = act; outcome = outcome_of after; party = record { doing = doing_after call after; hold = new_hold o call act hold } }
 
@@ -95,7 +95,7 @@ abbrev pub go_turn : {T : Type 0} → Object T → Party T → (Word → ℕ) �
 go_turn o party memory = go_at o party.doing party.hold memory
 
 -- a closure has answered, and the call goes on from this place
-abbrev pub told_answer : {T : Type 0} → Act T → Doing T → Option HoldKind → Place → Turn T
+abbrev pub told_answer : {T : Type 0} → Act T → Doing T → Option HoldKind → Place T → Turn T
 told_answer act doing hold place =
     record {
       act = act;

@@ -7,7 +7,6 @@ ghost use Rattle.sync_steps.specs.Machine.{StandsAt, Tells, IsNoneWithout, Tells
 ghost use Rattle.sync_steps.specs.Machine.Applies.{HasWritten, HasTurned, HasRefused};
 ghost use Rattle.sync_steps.specs.Machine.Places.{opening_at};
 ghost use Rattle.steps_events.specs.declared.event.Word.{Word as AnyWord};
-ghost use Rattle.steps_events.specs.Arithmetic.{Arithmetic};
 ghost use Rattle.steps_events.specs.WordsAt.{word_at};
 
 use super::place::Party;
@@ -38,8 +37,8 @@ impl<T, A: Allocator> Model for Machine<T, A> {
 }
 
 impl<T: AtomicInteger, A: Allocator> Machine<T, A> {
-    /// A machine of the object, where no party has begun a call yet. So far it serves mutexes, semaphores, barriers, reader-preferring
-    /// locks and onces.
+    /// A machine of the object, where no party has begun a call yet. So far it serves mutexes, spin locks, semaphores, barriers, both
+    /// reader-writer locks, condition variables, onces and lazy values.
     ///
     /// It takes memory for the places of its parties, and answers `AllocError` where there is none.
     pub fn new(alloc: A, object: Object<T>, parties: usize) -> Result<Machine<T, A>, AllocError>
@@ -217,9 +216,9 @@ impl<T: Copy, A: Allocator> Machine<T, A> {
 }
 
 /// The words of an object before the first event.
-fn opened<T>(object: &Object<T>) -> Words
+fn opened<T: AtomicInteger>(object: &Object<T>) -> Words
     ensures words { (word : AnyWord) → word_at result word ≡ opening_at object.now word }
-    ensures values { is_served object.now ≡ true → (z : Arithmetic T) → IsObject z object.now }
+    ensures values { IsObject T.arithmetic object.now }
 {
     let state = match object {
         Object::Semaphore(initial) => *initial,
@@ -228,14 +227,16 @@ fn opened<T>(object: &Object<T>) -> Words
             let _n = *n;
             0
         }
+        Object::Lazy(value) | Object::Atomic(value) => {
+            turn::read_value(*value);
+            0
+        }
         Object::Mutex
         | Object::Spin
         | Object::ReaderLock
         | Object::WriterLock
         | Object::Condvar
-        | Object::Once
-        | Object::Lazy(_)
-        | Object::Atomic(_) => 0,
+        | Object::Once => 0,
     };
     Words {
         state,

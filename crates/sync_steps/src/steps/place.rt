@@ -4,23 +4,32 @@ ghost use Rattle.sync_steps.specs.Machine.Places.{begins_at, intent_at, after_at
 
 use std::alloc::AllocError;
 use steps_barrier::BarrierPlace;
+use steps_condvar::CondvarPlace;
 use steps_events::WaitAction;
 use steps_events::event::{Call, Object, Word};
 use steps_events::hold::HoldKind;
 use steps_events::row::{After, Intent};
+use steps_lazy::LazyPlace;
 use steps_mutex::MutexPlace;
 use steps_once::OncePlace;
 use steps_rw_reader::RwReaderPlace;
+use steps_rw_writer::RwWriterPlace;
 use steps_semaphore::SemaphorePlace;
+use steps_spin::SpinPlace;
 
 /// Where a party is in its call: a place of its object's primitive.
 #[derive(Clone, Copy, Debug, PartialEq, Eq)]
-pub enum Place {
+pub enum Place<T> {
     Mutex(MutexPlace),
+    Spin(SpinPlace),
     Semaphore(SemaphorePlace),
     Barrier(BarrierPlace),
     RwReader(RwReaderPlace),
+    RwWriter(RwWriterPlace),
+    Condvar(CondvarPlace),
     Once(OncePlace),
+    /// With the value that the closure gives.
+    Lazy(LazyPlace, T),
 }
 
 /// A closure at which a call stands until it has answered.
@@ -34,7 +43,7 @@ pub enum Closure {
 #[derive(Clone, Copy, Debug, PartialEq, Eq)]
 pub struct Doing<T> {
     pub call: Call<T>,
-    pub place: Place,
+    pub place: Place<T>,
     pub stands: Option<Closure>,
 }
 
@@ -54,95 +63,122 @@ impl<T: Copy> Clone for Party<T> {
     }
 }
 
-impl Place {
+/// How a call goes on, with the place of its primitive as one of all. A macro, since no constructor of `Place<T>` from a place that
+/// does not name `T` can be passed to a function.
+macro_rules! within {
+    ($after:expr, $place:path $(, $value:expr)?) => {
+        match $after {
+            After::At(place) => After::At($place(place $(, $value)?)),
+            After::Waits(place, seen) => After::Waits($place(place $(, $value)?), seen),
+            After::Chooses(place, old) => After::Chooses($place(place $(, $value)?), old),
+            After::Ends(answer) => After::Ends(answer),
+        }
+    };
+}
+
+impl<T: Copy> Place<T> {
     /// Where a call begins, if the object has it.
-    pub fn begin<T>(object: &Object<T>, call: &Call<T>) -> Option<Place>
+    pub fn begin(object: &Object<T>, call: &Call<T>) -> Option<Place<T>>
         ensures { result ≡ begins_at object.now call.now }
     {
         match object {
             Object::Mutex => Some(Place::Mutex(MutexPlace::begin(call)?)),
+            Object::Spin => Some(Place::Spin(SpinPlace::begin(call)?)),
             Object::Semaphore(_) => Some(Place::Semaphore(SemaphorePlace::begin(call)?)),
             Object::Barrier(n) => Some(Place::Barrier(BarrierPlace::begin(call, *n)?)),
             Object::ReaderLock => Some(Place::RwReader(RwReaderPlace::begin(call)?)),
+            Object::WriterLock => Some(Place::RwWriter(RwWriterPlace::begin(call)?)),
+            Object::Condvar => Some(Place::Condvar(CondvarPlace::begin(call)?)),
             Object::Once => Some(Place::Once(OncePlace::begin(call)?)),
-            Object::Spin
-            | Object::WriterLock
-            | Object::Condvar
-            | Object::Lazy(_)
-            | Object::Atomic(_) => None,
+            Object::Lazy(value) => Some(Place::Lazy(LazyPlace::begin(call)?, *value)),
+            Object::Atomic(_) => None,
         }
     }
 
     /// What the step is to do, by its party's hold.
     #[inline(always)]
-    pub fn intent<T>(&self, hold: Option<HoldKind>) -> Intent<T>
+    pub fn intent(&self, hold: Option<HoldKind>) -> Intent<T>
         ensures { result ≡ intent_at self.now hold }
     {
         match self {
             Place::Mutex(place) => place.intent(Word::State),
+            Place::Spin(place) => place.intent(Word::State),
             Place::Semaphore(place) => place.intent(Word::State),
             Place::Barrier(place) => place.intent(Word::State),
             Place::RwReader(place) => place.intent(Word::State, hold),
+            Place::RwWriter(place) => place.intent(Word::State, Word::Counter, hold),
+            Place::Condvar(place) => place.intent(),
             Place::Once(place) => place.intent(Word::State),
+            Place::Lazy(place, value) => place.intent(Word::State, *value),
         }
     }
 
     /// How the call goes on, by what the step told.
     #[inline(always)]
-    pub fn after<T>(&self, told: Option<u64>) -> After<T, Place>
+    pub fn after(&self, told: Option<u64>) -> After<T, Place<T>>
         ensures { result ≡ after_at self.now told }
     {
         match self {
-            Place::Mutex(place) => place.after(told).within(Place::Mutex),
-            Place::Semaphore(place) => place.after(told).within(Place::Semaphore),
-            Place::Barrier(place) => place.after(told).within(Place::Barrier),
-            Place::RwReader(place) => place.after(told).within(Place::RwReader),
-            Place::Once(place) => place.after(told).within(Place::Once),
+            Place::Mutex(place) => within!(place.after(told), Place::Mutex),
+            Place::Spin(place) => within!(place.after(told), Place::Spin),
+            Place::Semaphore(place) => within!(place.after(told), Place::Semaphore),
+            Place::Barrier(place) => within!(place.after(told), Place::Barrier),
+            Place::RwReader(place) => within!(place.after(told), Place::RwReader),
+            Place::RwWriter(place) => within!(place.after(told), Place::RwWriter),
+            Place::Condvar(place) => within!(place.after(told), Place::Condvar),
+            Place::Once(place) => within!(place.after(told), Place::Once),
+            Place::Lazy(place, value) => within!(place.after(told, *value), Place::Lazy, *value),
         }
     }
 
     /// Where the call goes on once its wait closure has answered.
-    pub fn answered(&self, action: WaitAction) -> Place
+    pub fn answered(&self, action: WaitAction) -> Place<T>
         ensures { result ≡ answered_at self.now action }
     {
         match self {
             Place::Mutex(place) => Place::Mutex(place.answered(action)),
+            Place::Spin(place) => Place::Spin(place.answered(action)),
             Place::Semaphore(place) => Place::Semaphore(place.answered(action)),
             Place::Barrier(place) => Place::Barrier(place.answered(action)),
             Place::RwReader(place) => Place::RwReader(place.answered(action)),
+            Place::RwWriter(place) => Place::RwWriter(place.answered(action)),
+            Place::Condvar(place) => Place::Condvar(place.answered(action)),
             Place::Once(place) => Place::Once(place.answered(action)),
+            Place::Lazy(place, value) => Place::Lazy(place.answered(action), *value),
         }
     }
 
     /// Where the call goes on once its choice closure has answered: no place of today's objects asks for a choice.
-    pub fn chosen<T>(&self, _choice: Option<T>) -> Place
-    where
-        T: Copy,
+    pub fn chosen(&self, _choice: Option<T>) -> Place<T>
         ensures { result ≡ chosen_at self.now _choice }
     {
         match self {
             Place::Mutex(place) => Place::Mutex(*place),
+            Place::Spin(place) => Place::Spin(*place),
             Place::Semaphore(place) => Place::Semaphore(*place),
             Place::Barrier(place) => Place::Barrier(*place),
             Place::RwReader(place) => Place::RwReader(*place),
+            Place::RwWriter(place) => Place::RwWriter(*place),
+            Place::Condvar(place) => Place::Condvar(*place),
             Place::Once(place) => Place::Once(*place),
+            Place::Lazy(place, value) => Place::Lazy(*place, *value),
         }
     }
 }
 
-/// The hold that a call takes where its exchange of the lock's word puts `_to` in the place of `_from`.
+/// The hold that a call takes where its exchange of the lock's word puts `to` in the place of `from`.
 #[inline(always)]
-pub fn grant<T>(object: &Object<T>, call: &Call<T>, _from: u64, _to: u64) -> Option<HoldKind>
-    ensures { result ≡ grant_at object.now call.now _from _to }
+pub fn grant<T>(object: &Object<T>, call: &Call<T>, from: u64, to: u64) -> Option<HoldKind>
+    ensures { result ≡ grant_at object.now call.now from to }
 {
     match object {
         Object::Mutex => steps_mutex::grant(call),
+        Object::Spin => steps_spin::grant(call),
         Object::ReaderLock => steps_rw_reader::grant(call),
+        Object::WriterLock => steps_rw_writer::grant(call, from, to),
+        Object::Condvar => steps_condvar::grant(call),
         Object::Semaphore(_)
-        | Object::Spin
         | Object::Barrier(_)
-        | Object::WriterLock
-        | Object::Condvar
         | Object::Once
         | Object::Lazy(_)
         | Object::Atomic(_) => None,
@@ -154,12 +190,12 @@ pub fn needs_hold<T>(object: &Object<T>, call: &Call<T>) -> bool
     ensures { result ≡ needs_hold_at object.now call.now }
 {
     match object {
-        Object::Mutex | Object::ReaderLock => matches!(call, Call::Unlock),
+        Object::Mutex | Object::Spin | Object::ReaderLock | Object::WriterLock => {
+            matches!(call, Call::Unlock)
+        }
+        Object::Condvar => matches!(call, Call::Unlock | Call::Wait),
         Object::Semaphore(_)
-        | Object::Spin
         | Object::Barrier(_)
-        | Object::WriterLock
-        | Object::Condvar
         | Object::Once
         | Object::Lazy(_)
         | Object::Atomic(_) => false,

@@ -66,7 +66,7 @@ fn hold_after<T>(
 
 /// Moves the call of a party on after a step of it, in place.
 #[inline(always)]
-fn move_on<T: Copy>(doing: &mut Option<Doing<T>>, after: &After<T, Place>)
+fn move_on<T: Copy>(doing: &mut Option<Doing<T>>, after: &After<T, Place<T>>)
     ensures { doing.new ≡ moved_on doing.old after.now }
 {
     match doing {
@@ -223,8 +223,9 @@ fn read_call<T: AtomicInteger>(call: &Call<T>)
     }
 }
 
+/// A value that was read is one of its type.
 #[inline(always)]
-fn read_value<T: AtomicInteger>(value: T)
+pub(crate) fn read_value<T: AtomicInteger>(value: T)
     ensures { IsValue T.arithmetic value }
 {
     let _words = value.to_words();

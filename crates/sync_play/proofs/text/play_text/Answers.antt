@@ -21,7 +21,7 @@ returns-in_err-play_lines-clause-fault c =
 pub returns-clause-played : goal.returns-clause-played
 returns-clause-played c =
     let header = c.in-Ok.header in
-    text_done c.args.text.now header.object header.parties (lines_of c.in-Some.rest.now) _ _ _ _ c.word.result c.failed.result c.new-out.ensures.bytes
+    text_done c.args.text.now header.object header.parties (lines_of c.in-Some.rest.now) _ _ _ _ c.new-out.ensures.bytes
     (header_is c.args.text.now c.in-Some.first.now (lines_of c.in-Some.rest.now) header c.in-Some.ensures.lines c.in-Ok.ensures.value)
     (c.in_ok-play_lines.ensures header.parties [] c.in_ok-machine.ensures)
-    (λ at h. c.word.ensures header.object header.parties at h) (λ at h. c.failed.ensures header.object header.parties at h) (ap (λ (v : Vec ℕ Global). v.items) c.into_bytes.ensures.value ∙ c.in_ok-print_last.ensures)
+    (λ at stands. ap (λ (v : Vec ℕ Global). v.items) c.into_bytes.ensures.value ∙ c.in_ok-print_last.ensures header.parties at stands)

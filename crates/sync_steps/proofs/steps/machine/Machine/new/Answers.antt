@@ -5,7 +5,6 @@ use Rattle.sync_steps.proofs.steps.machine.Machine.new.Goals as goal
 
 pub returns : goal.returns
 returns g c =
-    let z = g.T.AtomicInteger.arithmetic in
     let idle : Party g.row.T.Denot = record { doing = None; hold = None } in
-    stands_first z c.args.object c.args.parties idle _ (c.opened-words.ensures.values c.requires z) refl refl c.opened-words.ensures.words refl refl
+    stands_first g.T.AtomicInteger.arithmetic c.args.object c.args.parties idle _ c.opened-words.ensures.values refl refl c.opened-words.ensures.words refl refl
     (c.in_ok-vec.ensures.items_if_clones_equal (λ y is. is))

@@ -1,0 +1,3 @@
+pub mod SpinKeeps
+pub mod SpinSights
+pub mod SameGuard

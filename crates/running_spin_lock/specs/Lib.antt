@@ -1,0 +1,5 @@
+pub mod SpinRule
+pub mod SpinTally
+pub mod SpinSteps
+pub mod SpinShown
+pub mod Poison

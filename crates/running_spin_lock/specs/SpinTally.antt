@@ -1,0 +1,15 @@
+-- What the passes of a spin lock count adds up.
+use Rattle.std.proofs.Common.{ℕ, ◌+◌, ◌≡◌, arith}
+use Rattle.passes.specs.Tallies.{IsTally}
+use Rattle.running_spin_lock.specs.SpinRule.{holds, no_holds, both_holds}
+
+same_holds : (a b c d : ℕ) → a ≡ b → c ≡ d → holds a c ≡ holds b d
+same_holds a b c d first second = λ i. holds (first i) (second i)
+
+pub holds_add_up : IsTally no_holds both_holds (λ _. no_holds)
+holds_add_up = record {
+  unit = λ t. same_holds (0 + t.holds) t.holds (0 + t.grants) t.grants (omega arith) (omega arith);
+  swap = λ t u. same_holds (t.holds + u.holds) (u.holds + t.holds) (t.grants + u.grants) (u.grants + t.grants) (omega arith) (omega arith);
+  group = λ t u v. same_holds (t.holds + u.holds + v.holds) (t.holds + (u.holds + v.holds)) (t.grants + u.grants + v.grants) (t.grants + (u.grants + v.grants)) (omega arith) (omega arith);
+  copy = λ t. same_holds (0 + t.holds) t.holds (0 + t.grants) t.grants (omega arith) (omega arith);
+}

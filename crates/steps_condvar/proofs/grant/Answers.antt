@@ -1,0 +1,14 @@
+use Rattle.std.proofs.Common.{rules, ◌≡◌, ◌≢◌, ◌∙◌, ℕ, refl, sym, Option}
+use Rattle.steps_events.specs.declared.event.Call.{Call}
+use Rattle.steps_events.specs.declared.event.Call.TheVariants as calls
+use Rattle.steps_mutex.specs.Table.{mutex_grant}
+use Rattle.steps_condvar.specs.Table.{condvar_grant}
+use Rattle.steps_condvar.proofs.grant.Goals as goal
+
+of_others : {T : Type 0} (call : Call T) (from to : ℕ) → call ≢ calls.Wait → mutex_grant call from to ≡ condvar_grant call from to
+of_others calls.Wait from to other = absurd (other refl)
+of_others call from to other = refl
+
+-- of every call but `Wait`
+pub returns-in_default : goal.returns-in_default
+returns-in_default g c = λ from to. c.grant.ensures from to ∙ of_others c.args.call.now from to c.in_default.not-Wait

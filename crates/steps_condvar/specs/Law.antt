@@ -1,0 +1,207 @@
+-- What a condition variable keeps at every front of every run: its waiter count, its permits, what each answer of a `Wait` means, a cause for each
+-- refusal, and how often a call tries.
+use Rattle.std.specs.Prelude.{◌≡◌, ℕ, zero, suc, min, ◌+◌, ◌%◌, ◌^◌, ◌==◌, ◌⊎◌, Bool, true, false, if◌then◌else◌, List, [], ◌∷◌, Option, Some, None, unwrap_or, MatchBool, MatchOption}
+use Rattle.steps_events.specs.declared.event.Word.TheVariants as words
+use Rattle.steps_events.specs.declared.event.Wake.{Wake}
+use Rattle.steps_events.specs.declared.event.Wake.TheVariants as wakes
+use Rattle.steps_events.specs.declared.event.Call.{Call}
+use Rattle.steps_events.specs.declared.event.Call.TheVariants as calls
+use Rattle.steps_events.specs.declared.event.Act.{Act}
+use Rattle.steps_events.specs.declared.event.Act.TheVariants as acts
+use Rattle.steps_events.specs.declared.event.Answer.{Answer}
+use Rattle.steps_events.specs.declared.event.Answer.TheVariants as answers
+use Rattle.steps_events.specs.declared.event.Then.{Then}
+use Rattle.steps_events.specs.declared.event.Then.TheVariants as thens
+use Rattle.steps_events.specs.declared.event.Event.{Event}
+use Rattle.steps_events.specs.declared.hold.HoldKind.{HoldKind}
+use Rattle.steps_events.specs.Past.{PendingCall, call_of, holds_of, hold_of, is_release, is_failure}
+use Rattle.steps_events.specs.Sights.{sight_of, is_sight, AtLastSight, keeps_asking, spins_in, stands_at_wait, acts_in}
+use Rattle.steps_events.specs.Laws.{TellsMemory, IsExclusive, IsLocked, HasCause}
+use Rattle.steps_mutex.specs.Law as mutex
+use Rattle.steps_mutex.specs.Law.{LockCause, HasTriedAll, IsExactGrant}
+use Rattle.steps_semaphore.specs.Permits.{permits, permits_taken, is_take, KeepsPermits}
+use Rattle.steps_semaphore.specs.Law.{is_empty_look}
+use Rattle.steps_condvar.specs.Table.{condvar_table}
+use Rattle.steps_condvar.specs.Waiters.{is_count, counts_in, since_count, CountsWaiters}
+
+-- Permits.
+
+-- the closure that a notify calls
+abbrev pub wake_for : {T : Type 0} → Call T → Option Wake
+wake_for calls.NotifyOne = Some wakes.One
+wake_for calls.NotifyAll = Some wakes.All
+wake_for call = None
+
+-- the waiter count that a call read last
+abbrev pub count_read : {T : Type 0} → List (Event T) → ℕ
+count_read [] = 0
+count_read (e ∷ own) = unwrap_or (sight_of words.Waiters e.act) (count_read own)
+
+-- the permits that it gives, where so many wait
+abbrev pub amount_for : Option Wake → ℕ → ℕ
+amount_for None waiters = 0
+amount_for (Some wakes.One) waiters = min 1 waiters
+amount_for (Some wakes.All) waiters = waiters
+
+-- the add of a `NotifyOne` gives the lesser of 1 and the count that it read, that of a `NotifyAll` this count
+abbrev pub condvar_gives : {T : Type 0} → Act T → Option (PendingCall T) → ℕ
+condvar_gives (acts.Add words.Value old put) (Some c) = amount_for (wake_for c.call) (count_read c.own)
+condvar_gives act pending = 0
+
+abbrev pub condvar_value : {T : Type 0} → List (Event T) → ℕ
+condvar_value past = permits words.Value condvar_gives 0 past
+
+-- the permits that a call has taken; a `Wait` is signalled if it has taken one
+abbrev pub takes_in : {T : Type 0} → List (Event T) → ℕ
+takes_in own = permits_taken words.Value own
+
+-- Why a call is refused.
+
+-- the wait closure of the party's call has answered Abort since the call last changed the waiter count
+abbrev pub HasAbortedSince : {T : Type 0} → ℕ → List (Event T) → Type 0
+HasAbortedSince party past = MatchOption (call_of party past) ⊥ (λ c. keeps_asking (since_count c.own) ≡ false)
+
+-- its wait closure had answered Abort before its last sight of the permits, and none was there to take
+abbrev pub FoundNoPermit : {T : Type 0} → ℕ → List (Event T) → Type 0
+FoundNoPermit party events = AtLastSight words.Value (λ before. HasAbortedSince party before × (condvar_value before ≡ 0)) party events
+
+-- after it had counted itself out, its wait closure had answered Abort before its last sight of the mutex, and a hold stood at it
+abbrev pub FoundMutexHeld : {T : Type 0} → ℕ → List (Event T) → Type 0
+FoundMutexHeld party events = AtLastSight words.State (λ before. HasAbortedSince party before × IsLocked condvar_table before) party events
+
+abbrev pub IsSignalled : {T : Type 0} → ℕ → List (Event T) → Type 0
+IsSignalled party past = MatchOption (call_of party past) ⊥ (λ c. takes_in c.own ≡ 1)
+
+-- `InterruptedHeld`: it found no permit. `Interrupted`: it found the mutex held, and it was signalled or found no permit before that.
+abbrev pub WaitCause : {T : Type 0} → Then T → ℕ → Event T → List (Event T) → Type 0
+WaitCause (thens.Answers answers.InterruptedHeld) party e past = FoundNoPermit party (e ∷ past)
+WaitCause (thens.Answers answers.Interrupted) party e past = FoundMutexHeld party (e ∷ past) × (IsSignalled party past ⊎ FoundNoPermit party (e ∷ past))
+WaitCause other party e past = ⊥
+
+-- `Lock` and `TryLock`: as of a mutex
+abbrev pub CondvarCause : {T : Type 0} → Call T → ℕ → List (Event T) → Type 0
+CondvarCause calls.Wait party [] = ⊥
+CondvarCause calls.Wait party (e ∷ past) = WaitCause e.then party e past
+CondvarCause call party events = LockCause condvar_table call party events
+
+-- What the steps of a call do, in their order.
+
+-- a call of the wake closure for one
+abbrev pub is_wake_one : {T : Type 0} → Act T → Bool
+is_wake_one (acts.Woke wakes.One) = true
+is_wake_one act = false
+
+abbrev pub answer_of : {T : Type 0} → Then T → Option (Answer T)
+answer_of (thens.Answers answer) = Some answer
+answer_of other = None
+
+-- `Success` for a signalled call with the hold, `InterruptedHeld` for an unsignalled one with it, `Interrupted` without it
+abbrev pub wait_answer : {T : Type 0} → ℕ → Option HoldKind → Answer T
+wait_answer takes None = answers.Interrupted
+wait_answer zero (Some kind) = answers.InterruptedHeld
+wait_answer (suc takes) (Some kind) = answers.Success
+
+-- what a `Wait` with these own events does next, by the hold that its party has then
+pub record WaitStep {T : Type 0} (own : List (Event T)) (e : Event T) (hold : Option HoldKind) : Type 0 where
+  -- it gives the mutex back once it has counted itself
+  pub unlocks : is_release e.act ≡ true → counts_in own ≡ 1
+  -- it looks for a permit while it is counted, and has given the mutex back and woken one
+  pub looks : is_sight words.Value e.act ≡ true → (counts_in own ≡ 1) × (acts_in is_release own ≡ 1) × (acts_in is_wake_one own ≡ 1)
+  -- it takes one at most
+  pub takes : is_take words.Value e.act ≡ true → takes_in own ≡ 0
+  -- it locks once it has counted itself out
+  pub locks : is_sight words.State e.act ≡ true → counts_in own ≡ 2
+  -- and its answer tells whether it was signalled, and whether it has the mutex
+  pub answers : MatchOption (answer_of e.then) (Unit {0}) (λ answer. (answer ≡ wait_answer (takes_in own) hold) × (counts_in own ≡ 2))
+
+-- a load of the waiter count
+abbrev pub is_read : {T : Type 0} → Act T → Bool
+is_read (acts.Load words.Waiters seen) = true
+is_read act = false
+
+-- an add to the permits
+abbrev pub is_post : {T : Type 0} → Act T → Bool
+is_post (acts.Add words.Value old put) = true
+is_post act = false
+
+abbrev pub PutsSum : {T : Type 0} → ℕ → Act T → Type 0
+PutsSum amount (acts.Add words.Value old put) = put ≡ (old + amount) % 2 ^ 64
+PutsSum amount act = Unit {0}
+
+-- what a notify does next, with this wake
+pub record NotifyStep {T : Type 0} (wake : Wake) (own : List (Event T)) (e : Event T) : Type 0 where
+  -- it posts once, once it has read the waiter count
+  pub posts : is_post e.act ≡ true → (acts_in is_read own ≡ 1) × (acts_in is_post own ≡ 0)
+  -- as many permits as the count tells
+  pub sums : PutsSum (amount_for (Some wake) (count_read own)) e.act
+  -- it ends once it has posted, with its wake
+  pub ends : MatchOption (answer_of e.then) (Unit {0}) (λ answer. (answer ≡ answers.Done) × (e.act ≡ acts.Woke wake) × (acts_in is_post own ≡ 1))
+  -- and has to do with the mutex at no time
+  pub apart : is_sight words.State e.act ≡ false
+
+-- a call of the mutex has to do with the waiter count and the permits at no time
+pub record LockStep {T : Type 0} (e : Event T) : Type 0 where
+  pub uncounted : is_sight words.Waiters e.act ≡ false
+  pub untaken : is_sight words.Value e.act ≡ false
+
+abbrev pub CallStep : {T : Type 0} → Call T → List (Event T) → Event T → Option HoldKind → Type 0
+CallStep calls.Wait own e hold = WaitStep own e hold
+CallStep calls.NotifyOne own e hold = NotifyStep wakes.One own e
+CallStep calls.NotifyAll own e hold = NotifyStep wakes.All own e
+CallStep call own e hold = LockStep e
+
+-- so does the latest event
+abbrev pub StepsInOrder : {T : Type 0} → List (Event T) → Type 0
+StepsInOrder [] = Unit {0}
+StepsInOrder (e ∷ past) = MatchOption (call_of e.party past) (Unit {0}) (λ c. CallStep c.call c.own e (hold_of condvar_table e.party (e ∷ past)))
+
+-- How often a call tries.
+
+-- How often it has spun. `Wait`: looks that saw no permit, while it is counted; exchanges that failed, since it has counted itself out. A call of the
+-- mutex: exchanges that failed.
+abbrev pub spins_of : {T : Type 0} → Call T → List (Event T) → ℕ
+spins_of calls.Wait own = if counts_in own == 2 then spins_in is_failure (since_count own) else spins_in is_empty_look (since_count own)
+spins_of call own = spins_in is_failure own
+
+-- a wait closure is asked only after exactly 10000 spins
+abbrev pub AsksAfterAllSpins : {T : Type 0} → List (Event T) → Type 0
+AsksAfterAllSpins [] = Unit {0}
+AsksAfterAllSpins (e ∷ past) = MatchBool (stands_at_wait e.then) (MatchOption (call_of e.party past) ⊥ (λ c. spins_of c.call c.own ≡ 10000)) (Unit {0})
+
+-- a call that ends without the mutex
+abbrev pub gives_up : {T : Type 0} → Then T → Bool
+gives_up (thens.Answers answers.Interrupted) = true
+gives_up other = false
+
+-- a `Wait` has made as many exchanges for the mutex since it has counted itself out as a `Lock` that gives up
+abbrev pub HasTried : {T : Type 0} → Call T → List (Event T) → Type 0
+HasTried calls.Wait own = HasTriedAll (since_count own)
+HasTried call own = mutex.HasTried call own
+
+abbrev pub GivesUpAfterTrying : {T : Type 0} → List (Event T) → Type 0
+GivesUpAfterTrying [] = Unit {0}
+GivesUpAfterTrying (e ∷ past) = MatchBool (gives_up e.then) (MatchOption (call_of e.party past) ⊥ (λ c. HasTried c.call (e ∷ c.own))) (Unit {0})
+
+-- What a condition variable keeps beside what every object does.
+pub record CondvarLaw {T : Type 0} (past : List (Event T)) : Type 0 where
+  -- the waiter count is that of the `Wait` calls between their add and their subtraction
+  pub waiters : CountsWaiters past
+  -- no more permits are taken than notifies have given, and each value that is told is what was given less what was taken
+  pub permits : KeepsPermits words.Value condvar_gives 0 past
+  -- each call does its steps in their order, and a `Wait` tells whether it was signalled and whether it has the mutex
+  pub steps : StepsInOrder past
+  -- `TryLock` is granted exactly where nobody holds the mutex
+  pub exact : IsExactGrant condvar_table past
+  -- a wait closure is asked after 10000 spins
+  pub asks : AsksAfterAllSpins past
+  -- and each call that ends without the mutex has tried so often
+  pub tries : GivesUpAfterTrying past
+
+pub record KeepsCondvar {T : Type 0} (past : List (Event T)) : Type 0 where
+  -- each act that tells a word's value tells what the memory holds there
+  pub told : TellsMemory condvar_table past
+  -- one holder at most
+  pub exclusive : IsExclusive (holds_of condvar_table past)
+  -- each refusal has its cause
+  pub cause : HasCause CondvarCause past
+  pub law : CondvarLaw past

@@ -1,0 +1,320 @@
+-- A lazy value keeps its law at every front of every run. The word and the closure are those of the once inside.
+use Rattle.std.proofs.Common.{◌≡◌, ℕ, ◌≤◌, ◌==◌, refl, sym, ◌∙◌, ap, subst, Bool, true, false, cond, List, [], ◌∷◌, Option, Some, None, inl, inr, arith}
+use Rattle.std.specs.Prelude.{IfSome, MatchBool, MatchOption, not}
+use Rattle.std.proofs.lemmas.Bool.{eqb-true}
+use Rattle.steps_events.specs.declared.event.Word.{Word}
+use Rattle.steps_events.specs.declared.event.Word.TheVariants as words
+use Rattle.steps_events.specs.declared.event.Call.{Call}
+use Rattle.steps_events.specs.declared.event.Call.TheVariants as calls
+use Rattle.steps_events.specs.declared.event.Act.{Act}
+use Rattle.steps_events.specs.declared.event.Act.TheVariants as acts
+use Rattle.steps_events.specs.declared.event.Answer.TheVariants as answers
+use Rattle.steps_events.specs.declared.event.Event.{Event}
+use Rattle.steps_events.specs.declared.event.Then.{Then}
+use Rattle.steps_events.specs.declared.event.Then.TheVariants as thens
+use Rattle.steps_events.specs.declared.hold.HoldKind.{HoldKind}
+use Rattle.steps_events.specs.Arithmetic.{Arithmetic}
+use Rattle.steps_events.specs.Rows.{carried_out, value_told, outcome_of, place_after}
+use Rattle.steps_events.specs.Past.{same_word, PendingCall, call_of, hold_of, word_in, word_after, event}
+use Rattle.steps_events.specs.Moves.{Move, step_at, is_step}
+use Rattle.steps_events.specs.Runs.{IsPast}
+use Rattle.steps_events.specs.Sights.{AtLast, last_of}
+use Rattle.steps_events.specs.Waits.{stands, is_wake}
+use Rattle.steps_events.specs.Laws.{IsTold, Lacks, is_refusal}
+use Rattle.steps_events.proofs.Holds.{some_same, no_holds}
+use Rattle.steps_events.proofs.Steps.{by_move, tells_memory}
+use Rattle.steps_events.proofs.Parties.{IsKept, IsAtPlace, at_place, each_call}
+use Rattle.steps_events.proofs.Own.{IsCallAfter, call_was}
+use Rattle.steps_once.specs.declared.OncePlace.{OncePlace}
+use Rattle.steps_once.specs.declared.OncePlace.TheVariants as onces
+use Rattle.steps_once.specs.Table.{found_after}
+use Rattle.steps_once.specs.Closures.{is_begin, is_end, is_load, begins_in, ends_in}
+use Rattle.steps_once.proofs.Laws.{AtOnce, seen_after, begin_after, closure_intent, has_begun}
+use Rattle.steps_once.proofs.Closures.{is_miss, missed_since, IsClosureIntent, RunsOneClosure, at_most_one, complete_ended, closure_front, stays_complete, tells_state, own_began}
+use Rattle.steps_lazy.specs.declared.LazyPlace.{LazyPlace}
+use Rattle.steps_lazy.specs.declared.LazyPlace.TheVariants as places
+use Rattle.steps_lazy.specs.Table.{lazy_table, lazy_begins, lazy_intent, reads_next, lazy_after}
+use Rattle.steps_lazy.specs.Law.{LazyCause, is_read, shows_end, IsNextStep, OnlyForces, KeepsLazy}
+
+-- What is kept of a call at its place.
+
+-- the call has seen the word at 2, or put it there
+abbrev pub has_seen_end : {T : Type 0} → List (Event T) → Bool
+has_seen_end [] = false
+has_seen_end (e ∷ own) = cond (shows_end e.act) true (has_seen_end own)
+
+-- of its own events: in the once inside what a once keeps, and at the read the end
+abbrev pub IsAt : {T : Type 0} → LazyPlace → PendingCall T → Option HoldKind → Type 0
+IsAt (places.Once onces.IsCompleted) c hold = ⊥
+IsAt (places.Once place) c hold = AtOnce place c hold
+IsAt places.Read c hold = has_seen_end c.own ≡ true
+
+abbrev pub is_at_read : LazyPlace → Bool
+is_at_read (places.Once place) = false
+is_at_read places.Read = true
+
+-- of its latest step, where that leads
+abbrev pub IsLed : {T : Type 0} → LazyPlace → Option (Act T) → Type 0
+IsLed place last =
+    MatchOption last (is_at_read place ≡ false)
+    (λ before. (is_begin before ≡ true → place ≡ places.Once onces.Run) × (is_end before ≡ true → place ≡ places.Once onces.Complete) × (shows_end before ≡ is_at_read place))
+
+pub record AtLazy {T : Type 0} (place : LazyPlace) (c : PendingCall T) (hold : Option HoldKind) : Type 0 where
+  pub call : c.call ≡ calls.Force
+  pub own : IsAt place c hold
+  pub led : IsLed place (last_of is_step c.own)
+
+-- Where a call begins.
+
+begins_at : {T : Type 0} (call : Call T) (place : LazyPlace) (hold : Option HoldKind) → lazy_begins call ≡ Some place → AtLazy {T = T} place (record { call = call; own = [] }) hold
+begins_at {T} calls.Force place hold is = subst (λ p. AtLazy {T = T} p (record { call = calls.Force; own = [] }) hold) (some_same (places.Once onces.Look) place is) (record { call = refl; own = refl; led = refl })
+begins_at other place hold is = absurd cc
+
+-- Where a step leads.
+
+-- a look at this word, by whether it saw 2
+look_leads :
+    {T : Type 0} (c : PendingCall T) (hold : Option HoldKind) (w number : ℕ) (outcome : Then T) (on : OncePlace) (next : LazyPlace) (complete : Bool) → c.call ≡ calls.Force →
+    IsAt (places.Once on) (record { call = c.call; own = event number (acts.Load words.State w) outcome ∷ c.own }) hold → (w == 2) ≡ complete → place_after {T = T} (reads_next (seen_after on complete)) ≡ Some next →
+    AtLazy next (record { call = c.call; own = event number (acts.Load words.State w) outcome ∷ c.own }) hold
+look_leads {T} c hold w number outcome on next true force here sees is =
+    subst (λ p. AtLazy {T = T} p (record { call = c.call; own = event number (acts.Load words.State w) outcome ∷ c.own }) hold) (some_same places.Read next is)
+    (record { call = force; own = rw sees refl; led = (λ no. absurd cc, λ no. absurd cc, sees) })
+look_leads {T} c hold w number outcome on next false force here sees is =
+    subst (λ p. AtLazy {T = T} p (record { call = c.call; own = event number (acts.Load words.State w) outcome ∷ c.own }) hold) (some_same (places.Once on) next is)
+    (record { call = force; own = here; led = (λ no. absurd cc, λ no. absurd cc, sees) })
+
+-- the exchange, by whether it was done
+exchange_leads :
+    {T : Type 0} (c : PendingCall T) (hold : Option HoldKind) (w number : ℕ) (outcome : Then T) (next : LazyPlace) (done : Bool) → c.call ≡ calls.Force → place_after {T = T} (reads_next (begin_after done)) ≡ Some next →
+    AtLazy next (record { call = c.call; own = event number (acts.Exchange words.State 0 1 w done) outcome ∷ c.own }) hold
+exchange_leads {T} c hold w number outcome next true force is =
+    subst (λ p. AtLazy {T = T} p (record { call = c.call; own = event number (acts.Exchange words.State 0 1 w true) outcome ∷ c.own }) hold) (some_same (places.Once onces.Run) next is)
+    (record { call = force; own = refl; led = (λ _. refl, λ no. absurd cc, refl) })
+exchange_leads {T} c hold w number outcome next false force is =
+    subst (λ p. AtLazy {T = T} p (record { call = c.call; own = event number (acts.Exchange words.State 0 1 w false) outcome ∷ c.own }) hold) (some_same (places.Once onces.Stay) next is)
+    (record { call = force; own = refl; led = (λ no. absurd cc, λ no. absurd cc, refl) })
+
+steps_at :
+    {T : Type 0} (v : T) (place : LazyPlace) (c : PendingCall T) (hold left : Option HoldKind) (memory : Word → ℕ) (number : ℕ) (next : LazyPlace) → AtLazy place c hold →
+    place_after {T = T} (lazy_after v place (value_told {T = T} (carried_out (lazy_intent v words.State place) memory))) ≡ Some next →
+    AtLazy next (record { call = c.call; own = event number (step_at (lazy_table v) place hold memory).act (step_at (lazy_table v) place hold memory).outcome ∷ c.own }) left
+steps_at v (places.Once onces.IsCompleted) c hold left memory number next at is = absurd at.own
+steps_at v (places.Once onces.Look) c hold left memory number next at is = look_leads c left (memory words.State) number _ onces.Begin next (memory words.State == 2) at.call tt refl is
+steps_at v (places.Once onces.Begin) c hold left memory number next at is = exchange_leads c left (memory words.State) number _ next (memory words.State == 0) at.call is
+steps_at {T} v (places.Once onces.Run) c hold left memory number next at is =
+    subst (λ p. AtLazy {T = T} p (record { call = c.call; own = event number acts.Ended thens.GoesOn ∷ c.own }) left) (some_same (places.Once onces.Complete) next is)
+    (record { call = at.call; own = omega arith; led = (λ no. absurd cc, λ _. refl, refl) })
+steps_at {T} v (places.Once onces.Complete) c hold left memory number next at is =
+    subst (λ p. AtLazy {T = T} p (record { call = c.call; own = event number (acts.Store words.State 2) thens.GoesOn ∷ c.own }) left) (some_same places.Read next is)
+    (record { call = at.call; own = refl; led = (λ no. absurd cc, λ no. absurd cc, refl) })
+steps_at v (places.Once onces.Stay) c hold left memory number next at is = look_leads c left (memory words.State) number _ onces.Stay next (memory words.State == 2) at.call at.own refl is
+steps_at v places.Read c hold left memory number next at is = absurd cc
+
+-- no call of a lazy value stands, but an answer of a closure would change nothing
+
+stays_here :
+    {T : Type 0} (place : LazyPlace) (c : PendingCall T) (hold : Option HoldKind) (e : Event T) → is_step e.act ≡ false → is_miss e.act ≡ false → is_begin e.act ≡ false → is_end e.act ≡ false → shows_end e.act ≡ false →
+    IsAt place c hold → IsAt {T = T} place (record { call = c.call; own = e ∷ c.own }) hold
+stays_here (places.Once onces.IsCompleted) c hold e quiet misses begins ends shows at = at
+stays_here (places.Once onces.Look) c hold e quiet misses begins ends shows at = rw quiet at
+stays_here (places.Once onces.Begin) c hold e quiet misses begins ends shows at = tt
+stays_here (places.Once onces.Run) c hold e quiet misses begins ends shows at = rw (begins, ends) at
+stays_here (places.Once onces.Complete) c hold e quiet misses begins ends shows at = rw ends (omega (arith, at))
+stays_here (places.Once onces.Stay) c hold e quiet misses begins ends shows at = rw misses at
+stays_here places.Read c hold e quiet misses begins ends shows at = rw shows at
+
+pub lazy_kept : {T : Type 0} (v : T) → IsKept (lazy_table v) AtLazy
+lazy_kept v =
+    record {
+      begins = λ call place hold is allowed. begins_at call place hold is;
+      steps = λ place c hold memory number next at free is. steps_at v place c hold _ memory number next at is;
+      answers = λ place c hold action number at waits. record { call = at.call; own = stays_here place c hold (event number (acts.Answered action) thens.GoesOn) refl refl refl refl refl at.own; led = at.led };
+      chooses = λ place c hold choice number at waits. record { call = at.call; own = stays_here place c hold (event number (acts.Chosen choice) thens.GoesOn) refl refl refl refl refl at.own; led = at.led };
+    }
+
+-- A lazy value runs one closure.
+
+lazy_closure_intent : {T : Type 0} (v : T) (place : LazyPlace) (c : PendingCall T) (hold : Option HoldKind) → IsAt place c hold → IsClosureIntent {T = T} c.own (lazy_intent v words.State place)
+lazy_closure_intent v (places.Once onces.IsCompleted) c hold at = absurd at
+lazy_closure_intent v (places.Once onces.Look) c hold at = closure_intent onces.Look c hold at
+lazy_closure_intent v (places.Once onces.Begin) c hold at = closure_intent onces.Begin c hold at
+lazy_closure_intent v (places.Once onces.Run) c hold at = closure_intent onces.Run c hold at
+lazy_closure_intent v (places.Once onces.Complete) c hold at = closure_intent onces.Complete c hold at
+lazy_closure_intent v (places.Once onces.Stay) c hold at = closure_intent onces.Stay c hold at
+lazy_closure_intent v places.Read c hold at = tt
+
+runs_one : {T : Type 0} (z : Arithmetic T) (v : T) (parties : ℕ) → RunsOneClosure z (lazy_table v) parties
+runs_one z v parties =
+    record {
+      opens = refl;
+      steps = λ past party c place run called stage. lazy_closure_intent v place c (hold_of (lazy_table v) party past) (at_place z (lazy_table v) parties AtLazy (lazy_kept v) past run party c place called stage).own;
+    }
+
+-- What a call has seen of the end stays so.
+
+shown_here : {T : Type 0} (act : Act T) (memory : Word → ℕ) → IsTold act memory → shows_end act ≡ true → word_after words.State act (memory words.State) ≡ 2
+shown_here (acts.Load words.State seen) memory told shows = sym told ∙ eqb-true seen 2 shows
+shown_here (acts.Store words.State put) memory told shows = eqb-true put 2 shows
+shown_here other memory told shows = absurd cc
+
+two_since :
+    {T : Type 0} (z : Arithmetic T) (v : T) (parties : ℕ) (past : List (Event T)) → IsPast z (lazy_table v) parties past → (party : ℕ) (c : PendingCall T) → call_of party past ≡ Some c → has_seen_end c.own ≡ true →
+    word_in (lazy_table v) past words.State ≡ 2
+two_since z v parties [] run party c called seen = absurd cc
+two_since {T} z v parties (e ∷ past) run party c called seen = by_call (two_since z v parties past run.1) (call_was past e party c called)
+  where
+    still : word_in (lazy_table v) past words.State ≡ 2 → word_in (lazy_table v) (e ∷ past) words.State ≡ 2
+    still = stays_complete z (lazy_table v) parties (runs_one z v parties) past e run
+
+    by_test : (shows : Bool) → shows_end e.act ≡ shows → (own : List (Event T)) → (has_seen_end own ≡ true → word_in (lazy_table v) past words.State ≡ 2) → cond shows true (has_seen_end own) ≡ true → word_in (lazy_table v) (e ∷ past) words.State ≡ 2
+    by_test true shows own rest seen = shown_here e.act (word_in (lazy_table v) past) (tells_memory z (lazy_table v) parties (e ∷ past) run) shows
+    by_test false shows own rest seen = still (rest seen)
+
+    by_call : ((p : ℕ) (k : PendingCall T) → call_of p past ≡ Some k → has_seen_end k.own ≡ true → word_in (lazy_table v) past words.State ≡ 2) → IsCallAfter past e party c → word_in (lazy_table v) (e ∷ past) words.State ≡ 2
+    by_call rest (inl other) = still (rest party c other.1 seen)
+    by_call rest (inr (inl begun)) = let no : has_seen_end {T = T} [] ≡ true = subst (λ (own : List (Event T)). has_seen_end own ≡ true) begun.1 seen in absurd cc
+    by_call rest (inr (inr on)) = by_test (shows_end e.act) refl on.1.0.own (rest party on.1.0 on.1.1) (subst (λ (own : List (Event T)). has_seen_end own ≡ true) on.1.2 seen)
+
+-- What one more event tells.
+
+pub record EventLaw {T : Type 0} (v : T) (party : ℕ) (past : List (Event T)) (pending : Option (PendingCall T)) (m : Move T) : Type 0 where
+  pub cause : MatchBool (is_refusal m.outcome) (MatchOption pending ⊥ (λ c. LazyCause c.call party (event party m.act m.outcome ∷ past))) (Unit {0})
+  pub own : MatchBool (is_end m.act) (AtLast is_begin (λ before. begins_in before ≡ 0) party past) (Unit {0})
+  pub runs :
+      MatchBool (is_step m.act)
+      (MatchOption pending ⊥ (λ c. MatchOption (last_of is_step c.own) (is_read m.act ≡ false) (λ before. IsNextStep (is_begin before) (is_end before) (shows_end before) m.act)))
+      (Unit {0})
+  pub waits : MatchBool (is_load m.act) (MatchOption pending ⊥ (λ c. IfSome (last_of is_step c.own) (λ before. 1 ≤ begins_in past))) (Unit {0})
+  pub answers :
+      MatchBool (is_read m.act)
+      ((m.act ≡ acts.ReadCell v) × (m.outcome ≡ thens.Answers (answers.Value v)) × (word_in (lazy_table v) past words.State ≡ 2) × (ends_in past ≡ 1))
+      (m.outcome ≡ thens.GoesOn)
+  pub spins : (stands m.outcome ≡ false) × (is_wake m.act ≡ false)
+
+-- the step at a place follows the call's step before
+in_order :
+    {T : Type 0} (place : LazyPlace) (last : Option (Act T)) (act : Act T) → IsLed place last → (place ≡ places.Once onces.Run → act ≡ acts.Ended) → (place ≡ places.Once onces.Complete → act ≡ acts.Store words.State 2) →
+    is_read act ≡ is_at_read place → MatchOption last (is_read act ≡ false) (λ before. IsNextStep (is_begin before) (is_end before) (shows_end before) act)
+in_order place None act led ends puts reads = reads ∙ led
+in_order {T} place (Some before) act led ends puts reads = by_test (is_begin before) (is_end before) led
+  where
+    by_test : (begun ended : Bool) → (begun ≡ true → place ≡ places.Once onces.Run) × (ended ≡ true → place ≡ places.Once onces.Complete) × (shows_end before ≡ is_at_read place) → IsNextStep {T = T} begun ended (shows_end before) act
+    by_test true ended led = ends (led.0 refl)
+    by_test false true led = puts (led.1 refl)
+    by_test false false led = reads ∙ sym led.2
+
+-- a step in the once inside goes on
+goes_on_at : (T : Type 0) (place : OncePlace) (found : ℕ) → outcome_of {T = T} (reads_next (found_after place found)) ≡ thens.GoesOn
+goes_on_at T onces.IsCompleted found = refl
+goes_on_at T onces.Look found = by_test (found == 2)
+  where
+    by_test : (b : Bool) → outcome_of {T = T} (reads_next (seen_after onces.Begin b)) ≡ thens.GoesOn
+    by_test true = refl
+    by_test false = refl
+goes_on_at T onces.Begin found = by_test (found == 0)
+  where
+    by_test : (b : Bool) → outcome_of {T = T} (reads_next (begin_after b)) ≡ thens.GoesOn
+    by_test true = refl
+    by_test false = refl
+goes_on_at T onces.Run found = refl
+goes_on_at T onces.Complete found = refl
+goes_on_at T onces.Stay found = by_test (found == 2)
+  where
+    by_test : (b : Bool) → outcome_of {T = T} (reads_next (seen_after onces.Stay b)) ≡ thens.GoesOn
+    by_test true = refl
+    by_test false = refl
+
+-- a step that goes on, and reads, ends and wakes nothing
+goes_on_law :
+    {T : Type 0} (v : T) (party : ℕ) (past : List (Event T)) (c : PendingCall T) (act : Act T) (outcome : Then T) → outcome ≡ thens.GoesOn → is_read act ≡ false → is_wake act ≡ false →
+    MatchBool (is_end act) (AtLast is_begin (λ before. begins_in before ≡ 0) party past) (Unit {0}) →
+    MatchBool (is_step act) (MatchOption (last_of is_step c.own) (is_read act ≡ false) (λ before. IsNextStep (is_begin before) (is_end before) (shows_end before) act)) (Unit {0}) →
+    MatchBool (is_load act) (IfSome (last_of is_step c.own) (λ before. 1 ≤ begins_in past)) (Unit {0}) → EventLaw v party past (Some c) (record { act = act; outcome = outcome })
+goes_on_law {T} v party past c act outcome goes reads wakes ends runs waits =
+    subst (λ (o : Then T). EventLaw v party past (Some c) (record { act = act; outcome = o })) (sym goes)
+    (record { cause = tt; own = ends; runs = runs; waits = waits; answers = rw reads refl; spins = (refl, wakes) })
+
+step_law :
+    {T : Type 0} (z : Arithmetic T) (v : T) (parties party : ℕ) (past : List (Event T)) → IsPast z (lazy_table v) parties past → (c : PendingCall T) → call_of party past ≡ Some c →
+    (place : LazyPlace) (hold : Option HoldKind) → AtLazy place c hold → EventLaw v party past (Some c) (step_at (lazy_table v) place hold (word_in (lazy_table v) past))
+step_law z v parties party past run c called (places.Once onces.IsCompleted) hold at = absurd at.own
+step_law {T} z v parties party past run c called (places.Once onces.Look) hold at =
+    goes_on_law v party past c _ _ (goes_on_at T onces.Look _) refl refl tt (in_order (places.Once onces.Look) (last_of is_step c.own) (acts.Load words.State (word_in (lazy_table v) past words.State)) at.led (λ no. absurd cc) (λ no. absurd cc) refl) (rw at.own tt)
+step_law {T} z v parties party past run c called (places.Once onces.Begin) hold at =
+    goes_on_law v party past c _ _ (goes_on_at T onces.Begin _) refl refl tt (in_order (places.Once onces.Begin) (last_of is_step c.own) (acts.Exchange words.State 0 1 (word_in (lazy_table v) past words.State) (word_in (lazy_table v) past words.State == 0)) at.led (λ no. absurd cc) (λ no. absurd cc) refl) tt
+step_law {T} z v parties party past run c called (places.Once onces.Run) hold at =
+    let front = closure_front z (lazy_table v) parties (runs_one z v parties) past run in
+    goes_on_law v party past c _ _ (goes_on_at T onces.Run 0) refl refl (own_began z (lazy_table v) parties party past run c called at.own (at_most_one _ _ _ front.state).0)
+    (in_order (places.Once onces.Run) (last_of is_step c.own) _ at.led (λ _. refl) (λ no. absurd cc) refl) tt
+step_law {T} z v parties party past run c called (places.Once onces.Complete) hold at =
+    goes_on_law v party past c _ _ (goes_on_at T onces.Complete 0) refl refl tt (in_order (places.Once onces.Complete) (last_of is_step c.own) _ at.led (λ no. absurd cc) (λ _. refl) refl) tt
+step_law {T} z v parties party past run c called (places.Once onces.Stay) hold at =
+    goes_on_law v party past c _ _ (goes_on_at T onces.Stay _) refl refl tt (in_order (places.Once onces.Stay) (last_of is_step c.own) (acts.Load words.State (word_in (lazy_table v) past words.State)) at.led (λ no. absurd cc) (λ no. absurd cc) refl) (has_begun (last_of is_step c.own) (missed_since z (lazy_table v) parties (runs_one z v parties) past run party c called at.own))
+step_law z v parties party past run c called places.Read hold at =
+    let two = two_since z v parties past run party c called at.own in
+    let front = closure_front z (lazy_table v) parties (runs_one z v parties) past run in
+    record {
+      cause = tt;
+      own = tt;
+      runs = in_order places.Read (last_of is_step c.own) (acts.ReadCell v) at.led (λ no. absurd cc) (λ no. absurd cc) refl;
+      waits = tt;
+      answers = (refl, refl, two, complete_ended _ _ _ front.state two);
+      spins = (refl, refl);
+    }
+
+event_law :
+    {T : Type 0} (z : Arithmetic T) (v : T) (parties : ℕ) (past : List (Event T)) (e : Event T) → IsPast z (lazy_table v) parties (e ∷ past) → EventLaw v e.party past (call_of e.party past) (record { act = e.act; outcome = e.then })
+event_law {T} z v parties past e run =
+    by_move (lazy_table v) (call_of e.party past) (hold_of (lazy_table v) e.party past) (word_in (lazy_table v) past) (λ (k : Option (PendingCall T)) (m : Move T). EventLaw v e.party past k m)
+    run.0.0 (record { act = e.act; outcome = e.then })
+    (λ call _. record { cause = tt; own = tt; runs = tt; waits = tt; answers = refl; spins = (refl, refl) })
+    (λ action _. record { cause = tt; own = tt; runs = tt; waits = tt; answers = refl; spins = (refl, refl) })
+    (λ choice _. record { cause = tt; own = tt; runs = tt; waits = tt; answers = refl; spins = (refl, refl) })
+    (λ c place _ called stage.
+    step_law z v parties e.party past run.1 c called place (hold_of (lazy_table v) e.party past) (at_place z (lazy_table v) parties AtLazy (lazy_kept v) past run.1 e.party c place called stage))
+    run.0.1.moved
+
+only_forces : {T : Type 0} (z : Arithmetic T) (v : T) (parties : ℕ) (past : List (Event T)) (e : Event T) → IsPast z (lazy_table v) parties past → OnlyForces (e ∷ past)
+only_forces {T} z v parties past e run = by_call (call_of e.party past) (each_call z (lazy_table v) parties AtLazy (lazy_kept v) past run e.party)
+  where
+    by_call : (pending : Option (PendingCall T)) → IsAtPlace (lazy_table v) AtLazy pending (hold_of (lazy_table v) e.party past) → MatchOption pending (Unit {0}) (λ c. c.call ≡ calls.Force)
+    by_call None at = tt
+    by_call (Some c) at = at.2.call
+
+pub keeps_lazy : {T : Type 0} (z : Arithmetic T) (v : T) (parties : ℕ) (past : List (Event T)) → IsPast z (lazy_table v) parties past → KeepsLazy v past
+keeps_lazy z v parties [] run =
+    let front = closure_front z (lazy_table v) parties (runs_one z v parties) [] run in
+    record { told = tt; unheld = refl; cause = tt; law = record { one = omega arith; ends = omega arith; own = tt; runs = tt; waits = tt; answers = tt; calls = tt; stays = tt; spins = tt; state = tells_state (lazy_table v) [] front.state } }
+keeps_lazy z v parties (e ∷ past) run =
+    let event = event_law z v parties past e run in
+    let front = closure_front z (lazy_table v) parties (runs_one z v parties) (e ∷ past) run in
+    let most = at_most_one _ _ _ front.state in
+    record {
+      told = tells_memory z (lazy_table v) parties (e ∷ past) run;
+      unheld = no_holds (lazy_table v) (λ call from to. refl) (e ∷ past);
+      cause = event.cause;
+      law =
+          record {
+            one = most.0;
+            ends = most.2;
+            own = event.own;
+            runs = event.runs;
+            waits = event.waits;
+            answers = event.answers;
+            calls = only_forces z v parties past e run.1;
+            stays = stays_complete z (lazy_table v) parties (runs_one z v parties) past e run;
+            spins = event.spins;
+            state = tells_state (lazy_table v) (e ∷ past) front.state;
+          };
+    }
+
+-- a lazy value has no other word
+pub lazy_lacks : (T : Type 0) (v : T) (word : Word) → same_word words.State word ≡ false → Lacks (lazy_table v) word
+lazy_lacks T v word other (places.Once onces.IsCompleted) hold = ap not other
+lazy_lacks T v word other (places.Once onces.Look) hold = ap not other
+lazy_lacks T v word other (places.Once onces.Begin) hold = ap not other
+lazy_lacks T v word other (places.Once onces.Run) hold = refl
+lazy_lacks T v word other (places.Once onces.Complete) hold = ap not other
+lazy_lacks T v word other (places.Once onces.Stay) hold = ap not other
+lazy_lacks T v word other places.Read hold = refl

@@ -1,0 +1,92 @@
+-- What a lazy value keeps at every front of every run: one closure runs, once, and every answer is its value, read after its end.
+use Rattle.std.specs.Prelude.{◌≡◌, ◌≤◌, ℕ, ◌==◌, Bool, true, false, List, [], ◌∷◌, MatchBool, MatchOption}
+use Rattle.steps_events.specs.declared.event.Word.TheVariants as words
+use Rattle.steps_events.specs.declared.event.Act.{Act}
+use Rattle.steps_events.specs.declared.event.Act.TheVariants as acts
+use Rattle.steps_events.specs.declared.event.Answer.TheVariants as answers
+use Rattle.steps_events.specs.declared.event.Call.{Call}
+use Rattle.steps_events.specs.declared.event.Call.TheVariants as calls
+use Rattle.steps_events.specs.declared.event.Then.TheVariants as thens
+use Rattle.steps_events.specs.declared.event.Event.{Event}
+use Rattle.steps_events.specs.Past.{call_of, holds_of, word_in}
+use Rattle.steps_events.specs.Moves.{is_step}
+use Rattle.steps_events.specs.Sights.{last_of}
+use Rattle.steps_events.specs.Waits.{OnlySpins}
+use Rattle.steps_events.specs.Laws.{TellsMemory, HasCause}
+use Rattle.steps_once.specs.Closures.{is_begin, is_end, begins_in, ends_in, EndsItsOwn, WaitsForAnother, StaysTwo, TellsState}
+use Rattle.steps_lazy.specs.Table.{lazy_table}
+
+-- no call of a lazy value is refused
+abbrev pub LazyCause : {T : Type 0} → Call T → ℕ → List (Event T) → Type 0
+LazyCause call party events = ⊥
+
+-- The answers.
+
+abbrev pub is_read : {T : Type 0} → Act T → Bool
+is_read (acts.ReadCell value) = true
+is_read act = false
+
+-- the latest event reads v from the cell and answers it, where the word is 2 and the closure has ended; or its call goes on
+abbrev pub AnswersWhatItReads : {T : Type 0} → T → List (Event T) → Type 0
+AnswersWhatItReads v [] = Unit {0}
+AnswersWhatItReads v (e ∷ past) =
+    MatchBool (is_read e.act)
+    ((e.act ≡ acts.ReadCell v) × (e.then ≡ thens.Answers (answers.Value v)) × (word_in (lazy_table v) past words.State ≡ 2) × (ends_in past ≡ 1))
+    (e.then ≡ thens.GoesOn)
+
+-- each call is a `Force`
+abbrev pub OnlyForces : {T : Type 0} → List (Event T) → Type 0
+OnlyForces [] = Unit {0}
+OnlyForces (e ∷ past) = MatchOption (call_of e.party past) (Unit {0}) (λ c. c.call ≡ calls.Force)
+
+-- The order of a call's steps.
+
+-- it saw the word at 2, or put it there
+abbrev pub shows_end : {T : Type 0} → Act T → Bool
+shows_end (acts.Load words.State seen) = seen == 2
+shows_end (acts.Store words.State put) = put == 2
+shows_end act = false
+
+-- what follows a step of a call, by whether that began its closure, ended it, or showed its end: its end; the store of 2; a read of the cell, which follows nothing else
+abbrev pub IsNextStep : {T : Type 0} → Bool → Bool → Bool → Act T → Type 0
+IsNextStep begun ended shown act =
+    MatchBool begun (act ≡ acts.Ended) (MatchBool ended (act ≡ acts.Store words.State 2) (is_read act ≡ shown))
+
+-- so the latest event, if it is a step, follows its call's step before; the first of a call is no read
+abbrev pub RunsInOrder : {T : Type 0} → List (Event T) → Type 0
+RunsInOrder [] = Unit {0}
+RunsInOrder (e ∷ past) =
+    MatchBool (is_step e.act)
+    (MatchOption (call_of e.party past) ⊥ (λ c. MatchOption (last_of is_step c.own) (is_read e.act ≡ false) (λ before. IsNextStep (is_begin before) (is_end before) (shows_end before) e.act)))
+    (Unit {0})
+
+-- What a lazy value keeps beside what every object does.
+pub record LazyLaw {T : Type 0} (v : T) (past : List (Event T)) : Type 0 where
+  -- one closure begins at most
+  pub one : begins_in past ≤ 1
+  -- no more end than began
+  pub ends : ends_in past ≤ begins_in past
+  -- it ends in the call that began it
+  pub own : EndsItsOwn past
+  -- that call ends it at its next step, then stores 2, and then reads the cell; any other reads where it has just seen 2
+  pub runs : RunsInOrder past
+  -- a call waits only for a closure that has begun
+  pub waits : WaitsForAnother past
+  -- every answer is v, read from the cell after the closure's end; an event that reads nothing answers nothing
+  pub answers : AnswersWhatItReads v past
+  -- it has no call but `Force`
+  pub calls : OnlyForces past
+  -- a word that is 2 stays so
+  pub stays : StaysTwo (lazy_table v) past
+  -- a call that waits only spins: none stands at a closure, and none wakes
+  pub spins : OnlySpins past
+  pub state : TellsState (lazy_table v) past
+
+pub record KeepsLazy {T : Type 0} (v : T) (past : List (Event T)) : Type 0 where
+  -- each act that tells a word's value tells what the memory holds there
+  pub told : TellsMemory (lazy_table v) past
+  -- nobody holds a lazy value
+  pub unheld : holds_of (lazy_table v) past ≡ []
+  -- no call is refused
+  pub cause : HasCause LazyCause past
+  pub law : LazyLaw v past

@@ -1,0 +1,206 @@
+-- A spin lock keeps its law at every front of every run.
+use Rattle.std.proofs.Common.{◌≡◌, ℕ, zero, suc, ◌==◌, refl, sym, ◌∙◌, ap, subst, Bool, true, false, cond, is_some, List, [], ◌∷◌, length, Option, Some, None, ◌⊎◌, inl, inr, arith}
+use Rattle.std.specs.Prelude.{MatchBool, MatchOption, not}
+use Rattle.std.proofs.lemmas.Bool.{eqb-true}
+use Rattle.steps_events.specs.declared.event.Word.{Word}
+use Rattle.steps_events.specs.declared.event.Word.TheVariants as words
+use Rattle.steps_events.specs.declared.event.Call.{Call}
+use Rattle.steps_events.specs.declared.event.Call.TheVariants as calls
+use Rattle.steps_events.specs.declared.event.Act.TheVariants as acts
+use Rattle.steps_events.specs.declared.event.Answer.TheVariants as answers
+use Rattle.steps_events.specs.declared.event.Event.{Event}
+use Rattle.steps_events.specs.declared.event.Then.TheVariants as thens
+use Rattle.steps_events.specs.declared.hold.HoldKind.{HoldKind}
+use Rattle.steps_events.specs.declared.hold.HoldKind.TheVariants as kinds
+use Rattle.steps_events.specs.declared.row.After.{After}
+use Rattle.steps_events.specs.declared.row.After.TheVariants as afters
+use Rattle.steps_events.specs.Arithmetic.{Arithmetic}
+use Rattle.steps_events.specs.Rows.{carried_out, value_told, outcome_of, place_after}
+use Rattle.steps_events.specs.Past.{Hold, same_word, PendingCall, call_of, holds_of, hold_of, hold_among, word_in, event, is_failure, failures_in}
+use Rattle.steps_events.specs.Moves.{Move, step_at, hold_fault, is_step}
+use Rattle.steps_events.specs.Runs.{IsPast}
+use Rattle.steps_events.specs.Waits.{stands, is_wake}
+use Rattle.steps_events.specs.Laws.{Lacks, is_refusal}
+use Rattle.steps_events.proofs.Holds.{eqb_same, some_same}
+use Rattle.steps_events.proofs.Steps.{by_move, tells_memory}
+use Rattle.steps_events.proofs.Parties.{IsKept, at_place}
+use Rattle.steps_events.proofs.Locks.{IsLock, IsLockIntent, IsFreeOrHeld, holds_after, lock_word, lock_exclusive}
+use Rattle.steps_spin.specs.declared.SpinPlace.{SpinPlace}
+use Rattle.steps_spin.specs.declared.SpinPlace.TheVariants as places
+use Rattle.steps_spin.specs.Table.{spin_table, spin_begins, spin_intent, spin_after}
+use Rattle.steps_spin.specs.Law.{SpinCause, is_unheld, IsLeft, IsItsStep, IsHandedOn, CountsHolds, KeepsSpin}
+
+-- What is kept of a call at its place: which call it is, and of `Unlock` that its party has a hold.
+
+abbrev pub AtSpin : {T : Type 0} → SpinPlace → PendingCall T → Option HoldKind → Type 0
+AtSpin places.TryLock c hold = c.call ≡ calls.TryLock
+AtSpin places.Lock c hold = (c.call ≡ calls.Lock) ⊎ (c.call ≡ calls.BlockingLock)
+AtSpin places.Release c hold = (c.call ≡ calls.Unlock) × (is_some hold ≡ true)
+
+begins_at :
+    {T : Type 0} (call : Call T) (place : SpinPlace) (hold : Option HoldKind) → spin_begins call ≡ Some place → hold_fault {T = T} spin_table call hold ≡ None →
+    AtSpin {T = T} place (record { call = call; own = [] }) hold
+begins_at {T} calls.TryLock place hold is allowed = subst (λ p. AtSpin {T = T} p (record { call = calls.TryLock; own = [] }) hold) (some_same places.TryLock place is) refl
+begins_at {T} calls.Lock place hold is allowed = subst (λ p. AtSpin {T = T} p (record { call = calls.Lock; own = [] }) hold) (some_same places.Lock place is) (inl refl)
+begins_at {T} calls.BlockingLock place hold is allowed = subst (λ p. AtSpin {T = T} p (record { call = calls.BlockingLock; own = [] }) hold) (some_same places.Lock place is) (inr refl)
+begins_at {T} calls.Unlock place None is allowed = absurd cc
+begins_at {T} calls.Unlock place (Some kind) is allowed = subst (λ p. AtSpin {T = T} p (record { call = calls.Unlock; own = [] }) (Some kind)) (some_same places.Release place is) (refl, refl)
+begins_at other place hold is allowed = absurd cc
+
+-- how a call goes on after its swap, by whether that found the lock free
+
+abbrev tried : {T : Type 0} → Bool → After T SpinPlace
+tried free = cond free (afters.Ends answers.Success) (afters.Ends answers.Interrupted)
+
+abbrev swapped : {T : Type 0} → Bool → After T SpinPlace
+swapped free = cond free (afters.Ends answers.Success) (afters.At places.Lock)
+
+tried_ends : (T : Type 0) (free : Bool) (next : SpinPlace) → place_after {T = T} (tried free) ≡ Some next → ⊥
+tried_ends T true next is = absurd cc
+tried_ends T false next is = absurd cc
+
+swaps_again : (T : Type 0) (free : Bool) (next : SpinPlace) → place_after {T = T} (swapped free) ≡ Some next → places.Lock ≡ next
+swaps_again T true next is = absurd cc
+swaps_again T false next is = some_same places.Lock next is
+
+steps_at :
+    {T : Type 0} (place : SpinPlace) (c : PendingCall T) (hold left : Option HoldKind) (memory : Word → ℕ) (e : Event T) (next : SpinPlace) → AtSpin place c hold →
+    place_after {T = T} (spin_after place (value_told {T = T} (carried_out (spin_intent words.State place) memory))) ≡ Some next → AtSpin next (record { call = c.call; own = e ∷ c.own }) left
+steps_at {T} places.TryLock c hold left memory e next at is = absurd (tried_ends T (memory words.State == 0) next is)
+steps_at {T} places.Lock c hold left memory e next at is = subst (λ p. AtSpin {T = T} p (record { call = c.call; own = e ∷ c.own }) left) (swaps_again T (memory words.State == 0) next is) at
+steps_at places.Release c hold left memory e next at is = absurd cc
+
+-- no call of a spin lock stands, but an answer would change nothing
+stays_at : {T : Type 0} (place : SpinPlace) (c : PendingCall T) (hold : Option HoldKind) (e : Event T) → AtSpin place c hold → AtSpin {T = T} place (record { call = c.call; own = e ∷ c.own }) hold
+stays_at places.TryLock c hold e at = at
+stays_at places.Lock c hold e at = at
+stays_at places.Release c hold e at = at
+
+pub spin_kept : {T : Type 0} → IsKept {T = T} spin_table AtSpin
+spin_kept =
+    record {
+      begins = begins_at;
+      steps = λ place c hold memory number next at free is. steps_at place c hold _ memory _ next at is;
+      answers = λ place c hold action number at waits. stays_at place c hold _ at;
+      chooses = λ place c hold choice number at waits. stays_at place c hold _ at;
+    }
+
+-- A spin lock is a lock for one.
+
+swap_grants : {T : Type 0} (c : PendingCall T) → (c.call ≡ calls.Lock) ⊎ (c.call ≡ calls.BlockingLock) → spin_table.grant c.call 0 1 ≡ Some kinds.Write
+swap_grants {T} c (inl is) = ap (λ (k : Call T). spin_table.grant k 0 1) is
+swap_grants {T} c (inr is) = ap (λ (k : Call T). spin_table.grant k 0 1) is
+
+lock_intent : {T : Type 0} (place : SpinPlace) (c : PendingCall T) (hold : Option HoldKind) → AtSpin place c hold → IsLockIntent {T = T} (spin_table.grant c.call 0 1) hold (spin_table.intent place hold)
+lock_intent {T} places.TryLock c hold at = (refl, ap (λ (k : Call T). spin_table.grant k 0 1) at)
+lock_intent places.Lock c hold at = (refl, swap_grants c at)
+lock_intent places.Release c hold at = (refl, at.1)
+
+pub spin_is_lock : {T : Type 0} (z : Arithmetic T) (parties : ℕ) → IsLock {T = T} z spin_table parties
+spin_is_lock z parties =
+    record {
+      opens = refl;
+      steps = λ past party c place run called stage. lock_intent place c (hold_of spin_table party past) (at_place z spin_table parties AtSpin spin_kept past run party c place called stage);
+    }
+
+-- What one more event tells.
+
+-- at every front: the word counts the holds
+abbrev IsHeld : {T : Type 0} → List (Event T) → Type 0
+IsHeld past = IsFreeOrHeld (word_in spin_table past words.State) (holds_of spin_table past)
+
+pub record EventLaw {T : Type 0} (party : ℕ) (past : List (Event T)) (pending : Option (PendingCall T)) (m : Move T) : Type 0 where
+  pub cause : MatchBool (is_refusal m.outcome) (MatchOption pending ⊥ (λ c. SpinCause c.call party (event party m.act m.outcome ∷ past))) (Unit {0})
+  pub leaves : MatchBool (is_step m.act) (MatchOption pending ⊥ (λ c. IsLeft c.call (is_unheld (holds_of spin_table past)) m.outcome)) (Unit {0})
+  pub steps : MatchBool (is_step m.act) (MatchOption pending ⊥ (λ c. IsItsStep c.call m.act)) (Unit {0})
+  pub hands_on : IsHandedOn party m.outcome (holds_of spin_table past) (holds_after spin_table party pending m.act (holds_of spin_table past))
+  pub spins : (stands m.outcome ≡ false) × (is_wake m.act ≡ false)
+  pub exchanges : is_failure m.act ≡ false
+
+try_lock_law :
+    {T : Type 0} (party : ℕ) (past : List (Event T)) (c : PendingCall T) (w : ℕ) (free : Bool) → c.call ≡ calls.TryLock → (w == 0) ≡ free → IsFreeOrHeld w (holds_of spin_table past) →
+    EventLaw party past (Some c) (record { act = acts.Swap words.State w 1; outcome = outcome_of {T = T} {P = SpinPlace} (tried free) })
+try_lock_law party past c zero true is e (inl none) = record { cause = tt; leaves = rw (is, none.1) refl; steps = rw is (0, refl); hands_on = (none.1, rw (is, none.1) refl); spins = (refl, refl); exchanges = refl }
+try_lock_law party past c zero true is e (inr held) = absurd (omega (arith, held.1))
+try_lock_law party past c zero false is e law = absurd cc
+try_lock_law party past c (suc w) true is e law = absurd (omega (arith, eqb-true (suc w) 0 e))
+try_lock_law party past c (suc w) false is e (inl none) = absurd (omega (arith, none.0))
+try_lock_law party past c (suc w) false is e (inr held) =
+    record { cause = rw (is, eqb_same party) (rw held.2 (omega arith)); leaves = rw (is, held.2) refl; steps = rw is (suc w, refl); hands_on = refl; spins = (refl, refl); exchanges = refl }
+
+lock_law :
+    {T : Type 0} (party : ℕ) (past : List (Event T)) (c : PendingCall T) (w : ℕ) (free : Bool) → (c.call ≡ calls.Lock) ⊎ (c.call ≡ calls.BlockingLock) → (w == 0) ≡ free → IsFreeOrHeld w (holds_of spin_table past) →
+    EventLaw party past (Some c) (record { act = acts.Swap words.State w 1; outcome = outcome_of {T = T} {P = SpinPlace} (swapped free) })
+lock_law party past c zero true (inl is) e (inl none) = record { cause = tt; leaves = rw (is, none.1) refl; steps = rw is (0, refl); hands_on = (none.1, rw (is, none.1) refl); spins = (refl, refl); exchanges = refl }
+lock_law party past c zero true (inr is) e (inl none) = record { cause = tt; leaves = rw (is, none.1) refl; steps = rw is (0, refl); hands_on = (none.1, rw (is, none.1) refl); spins = (refl, refl); exchanges = refl }
+lock_law party past c zero true is e (inr held) = absurd (omega (arith, held.1))
+lock_law party past c zero false is e law = absurd cc
+lock_law party past c (suc w) true is e law = absurd (omega (arith, eqb-true (suc w) 0 e))
+lock_law party past c (suc w) false is e (inl none) = absurd (omega (arith, none.0))
+lock_law party past c (suc w) false (inl is) e (inr held) = record { cause = tt; leaves = rw (is, held.2) refl; steps = rw is (suc w, refl); hands_on = refl; spins = (refl, refl); exchanges = refl }
+lock_law party past c (suc w) false (inr is) e (inr held) = record { cause = tt; leaves = rw (is, held.2) refl; steps = rw is (suc w, refl); hands_on = refl; spins = (refl, refl); exchanges = refl }
+
+-- who has a hold is the one holder
+only_holder : (w party : ℕ) (holds : List Hold) → IsFreeOrHeld w holds → is_some (hold_among party holds) ≡ true → ◌≡◌ {A = List Hold} holds ((party, kinds.Write) ∷ [])
+only_holder w party holds (inl none) has = let no : is_some (hold_among party []) ≡ true = rw none.1 at has in absurd cc
+only_holder w party holds (inr held) has = held.2 ∙ by_test (held.0 == party) refl (rw held.2 at has)
+  where
+    by_test : (b : Bool) → (held.0 == party) ≡ b → is_some (cond b (Some kinds.Write) None) ≡ true → ◌≡◌ {A = List Hold} ((held.0, kinds.Write) ∷ []) ((party, kinds.Write) ∷ [])
+    by_test true e has = ap (λ (p : ℕ). (p, kinds.Write) ∷ []) (eqb-true held.0 party e)
+    by_test false e has = absurd cc
+
+unlock_law :
+    {T : Type 0} (party : ℕ) (past : List (Event T)) (c : PendingCall T) → c.call ≡ calls.Unlock → holds_of spin_table past ≡ (party, kinds.Write) ∷ [] →
+    EventLaw party past (Some c) (record { act = acts.Store words.State 0; outcome = thens.Answers answers.Done })
+unlock_law party past c is mine = record { cause = tt; leaves = rw is refl; steps = rw is refl; hands_on = (mine, rw (mine, eqb_same party) refl); spins = (refl, refl); exchanges = refl }
+
+step_law :
+    {T : Type 0} (party : ℕ) (past : List (Event T)) (c : PendingCall T) (place : SpinPlace) (memory : Word → ℕ) → AtSpin place c (hold_of spin_table party past) →
+    IsFreeOrHeld (memory words.State) (holds_of spin_table past) → EventLaw party past (Some c) (step_at spin_table place (hold_of spin_table party past) memory)
+step_law party past c places.TryLock memory at law = try_lock_law party past c (memory words.State) (memory words.State == 0) at refl law
+step_law party past c places.Lock memory at law = lock_law party past c (memory words.State) (memory words.State == 0) at refl law
+step_law party past c places.Release memory at law = unlock_law party past c at.0 (only_holder (memory words.State) party (holds_of spin_table past) law at.1)
+
+event_law : {T : Type 0} (z : Arithmetic T) (parties : ℕ) (past : List (Event T)) (e : Event T) → IsPast z spin_table parties (e ∷ past) → EventLaw e.party past (call_of e.party past) (record { act = e.act; outcome = e.then })
+event_law {T} z parties past e run =
+    by_move spin_table (call_of e.party past) (hold_of spin_table e.party past) (word_in spin_table past) (λ (k : Option (PendingCall T)) (m : Move T). EventLaw e.party past k m)
+    run.0.0 (record { act = e.act; outcome = e.then })
+    (λ call _. record { cause = tt; leaves = tt; steps = tt; hands_on = refl; spins = (refl, refl); exchanges = refl })
+    (λ action _. record { cause = tt; leaves = tt; steps = tt; hands_on = refl; spins = (refl, refl); exchanges = refl })
+    (λ choice _. record { cause = tt; leaves = tt; steps = tt; hands_on = refl; spins = (refl, refl); exchanges = refl })
+    (λ c place _ called stage.
+    step_law e.party past c place (word_in spin_table past) (at_place z spin_table parties AtSpin spin_kept past run.1 e.party c place called stage) (lock_word z spin_table parties (spin_is_lock z parties) past run.1))
+    run.0.1.moved
+
+-- no exchange fails: there is none
+never_fails : {T : Type 0} (z : Arithmetic T) (parties : ℕ) (past : List (Event T)) → IsPast z spin_table parties past → failures_in past ≡ 0
+never_fails z parties [] run = refl
+never_fails z parties (e ∷ past) run = rw (event_law z parties past e run).exchanges (omega (arith, never_fails z parties past run.1))
+
+counts_holds : {T : Type 0} (past : List (Event T)) → IsFreeOrHeld (word_in spin_table past words.State) (holds_of spin_table past) → CountsHolds past
+counts_holds past (inl none) = record { counted = none.0 ∙ sym (ap length none.1); most = omega (arith, none.0) }
+counts_holds past (inr held) = record { counted = held.1 ∙ sym (ap length held.2); most = omega (arith, held.1) }
+
+pub keeps_spin : {T : Type 0} (z : Arithmetic T) (parties : ℕ) (past : List (Event T)) → IsPast z spin_table parties past → KeepsSpin past
+keeps_spin z parties [] run =
+    record {
+      told = tt;
+      exclusive = lock_exclusive 0 [] (lock_word z spin_table parties (spin_is_lock z parties) [] run);
+      cause = tt;
+      law = record { leaves = tt; steps = tt; hands_on = tt; spins = tt; word = counts_holds [] (lock_word z spin_table parties (spin_is_lock z parties) [] run); failed = refl };
+    }
+keeps_spin z parties (e ∷ past) run =
+    let event = event_law z parties past e run in
+    let held = lock_word z spin_table parties (spin_is_lock z parties) (e ∷ past) run in
+    record {
+      told = tells_memory z spin_table parties (e ∷ past) run;
+      exclusive = lock_exclusive _ (holds_of spin_table (e ∷ past)) held;
+      cause = event.cause;
+      law = record { leaves = event.leaves; steps = event.steps; hands_on = event.hands_on; spins = event.spins; word = counts_holds (e ∷ past) held; failed = never_fails z parties (e ∷ past) run };
+    }
+
+-- a spin lock has no other word
+pub spin_lacks : (T : Type 0) (word : Word) → same_word words.State word ≡ false → Lacks {T = T} spin_table word
+spin_lacks T word other places.TryLock hold = ap not other
+spin_lacks T word other places.Lock hold = ap not other
+spin_lacks T word other places.Release hold = ap not other

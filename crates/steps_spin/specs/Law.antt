@@ -1,0 +1,94 @@
+-- What a spin lock keeps at every front of every run: one holder, who has the lock after each answer, and that a call which waits only spins.
+use Rattle.std.specs.Prelude.{◌≡◌, ◌≤◌, ℕ, Bool, true, false, if◌then◌else◌, List, [], ◌∷◌, length, MatchBool, MatchOption}
+use Rattle.steps_events.specs.declared.event.Word.TheVariants as words
+use Rattle.steps_events.specs.declared.event.Act.{Act}
+use Rattle.steps_events.specs.declared.event.Act.TheVariants as acts
+use Rattle.steps_events.specs.declared.event.Answer.TheVariants as answers
+use Rattle.steps_events.specs.declared.event.Call.{Call}
+use Rattle.steps_events.specs.declared.event.Call.TheVariants as calls
+use Rattle.steps_events.specs.declared.event.Then.{Then}
+use Rattle.steps_events.specs.declared.event.Then.TheVariants as thens
+use Rattle.steps_events.specs.declared.event.Event.{Event}
+use Rattle.steps_events.specs.declared.hold.HoldKind.TheVariants as kinds
+use Rattle.steps_events.specs.Past.{Hold, call_of, holds_of, word_in, failures_in}
+use Rattle.steps_events.specs.Moves.{is_step}
+use Rattle.steps_events.specs.Sights.{AtLastSight}
+use Rattle.steps_events.specs.Waits.{OnlySpins}
+use Rattle.steps_events.specs.Laws.{TellsMemory, IsExclusive, IsLocked, HasCause}
+use Rattle.steps_spin.specs.Table.{spin_table}
+
+-- `TryLock`: a hold stood at its last sight, which is its swap. No other call is refused.
+abbrev pub SpinCause : {T : Type 0} → Call T → ℕ → List (Event T) → Type 0
+SpinCause calls.TryLock party events = AtLastSight words.State (IsLocked spin_table) party events
+SpinCause other party events = ⊥
+
+-- How a step leaves its call.
+
+-- nobody holds the lock
+abbrev pub is_unheld : List Hold → Bool
+is_unheld [] = true
+is_unheld (hold ∷ holds) = false
+
+-- by whether nobody held the lock: each locking call then has it; else `TryLock` gives up, and the others go on; `Unlock` is done
+abbrev pub IsLeft : {T : Type 0} → Call T → Bool → Then T → Type 0
+IsLeft calls.TryLock free outcome = outcome ≡ thens.Answers (if free then answers.Success else answers.Interrupted)
+IsLeft calls.Lock free outcome = outcome ≡ (if free then thens.Answers answers.Success else thens.GoesOn)
+IsLeft calls.BlockingLock free outcome = outcome ≡ (if free then thens.Answers answers.Success else thens.GoesOn)
+IsLeft calls.Unlock free outcome = outcome ≡ thens.Answers answers.Done
+IsLeft other free outcome = ⊥
+
+-- so the latest event leaves its call, if it is a step
+abbrev pub LeavesByHolds : {T : Type 0} → List (Event T) → Type 0
+LeavesByHolds [] = Unit {0}
+LeavesByHolds (e ∷ past) =
+    MatchBool (is_step e.act) (MatchOption (call_of e.party past) ⊥ (λ c. IsLeft c.call (is_unheld (holds_of spin_table past)) e.then)) (Unit {0})
+
+-- What a step does.
+
+-- a swap of 1 into the word, by a locking call; a store of 0, by `Unlock`
+abbrev pub IsItsStep : {T : Type 0} → Call T → Act T → Type 0
+IsItsStep calls.Unlock act = act ≡ acts.Store words.State 0
+IsItsStep call act = (old : ℕ) × (act ≡ acts.Swap words.State old 1)
+
+abbrev pub StepsAsItsCall : {T : Type 0} → List (Event T) → Type 0
+StepsAsItsCall [] = Unit {0}
+StepsAsItsCall (e ∷ past) = MatchBool (is_step e.act) (MatchOption (call_of e.party past) ⊥ (λ c. IsItsStep c.call e.act)) (Unit {0})
+
+-- Who has the lock: `Success` takes it from nobody, `Done` gives it back, and nothing else changes who has it.
+abbrev pub IsHandedOn : {T : Type 0} → ℕ → Then T → List Hold → List Hold → Type 0
+IsHandedOn party (thens.Answers answers.Success) before holds = (before ≡ []) × (holds ≡ (party, kinds.Write) ∷ [])
+IsHandedOn party (thens.Answers answers.Done) before holds = (before ≡ (party, kinds.Write) ∷ []) × (holds ≡ [])
+IsHandedOn party other before holds = holds ≡ before
+
+abbrev pub HandsOn : {T : Type 0} → List (Event T) → Type 0
+HandsOn [] = Unit {0}
+HandsOn (e ∷ past) = IsHandedOn e.party e.then (holds_of spin_table past) (holds_of spin_table (e ∷ past))
+
+-- The word counts the holds.
+pub record CountsHolds {T : Type 0} (past : List (Event T)) : Type 0 where
+  pub counted : word_in spin_table past words.State ≡ length (holds_of spin_table past)
+  pub most : word_in spin_table past words.State ≤ 1
+
+-- What a spin lock keeps beside what every object does.
+pub record SpinLaw {T : Type 0} (past : List (Event T)) : Type 0 where
+  -- a locking call has the lock at once exactly where nobody held it; where somebody did, `TryLock` gives up, and the others go on for as long
+  pub leaves : LeavesByHolds past
+  -- each step of a locking call is a swap of 1, and that of `Unlock` a store of 0
+  pub steps : StepsAsItsCall past
+  -- `Success` takes the lock from nobody, `Done` gives it back, and nothing else changes who has it
+  pub hands_on : HandsOn past
+  -- a call that waits only spins: none stands at a closure, and none wakes
+  pub spins : OnlySpins past
+  -- the word is the number of holds, 1 at most
+  pub word : CountsHolds past
+  -- a swap does not count as a failed exchange
+  pub failed : failures_in past ≡ 0
+
+pub record KeepsSpin {T : Type 0} (past : List (Event T)) : Type 0 where
+  -- each act that tells a word's value tells what the memory holds there
+  pub told : TellsMemory spin_table past
+  -- one holder at most
+  pub exclusive : IsExclusive (holds_of spin_table past)
+  -- each refusal has its cause
+  pub cause : HasCause SpinCause past
+  pub law : SpinLaw past
