@@ -417,7 +417,13 @@ fn draw_notes(
     layout: &Layout,
 ) -> Result<(), AllocError> {
     let bottom = layout.bottom();
-    let words = text(alloc, "soft", 12, bottom + 26, story.last.as_str().trim_end())?;
+    let words = text(
+        alloc,
+        "soft",
+        12,
+        bottom + 26,
+        story.last.as_str().trim_end(),
+    )?;
     put(picture, &words)?;
     let note = left_out(alloc, story, layout)?;
     if note.is_empty() {
