@@ -1,5 +1,6 @@
 # Each text of examples/ is played by each of `players`. NAME.txt has beside it what is written to standard output (NAME.out, or the
-# player's own ending), NAME.err for standard error where it is not empty, and NAME.status where the status is not 0.
+# player's own ending), NAME.err for standard error where it is not empty, and NAME.status where the status is not 0. Each is drawn too:
+# a picture that a page shows is compared with its file, and every other is a picture.
 test_examples() {
     local line player ending endings=() text stem
     for line in "${players[@]}"; do
@@ -12,6 +13,17 @@ test_examples() {
             play_example "$player" "$ending" "${text%.txt}"
         done
     done
+    if is_built "$drawer"; then
+        for text in examples/*.txt; do
+            draw_example "${text%.txt}"
+        done
+        for text in docs/pictures/*.svg; do
+            stem=$(basename -- "$text" .svg)
+            if [[ ! -e examples/$stem.txt || -e examples/$stem.err ]]; then
+                fail "$text" "there is no examples/$stem.txt without a fault"
+            fi
+        done
+    fi
     for text in examples/*; do
         stem=${text%.*}
         if [[ " txt err status ${endings[*]} " != *" ${text##*.} "* ]]; then
@@ -36,4 +48,20 @@ play_example() {
     fi
     attempt "./$1" <"$3.txt"
     judge "$label" "$wanted_status" "$3.$2" "$wanted_err"
+}
+
+draw_example() {
+    local label="./$drawer < $1.txt" picture why
+    picture=docs/pictures/$(basename -- "$1").svg
+    attempt "./$drawer" <"$1.txt"
+    if [[ -f $1.err ]]; then
+        judge "$label" "$(<"$1.status")" /dev/null "$1.err"
+    elif ! why=$(python3 tools/picture.py "$room/out" 2>&1); then
+        fail "$label" "$why"
+    elif [[ -f $picture ]]; then
+        judge "$label" 0 "$picture" /dev/null
+    else
+        cp -- "$room/out" "$room/drawn"
+        judge "$label" 0 "$room/drawn" /dev/null
+    fi
 }

@@ -1,4 +1,4 @@
-# The programs that play texts, where memory, input or output are wanting: each ends with its line on standard error and its status,
+# The programs that play texts and the one that draws them, where memory, input or output are wanting: each ends with its line on standard error and its status,
 # and none crashes. And a text of many pieces, each way.
 test_streams() {
     local line player ending
@@ -9,6 +9,10 @@ test_streams() {
             wants_streams "$player" "$ending"
         fi
     done
+    if is_built "$drawer"; then
+        wants_streams "$drawer"
+        draws_at_length
+    fi
     if is_built sync-play; then
         plays_at_length
     fi
@@ -43,6 +47,26 @@ plays_at_length() {
     printf '1 unlock\n' >>"$room/long.txt"
     attempt ./sync-play <"$room/long.txt"
     judge_line "sync-play: a long text with a fault in its last line" 2 "" "line 80002: no hold"
+}
+
+# More steps than a picture has rows, and as many parties as there may be.
+draws_at_length() {
+    local why
+    attempt "./$drawer" <"$room/long.txt"
+    if [[ $status != 0 ]] || ! why=$(grep -o 'Not drawn: [0-9]* steps' "$room/out"); then
+        fail "$drawer: a long text" "it ended with status $status, or does not say what it leaves out"
+    elif [[ $why != "Not drawn: 98000 steps" ]]; then
+        fail "$drawer: a long text" "it says: $why"
+    else
+        succeed
+    fi
+    { echo "mutex 64"; printf '%s try_lock\n' {1..64}; printf '%s run\n' {1..64}; } >"$room/many.txt"
+    attempt "./$drawer" <"$room/many.txt"
+    if [[ $status != 0 ]] || ! why=$(python3 tools/picture.py "$room/out" 2>&1); then
+        fail "$drawer: 64 parties" "it ended with status $status; $why"
+    else
+        succeed
+    fi
 }
 
 # 640 KB: a mutex that one party takes and frees 20000 times.

@@ -1,0 +1,116 @@
+-- What markup is: characters, each of them escaped where it has to be, and elements, each of them closed.
+use Rattle.std.specs.Prelude.{◌≡◌, ℕ, Bool, ◌==◌, ◌||◌, ◌&&◌, not, nat_lt, if◌then◌else◌, List, [], ◌++◌, codes}
+use Rattle.std.specs.List.{flat_map}
+use Rattle.std.specs.Char.{encode_utf8}
+use Rattle.markup.specs.declared.name.Tag.{Tag}
+use Rattle.markup.specs.declared.name.Tag.TheVariants as tags
+use Rattle.markup.specs.declared.name.Key.{Key}
+use Rattle.markup.specs.declared.name.Key.TheVariants as keys
+
+-- Characters.
+
+-- a character that no document may have: a control character, or one of two that mean none
+abbrev pub is_forbidden : ℕ → Bool
+is_forbidden char = (nat_lt char 32 && not (char == 10)) || char == 65534 || char == 65535
+
+-- How a character stands in text or in a value. The five that mean something in markup are escaped, and of those that no document may
+-- have a question mark stands.
+abbrev pub shown : ℕ → List ℕ
+shown char =
+    if char == 34 then codes "&quot;"
+    else (if char == 38 then codes "&amp;"
+    else (if char == 39 then codes "&#39;"
+    else (if char == 60 then codes "&lt;"
+    else (if char == 62 then codes "&gt;"
+    else (if is_forbidden char then codes "?" else encode_utf8 char)))))
+
+-- Elements.
+
+abbrev pub tag_words : Tag → List ℕ
+tag_words tags.Svg = codes "svg"
+tag_words tags.Title = codes "title"
+tag_words tags.Style = codes "style"
+tag_words tags.Defs = codes "defs"
+tag_words tags.Pattern = codes "pattern"
+tag_words tags.Marker = codes "marker"
+tag_words tags.Group = codes "g"
+tag_words tags.Rect = codes "rect"
+tag_words tags.Line = codes "line"
+tag_words tags.Circle = codes "circle"
+tag_words tags.Path = codes "path"
+tag_words tags.Text = codes "text"
+
+abbrev pub key_words : Key → List ℕ
+key_words keys.Namespace = codes "xmlns"
+key_words keys.ViewBox = codes "viewBox"
+key_words keys.Width = codes "width"
+key_words keys.Height = codes "height"
+key_words keys.Role = codes "role"
+key_words keys.Id = codes "id"
+key_words keys.Class = codes "class"
+key_words keys.X = codes "x"
+key_words keys.Y = codes "y"
+key_words keys.X1 = codes "x1"
+key_words keys.Y1 = codes "y1"
+key_words keys.X2 = codes "x2"
+key_words keys.Y2 = codes "y2"
+key_words keys.CenterX = codes "cx"
+key_words keys.CenterY = codes "cy"
+key_words keys.Radius = codes "r"
+key_words keys.Rounding = codes "rx"
+key_words keys.Outline = codes "d"
+key_words keys.Units = codes "patternUnits"
+key_words keys.Transform = codes "patternTransform"
+key_words keys.RefX = codes "refX"
+key_words keys.RefY = codes "refY"
+key_words keys.MarkerWidth = codes "markerWidth"
+key_words keys.MarkerHeight = codes "markerHeight"
+key_words keys.Orient = codes "orient"
+
+-- an attribute, and the characters of its value
+pub record Attribute : Type 0 where
+  pub key : Key
+  pub value : List ℕ
+
+-- Markup: nothing, a character and what follows it, or an element, what is inside it and what follows it.
+pub data Tree : Type 0 where
+  Nothing : Tree
+  Character : ℕ → Tree → Tree
+  Element : Tag → List Attribute → Tree → Tree → Tree
+
+abbrev pub attribute_bytes : Attribute → List ℕ
+attribute_bytes a = codes " " ++ (key_words a.key ++ (codes "=\"" ++ (flat_map shown a.value ++ codes "\"")))
+
+-- an element up to where its attributes end
+abbrev pub opening_bytes : Tag → List Attribute → List ℕ
+opening_bytes tag attributes = codes "<" ++ (tag_words tag ++ flat_map attribute_bytes attributes)
+
+abbrev pub closing_bytes : Tag → List ℕ
+closing_bytes tag = codes "</" ++ (tag_words tag ++ codes ">")
+
+-- Markup, written out.
+abbrev pub written : Tree → List ℕ
+written Nothing = []
+written (Character char rest) = shown char ++ written rest
+written (Element tag attributes inside rest) =
+    (opening_bytes tag attributes ++ (codes ">" ++ (written inside ++ closing_bytes tag))) ++ written rest
+
+-- What bytes are.
+
+-- characters, each shown as text has to show it
+abbrev pub IsWords : List ℕ → Type 0
+IsWords bytes = (chars : List ℕ) × (bytes ≡ flat_map shown chars)
+
+-- an element up to where its attributes end
+abbrev pub IsOpening : Tag → List ℕ → Type 0
+IsOpening tag bytes = (attributes : List Attribute) × (bytes ≡ opening_bytes tag attributes)
+
+-- text and elements, each of them closed
+abbrev pub IsMarkup : List ℕ → Type 0
+IsMarkup bytes = (tree : Tree) × (bytes ≡ written tree)
+
+-- one element with all that is in it, and nothing beside it
+pub record IsElement (tag : Tag) (bytes : List ℕ) : Type 0 where
+  pub attributes : List Attribute
+  pub inside : Tree
+  pub bytes_are : bytes ≡ written (Element tag attributes inside Nothing)

@@ -1,0 +1,99 @@
+//! An element whose attributes are being written.
+ghost use Rattle.std.specs.Prelude.{◌≡◌, IfOk, string_bytes};
+ghost use Rattle.markup.specs.Tree.{IsOpening, IsElement};
+
+use crate::markup::Markup;
+use crate::name::{Key, Tag, key_name, tag_name};
+use crate::words::Words;
+use std::alloc::{AllocError, Global};
+
+/// An element of which nothing is written but its attributes so far. It is closed by [`Opening::around`].
+#[derive(Debug, Drop)]
+pub struct Opening {
+    alloc: Global,
+    /// What the element is.
+    pub tag: Tag,
+    bytes: String,
+    ghost open: { ∥ IsOpening tag (string_bytes bytes) ∥₁ },
+}
+
+impl Opening {
+    /// An element without attributes yet.
+    #[tactic(auto, using(crate::proofs::Trees::opening_first))]
+    pub fn new(alloc: Global, tag: Tag) -> Result<Opening, AllocError>
+        ensures { IfOk result (λ opening. opening.tag ≡ tag) }
+    {
+        let mut bytes = String::from_str(alloc, "<")?;
+        bytes.push_str(tag_name(tag))?;
+        Ok(Opening { alloc, tag, bytes })
+    }
+
+    /// An attribute more, with this value.
+    #[tactic(auto, using(crate::proofs::Trees::opening_more))]
+    pub fn with_words(self, key: Key, value: &Words) -> Result<Opening, AllocError>
+        ensures { IfOk result (λ opening. opening.tag ≡ self.tag) }
+    {
+        let Opening {
+            alloc,
+            tag,
+            mut bytes,
+        } = self;
+        bytes.push_str(" ")?;
+        bytes.push_str(key_name(key))?;
+        bytes.push_str("=\"")?;
+        bytes.push_str(value.as_str())?;
+        bytes.push_str("\"")?;
+        Ok(Opening { alloc, tag, bytes })
+    }
+
+    /// An attribute more, with this text.
+    pub fn with(self, key: Key, value: &str) -> Result<Opening, AllocError>
+        ensures { IfOk result (λ opening. opening.tag ≡ self.tag) }
+    {
+        let words = Words::of(self.alloc, value)?;
+        self.with_words(key, &words)
+    }
+
+    /// An attribute more, with this number.
+    pub fn at(self, key: Key, value: u64) -> Result<Opening, AllocError>
+        ensures { IfOk result (λ opening. opening.tag ≡ self.tag) }
+    {
+        let digits = format!(in self.alloc; "{value}")?;
+        self.with(key, digits.as_str())
+    }
+
+    /// The element whole: with nothing inside, and closed.
+    pub fn empty(self) -> Result<Markup, AllocError> {
+        let nothing = Markup::new(self.alloc);
+        self.around(&nothing)
+    }
+
+    /// The element whole: with this text inside, and closed.
+    pub fn saying(self, text: &str) -> Result<Markup, AllocError> {
+        let mut inside = Markup::new(self.alloc);
+        inside.say(text)?;
+        self.around(&inside)
+    }
+
+    /// The element whole: with this inside, and closed.
+    #[tactic(auto, using(crate::proofs::Trees::markup_of_element))]
+    pub fn around(self, inside: &Markup) -> Result<Markup, AllocError> {
+        let alloc = self.alloc;
+        let bytes = self.whole(inside)?;
+        Ok(Markup { alloc, bytes })
+    }
+
+    /// The bytes of the element whole.
+    #[tactic(auto, using(crate::proofs::Trees::element))]
+    pub fn whole(self, inside: &Markup) -> Result<String, AllocError>
+        ensures { IfOk result (λ bytes. ∥ IsElement self.tag (string_bytes bytes) ∥₁) }
+    {
+        let Opening { tag, mut bytes, .. } = self;
+        bytes.push_str(">")?;
+        bytes.push_str(inside.as_str())?;
+        bytes.push_str("</")?;
+        bytes.push_str(tag_name(tag))?;
+        bytes.push_str(">")?;
+        Ok(bytes)
+    }
+}

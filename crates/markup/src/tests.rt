@@ -1,0 +1,31 @@
+use crate::markup::Markup;
+use crate::name::{Key, Tag};
+use crate::opening::Opening;
+use crate::words::Words;
+use std::test::Fail;
+
+#[test]
+fn special_characters_are_escaped(rt: HostRuntime) -> Result<(), Fail> {
+    let words = Words::of(rt.alloc(), "<a & \"b\">'\u{1}\u{fffe}\n→")?;
+    assert_eq!(rt; words.as_str(), "&lt;a &amp; &quot;b&quot;&gt;&#39;??\n→");
+    Ok(())
+}
+
+#[test]
+fn an_element_is_closed(rt: HostRuntime) -> Result<(), Fail> {
+    let title = Opening::new(rt.alloc(), Tag::Title)?.saying("1 < 2")?;
+    let circle = Opening::new(rt.alloc(), Tag::Circle)?
+        .with(Key::Class, "a\"b")?
+        .at(Key::Radius, 5)?
+        .around(&title)?;
+    let mut both = Markup::new(rt.alloc());
+    both.add(&circle)?;
+    both.say("&")?;
+    let empty = Opening::new(rt.alloc(), Tag::Group)?.empty()?;
+    both.add(&empty)?;
+    assert_eq!(rt;
+        both.as_str(),
+        "<circle class=\"a&quot;b\" r=\"5\"><title>1 &lt; 2</title></circle>&amp;<g></g>"
+    );
+    Ok(())
+}

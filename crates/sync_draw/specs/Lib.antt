@@ -1,0 +1,3 @@
+pub mod Picture
+pub mod Run
+pub mod Story

@@ -1,0 +1,226 @@
+//! A step in words, and how it is marked.
+use crate::story::Step;
+use crate::terms::say_value;
+use std::alloc::{AllocError, Global};
+use sync_play::print::print_answer;
+use sync_steps::WaitAction;
+use sync_steps::steps::{Act, Answer, Object, Then, Wake, Word};
+
+/// How a step is marked.
+#[derive(Clone, Copy, Debug, PartialEq, Eq)]
+pub enum Mark {
+    /// Not at all: a call begins.
+    None,
+    /// A load, the answer of a closure, or the end of one.
+    Look,
+    /// An exchange that was done.
+    Done,
+    /// An exchange that failed, or a swap that changed nothing.
+    Failed,
+    /// A store, an add, or a swap that changed something.
+    Written,
+    /// A wake.
+    Wake,
+}
+
+/// How what became of a call is told.
+#[derive(Clone, Copy, Debug, PartialEq, Eq)]
+pub enum Tone {
+    Granted,
+    Refused,
+    Waiting,
+}
+
+/// A word that a step reads or writes. A swap that puts what it found is told as a read.
+#[derive(Clone, Copy, Debug, PartialEq, Eq)]
+pub struct Reach {
+    pub word: Word,
+    pub writes: bool,
+}
+
+/// How a step is marked.
+pub fn mark_of(act: &Act<u64>) -> Mark {
+    match act {
+        Act::Begun(_) => Mark::None,
+        Act::Load { .. } | Act::Answered(_) | Act::Chosen(_) | Act::Ended | Act::ReadCell(_) =>
+            Mark::Look,
+        Act::Swap { old, put, .. } if *old == *put => Mark::Failed,
+        Act::Store { .. } | Act::Swap { .. } | Act::Add { .. } => Mark::Written,
+        Act::Exchange { done: true, .. } => Mark::Done,
+        Act::Exchange { done: false, .. } => Mark::Failed,
+        Act::Woke(_) => Mark::Wake,
+    }
+}
+
+/// The word that a step reads or writes, where it is one on a word.
+pub fn reach_of(act: &Act<u64>) -> Option<Reach> {
+    match *act {
+        Act::Load { word, .. } => Some(Reach {
+            word,
+            writes: false,
+        }),
+        Act::Store { word, .. } | Act::Add { word, .. } => Some(Reach { word, writes: true }),
+        Act::Swap { word, old, put } => Some(Reach {
+            word,
+            writes: old != put,
+        }),
+        Act::Exchange { word, done, .. } => Some(Reach { word, writes: done }),
+        Act::Begun(_)
+        | Act::Woke(_)
+        | Act::Answered(_)
+        | Act::Chosen(_)
+        | Act::Ended
+        | Act::ReadCell(_) => None,
+    }
+}
+
+/// How a call has ended or stands, if it does not go on.
+pub fn tone_of(then: &Then<u64>) -> Option<Tone> {
+    match then {
+        Then::GoesOn => None,
+        Then::Waits(_) | Then::Chooses(_) => Some(Tone::Waiting),
+        Then::Answers(Answer::Interrupted)
+        | Then::Answers(Answer::InterruptedHeld)
+        | Then::Answers(Answer::Full) => Some(Tone::Refused),
+        Then::Answers(_) => Some(Tone::Granted),
+    }
+}
+
+/// A count, with a comma after its thousands.
+fn say_count(out: &mut String, count: u64) -> Result<(), AllocError> {
+    if count < 1000 {
+        write!(out, "{count}")
+    } else {
+        let thousands = count / 1000;
+        let rest = count % 1000;
+        write!(out, "{thousands},{rest:03}")
+    }
+}
+
+/// What a step did, in the object's terms.
+fn say_act(out: &mut String, object: &Object<u64>, act: &Act<u64>) -> Result<(), AllocError> {
+    match *act {
+        Act::Begun(_) => Ok(()),
+        Act::Load { word, seen } => {
+            write!(out, "sees ")?;
+            say_value(out, object, word, seen)
+        }
+        Act::Store { word, put } => {
+            write!(out, "stores ")?;
+            say_value(out, object, word, put)
+        }
+        Act::Swap { word, old, put } if old == put => {
+            write!(out, "found ")?;
+            say_value(out, object, word, old)
+        }
+        Act::Swap { word, old, put } | Act::Add { word, old, put } => {
+            say_change(out, object, word, old, put)
+        }
+        Act::Exchange {
+            word,
+            from,
+            to,
+            done: true,
+            ..
+        } => say_change(out, object, word, from, to),
+        Act::Exchange { word, found, .. } => {
+            write!(out, "found ")?;
+            say_value(out, object, word, found)
+        }
+        Act::Woke(Wake::One) => write!(out, "wakes one"),
+        Act::Woke(Wake::All) => write!(out, "wakes all"),
+        Act::Answered(WaitAction::Continue) => write!(out, "Continue"),
+        Act::Answered(WaitAction::Abort) => write!(out, "Abort"),
+        Act::Chosen(Some(value)) => write!(out, "chooses {value}"),
+        Act::Chosen(None) => write!(out, "chooses none"),
+        Act::Ended => write!(out, "its closure ends"),
+        Act::ReadCell(value) => write!(out, "reads {value}"),
+    }
+}
+
+fn say_change(
+    out: &mut String,
+    object: &Object<u64>,
+    word: Word,
+    old: u64,
+    put: u64,
+) -> Result<(), AllocError> {
+    say_value(out, object, word, old)?;
+    write!(out, " → ")?;
+    say_value(out, object, word, put)
+}
+
+/// What a step did, and how often.
+pub fn label_of(alloc: Global, object: &Object<u64>, step: &Step) -> Result<String, AllocError> {
+    let mut out = String::new(alloc);
+    say_act(&mut out, object, &step.event.act)?;
+    if step.count > 1 {
+        write!(out, " × ")?;
+        say_count(&mut out, step.count)?;
+    }
+    Ok(out)
+}
+
+/// How the call of a step then stands, or what it answers; nothing where it goes on.
+pub fn outcome_of(alloc: Global, then: &Then<u64>) -> Result<String, AllocError> {
+    let mut out = String::new(alloc);
+    match *then {
+        Then::GoesOn => {}
+        Then::Waits(_) | Then::Chooses(_) => write!(out, "stands")?,
+        Then::Answers(answer) => {
+            match tone_of(then) {
+                Some(Tone::Refused) => write!(out, "✕ ")?,
+                Some(Tone::Granted) | Some(Tone::Waiting) | None => {}
+            }
+            print_answer(&mut out, answer)?;
+        }
+    }
+    Ok(out)
+}
+
+/// What a step did, in numbers.
+fn say_numbers(out: &mut String, act: &Act<u64>) -> Result<(), AllocError> {
+    match *act {
+        Act::Begun(_) => write!(out, "a call begins"),
+        Act::Load { seen, .. } => write!(out, "load, {seen}"),
+        Act::Store { put, .. } => write!(out, "store of {put}"),
+        Act::Swap { old, put, .. } => write!(out, "swap of {old} for {put}"),
+        Act::Add { old, put, .. } => write!(out, "add, from {old} to {put}"),
+        Act::Exchange {
+            from,
+            to,
+            done: true,
+            ..
+        } => write!(out, "exchange of {from} for {to}, done"),
+        Act::Exchange {
+            from,
+            to,
+            found,
+            ..
+        } => write!(out, "exchange of {from} for {to}, found {found}, failed"),
+        Act::Woke(_) => write!(out, "a call of its wake closure"),
+        Act::Answered(_) => write!(out, "its wait closure answers"),
+        Act::Chosen(_) => write!(out, "its choice closure answers"),
+        Act::Ended => write!(out, "its closure ends"),
+        Act::ReadCell(value) => write!(out, "read of the value {value}"),
+    }
+}
+
+/// What a step did and how its call then stands, in numbers.
+pub fn numbers_of(alloc: Global, step: &Step) -> Result<String, AllocError> {
+    let party = step.event.party as u128 + 1;
+    let mut out = String::new(alloc);
+    write!(out, "party {party}: ")?;
+    say_numbers(&mut out, &step.event.act)?;
+    if step.count > 1 {
+        write!(out, ", ")?;
+        say_count(&mut out, step.count)?;
+        write!(out, " times")?;
+    }
+    match step.event.then {
+        Then::GoesOn | Then::Answers(_) => {}
+        Then::Waits(told) => write!(out, "; its wait closure is told {told}")?,
+        Then::Chooses(told) => write!(out, "; its choice closure is told {told}")?,
+    }
+    Ok(out)
+}

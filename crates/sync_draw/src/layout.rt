@@ -1,0 +1,496 @@
+//! Where everything stands in a picture, in plain numbers: rows from top to bottom, and columns from left to right.
+//!
+//! A row is 24 pixels high and has one step. The lines of the schedule stand on the left, then comes a band for each word, and then a
+//! lane for each party that makes a step.
+ghost use Rattle.std.specs.Prelude.{◌<◌, ◌^◌};
+
+use crate::label::{Tone, label_of, outcome_of, reach_of, tone_of};
+use crate::story::{Step, Story};
+use crate::terms::{name_of, say_value, words_of};
+use std::alloc::{AllocError, Global};
+use steps_events::hold::HoldKind;
+use sync_steps::steps::{Act, Object, Then, Word};
+
+/// Where the first row begins.
+const FIRST: u64 = 36;
+/// How high a row is.
+const ROW: u64 = 24;
+/// Where the words of the schedule's lines begin.
+pub const SCHEDULE: u32 = 58;
+/// How wide a band is at least.
+const LEAST_BAND: u32 = 70;
+/// How wide the box of a call is at least.
+const LEAST_BOX: u32 = 130;
+/// How wide a picture is at least.
+const LEAST_WIDTH: u32 = 620;
+
+/// Rows from one on. Without a last one they go to the end of the picture.
+#[derive(Clone, Copy, Debug, PartialEq, Eq)]
+pub struct Span {
+    pub first: u32,
+    pub last: Option<u32>,
+}
+
+/// A hold of a party.
+#[derive(Clone, Copy, Debug, PartialEq, Eq)]
+pub struct Hold {
+    pub kind: HoldKind,
+    pub span: Span,
+}
+
+/// What a party did. On its left is the place for its holds, 8 wide, and then comes the box of each call.
+#[derive(Debug, Drop)]
+pub struct Lane {
+    pub party: usize,
+    pub left: u32,
+    /// How wide the boxes are.
+    pub width: u32,
+    pub calls: Vec<Span>,
+    pub stands: Vec<Span>,
+    pub holds: Vec<Hold>,
+    /// The rows of what refused calls saw last.
+    pub sights: Vec<u32>,
+}
+
+impl Lane {
+    /// Where the boxes of its calls begin.
+    pub fn start(&self) -> u64
+        ensures { result < 2 ^ 34 }
+    {
+        u64::from(self.left) + 8
+    }
+
+    /// Where they end.
+    pub fn end(&self) -> u64
+        ensures { result < 2 ^ 35 }
+    {
+        self.start() + u64::from(self.width)
+    }
+
+    /// Where the marks of its steps stand.
+    pub fn middle(&self) -> u64
+        ensures { result < 2 ^ 34 }
+    {
+        u64::from(self.left) + 22
+    }
+}
+
+/// A value of a word, from a row on.
+#[derive(Clone, Copy, Debug, PartialEq, Eq)]
+pub struct Segment {
+    /// The row whose step wrote it; none for the value before the first step.
+    pub row: Option<u32>,
+    /// The row whose step wrote the next value; none for the last one.
+    pub next: Option<u32>,
+    pub value: u64,
+    pub colour: Colour,
+}
+
+/// The colours of a band: one for 0, and three in turn.
+#[derive(Clone, Copy, Debug, PartialEq, Eq)]
+pub enum Colour {
+    Zero,
+    First,
+    Second,
+    Third,
+}
+
+/// What a word held.
+#[derive(Debug, Drop)]
+pub struct Band {
+    pub word: Word,
+    pub left: u32,
+    pub width: u32,
+    pub segments: Vec<Segment>,
+}
+
+/// Where everything stands.
+#[derive(Debug, Drop)]
+pub struct Layout {
+    /// Where the bands begin.
+    pub bands_left: u32,
+    pub bands: Vec<Band>,
+    pub lanes: Vec<Lane>,
+    /// How many rows there are.
+    pub rows: u32,
+    pub width: u32,
+}
+
+/// Where a row begins.
+pub fn top_of(row: u32) -> u64
+    ensures { result < 2 ^ 38 }
+{
+    FIRST + ROW * u64::from(row)
+}
+
+/// How wide a text is, at 12 pixels in a font whose characters are equally wide.
+pub fn text_width(text: &str) -> u32
+    ensures { result < 8000 }
+{
+    match u32::try_from(text.chars().count()) {
+        Ok(count) if count < 1000 => count * 29 / 4 + 1,
+        _ => 7251,
+    }
+}
+
+/// The colour of a value after one of this colour.
+fn colour_of(value: u64, last: Option<Colour>) -> Colour {
+    let colour = match value % 3 {
+        _ if value == 0 => Colour::Zero,
+        1 => Colour::First,
+        2 => Colour::Second,
+        _ => Colour::Third,
+    };
+    if last == Some(colour) {
+        next_colour(colour)
+    } else {
+        colour
+    }
+}
+
+/// The colour that takes a colour's place beside itself.
+fn next_colour(colour: Colour) -> Colour {
+    match colour {
+        Colour::Zero => Colour::Zero,
+        Colour::First => Colour::Second,
+        Colour::Second => Colour::Third,
+        Colour::Third => Colour::First,
+    }
+}
+
+/// What a step puts into this word, if it changes it.
+fn put_of(act: &Act<u64>, word: Word) -> Option<u64> {
+    match *act {
+        Act::Store { word: at, put } if at == word => Some(put),
+        Act::Swap { word: at, old, put } if at == word && old != put => Some(put),
+        Act::Add { word: at, put, .. } if at == word => Some(put),
+        Act::Exchange {
+            word: at,
+            to,
+            done: true,
+            ..
+        } if at == word => Some(to),
+        _ => None,
+    }
+}
+
+/// What a word held, from the opening on.
+fn segments_of(alloc: Global, story: &Story, word: Word) -> Result<Vec<Segment>, AllocError> {
+    let value = story.opening.get(word);
+    let mut segments = Vec::new(alloc);
+    let mut last = colour_of(value, None);
+    segments.push(Segment {
+        row: None,
+        next: None,
+        value,
+        colour: last,
+    })?;
+    for step in &story.steps {
+        if let Some(value) = put_of(&step.event.act, word) {
+            if let Some(segment) = segments.last_mut() {
+                segment.next = Some(step.row);
+            }
+            last = colour_of(value, Some(last));
+            segments.push(Segment {
+                row: Some(step.row),
+                next: None,
+                value,
+                colour: last,
+            })?;
+        }
+    }
+    Ok(segments)
+}
+
+/// A value in its object's own terms.
+pub fn term_of(
+    alloc: Global,
+    object: &Object<u64>,
+    word: Word,
+    value: u64,
+) -> Result<String, AllocError> {
+    let mut out = String::new(alloc);
+    say_value(&mut out, object, word, value)?;
+    Ok(out)
+}
+
+/// How wide a band has to be, so that each of its values has room.
+fn band_width(
+    alloc: Global,
+    object: &Object<u64>,
+    word: Word,
+    segments: &[Segment],
+) -> Result<u32, AllocError> {
+    let mut widest = text_width(name_of(object, word));
+    for segment in segments {
+        let term = term_of(alloc, object, word, segment.value)?;
+        widest = widest.max(text_width(&term));
+    }
+    Ok(LEAST_BAND.max(widest.saturating_add(16)))
+}
+
+/// The bands, from this place on.
+fn bands_of(alloc: Global, story: &Story, left: u32) -> Result<Vec<Band>, AllocError> {
+    let mut bands = Vec::new(alloc);
+    let mut left = left;
+    for word in words_of(&story.object) {
+        let segments = segments_of(alloc, story, *word)?;
+        let width = band_width(alloc, &story.object, *word, &segments)?;
+        bands.push(Band {
+            word: *word,
+            left,
+            width,
+            segments,
+        })?;
+        left = left.saturating_add(width).saturating_add(10);
+    }
+    Ok(bands)
+}
+
+/// How wide the box of a call has to be for this step.
+fn step_width(alloc: Global, object: &Object<u64>, step: &Step) -> Result<u32, AllocError> {
+    let outcome = outcome_of(alloc, &step.event.then)?;
+    let outcome_width = text_width(&outcome);
+    let said_width = match (&step.event.act, &step.line) {
+        // The call's name stands on the left, and its party on the right.
+        (Act::Begun(_), Some(line)) => text_width(&line.words) + 70,
+        _ => {
+            let label = label_of(alloc, object, step)?;
+            text_width(&label) + 46
+        }
+    };
+    Ok(said_width + outcome_width + 12)
+}
+
+/// How wide the boxes of a party are. `None` where it makes no step.
+fn box_width(alloc: Global, story: &Story, party: usize) -> Result<Option<u32>, AllocError> {
+    let mut width = None;
+    for step in &story.steps {
+        if step.event.party == party {
+            let wide = step_width(alloc, &story.object, step)?;
+            width = Some(wide.max(width.unwrap_or(LEAST_BOX)));
+        }
+    }
+    Ok(width)
+}
+
+/// The calls of a party.
+fn calls_of(alloc: Global, steps: &[Step], party: usize) -> Result<Vec<Span>, AllocError> {
+    let mut calls = Vec::new(alloc);
+    let mut open = None;
+    for step in steps {
+        if step.event.party != party {
+            continue;
+        }
+        if let Act::Begun(_) = step.event.act {
+            open = Some(step.row);
+        }
+        if let Then::Answers(_) = step.event.then
+            && let Some(first) = open
+        {
+            calls.push(Span {
+                first,
+                last: Some(step.row),
+            })?;
+            open = None;
+        }
+    }
+    if let Some(first) = open {
+        calls.push(Span { first, last: None })?;
+    }
+    Ok(calls)
+}
+
+/// Where the calls of a party stand at a closure.
+fn stands_of(alloc: Global, steps: &[Step], party: usize) -> Result<Vec<Span>, AllocError> {
+    let mut stands = Vec::new(alloc);
+    let mut open = None;
+    for step in steps {
+        if step.event.party != party {
+            continue;
+        }
+        if let Some(first) = open {
+            stands.push(Span {
+                first,
+                last: Some(step.row),
+            })?;
+        }
+        open = match step.event.then {
+            Then::Waits(_) | Then::Chooses(_) => Some(step.row),
+            Then::GoesOn | Then::Answers(_) => None,
+        };
+    }
+    if let Some(first) = open {
+        stands.push(Span { first, last: None })?;
+    }
+    Ok(stands)
+}
+
+/// The holds of a party.
+fn holds_of(alloc: Global, steps: &[Step], party: usize) -> Result<Vec<Hold>, AllocError> {
+    let mut holds = Vec::new(alloc);
+    let mut open: Option<(HoldKind, u32)> = None;
+    for step in steps {
+        if step.event.party != party {
+            continue;
+        }
+        match (open, step.hold) {
+            (None, Some(kind)) => open = Some((kind, step.row)),
+            (Some((kind, first)), None) => {
+                holds.push(Hold {
+                    kind,
+                    span: Span {
+                        first,
+                        last: Some(step.row),
+                    },
+                })?;
+                open = None;
+            }
+            (None, None) | (Some(_), Some(_)) => {}
+        }
+    }
+    if let Some((kind, first)) = open {
+        holds.push(Hold {
+            kind,
+            span: Span { first, last: None },
+        })?;
+    }
+    Ok(holds)
+}
+
+/// What the refused calls of a party saw last.
+fn sights_of(alloc: Global, steps: &[Step], party: usize) -> Result<Vec<u32>, AllocError> {
+    let mut sights = Vec::new(alloc);
+    let mut seen = None;
+    for step in steps {
+        if step.event.party != party {
+            continue;
+        }
+        if let Some(reach) = reach_of(&step.event.act)
+            && !reach.writes
+        {
+            seen = Some(step.row);
+        }
+        if let Some(row) = seen
+            && tone_of(&step.event.then) == Some(Tone::Refused)
+        {
+            sights.push(row)?;
+        }
+    }
+    Ok(sights)
+}
+
+/// The lane of a party, from this place on.
+fn lane_of(
+    alloc: Global,
+    steps: &[Step],
+    party: usize,
+    left: u32,
+    width: u32,
+) -> Result<Lane, AllocError> {
+    Ok(Lane {
+        party,
+        left,
+        width,
+        calls: calls_of(alloc, steps, party)?,
+        stands: stands_of(alloc, steps, party)?,
+        holds: holds_of(alloc, steps, party)?,
+        sights: sights_of(alloc, steps, party)?,
+    })
+}
+
+/// The lanes, from this place on: one for each party that makes a step.
+fn lanes_of(alloc: Global, story: &Story, left: u32) -> Result<Vec<Lane>, AllocError> {
+    let mut lanes = Vec::new(alloc);
+    let mut left = left;
+    for party in 0..story.parties {
+        if let Some(width) = box_width(alloc, story, party)? {
+            lanes.push(lane_of(alloc, &story.steps, party, left, width)?)?;
+            left = left.saturating_add(width).saturating_add(28);
+        }
+    }
+    Ok(lanes)
+}
+
+/// How wide the words of the schedule's lines are.
+fn schedule_width(story: &Story) -> u32 {
+    let mut widest = 0;
+    for step in &story.steps {
+        if let Some(line) = &step.line {
+            widest = text_width(&line.words).max(widest);
+        }
+    }
+    widest
+}
+
+/// Where the last band ends, with the room that follows it.
+fn bands_right(bands: &[Band], left: u32) -> u32 {
+    match bands.last() {
+        Some(band) => band.left.saturating_add(band.width).saturating_add(18),
+        None => left,
+    }
+}
+
+/// Where the last lane ends, with the room that follows it.
+fn lanes_right(lanes: &[Lane], left: u32) -> u32 {
+    match lanes.last() {
+        Some(lane) => lane.left.saturating_add(lane.width).saturating_add(20),
+        None => left,
+    }
+}
+
+impl Layout {
+    /// Where everything of a story stands.
+    pub fn of(alloc: Global, story: &Story) -> Result<Layout, AllocError> {
+        let bands_left = SCHEDULE
+            .saturating_add(schedule_width(story))
+            .max(text_width(&story.title) + 12)
+            .saturating_add(14);
+        let bands = bands_of(alloc, story, bands_left)?;
+        let lanes_left = bands_right(&bands, bands_left);
+        let lanes = lanes_of(alloc, story, lanes_left)?;
+        let width = lanes_right(&lanes, lanes_left).max(LEAST_WIDTH);
+        let rows = match story.steps.last() {
+            Some(step) => step.row.saturating_add(1),
+            None => 1,
+        };
+        Ok(Layout {
+            bands_left,
+            bands,
+            lanes,
+            rows,
+            width,
+        })
+    }
+
+    /// Where the rows end.
+    pub fn bottom(&self) -> u64
+        ensures { result < 2 ^ 40 }
+    {
+        // The last value of a word has its words below its row's middle.
+        top_of(self.rows) + 6
+    }
+
+    /// Where the rows of a span end: in its last one, or with all of them.
+    pub fn bottom_of(&self, span: &Span, into: u64) -> u64
+        requires { into < 100 }
+        ensures { result < 2 ^ 41 }
+    {
+        match span.last {
+            Some(row) => top_of(row) + into,
+            None => self.bottom(),
+        }
+    }
+
+    /// Where the band of a word ends.
+    pub fn right_of(&self, word: Word) -> u64
+        ensures { result < 2 ^ 40 }
+    {
+        for band in &self.bands {
+            if band.word == word {
+                return u64::from(band.left) + u64::from(band.width);
+            }
+        }
+        u64::from(self.bands_left)
+    }
+}

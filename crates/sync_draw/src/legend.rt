@@ -1,0 +1,120 @@
+//! What the signs of a picture mean.
+ghost use Rattle.std.specs.Prelude.{◌<◌, ◌^◌};
+
+use crate::shape::{circle, line, path, put, rect, text};
+use markup::markup::Markup;
+use std::alloc::{AllocError, Global};
+
+/// A sign that a legend explains.
+#[derive(Clone, Copy, Debug, PartialEq, Eq)]
+enum Sign {
+    Read,
+    Write,
+    Look,
+    Done,
+    Failed,
+    Written,
+    Wake,
+    Stand,
+    WriteHold,
+    ReadHold,
+    Sight,
+    Open,
+}
+
+const SIGNS: [Sign; 12] = [
+    Sign::Look,
+    Sign::Done,
+    Sign::Failed,
+    Sign::Written,
+    Sign::Read,
+    Sign::Write,
+    Sign::Wake,
+    Sign::Stand,
+    Sign::WriteHold,
+    Sign::ReadHold,
+    Sign::Sight,
+    Sign::Open,
+];
+
+const COLUMNS: u64 = 3;
+
+const ROWS: u64 = 4;
+/// How high a legend is.
+pub const LEGEND_HEIGHT: u64 = 88;
+
+fn meaning(sign: Sign) -> &'static str {
+    match sign {
+        Sign::Read => "reads the word",
+        Sign::Write => "writes the word",
+        Sign::Look => "load, answer",
+        Sign::Done => "exchange, done",
+        Sign::Failed => "exchange, swap: failed",
+        Sign::Written => "store, add, swap",
+        Sign::Wake => "calls wake closure",
+        Sign::Stand => "stands at a closure",
+        Sign::WriteHold => "holds, alone",
+        Sign::ReadHold => "holds, to read",
+        Sign::Sight => "refused call saw last",
+        Sign::Open => "call not ended",
+    }
+}
+
+/// The sign, 16 wide and 12 high.
+fn drawn(alloc: Global, sign: Sign, left: u64, top: u64) -> Result<Markup, AllocError>
+    requires left_fits { left < 2 ^ 40 }
+    requires top_fits { top < 2 ^ 42 }
+{
+    let middle = top + 6;
+    match sign {
+        Sign::Read => line(alloc, "read", (left, middle), (left + 16, middle))?.empty(),
+        Sign::Write | Sign::Wake => {
+            line(alloc, "write", (left, middle), (left + 16, middle))?.empty()
+        }
+        Sign::Look => circle(alloc, "look", left + 8, middle, 5)?.empty(),
+        Sign::Done => circle(alloc, "done", left + 8, middle, 5)?.empty(),
+        Sign::Failed => cross(alloc, left + 8, middle),
+        Sign::Written => rect(alloc, "done", left + 3, top + 1, 10, 10)?.empty(),
+        Sign::Stand => rect(alloc, "stand", left, top, 16, 12)?.empty(),
+        Sign::WriteHold => rect(alloc, "writer", left + 5, top, 5, 12)?.empty(),
+        Sign::ReadHold => rect(alloc, "reader", left + 5, top, 5, 12)?.empty(),
+        Sign::Sight => circle(alloc, "last", left + 8, middle, 7)?.empty(),
+        Sign::Open => rect(alloc, "open", left, top, 16, 12)?.empty(),
+    }
+}
+
+/// The cross of an exchange that failed, round a place.
+pub fn cross(alloc: Global, x: u64, y: u64) -> Result<Markup, AllocError> {
+    let outline = format!(in alloc; "M{x},{y}m-4,-4l8,8m0,-8l-8,8")?;
+    path(alloc, "failed", outline.as_str())?.empty()
+}
+
+/// Draws a sign and what it means.
+fn draw_entry(
+    alloc: Global,
+    picture: &mut Markup,
+    sign: Sign,
+    left: u64,
+    top: u64,
+) -> Result<(), AllocError>
+    requires left_fits { left < 2 ^ 40 }
+    requires top_fits { top < 2 ^ 42 }
+{
+    let sign_drawn = drawn(alloc, sign, left, top)?;
+    put(picture, &sign_drawn)?;
+    let words = text(alloc, "soft", left + 26, top + 10, meaning(sign))?;
+    put(picture, &words)
+}
+
+/// Draws the legend.
+pub fn draw_legend(alloc: Global, picture: &mut Markup, top: u64) -> Result<(), AllocError>
+    requires { top < 2 ^ 41 }
+{
+    for row in 0..ROWS {
+        for column in 0..COLUMNS {
+            let sign = SIGNS[(row * COLUMNS + column) as usize];
+            draw_entry(alloc, picture, sign, 12 + column * 200, top + row * 22)?;
+        }
+    }
+    Ok(())
+}

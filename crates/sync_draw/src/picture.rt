@@ -1,0 +1,521 @@
+//! Draws a story where its layout has it.
+ghost use Rattle.std.specs.Prelude.{◌≡◌, ◌<◌, ◌^◌, OnOk, IfOk, IfErr};
+ghost use Rattle.sync_play.specs.Fault.{IsFaultOf};
+ghost use Rattle.sync_play.specs.Text.{output_of};
+ghost use Rattle.sync_draw.specs.Story.{HasOutput};
+ghost use Rattle.sync_draw.specs.Picture.{IsPicture};
+
+use crate::label::{
+    Mark, Reach, Tone, label_of, mark_of, numbers_of, outcome_of, reach_of, tone_of,
+};
+use crate::layout::{Band, Colour, Hold, Lane, Layout, SCHEDULE, Segment, Span, term_of, top_of};
+use crate::legend::{LEGEND_HEIGHT, cross, draw_legend};
+use crate::shape::{circle, line, put, rect, text, titled};
+use crate::story::{Line, MOST_STEPS, Step, Story, play};
+use crate::style::draw_style;
+use crate::terms::name_of;
+use markup::markup::Markup;
+use markup::name::{Key, Tag};
+use markup::opening::Opening;
+use std::alloc::{AllocError, Global};
+use steps_events::hold::HoldKind;
+use sync_play::fault::TextFault;
+use sync_steps::steps::Act;
+
+/// How high the notes below the rows are.
+const NOTES_HEIGHT: u64 = 64;
+
+/// Draws a line of the schedule, before its first step.
+fn draw_line(
+    alloc: Global,
+    picture: &mut Markup,
+    layout: &Layout,
+    line_of_text: &Line,
+    row: u32,
+) -> Result<(), AllocError> {
+    let top = top_of(row);
+    let right = u64::from(layout.bands_left);
+    if row > 0 {
+        let rule = line(alloc, "rule", (12, top), (right.saturating_sub(8), top))?.empty()?;
+        put(picture, &rule)?;
+    }
+    let number = line_of_text.number;
+    let digits = format!(in alloc; "{number}")?;
+    let number = text(alloc, "soft end", 46, top + 12, digits.as_str())?;
+    put(picture, &number)?;
+    let words = text(
+        alloc,
+        "",
+        u64::from(SCHEDULE),
+        top + 12,
+        line_of_text.words.as_str(),
+    )?;
+    put(picture, &words)
+}
+
+/// Draws the lines of the schedule.
+fn draw_schedule(
+    alloc: Global,
+    picture: &mut Markup,
+    story: &Story,
+    layout: &Layout,
+) -> Result<(), AllocError> {
+    for step in &story.steps {
+        if let Some(line) = &step.line {
+            draw_line(alloc, picture, layout, line, step.row)?;
+        }
+    }
+    Ok(())
+}
+
+/// The class of a band's colour.
+fn colour_class(colour: Colour) -> &'static str {
+    match colour {
+        Colour::Zero => "band zero",
+        Colour::First => "band first",
+        Colour::Second => "band second",
+        Colour::Third => "band third",
+    }
+}
+
+/// Draws a value of a word, from its step to the next one that writes the word.
+fn draw_segment(
+    alloc: Global,
+    picture: &mut Markup,
+    story: &Story,
+    layout: &Layout,
+    band: &Band,
+    segment: &Segment,
+) -> Result<(), AllocError> {
+    let top = match segment.row {
+        Some(row) => top_of(row) + 8,
+        None => top_of(0),
+    };
+    let bottom = match segment.next {
+        Some(row) => top_of(row) + 8,
+        None => layout.bottom(),
+    };
+    let left = u64::from(band.left);
+    let width = u64::from(band.width);
+    let value = segment.value;
+    let title = format!(in alloc; "{value}")?;
+    let class = colour_class(segment.colour);
+    let area = rect(alloc, class, left, top, width, bottom.saturating_sub(top))?;
+    let area = titled(alloc, area, title.as_str())?;
+    put(picture, &area)?;
+    let term = term_of(alloc, &story.object, band.word, value)?;
+    let words = text(alloc, "mid", left + width / 2, top + 15, term.as_str())?;
+    put(picture, &words)
+}
+
+/// Draws what a word held.
+fn draw_band(
+    alloc: Global,
+    picture: &mut Markup,
+    story: &Story,
+    layout: &Layout,
+    band: &Band,
+) -> Result<(), AllocError> {
+    let middle = u64::from(band.left) + u64::from(band.width) / 2;
+    let name = name_of(&story.object, band.word);
+    let name = text(alloc, "soft mid", middle, 22, name)?;
+    put(picture, &name)?;
+    for segment in &band.segments {
+        draw_segment(alloc, picture, story, layout, band, segment)?;
+    }
+    Ok(())
+}
+
+/// Draws the box of a call. It is dashed where the call has not ended.
+fn draw_call(
+    alloc: Global,
+    picture: &mut Markup,
+    layout: &Layout,
+    lane: &Lane,
+    span: &Span,
+) -> Result<(), AllocError> {
+    let class = if span.last.is_some() { "call" } else { "open" };
+    let top = top_of(span.first);
+    let bottom = layout.bottom_of(span, 20);
+    let height = bottom.saturating_sub(top);
+    let area = rect(
+        alloc,
+        class,
+        lane.start(),
+        top,
+        u64::from(lane.width),
+        height,
+    )?
+    .at(Key::Rounding, 6)?
+    .empty()?;
+    put(picture, &area)
+}
+
+/// Draws a stand at a closure.
+fn draw_stand(
+    alloc: Global,
+    picture: &mut Markup,
+    layout: &Layout,
+    lane: &Lane,
+    span: &Span,
+) -> Result<(), AllocError> {
+    let top = top_of(span.first) + 16;
+    let bottom = layout.bottom_of(span, 2);
+    let area = rect(
+        alloc,
+        "stand",
+        lane.start() + 4,
+        top,
+        20,
+        bottom.saturating_sub(top),
+    )?;
+    let area = titled(alloc, area, "stands at its closure")?;
+    put(picture, &area)
+}
+
+/// Draws a hold.
+fn draw_hold(
+    alloc: Global,
+    picture: &mut Markup,
+    layout: &Layout,
+    lane: &Lane,
+    hold: &Hold,
+) -> Result<(), AllocError> {
+    let (class, title) = match hold.kind {
+        HoldKind::Write => ("writer", "holds, alone"),
+        HoldKind::Read => ("reader", "holds, to read"),
+    };
+    let top = top_of(hold.span.first) + 8;
+    let bottom = layout.bottom_of(&hold.span, 8);
+    let height = bottom.saturating_sub(top);
+    let bar = rect(alloc, class, u64::from(lane.left), top, 5, height)?.at(Key::Rounding, 2)?;
+    let bar = titled(alloc, bar, title)?;
+    put(picture, &bar)
+}
+
+/// Draws the mark of a step, round its place.
+fn draw_mark(alloc: Global, mark: Mark, x: u64, y: u64) -> Result<Markup, AllocError>
+    requires x_fits { x < 2 ^ 40 }
+    requires y_fits { y < 2 ^ 42 }
+{
+    match mark {
+        Mark::None => Ok(Markup::new(alloc)),
+        Mark::Look => circle(alloc, "look", x, y, 5)?.empty(),
+        Mark::Done => circle(alloc, "done", x, y, 5)?.empty(),
+        Mark::Failed => cross(alloc, x, y),
+        Mark::Written => rect(
+            alloc,
+            "done",
+            x.saturating_sub(5),
+            y.saturating_sub(5),
+            10,
+            10,
+        )?
+        .empty(),
+        Mark::Wake => line(alloc, "wake", (x, y), (x + 20, y))?.empty(),
+    }
+}
+
+/// Draws the way from a step to the word that it reads or writes.
+fn draw_reach(
+    alloc: Global,
+    picture: &mut Markup,
+    layout: &Layout,
+    reach: Reach,
+    x: u64,
+    y: u64,
+) -> Result<(), AllocError>
+    requires { x < 2 ^ 40 }
+{
+    let class = if reach.writes { "write" } else { "read" };
+    let to = layout.right_of(reach.word) + 2;
+    let way = line(alloc, class, (x, y), (to, y))?.empty()?;
+    put(picture, &way)
+}
+
+fn tone_class(tone: Option<Tone>) -> &'static str {
+    match tone {
+        Some(Tone::Granted) => "granted end",
+        Some(Tone::Refused) => "refused end",
+        Some(Tone::Waiting) => "waiting end",
+        None => "end",
+    }
+}
+
+/// Draws what a step says: what it did, and what became of the call.
+fn draw_words(
+    alloc: Global,
+    picture: &mut Markup,
+    story: &Story,
+    lane: &Lane,
+    step: &Step,
+) -> Result<(), AllocError> {
+    let baseline = top_of(step.row) + 12;
+    let label = label_of(alloc, &story.object, step)?;
+    // A wake's arrow is longer than a mark.
+    let indent = if mark_of(&step.event.act) == Mark::Wake {
+        40
+    } else {
+        28
+    };
+    let words = text(alloc, "", lane.start() + indent, baseline, label.as_str())?;
+    put(picture, &words)?;
+    let outcome = outcome_of(alloc, &step.event.then)?;
+    if outcome.is_empty() {
+        return Ok(());
+    }
+    let class = tone_class(tone_of(&step.event.then));
+    let words = text(
+        alloc,
+        class,
+        lane.end().saturating_sub(8),
+        baseline,
+        outcome.as_str(),
+    )?;
+    put(picture, &words)
+}
+
+/// Draws the head of a call: its words in the text, without the party's number, and the party.
+fn draw_head(
+    alloc: Global,
+    picture: &mut Markup,
+    lane: &Lane,
+    step: &Step,
+) -> Result<(), AllocError> {
+    let baseline = top_of(step.row) + 13;
+    if let Some(line) = &step.line
+        && let Some((_, call)) = line.words.as_str().split_once(' ')
+    {
+        let words = text(alloc, "head", lane.start() + 10, baseline, call)?;
+        put(picture, &words)?;
+    }
+    let party = lane.party as u128 + 1;
+    let party = format!(in alloc; "party {party}")?;
+    let words = text(
+        alloc,
+        "soft end",
+        lane.end().saturating_sub(8),
+        baseline,
+        party.as_str(),
+    )?;
+    put(picture, &words)
+}
+
+/// Draws a step.
+fn draw_step(
+    alloc: Global,
+    picture: &mut Markup,
+    story: &Story,
+    layout: &Layout,
+    lane: &Lane,
+    step: &Step,
+) -> Result<(), AllocError> {
+    if let Act::Begun(_) = step.event.act {
+        return draw_head(alloc, picture, lane, step);
+    }
+    let x = lane.middle();
+    let y = top_of(step.row) + 8;
+    if let Some(reach) = reach_of(&step.event.act) {
+        draw_reach(alloc, picture, layout, reach, x, y)?;
+    }
+    let title = numbers_of(alloc, step)?;
+    let mut inside = Opening::new(alloc, Tag::Title)?.saying(title.as_str())?;
+    let mark = draw_mark(alloc, mark_of(&step.event.act), x, y)?;
+    inside.add(&mark)?;
+    let group = Opening::new(alloc, Tag::Group)?.around(&inside)?;
+    put(picture, &group)?;
+    draw_words(alloc, picture, story, lane, step)
+}
+
+/// Draws the steps of a party.
+fn draw_steps(
+    alloc: Global,
+    picture: &mut Markup,
+    story: &Story,
+    layout: &Layout,
+    lane: &Lane,
+) -> Result<(), AllocError> {
+    for step in &story.steps {
+        if step.event.party == lane.party {
+            draw_step(alloc, picture, story, layout, lane, step)?;
+        }
+    }
+    Ok(())
+}
+
+/// Draws the party's name, and the line that its calls stand on.
+fn draw_lane(
+    alloc: Global,
+    picture: &mut Markup,
+    layout: &Layout,
+    lane: &Lane,
+) -> Result<(), AllocError> {
+    let x = lane.middle();
+    let party = lane.party as u128 + 1;
+    let name = format!(in alloc; "party {party}")?;
+    let name = text(alloc, "head", lane.start() + 10, 22, name.as_str())?;
+    put(picture, &name)?;
+    let way = line(alloc, "lane", (x, 30), (x, layout.bottom()))?.empty()?;
+    put(picture, &way)
+}
+
+/// Draws a party's calls, stands and holds.
+fn draw_spans(
+    alloc: Global,
+    picture: &mut Markup,
+    layout: &Layout,
+    lane: &Lane,
+) -> Result<(), AllocError> {
+    for call in &lane.calls {
+        draw_call(alloc, picture, layout, lane, call)?;
+    }
+    for stand in &lane.stands {
+        draw_stand(alloc, picture, layout, lane, stand)?;
+    }
+    for hold in &lane.holds {
+        draw_hold(alloc, picture, layout, lane, hold)?;
+    }
+    for row in &lane.sights {
+        let x = lane.middle();
+        let ring = circle(alloc, "last", x, top_of(*row) + 8, 8)?;
+        let ring = titled(alloc, ring, "what the call saw last before it was refused")?;
+        put(picture, &ring)?;
+    }
+    Ok(())
+}
+
+/// How many parties make no step.
+fn idle_count(story: &Story, layout: &Layout) -> usize {
+    story.parties.saturating_sub(layout.lanes.len())
+}
+
+/// What the picture leaves out; nothing where it leaves nothing out.
+fn left_out(alloc: Global, story: &Story, layout: &Layout) -> Result<String, AllocError> {
+    let mut note = String::new(alloc);
+    let idle = idle_count(story, layout);
+    if idle > 0 {
+        write!(
+            note,
+            "Without a lane: {idle} of the parties, which make no step. "
+        )?;
+    }
+    if story.left_out > 0 {
+        let count = story.left_out;
+        write!(
+            note,
+            "Not drawn: {count} steps after the first {MOST_STEPS} rows."
+        )?;
+    }
+    Ok(note)
+}
+
+/// Draws what the run has left, and what the picture leaves out.
+fn draw_notes(
+    alloc: Global,
+    picture: &mut Markup,
+    story: &Story,
+    layout: &Layout,
+) -> Result<(), AllocError> {
+    let bottom = layout.bottom();
+    let words = text(
+        alloc,
+        "soft",
+        12,
+        bottom + 26,
+        story.last.as_str().trim_end(),
+    )?;
+    put(picture, &words)?;
+    let note = left_out(alloc, story, layout)?;
+    if note.is_empty() {
+        return Ok(());
+    }
+    let words = text(alloc, "waiting", 12, bottom + 46, note.as_str())?;
+    put(picture, &words)
+}
+
+/// Draws all that has a place.
+fn draw_all(
+    alloc: Global,
+    picture: &mut Markup,
+    story: &Story,
+    layout: &Layout,
+) -> Result<(), AllocError> {
+    let name = Opening::new(alloc, Tag::Title)?.saying(story.title.as_str())?;
+    put(picture, &name)?;
+    draw_style(alloc, picture)?;
+    let paper = rect(
+        alloc,
+        "paper",
+        0,
+        0,
+        u64::from(layout.width),
+        height_of(layout),
+    )?
+    .empty()?;
+    put(picture, &paper)?;
+    let title = text(alloc, "head", 12, 22, story.title.as_str())?;
+    put(picture, &title)?;
+    draw_schedule(alloc, picture, story, layout)?;
+    for lane in &layout.lanes {
+        draw_lane(alloc, picture, layout, lane)?;
+    }
+    for lane in &layout.lanes {
+        draw_spans(alloc, picture, layout, lane)?;
+    }
+    for band in &layout.bands {
+        draw_band(alloc, picture, story, layout, band)?;
+    }
+    for lane in &layout.lanes {
+        draw_steps(alloc, picture, story, layout, lane)?;
+    }
+    draw_notes(alloc, picture, story, layout)?;
+    draw_legend(alloc, picture, layout.bottom() + NOTES_HEIGHT)
+}
+
+/// How high a picture is.
+fn height_of(layout: &Layout) -> u64
+    ensures { result < 2 ^ 41 }
+{
+    layout.bottom() + NOTES_HEIGHT + LEGEND_HEIGHT + 4
+}
+
+/// The picture of a story.
+pub fn draw(alloc: Global, story: &Story) -> Result<Vec<u8>, AllocError>
+    ensures { IfOk result (λ bytes. IsPicture bytes.items) }
+{
+    let layout = Layout::of(alloc, story)?;
+    let mut inside = Markup::new(alloc);
+    inside.say("\n")?;
+    draw_all(alloc, &mut inside, story, &layout)?;
+    let width = u64::from(layout.width);
+    let height = height_of(&layout);
+    let view = format!(in alloc; "0 0 {width} {height}")?;
+    let picture = Opening::new(alloc, Tag::Svg)?
+        .with(Key::Namespace, "http://www.w3.org/2000/svg")?
+        .with(Key::ViewBox, view.as_str())?
+        .at(Key::Width, width)?
+        .at(Key::Height, height)?
+        .with(Key::Role, "img")?;
+    document(picture, &inside)
+}
+
+/// The bytes of a whole picture.
+fn document(picture: Opening, inside: &Markup) -> Result<Vec<u8>, AllocError>
+    requires { picture.tag ≡ Tag.Svg }
+    ensures { IfOk result (λ bytes. IsPicture bytes.items) }
+{
+    let mut bytes = picture.whole(inside)?;
+    bytes.push_str("\n")?;
+    Ok(bytes.into_bytes())
+}
+
+/// The picture of a text, or the fault of its first faulty line.
+pub fn draw_text(alloc: Global, text: &[u8]) -> Result<Vec<u8>, TextFault>
+    ensures drawn { IfOk result (λ bytes. IsPicture bytes.items) }
+    ensures played { OnOk result (HasOutput (output_of text.now)) }
+    ensures fault { IfErr result (λ e. IsFaultOf e (output_of text.now)) }
+{
+    let story = play(alloc, text)?;
+    let picture = draw(alloc, &story)?;
+    Ok(picture)
+}

@@ -1,0 +1,80 @@
+//! The elements that a picture is made of.
+use markup::markup::Markup;
+use markup::name::{Key, Tag};
+use markup::opening::Opening;
+use std::alloc::{AllocError, Global};
+
+/// A rectangle.
+pub fn rect(
+    alloc: Global,
+    class: &str,
+    left: u64,
+    top: u64,
+    width: u64,
+    height: u64,
+) -> Result<Opening, AllocError> {
+    Opening::new(alloc, Tag::Rect)?
+        .with(Key::Class, class)?
+        .at(Key::X, left)?
+        .at(Key::Y, top)?
+        .at(Key::Width, width)?
+        .at(Key::Height, height)
+}
+
+/// A line from one place to another.
+pub fn line(
+    alloc: Global,
+    class: &str,
+    from: (u64, u64),
+    to: (u64, u64),
+) -> Result<Opening, AllocError> {
+    Opening::new(alloc, Tag::Line)?
+        .with(Key::Class, class)?
+        .at(Key::X1, from.0)?
+        .at(Key::Y1, from.1)?
+        .at(Key::X2, to.0)?
+        .at(Key::Y2, to.1)
+}
+
+/// A circle round a place.
+pub fn circle(
+    alloc: Global,
+    class: &str,
+    x: u64,
+    y: u64,
+    radius: u64,
+) -> Result<Opening, AllocError> {
+    Opening::new(alloc, Tag::Circle)?
+        .with(Key::Class, class)?
+        .at(Key::CenterX, x)?
+        .at(Key::CenterY, y)?
+        .at(Key::Radius, radius)
+}
+
+/// A way of lines.
+pub fn path(alloc: Global, class: &str, outline: &str) -> Result<Opening, AllocError> {
+    Opening::new(alloc, Tag::Path)?
+        .with(Key::Class, class)?
+        .with(Key::Outline, outline)
+}
+
+/// Words at a place.
+pub fn text(alloc: Global, class: &str, x: u64, y: u64, words: &str) -> Result<Markup, AllocError> {
+    Opening::new(alloc, Tag::Text)?
+        .with(Key::Class, class)?
+        .at(Key::X, x)?
+        .at(Key::Y, y)?
+        .saying(words)
+}
+
+/// An element with a title, which a browser shows where one points at it.
+pub fn titled(alloc: Global, opening: Opening, title: &str) -> Result<Markup, AllocError> {
+    let title = Opening::new(alloc, Tag::Title)?.saying(title)?;
+    opening.around(&title)
+}
+
+/// An element more, on a line of its own.
+pub fn put(picture: &mut Markup, element: &Markup) -> Result<(), AllocError> {
+    picture.add(element)?;
+    picture.say("\n")
+}

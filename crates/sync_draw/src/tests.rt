@@ -1,0 +1,116 @@
+use crate::picture::draw_text;
+use crate::run::run;
+use crate::story::play;
+use std::alloc::{AllocError, Global};
+use std::str;
+use std::test::Fail;
+use sync_play::fault::{LineFault, TextFault};
+
+/// The README's first text.
+const ABORT: &[u8] = b"mutex 2\n1 try_lock\n1 run\n2 lock\n2 run\n2 abort\n2 run\n";
+
+#[test]
+fn a_spin_is_one_step_of_a_story(rt: HostRuntime) -> Result<(), Fail> {
+    let story = play(rt.alloc(), ABORT).ok().ok_or("it has no fault")?;
+    let mut counts: Vec<u64> = Vec::new(rt.alloc());
+    for step in &story.steps {
+        counts.push(step.count)?;
+    }
+    // try_lock, its exchange; lock, its 10000 exchanges, the one after which it stands, its answer, the last exchange.
+    assert_eq!(rt; counts.as_slice(), [1, 1, 1, 10000, 1, 1, 1].as_slice());
+    assert_eq!(rt; story.left_out, 0);
+    assert_eq!(rt; story.last.as_str(), "word 1 failed 10002\n");
+    Ok(())
+}
+
+#[test]
+fn each_line_stands_at_its_first_step(rt: HostRuntime) -> Result<(), Fail> {
+    let story = play(rt.alloc(), b"once 1\n\n 1   call_once\t\n1 go 3\n")
+        .ok()
+        .ok_or("it has no fault")?;
+    let mut lines = String::new(rt.alloc());
+    for step in &story.steps {
+        if let Some(line) = &step.line {
+            let number = line.number;
+            let words = line.words.as_str();
+            write!(lines, "{number}: {words} / ")?;
+        }
+    }
+    assert_eq!(rt; lines.as_str(), "3: 1 call_once / 4: 1 go 3 / ");
+    assert_eq!(rt; story.steps.len(), 4);
+    Ok(())
+}
+
+/// A mutex that is taken and freed so often, five steps each time.
+fn taken(alloc: Global, times: u64) -> Result<String, AllocError> {
+    let mut text = String::from_str(alloc, "mutex 1\n")?;
+    for _ in 0..times {
+        text.push_str("1 try_lock\n1 run\n1 unlock\n1 run\n")?;
+    }
+    Ok(text)
+}
+
+#[test]
+fn a_story_keeps_two_thousand_steps(rt: HostRuntime) -> Result<(), Fail> {
+    let text = taken(rt.alloc(), 401)?;
+    let story = play(rt.alloc(), text.as_bytes())
+        .ok()
+        .ok_or("it has no fault")?;
+    assert_eq!(rt; story.steps.len(), 2000);
+    assert_eq!(rt; story.left_out, 5);
+    Ok(())
+}
+
+/// Words that the picture of a text has.
+fn has(rt: HostRuntime, text: &[u8], words: &str) -> Result<bool, Fail> {
+    let picture = draw_text(rt.alloc(), text).ok().ok_or("it has no fault")?;
+    let picture = str::from_utf8(&picture).ok().ok_or("it is text")?;
+    Ok(picture.contains(words))
+}
+
+#[test]
+fn a_picture_tells_what_happened(rt: HostRuntime) -> Result<(), Fail> {
+    assert!(rt; has(rt, ABORT, ">found locked × 10,000</text>")?);
+    assert!(rt; has(rt, ABORT, ">✕ interrupted</text>")?);
+    assert!(rt; has(rt, ABORT, ">word 1 failed 10002</text>")?);
+    assert!(rt;
+        has(
+            rt,
+            b"barrier 2 2\n1 start_wait\n1 go 2\n",
+            ">round 0: 1/2</text>"
+        )?
+    );
+    assert!(rt;
+        has(
+            rt,
+            b"rwreader 1\n1 write_lock\n1 run\n",
+            ">free → write</text>"
+        )?
+    );
+    assert!(rt; has(rt, b"semaphore 1 2\n1 post 3\n1 run\n", ">post 3</text>")?);
+    Ok(())
+}
+
+/// Texts with a fault, and the line that has it.
+const FAULTY: [(&[u8], u64, LineFault); 4] = [
+    (b"", 1, LineFault::NoObject),
+    (b"mutex 0\n", 1, LineFault::BadNumber),
+    (b"mutex 1\n\n1 lock 2\n", 3, LineFault::BadLine),
+    (b"mutex 1\n1 lock\n1 run\n1 run\n", 4, LineFault::Idle),
+];
+
+#[test]
+fn a_fault_is_told_and_nothing_is_written(rt: HostRuntime) -> Result<(), Fail> {
+    for (text, line, fault) in FAULTY {
+        let told = draw_text(rt.alloc(), text).err().ok_or("it has a fault")?;
+        assert_eq!(rt; told, TextFault::Line { line, fault });
+        let mut reader = text;
+        let mut written: Vec<u8> = Vec::new(rt.alloc());
+        let told = run(rt.alloc(), &mut reader, &mut written)
+            .err()
+            .ok_or("it has a fault")?;
+        assert_eq!(rt; told.status(), 2);
+        assert_eq!(rt; written.len(), 0);
+    }
+    Ok(())
+}

@@ -1,0 +1,18 @@
+//! Draws a schedule text, read from standard input, as an SVG on standard output.
+//!
+//! A fault is told on standard error in one line. The exit status is 0 where the text was drawn, 2 for a fault of the text,
+//! and 1 where reading, writing or memory failed.
+#![tactic(auto)]
+
+use std::process::ExitCode;
+use sync_draw::run::run;
+
+fn main(rt: HostRuntime) -> ExitCode {
+    match run(rt.alloc(), &mut rt.stdin(), &mut rt.stdout()) {
+        Ok(()) => ExitCode::SUCCESS,
+        Err(fault) => {
+            let _ = eprintln!(rt; "{fault}");
+            ExitCode::from(fault.status())
+        }
+    }
+}
