@@ -5,7 +5,6 @@
 ghost use Rattle.std.specs.Prelude.{◌≡◌, ◌≤◌};
 
 mod barrier;
-mod condvar;
 mod lazy_lock;
 mod mutex;
 mod once;
@@ -48,12 +47,10 @@ pub enum Line {
     StdMutexAddUnlock,
     SpinLockUnlock,
     LazyForce,
-    StdCondvarNotifyOne,
-    CondvarNotifyOne,
 }
 
 /// Every line, in the order of the table.
-pub const LINES: [Line; 26] = [
+pub const LINES: [Line; 24] = [
     Line::BareExchangeStore,
     Line::StdMutexLockUnlock,
     Line::MutexLockUnlock,
@@ -78,8 +75,6 @@ pub const LINES: [Line; 26] = [
     Line::StdMutexAddUnlock,
     Line::SpinLockUnlock,
     Line::LazyForce,
-    Line::StdCondvarNotifyOne,
-    Line::CondvarNotifyOne,
 ];
 
 impl Line {
@@ -114,8 +109,6 @@ impl Line {
             Line::StdMutexAddUnlock => "std mutex add unlock",
             Line::SpinLockUnlock => "spin lock unlock",
             Line::LazyForce => "lazy force",
-            Line::StdCondvarNotifyOne => "std condvar notify_one",
-            Line::CondvarNotifyOne => "condvar notify_one",
         }
     }
 
@@ -147,8 +140,6 @@ impl Line {
             Line::StdMutexAddUnlock => Ok(yardsticks::std_mutex_add_unlock(rt)),
             Line::SpinLockUnlock => spin_lock::lock_unlock(rt, alloc),
             Line::LazyForce => lazy_lock::force(rt, alloc),
-            Line::StdCondvarNotifyOne => Ok(yardsticks::std_condvar_notify_one()),
-            Line::CondvarNotifyOne => condvar::notify_one(alloc),
         }
     }
 }

@@ -118,3 +118,20 @@ fn a_lazy_value_that_finds_no_memory_hands_its_closure_back(rt: HostRuntime) -> 
     }
     Ok(())
 }
+
+fn shared<X: Sync>(_: &X) {}
+
+/// A lazy value may be shared also where its closure may only be moved from thread to thread.
+fn shared_where_it_moves<T: Send + Sync, F: Send>(lazy: &LazyLock<T, F>) {
+    shared(lazy);
+}
+
+#[test]
+fn a_lazy_value_is_shared_where_its_closure_moves(rt: HostRuntime) -> Result<(), Fail> {
+    let Ok((lazy, mut pass)) = LazyLock::new(rt.alloc(), || -> u64 { 42 }) else {
+        return Err("no memory")?;
+    };
+    shared_where_it_moves(&lazy);
+    assert_eq!(rt; *LazyLock::force(&lazy, &rt, &mut pass), 42);
+    Ok(())
+}

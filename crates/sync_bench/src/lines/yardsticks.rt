@@ -2,7 +2,7 @@
 
 use crate::lines::{Operation, successes};
 use std::sync::atomic::{AtomicU64, Ordering};
-use std::sync::{Barrier, Condvar, Mutex, OnceLock, RwLock, Wait};
+use std::sync::{Barrier, Mutex, OnceLock, RwLock, Wait};
 
 /// Takes and frees a bare word: the least that a lock and an unlock can do.
 pub fn bare_exchange_store() -> u32 {
@@ -247,25 +247,5 @@ impl<R: Wait> Operation for StdAdd<'_, R> {
         let mut guard = self.mutex.lock(self.rt);
         *guard = guard.wrapping_add(1);
         *guard > 0
-    }
-}
-
-/// Notifies a condition variable of std at which nobody waits.
-pub fn std_condvar_notify_one() -> u32 {
-    successes(&mut StdCondvar {
-        condvar: Condvar::new(),
-    })
-}
-
-#[derive(Drop)]
-struct StdCondvar {
-    condvar: Condvar,
-}
-
-impl Operation for StdCondvar {
-    #[inline(always)]
-    fn once(&mut self) -> bool {
-        self.condvar.notify_one();
-        true
     }
 }
