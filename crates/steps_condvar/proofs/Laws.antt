@@ -37,7 +37,7 @@ use Rattle.steps_mutex.specs.declared.MutexPlace.{MutexPlace}
 use Rattle.steps_mutex.specs.declared.MutexPlace.TheVariants as locks
 use Rattle.steps_mutex.specs.Table.{mutex_intent, mutex_after}
 use Rattle.steps_mutex.specs.Law as mutex_law
-use Rattle.steps_mutex.specs.Law.{LockCause}
+use Rattle.steps_mutex.specs.Law.{LockCause, answer_of}
 use Rattle.steps_mutex.proofs.LockSteps.{LockLeads, lock_leads}
 use Rattle.steps_mutex.proofs.Laws as mutex
 use Rattle.steps_mutex.proofs.Laws.{AtMutex, another, mutex_lacks}
@@ -51,14 +51,14 @@ use Rattle.steps_condvar.specs.declared.CondvarPlace.{CondvarPlace}
 use Rattle.steps_condvar.specs.declared.CondvarPlace.TheVariants as places
 use Rattle.steps_condvar.specs.Table.{permits_for, condvar_table, condvar_grant, permitted, relocked}
 use Rattle.steps_condvar.specs.Waiters.{is_count, counts_in, since_count, is_wait, is_counted, CountsWaiters}
-use Rattle.steps_condvar.specs.Law.{wake_for, count_read, amount_for, condvar_gives, condvar_value, takes_in, HasAbortedSince, FoundNoPermit, FoundMutexHeld, IsSignalled, CondvarCause, answer_of, wait_answer, WaitStep, is_read, is_post, PutsSum, NotifyStep, CallStep, spins_of, gives_up, HasTried, KeepsCondvar}
+use Rattle.steps_condvar.specs.Law.{wake_for, count_read, amount_for, condvar_gives, condvar_value, takes_in, HasAbortedSince, FoundNoPermit, FoundMutexHeld, IsSignalled, CondvarCause, wait_answer, WaitStep, is_read, is_post, PutsSum, NotifyStep, LockStep, CallStep, spins_of, gives_up, HasTried, KeepsCondvar}
 use Rattle.steps_condvar.proofs.Counts.{CountEffect, none_wait, counts_after}
-use Rattle.steps_condvar.proofs.Places.{notify, Progress, SawNone, SignalIs, took, IsReady, AtCondvar, outcome_within, condvar_kept}
+use Rattle.steps_condvar.proofs.Places.{notify, Progress, SawNone, SignalIs, took, AtCondvar, outcome_within, condvar_kept}
 
 -- A condition variable has a lock for one: its mutex.
 
 lock_intent : {T : Type 0} (place : CondvarPlace) (c : PendingCall T) (hold : Option HoldKind) → AtCondvar place c hold → IsLockIntent {T = T} (condvar_grant c.call 0 1) hold ((condvar_table {T = T}).intent place hold)
-lock_intent (places.Mutex place) c hold at = mutex.lock_intent (λ call. condvar_grant call 0 1) place c hold refl refl at.0
+lock_intent (places.Mutex place) c hold at = mutex.lock_intent (λ call. condvar_grant call 0 1) place c hold refl refl at
 lock_intent (places.Read wake) c hold at = tt
 lock_intent (places.Post wake amount) c hold at = tt
 lock_intent (places.Wake wake) c hold at = tt
@@ -381,63 +381,26 @@ notify_law {T} party past n hold c wake act false is quiet keeps apart goes step
 -- of a call of the mutex: its law there is its law here
 
 mutex_waits : {T : Type 0} (place : MutexPlace) (c : PendingCall T) (hold : Option HoldKind) → AtMutex place c hold → is_wait c.call ≡ false
-mutex_waits {T} locks.TryLock c hold at = ap (λ (k : Call T). is_wait k) at
+mutex_waits {T} locks.TryLock c hold at = ap (λ (k : Call T). is_wait k) at.0
 mutex_waits {T} (locks.Lock patience) c hold at = ap (λ (k : Call T). is_wait k) at.0
 mutex_waits {T} locks.Release c hold at = ap (λ (k : Call T). is_wait k) at.0
-mutex_waits {T} locks.Wake c hold at = ap (λ (k : Call T). is_wait k) at
+mutex_waits {T} locks.Wake c hold at = ap (λ (k : Call T). is_wait k) at.0
 
+-- it has to do with the mutex's word alone
 mutex_quiet :
     (T : Type 0) (place : MutexPlace) (memory : Word → ℕ) (n : ℕ) →
-    (is_count {T = T} (carried_out (mutex_intent words.State place) memory) ≡ false) × (word_after {T = T} words.Waiters (carried_out (mutex_intent words.State place) memory) n ≡ n)
-mutex_quiet T locks.TryLock memory n = (refl, refl)
-mutex_quiet T (locks.Lock patience) memory n = (refl, refl)
-mutex_quiet T locks.Release memory n = (refl, refl)
-mutex_quiet T locks.Wake memory n = (refl, refl)
+    (is_count {T = T} (carried_out (mutex_intent words.State place) memory) ≡ false) × (word_after {T = T} words.Waiters (carried_out (mutex_intent words.State place) memory) n ≡ n) ×
+    (is_sight {T = T} words.Waiters (carried_out (mutex_intent words.State place) memory) ≡ false) × (is_sight {T = T} words.Value (carried_out (mutex_intent words.State place) memory) ≡ false)
+mutex_quiet T locks.TryLock memory n = (refl, refl, refl, refl)
+mutex_quiet T (locks.Lock patience) memory n = (refl, refl, refl, refl)
+mutex_quiet T locks.Release memory n = (refl, refl, refl, refl)
+mutex_quiet T locks.Wake memory n = (refl, refl, refl, refl)
 
--- what a call of the mutex answers, and with which hold
-
-try_step :
-    {T : Type 0} (c : PendingCall T) (w party : ℕ) (free : Bool) → c.call ≡ calls.TryLock →
-    CallStep calls.TryLock c.own (event party (acts.Exchange words.State 0 1 w free) (outcome_of {T = T} {P = MutexPlace} (cond free (afters.Ends answers.Success) (afters.Ends answers.Interrupted))))
-    (hold_after condvar_table (acts.Exchange words.State 0 1 w free) (Some c) None)
-try_step {T} c w party true is =
-    let granted : condvar_grant c.call 0 1 ≡ Some kinds.Write = ap (λ (k : Call T). condvar_grant k 0 1) is in
-    record { uncounted = refl; untaken = refl; answers = rw granted refl }
-try_step c w party false is = record { uncounted = refl; untaken = refl; answers = refl }
-
-lock_step :
-    {T : Type 0} (c : PendingCall T) (w party : ℕ) (done : Bool) (a : After T MutexPlace) → c.call ≡ calls.Lock → (w == 0) ≡ done → LockLeads c.own party w (acts.Exchange words.State 0 1 w done) a →
-    CallStep calls.Lock c.own (event party (acts.Exchange words.State 0 1 w done) (outcome_of a)) (hold_after condvar_table (acts.Exchange words.State 0 1 w done) (Some c) None)
-lock_step c w party done (afters.At next) is found leads = record { uncounted = refl; untaken = refl; answers = tt }
-lock_step c w party done (afters.Waits next seen) is found leads = record { uncounted = refl; untaken = refl; answers = tt }
-lock_step {T} c w party true (afters.Ends answers.Success) is found leads =
-    let granted : condvar_grant c.call 0 1 ≡ Some kinds.Write = ap (λ (k : Call T). condvar_grant k 0 1) is in
-    record { uncounted = refl; untaken = refl; answers = rw granted refl }
-lock_step c w party false (afters.Ends answers.Success) is found leads = absurd (eqb-false w 0 found leads)
-lock_step c w party true (afters.Ends answers.Interrupted) is found leads = absurd (leads.0 (eqb-true w 0 found))
-lock_step c w party false (afters.Ends answers.Interrupted) is found leads = record { uncounted = refl; untaken = refl; answers = refl }
-lock_step c w party done other is found leads = absurd leads
-
-mutex_step :
-    {T : Type 0} (place : MutexPlace) (c : PendingCall T) (hold : Option HoldKind) (memory : Word → ℕ) (party : ℕ) → AtMutex place c hold → IsReady place c.own hold →
-    CallStep c.call c.own (event party (carried_out (mutex_intent words.State place) memory) (outcome_of (mutex_after place (value_told {T = T} (carried_out (mutex_intent words.State place) memory)))))
-    (hold_after condvar_table (carried_out {T = T} (mutex_intent words.State place) memory) (Some c) hold)
-mutex_step {T} locks.TryLock c hold memory party at ready =
-    let w = memory words.State in
-    let act : Act T = acts.Exchange words.State 0 1 w (w == 0) in
-    let e : Event T = event party act (outcome_of {T = T} {P = MutexPlace} (cond (w == 0) (afters.Ends answers.Success) (afters.Ends answers.Interrupted))) in
-    subst (λ (k : Call T). CallStep k c.own e (hold_after condvar_table act (Some c) hold)) (sym at)
-    (subst (λ h. CallStep calls.TryLock c.own e (hold_after condvar_table act (Some c) h)) (sym ready) (try_step c w party (w == 0) at))
-mutex_step {T} (locks.Lock patience) c hold memory party at ready =
-    let w = memory words.State in
-    let act : Act T = acts.Exchange words.State 0 1 w (w == 0) in
-    let a : After T MutexPlace = mutex_after (locks.Lock patience) (Some w) in
-    subst (λ (k : Call T). CallStep k c.own (event party act (outcome_of a)) (hold_after condvar_table act (Some c) hold)) (sym at.0)
-    (subst (λ h. CallStep calls.Lock c.own (event party act (outcome_of a)) (hold_after condvar_table act (Some c) h)) (sym ready) (lock_step c w party (w == 0) a at.0 refl (lock_leads words.State patience c.own party w at.1)))
-mutex_step {T} locks.Release c hold memory party at ready =
-    subst (λ (k : Call T). CallStep k c.own (event party (acts.Store words.State 0) thens.GoesOn) None) (sym at.0) (record { uncounted = refl; untaken = refl; answers = tt })
-mutex_step {T} locks.Wake c hold memory party at ready =
-    subst (λ (k : Call T). CallStep k c.own (event party (acts.Woke wakes.One) (thens.Answers answers.Done)) hold) (sym at) (record { uncounted = refl; untaken = refl; answers = (refl, refl, ready.0, ready.1) })
+mutex_step : {T : Type 0} (place : MutexPlace) (c : PendingCall T) (hold : Option HoldKind) (e : Event T) (left : Option HoldKind) → AtMutex place c hold → LockStep c.call c.own e left → CallStep c.call c.own e left
+mutex_step {T} locks.TryLock c hold e left at step = subst (λ (k : Call T). LockStep k c.own e left → CallStep k c.own e left) (sym at.0) (λ same. same) step
+mutex_step {T} (locks.Lock patience) c hold e left at step = subst (λ (k : Call T). LockStep k c.own e left → CallStep k c.own e left) (sym at.0) (λ same. same) step
+mutex_step {T} locks.Release c hold e left at step = subst (λ (k : Call T). LockStep k c.own e left → CallStep k c.own e left) (sym at.0) (λ same. same) step
+mutex_step {T} locks.Wake c hold e left at step = subst (λ (k : Call T). LockStep k c.own e left → CallStep k c.own e left) (sym at.0) (λ same. same) step
 
 -- none of these answers a number
 
@@ -486,7 +449,7 @@ where_gives_up other A B to is = tt
 mutex_law_here :
     {T : Type 0} (party : ℕ) (past : List (Event T)) (n : ℕ) (hold : Option HoldKind) (c : PendingCall T) (act : Act T) (outcome : Then T) → is_wait c.call ≡ false → is_count act ≡ false → word_after words.Waiters act n ≡ n →
     call_going_on act (event party act outcome) (Some c) ≡ Some (record { call = c.call; own = event party act outcome ∷ c.own }) → number_answered outcome ≡ None →
-    CallStep c.call c.own (event party act outcome) (hold_after condvar_table act (Some c) hold) → mutex.EventLaw condvar_table party past (Some c) (record { act = act; outcome = outcome }) →
+    CallStep c.call c.own (event party act outcome) (hold_after condvar_table act (Some c) hold) → mutex.EventLaw condvar_table party past hold (Some c) (record { act = act; outcome = outcome }) →
     EventLaw party past n hold (Some c) (record { act = act; outcome = outcome })
 mutex_law_here {T} party past n hold c act outcome other quiet keeps goes number step law =
     let e : Event T = event party act outcome in
@@ -501,17 +464,20 @@ mutex_law_here {T} party past n hold c act outcome other quiet keeps goes number
     }
 
 mutex_event :
-    {T : Type 0} (party : ℕ) (past : List (Event T)) (n : ℕ) (hold : Option HoldKind) (c : PendingCall T) (place : MutexPlace) (memory : Word → ℕ) → call_of party past ≡ Some c → AtMutex place c hold → IsReady place c.own hold →
+    {T : Type 0} (party : ℕ) (past : List (Event T)) (n : ℕ) (hold : Option HoldKind) (c : PendingCall T) (place : MutexPlace) (memory : Word → ℕ) → call_of party past ≡ Some c → AtMutex place c hold →
     IsFreeOrHeld (memory words.State) (holds_of condvar_table past) → EventLaw party past n hold (Some c) (step_at condvar_table (places.Mutex place) hold memory)
-mutex_event {T} party past n hold c place memory called at ready law =
+mutex_event {T} party past n hold c place memory called at law =
     let act : Act T = carried_out (mutex_intent words.State place) memory in
     let a : After T MutexPlace = mutex_after place (value_told act) in
     let outcome : Then T = outcome_of (within places.Mutex a) in
-    let there : mutex.EventLaw condvar_table party past (Some c) (record { act = act; outcome = outcome }) =
-    subst (λ (o : Then T). mutex.EventLaw condvar_table party past (Some c) (record { act = act; outcome = o })) (sym (outcome_within places.Mutex a)) (mutex.step_law condvar_table party past c place hold memory called at law) in
-    mutex_law_here party past n hold c act outcome (mutex_waits place c hold at) (mutex_quiet T place memory n).0 (mutex_quiet T place memory n).1 (carried_goes_on (mutex_intent words.State place) memory (event party act outcome) c)
+    let left = hold_after condvar_table act (Some c) hold in
+    let quiet = mutex_quiet T place memory n in
+    let there : mutex.EventLaw condvar_table party past hold (Some c) (record { act = act; outcome = outcome }) =
+    subst (λ (o : Then T). mutex.EventLaw condvar_table party past hold (Some c) (record { act = act; outcome = o })) (sym (outcome_within places.Mutex a))
+    (mutex.step_law condvar_table party past c place hold memory (record { locks = refl; tries = refl }) called at law) in
+    mutex_law_here party past n hold c act outcome (mutex_waits place c hold at) quiet.0 quiet.1 (carried_goes_on (mutex_intent words.State place) memory (event party act outcome) c)
     (ap number_answered (outcome_within places.Mutex a) ∙ mutex_number place c hold memory at)
-    (subst (λ (o : Then T). CallStep c.call c.own (event party act o) (hold_after condvar_table act (Some c) hold)) (sym (outcome_within places.Mutex a)) (mutex_step place c hold memory party at ready)) there
+    (mutex_step place c hold (event party act outcome) left at (record { uncounted = quiet.2; untaken = quiet.3; answers = there.answers })) there
 
 -- An event that is no step: the beginning of a call, and what a closure answers.
 
@@ -587,7 +553,7 @@ onward c party act hold counts releases woken takes so frees wake mutex value ta
 step_law :
     {T : Type 0} (z : Arithmetic T) (parties party : ℕ) (past : List (Event T)) (c : PendingCall T) (place : CondvarPlace) (hold : Option HoldKind) (memory : Word → ℕ) → IsPast z condvar_table parties past → call_of party past ≡ Some c →
     AtCondvar place c hold → IsFreeOrHeld (memory words.State) (holds_of condvar_table past) → EventLaw party past (memory words.Waiters) hold (Some c) (step_at condvar_table place hold memory)
-step_law z parties party past c (places.Mutex place) hold memory run called at law = mutex_event party past (memory words.Waiters) hold c place memory called at.0 at.1 law
+step_law z parties party past c (places.Mutex place) hold memory run called at law = mutex_event party past (memory words.Waiters) hold c place memory called at law
 step_law {T} z parties party past c (places.Read wake) hold memory run called at law =
     notify_law party past (memory words.Waiters) hold c wake (acts.Load words.Waiters (memory words.Waiters)) false at.0 refl refl refl (λ e. refl) (record { reads = λ yes. at.2; posts = λ yes. absurd cc; sums = tt; wakes = λ yes. absurd cc; ends = tt; apart = refl })
 step_law {T} z parties party past c (places.Post wake amount) hold memory run called at law =

@@ -15,10 +15,9 @@ use Rattle.steps_events.specs.declared.event.Event.{Event}
 use Rattle.steps_events.specs.declared.event.Then.{Then}
 use Rattle.steps_events.specs.declared.event.Then.TheVariants as thens
 use Rattle.steps_events.specs.declared.hold.HoldKind.{HoldKind}
-use Rattle.steps_events.specs.declared.patience.Patience.{Patience}
 use Rattle.steps_events.specs.declared.row.After.{After}
 use Rattle.steps_events.specs.declared.row.After.TheVariants as afters
-use Rattle.steps_events.specs.Rows.{carried_out, value_told, outcome_of, place_after, within, refused}
+use Rattle.steps_events.specs.Rows.{carried_out, value_told, outcome_of, place_after, within}
 use Rattle.steps_events.specs.Past.{PendingCall, latest_outcome, event, is_release, hold_after}
 use Rattle.steps_events.specs.Moves.{step_at, hold_fault, answer_fault, choose_fault}
 use Rattle.steps_events.specs.Sights.{is_sight, keeps_asking, acts_in}
@@ -27,10 +26,10 @@ use Rattle.steps_events.proofs.Parties.{IsKept}
 use Rattle.steps_events.proofs.Spins.{HasSpun, begun_spun, passed_on}
 use Rattle.steps_mutex.specs.declared.MutexPlace.{MutexPlace}
 use Rattle.steps_mutex.specs.declared.MutexPlace.TheVariants as locks
-use Rattle.steps_mutex.specs.Table.{mutex_intent, mutex_after, mutex_answered}
+use Rattle.steps_mutex.specs.Table.{mutex_intent, mutex_after}
 use Rattle.steps_mutex.proofs.LockSteps.{AtLock, LockLeads, lock_begins, lock_leads, lock_answered, lock_chosen}
 use Rattle.steps_mutex.proofs.Laws as mutex
-use Rattle.steps_mutex.proofs.Laws.{AtMutex}
+use Rattle.steps_mutex.proofs.Laws.{AtMutex, not_asked, not_chosen}
 use Rattle.steps_semaphore.specs.declared.SemaphorePlace.{SemaphorePlace}
 use Rattle.steps_semaphore.specs.declared.SemaphorePlace.TheVariants as permits
 use Rattle.steps_semaphore.specs.Permits.{is_take}
@@ -76,15 +75,8 @@ AtRelease locks.Release own hold = Progress own 1 0 0 0 × HasSpun is_empty_look
 AtRelease locks.Wake own hold = Progress own 1 1 0 0 × HasSpun is_empty_look (record { spins = 0; keep = true }) (since_count own) × (hold ≡ None)
 AtRelease other own hold = ⊥
 
--- of a call of the mutex, beside what a mutex keeps: whether its party has the hold, and whether it has stored 0
-abbrev pub IsReady : {T : Type 0} → MutexPlace → List (Event T) → Option HoldKind → Type 0
-IsReady locks.TryLock own hold = hold ≡ None
-IsReady (locks.Lock patience) own hold = hold ≡ None
-IsReady locks.Release own hold = acts_in is_release own ≡ 0
-IsReady locks.Wake own hold = (acts_in is_release own ≡ 1) × (hold ≡ None)
-
 abbrev pub AtCondvar : {T : Type 0} → CondvarPlace → PendingCall T → Option HoldKind → Type 0
-AtCondvar (places.Mutex place) c hold = AtMutex place c hold × IsReady place c.own hold
+AtCondvar (places.Mutex place) c hold = AtMutex place c hold
 AtCondvar (places.Read wake) c hold = (c.call ≡ notify wake) × (latest_outcome c.own ≡ thens.GoesOn) × (acts_in is_read c.own ≡ 0) × (acts_in is_post c.own ≡ 0)
 AtCondvar (places.Post wake amount) c hold =
     (c.call ≡ notify wake) × (latest_outcome c.own ≡ thens.GoesOn) × (acts_in is_read c.own ≡ 1) × (acts_in is_post c.own ≡ 0) × (amount ≡ permits_for wake (count_read c.own))
@@ -147,14 +139,14 @@ begins_at {T} calls.Wait place (Some kind) is allowed =
 begins_at {T} calls.TryLock place (Some kind) is allowed = absurd cc
 begins_at {T} calls.TryLock place None is allowed =
     let made : places.Mutex locks.TryLock ≡ place = cc in
-    subst (λ p. AtCondvar {T = T} p (record { call = calls.TryLock; own = [] }) None) made (mutex.begins_at {T = T} calls.TryLock locks.TryLock None refl allowed, refl)
+    subst (λ p. AtCondvar {T = T} p (record { call = calls.TryLock; own = [] }) None) made (mutex.begins_at {T = T} calls.TryLock locks.TryLock None refl allowed)
 begins_at {T} calls.Lock place (Some kind) is allowed = absurd cc
 begins_at {T} calls.Lock place None is allowed =
     let made : places.Mutex (locks.Lock (record { spins = 0; keep = true })) ≡ place = cc in
-    subst (λ p. AtCondvar {T = T} p (record { call = calls.Lock; own = [] }) None) made (mutex.begins_at {T = T} calls.Lock (locks.Lock (record { spins = 0; keep = true })) None refl allowed, refl)
+    subst (λ p. AtCondvar {T = T} p (record { call = calls.Lock; own = [] }) None) made (mutex.begins_at {T = T} calls.Lock (locks.Lock (record { spins = 0; keep = true })) None refl allowed)
 begins_at {T} calls.Unlock place hold is allowed =
     let made : places.Mutex locks.Release ≡ place = cc in
-    subst (λ p. AtCondvar {T = T} p (record { call = calls.Unlock; own = [] }) hold) made (mutex.begins_at {T = T} calls.Unlock locks.Release hold refl allowed, refl)
+    subst (λ p. AtCondvar {T = T} p (record { call = calls.Unlock; own = [] }) hold) made (mutex.begins_at {T = T} calls.Unlock locks.Release hold refl allowed)
 begins_at other place hold is allowed = absurd cc
 
 -- Where a step leads.
@@ -172,44 +164,20 @@ outcome_within wrap (afters.Waits place seen) = refl
 outcome_within wrap (afters.Chooses place old) = refl
 outcome_within wrap (afters.Ends answer) = refl
 
-lock_ready :
-    {T : Type 0} (patience : Patience) (c : PendingCall T) (hold : Option HoldKind) (w number : ℕ) (outcome : Then T) (next : MutexPlace) (free : Bool) → hold ≡ None →
-    place_after {T = T} (cond free (afters.Ends answers.Success) (within locks.Lock (refused {T = T} patience 1))) ≡ Some next →
-    IsReady {T = T} next (event number (acts.Exchange words.State 0 1 w free) outcome ∷ c.own) (hold_after condvar_table (acts.Exchange words.State 0 1 w free) (Some c) hold)
-lock_ready patience c hold w number outcome next true none is = absurd cc
-lock_ready {T} patience c hold w number outcome next false none is =
-    let on = within_goes_on locks.Lock (refused {T = T} patience 1) next is in
-    subst (λ p. IsReady {T = T} p (event number (acts.Exchange words.State 0 1 w false) outcome ∷ c.own) hold) on.2 none
-
-try_lock_ends : (T : Type 0) (free : Bool) (next : MutexPlace) → place_after {T = T} (cond free (afters.Ends answers.Success) (afters.Ends answers.Interrupted)) ≡ Some next → ⊥
-try_lock_ends T true next is = absurd cc
-try_lock_ends T false next is = absurd cc
-
-ready_after :
-    {T : Type 0} (place : MutexPlace) (c : PendingCall T) (hold : Option HoldKind) (memory : Word → ℕ) (number : ℕ) (outcome : Then T) (next : MutexPlace) → IsReady place c.own hold →
-    place_after {T = T} (mutex_after place (value_told {T = T} (carried_out (mutex_intent words.State place) memory))) ≡ Some next →
-    IsReady {T = T} next (event number (carried_out (mutex_intent words.State place) memory) outcome ∷ c.own) (hold_after condvar_table (carried_out (mutex_intent words.State place) memory) (Some c) hold)
-ready_after {T} locks.TryLock c hold memory number outcome next ready is = absurd (try_lock_ends T (memory words.State == 0) next is)
-ready_after (locks.Lock patience) c hold memory number outcome next ready is = lock_ready patience c hold (memory words.State) number outcome next (memory words.State == 0) ready is
-ready_after {T} locks.Release c hold memory number outcome next ready is =
-    let made : locks.Wake ≡ next = cc in
-    subst (λ p. IsReady {T = T} p (event number (acts.Store words.State 0) outcome ∷ c.own) None) made (omega (arith, ready), refl)
-ready_after locks.Wake c hold memory number outcome next ready is = absurd cc
-
 mutex_steps :
-    {T : Type 0} (place : MutexPlace) (c : PendingCall T) (hold : Option HoldKind) (memory : Word → ℕ) (number : ℕ) (next : CondvarPlace) → AtMutex place c hold → IsReady place c.own hold →
+    {T : Type 0} (place : MutexPlace) (c : PendingCall T) (hold : Option HoldKind) (memory : Word → ℕ) (number : ℕ) (next : CondvarPlace) → AtMutex place c hold →
     place_after {T = T} (within places.Mutex (mutex_after place (value_told {T = T} (carried_out (mutex_intent words.State place) memory)))) ≡ Some next →
     AtCondvar {T = T} next (record { call = c.call; own = event number (step_at condvar_table (places.Mutex place) hold memory).act (step_at condvar_table (places.Mutex place) hold memory).outcome ∷ c.own })
     (hold_after condvar_table (carried_out {T = T} (mutex_intent words.State place) memory) (Some c) hold)
-mutex_steps {T} place c hold memory number next at ready is =
+mutex_steps {T} place c hold memory number next at is =
     let left = hold_after condvar_table (carried_out {T = T} (mutex_intent words.State place) memory) (Some c) hold in
     let a : After T MutexPlace = mutex_after place (value_told {T = T} (carried_out (mutex_intent words.State place) memory)) in
     let on = within_goes_on places.Mutex a next is in
-    let inner = mutex.steps_at place c hold left memory number on.0 at on.1 in
+    let inner = mutex.steps_at condvar_table place c hold memory number on.0 at on.1 in
     let same : outcome_of {T = T} a ≡ outcome_of (within places.Mutex a) = sym (outcome_within places.Mutex a) in
     let here : AtMutex on.0 (record { call = c.call; own = event number (carried_out (mutex_intent words.State place) memory) (outcome_of (within places.Mutex a)) ∷ c.own }) left =
     subst (λ (o : Then T). AtMutex on.0 (record { call = c.call; own = event number (carried_out (mutex_intent words.State place) memory) o ∷ c.own }) left) same inner in
-    subst (λ p. AtCondvar {T = T} p (record { call = c.call; own = event number (carried_out (mutex_intent words.State place) memory) (outcome_of (within places.Mutex a)) ∷ c.own }) left) on.2 (here, ready_after place c hold memory number (outcome_of (within places.Mutex a)) on.0 ready on.1)
+    subst (λ p. AtCondvar {T = T} p (record { call = c.call; own = event number (carried_out (mutex_intent words.State place) memory) (outcome_of (within places.Mutex a)) ∷ c.own }) left) on.2 here
 
 -- a step for a permit, by how it goes on
 permit_leads :
@@ -258,7 +226,7 @@ steps_at :
     {T : Type 0} (place : CondvarPlace) (c : PendingCall T) (hold : Option HoldKind) (memory : Word → ℕ) (number : ℕ) (next : CondvarPlace) → AtCondvar place c hold →
     place_after {T = T} (condvar_after place (value_told {T = T} (carried_out ((condvar_table {T = T}).intent place hold) memory))) ≡ Some next →
     AtCondvar next (record { call = c.call; own = event number (step_at condvar_table place hold memory).act (step_at condvar_table place hold memory).outcome ∷ c.own }) (hold_after condvar_table (step_at condvar_table place hold memory).act (Some c) hold)
-steps_at (places.Mutex place) c hold memory number next at is = mutex_steps place c hold memory number next at.0 at.1 is
+steps_at (places.Mutex place) c hold memory number next at is = mutex_steps place c hold memory number next at is
 steps_at {T} (places.Read wake) c hold memory number next at is =
     let n = memory words.Waiters in
     let made : places.Post wake (permits_for wake n) ≡ next = cc in
@@ -299,30 +267,10 @@ steps_at (places.Relock signalled other) c hold memory number next at is = absur
 
 -- Where an answer leads.
 
-not_asked : {T : Type 0} (outcome : Then T) (A : Type 0) → outcome ≡ thens.GoesOn → answer_fault outcome ≡ None → A
-not_asked {T} outcome A goes waits = let no : answer_fault {T = T} thens.GoesOn ≡ None = subst (λ (o : Then T). answer_fault o ≡ None) goes waits in absurd cc
-
-not_chosen : {T : Type 0} (outcome : Then T) (A : Type 0) → outcome ≡ thens.GoesOn → choose_fault outcome ≡ None → A
-not_chosen {T} outcome A goes stands = let no : choose_fault {T = T} thens.GoesOn ≡ None = subst (λ (o : Then T). choose_fault o ≡ None) goes stands in absurd cc
-
--- what no step tells leaves it so
-ready_apart : {T : Type 0} (place : MutexPlace) (own : List (Event T)) (e : Event T) (hold : Option HoldKind) → is_release e.act ≡ false → IsReady place own hold → IsReady place (e ∷ own) hold
-ready_apart locks.TryLock own e hold quiet ready = ready
-ready_apart (locks.Lock patience) own e hold quiet ready = ready
-ready_apart locks.Release own e hold quiet ready = rw quiet (omega (arith, ready))
-ready_apart locks.Wake own e hold quiet ready = (rw quiet (omega (arith, ready.0)), ready.1)
-
-ready_answered : {T : Type 0} (place : MutexPlace) (action : WaitAction) (own : List (Event T)) (hold : Option HoldKind) → IsReady place own hold → IsReady (mutex_answered place action) own hold
-ready_answered locks.TryLock action own hold ready = ready
-ready_answered (locks.Lock patience) action own hold ready = ready
-ready_answered locks.Release action own hold ready = ready
-ready_answered locks.Wake action own hold ready = ready
-
 answers_at :
     {T : Type 0} (place : CondvarPlace) (c : PendingCall T) (hold : Option HoldKind) (action : WaitAction) (number : ℕ) → AtCondvar place c hold → answer_fault (latest_outcome c.own) ≡ None →
     AtCondvar {T = T} (condvar_answered place action) (record { call = c.call; own = event number (acts.Answered action) thens.GoesOn ∷ c.own }) hold
-answers_at {T} (places.Mutex place) c hold action number at waits =
-    (mutex.answers_at place c hold action number at.0 waits, ready_answered place action (event number (acts.Answered action) thens.GoesOn ∷ c.own) hold (ready_apart place c.own (event number (acts.Answered action) thens.GoesOn) hold refl at.1))
+answers_at (places.Mutex place) c hold action number at waits = mutex.answers_at place c hold action number at waits
 answers_at (places.Permit place) c hold action number at waits =
     (at.0, at.1, no_progress c.own number (acts.Answered action) thens.GoesOn 1 1 1 0 at.2 refl refl refl refl, wait_answered place (since_count c.own) number action at.3 (ap answer_fault at.2.latest ∙ waits))
 answers_at (places.Relock signalled (locks.Lock patience)) c hold action number at waits = (
@@ -338,8 +286,7 @@ answers_at other c hold action number at waits = not_asked (latest_outcome c.own
 chooses_at :
     {T : Type 0} (place : CondvarPlace) (c : PendingCall T) (hold : Option HoldKind) (choice : Option T) (number : ℕ) → AtCondvar place c hold → choose_fault (latest_outcome c.own) ≡ None →
     AtCondvar {T = T} place (record { call = c.call; own = event number (acts.Chosen choice) thens.GoesOn ∷ c.own }) hold
-chooses_at (places.Mutex place) c hold choice number at stands =
-    (mutex.chooses_at place c hold choice number at.0, ready_apart place c.own (event number (acts.Chosen choice) thens.GoesOn) hold refl at.1)
+chooses_at (places.Mutex place) c hold choice number at stands = mutex.chooses_at place c hold choice number at stands
 chooses_at (places.Permit place) c hold choice number at stands =
     (at.0, at.1, no_progress c.own number (acts.Chosen choice) thens.GoesOn 1 1 1 0 at.2 refl refl refl refl, wait_chosen place (since_count c.own) number choice at.3)
 chooses_at (places.Relock signalled (locks.Lock patience)) c hold choice number at stands = (

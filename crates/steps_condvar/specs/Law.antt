@@ -19,7 +19,7 @@ use Rattle.steps_events.specs.Sights.{sight_of, is_sight, AtLastSight, keeps_ask
 use Rattle.steps_events.specs.Waits.{is_wake}
 use Rattle.steps_events.specs.Laws.{TellsMemory, IsExclusive, IsLocked, HasCause}
 use Rattle.steps_mutex.specs.Law as mutex
-use Rattle.steps_mutex.specs.Law.{LockCause, HasTriedAll, IsExactGrant}
+use Rattle.steps_mutex.specs.Law.{LockCause, HasTriedAll, answer_of, acts_of, IsLockAnswer, IsExactGrant}
 use Rattle.steps_semaphore.specs.Permits.{permits, permits_taken, is_take, KeepsPermits}
 use Rattle.steps_semaphore.specs.Law.{is_empty_look}
 use Rattle.steps_condvar.specs.Table.{condvar_table}
@@ -92,10 +92,6 @@ abbrev pub is_wake_one : {T : Type 0} → Act T → Bool
 is_wake_one (acts.Woke wakes.One) = true
 is_wake_one act = false
 
-abbrev pub answer_of : {T : Type 0} → Then T → Option (Answer T)
-answer_of (thens.Answers answer) = Some answer
-answer_of other = None
-
 -- `Success` for a signalled call with the hold, `InterruptedHeld` for an unsignalled one with it, `Interrupted` without it
 abbrev pub wait_answer : {T : Type 0} → ℕ → Option HoldKind → Answer T
 wait_answer takes None = answers.Interrupted
@@ -145,19 +141,13 @@ pub record NotifyStep {T : Type 0} (wake : Wake) (own : List (Event T)) (e : Eve
   -- and has to do with the mutex at no time
   pub apart : is_sight words.State e.act ≡ false
 
--- how a call of the mutex ends: `Unlock` with a wake of one, once it has stored 0; a locking call with `Success` exactly where it has the hold
-abbrev pub IsLockAnswer : {T : Type 0} → Call T → List (Event T) → Act T → Option HoldKind → Answer T → Type 0
-IsLockAnswer calls.Unlock own act hold answer = (answer ≡ answers.Done) × (act ≡ acts.Woke wakes.One) × (acts_in is_release own ≡ 1) × (hold ≡ None)
-IsLockAnswer call own act None answer = answer ≡ answers.Interrupted
-IsLockAnswer call own act (Some kind) answer = answer ≡ answers.Success
-
 -- what a call of the mutex does next, by the hold that its party has then
 pub record LockStep {T : Type 0} (call : Call T) (own : List (Event T)) (e : Event T) (hold : Option HoldKind) : Type 0 where
   -- it has to do with the waiter count and the permits at no time
   pub uncounted : is_sight words.Waiters e.act ≡ false
   pub untaken : is_sight words.Value e.act ≡ false
-  -- and it answers by its hold
-  pub answers : MatchOption (answer_of e.then) (Unit {0}) (λ answer. IsLockAnswer call own e.act hold answer)
+  -- and it answers as at a mutex, by its hold
+  pub answers : MatchOption (answer_of e.then) (Unit {0}) (λ answer. IsLockAnswer call (acts_of (e ∷ own)) hold answer)
 
 abbrev pub CallStep : {T : Type 0} → Call T → List (Event T) → Event T → Option HoldKind → Type 0
 CallStep calls.Wait own e hold = WaitStep own e hold

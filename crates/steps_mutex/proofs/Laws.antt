@@ -5,12 +5,14 @@ use Rattle.std.proofs.lemmas.Bool.{eqb-true, eqb-false}
 use Rattle.steps_events.specs.declared.WaitAction.{WaitAction}
 use Rattle.steps_events.specs.declared.event.Word.{Word}
 use Rattle.steps_events.specs.declared.event.Word.TheVariants as words
+use Rattle.steps_events.specs.declared.event.Wake.TheVariants as wakes
 use Rattle.steps_events.specs.declared.event.Call.{Call}
 use Rattle.steps_events.specs.declared.event.Call.TheVariants as calls
 use Rattle.steps_events.specs.declared.event.Act.{Act}
 use Rattle.steps_events.specs.declared.event.Act.TheVariants as acts
 use Rattle.steps_events.specs.declared.event.Answer.TheVariants as answers
 use Rattle.steps_events.specs.declared.event.Event.{Event}
+use Rattle.steps_events.specs.declared.event.Then.{Then}
 use Rattle.steps_events.specs.declared.event.Then.TheVariants as thens
 use Rattle.steps_events.specs.declared.hold.HoldKind.{HoldKind}
 use Rattle.steps_events.specs.declared.hold.HoldKind.TheVariants as kinds
@@ -19,45 +21,47 @@ use Rattle.steps_events.specs.declared.row.After.TheVariants as afters
 use Rattle.steps_events.specs.Arithmetic.{Arithmetic}
 use Rattle.steps_events.specs.Tables.{Table}
 use Rattle.steps_events.specs.Rows.{carried_out, value_told, outcome_of, place_after}
-use Rattle.steps_events.specs.Past.{same_word, PendingCall, call_of, holds_of, hold_of, word_in, latest_outcome, event, is_failure}
-use Rattle.steps_events.specs.Moves.{Move, step_at, hold_fault, answer_fault}
+use Rattle.steps_events.specs.Past.{same_word, PendingCall, call_of, holds_of, hold_of, hold_taken, hold_after, word_in, latest_outcome, event, is_failure}
+use Rattle.steps_events.specs.Moves.{Move, step_at, hold_fault, answer_fault, choose_fault}
 use Rattle.steps_events.specs.Runs.{IsPast}
 use Rattle.steps_events.specs.Sights.{is_sight, HasAborted, spins_in, stands_at_wait}
 use Rattle.steps_events.specs.Laws.{Lacks, is_refusal}
-use Rattle.steps_events.proofs.Holds.{eqb_same}
+use Rattle.steps_events.proofs.Holds.{eqb_same, hold_of_same}
 use Rattle.steps_events.proofs.Steps.{by_move, tells_memory}
 use Rattle.steps_events.proofs.Parties.{IsKept, at_place}
 use Rattle.steps_events.proofs.Locks.{IsLock, IsLockIntent, IsFreeOrHeld, lock_word, lock_exclusive, locked_at, free_exactly}
 use Rattle.steps_mutex.specs.declared.MutexPlace.{MutexPlace}
 use Rattle.steps_mutex.specs.declared.MutexPlace.TheVariants as places
 use Rattle.steps_mutex.specs.Table.{mutex_table, mutex_begins, mutex_intent, mutex_after, mutex_answered}
-use Rattle.steps_mutex.specs.Law.{LockCause, HasTried, KeepsMutex}
+use Rattle.steps_mutex.specs.Law.{LockCause, HasTried, answer_of, acts_of, IsLockAnswer, KeepsMutex}
 use Rattle.steps_mutex.proofs.LockSteps.{HasTriedSo, AtLock, lock_begins, LockLeads, lock_leads, lock_goes_on, lock_answered, lock_chosen}
 
 -- What is kept of a call at its place.
 
 abbrev pub AtMutex : {T : Type 0} → MutexPlace → PendingCall T → Option HoldKind → Type 0
-AtMutex places.TryLock c hold = c.call ≡ calls.TryLock
-AtMutex (places.Lock patience) c hold = (c.call ≡ calls.Lock) × HasTriedSo patience c.own
-AtMutex places.Release c hold = (c.call ≡ calls.Unlock) × (is_some hold ≡ true)
-AtMutex places.Wake c hold = c.call ≡ calls.Unlock
+AtMutex places.TryLock c hold = (c.call ≡ calls.TryLock) × (hold ≡ None)
+AtMutex (places.Lock patience) c hold = (c.call ≡ calls.Lock) × HasTriedSo patience c.own × (hold ≡ None)
+AtMutex places.Release c hold = (c.call ≡ calls.Unlock) × (is_some hold ≡ true) × (c.own ≡ [])
+AtMutex places.Wake c hold = (c.call ≡ calls.Unlock) × (acts_of c.own ≡ acts.Store words.State 0 ∷ []) × (latest_outcome c.own ≡ thens.GoesOn) × (hold ≡ None)
 
 -- Where a call begins.
 
 pub begins_at :
     {T : Type 0} (call : Call T) (place : MutexPlace) (hold : Option HoldKind) → mutex_begins call ≡ Some place → hold_fault {T = T} mutex_table call hold ≡ None →
     AtMutex {T = T} place (record { call = call; own = [] }) hold
-begins_at {T} calls.TryLock place hold is allowed =
+begins_at {T} calls.TryLock place (Some kind) is allowed = absurd cc
+begins_at {T} calls.TryLock place None is allowed =
     let made : places.TryLock ≡ place = cc in
-    subst (λ p. AtMutex {T = T} p (record { call = calls.TryLock; own = [] }) hold) made refl
-begins_at {T} calls.Lock place hold is allowed =
+    subst (λ p. AtMutex {T = T} p (record { call = calls.TryLock; own = [] }) None) made (refl, refl)
+begins_at {T} calls.Lock place (Some kind) is allowed = absurd cc
+begins_at {T} calls.Lock place None is allowed =
     let made : places.Lock (record { spins = 0; keep = true }) ≡ place = cc in
-    subst (λ p. AtMutex {T = T} p (record { call = calls.Lock; own = [] }) hold) made
-    (refl, lock_begins)
+    subst (λ p. AtMutex {T = T} p (record { call = calls.Lock; own = [] }) None) made
+    (refl, lock_begins, refl)
 begins_at {T} calls.Unlock place None is allowed = absurd cc
 begins_at {T} calls.Unlock place (Some kind) is allowed =
     let made : places.Release ≡ place = cc in
-    subst (λ p. AtMutex {T = T} p (record { call = calls.Unlock; own = [] }) (Some kind)) made (refl, refl)
+    subst (λ p. AtMutex {T = T} p (record { call = calls.Unlock; own = [] }) (Some kind)) made (refl, refl, refl)
 begins_at other place hold is allowed = absurd cc
 
 -- Where a step leads.
@@ -67,48 +71,69 @@ try_lock_ends T true next is = absurd cc
 try_lock_ends T false next is = absurd cc
 
 -- a call that is at an exchange of its `Lock`
-at_lock : {T : Type 0} (place : MutexPlace) (call : Call T) (own : List (Event T)) (hold : Option HoldKind) → call ≡ calls.Lock → AtLock place own → AtMutex {T = T} place (record { call = call; own = own }) hold
-at_lock (places.Lock patience) call own hold lock at = (lock, at)
-at_lock other call own hold lock at = absurd at
+at_lock : {T : Type 0} (place : MutexPlace) (call : Call T) (own : List (Event T)) (hold : Option HoldKind) → call ≡ calls.Lock → hold ≡ None → AtLock place own → AtMutex {T = T} place (record { call = call; own = own }) hold
+at_lock (places.Lock patience) call own hold lock free at = (lock, at, free)
+at_lock other call own hold lock free at = absurd at
+
+-- an exchange after which it goes on took no hold
+lock_takes_none :
+    {T P : Type 0} (t : Table T P) (c : PendingCall T) (number w : ℕ) (done : Bool) (a : After T MutexPlace) (next : MutexPlace) → (w == 0) ≡ done → LockLeads c.own number w (acts.Exchange words.State 0 1 w done) a → place_after a ≡ Some next →
+    hold_taken t (acts.Exchange words.State 0 1 w done) (Some c) ≡ None
+lock_takes_none t c number w false a next found leads is = refl
+lock_takes_none t c number w true (afters.At place) next found leads is = absurd (leads.1 (eqb-true w 0 found))
+lock_takes_none t c number w true (afters.Waits place seen) next found leads is = absurd (leads.1 (eqb-true w 0 found))
+lock_takes_none t c number w true (afters.Chooses place old) next found leads is = absurd leads
+lock_takes_none t c number w true (afters.Ends answer) next found leads is = absurd cc
 
 pub steps_at :
-    {T : Type 0} (place : MutexPlace) (c : PendingCall T) (hold left : Option HoldKind) (memory : Word → ℕ) (number : ℕ) (next : MutexPlace) → AtMutex place c hold →
+    {T P : Type 0} (t : Table T P) (place : MutexPlace) (c : PendingCall T) (hold : Option HoldKind) (memory : Word → ℕ) (number : ℕ) (next : MutexPlace) → AtMutex place c hold →
     place_after {T = T} (mutex_after place (value_told {T = T} (carried_out (mutex_intent words.State place) memory))) ≡ Some next →
-    AtMutex next (record { call = c.call; own = event number (step_at mutex_table place hold memory).act (step_at mutex_table place hold memory).outcome ∷ c.own }) left
-steps_at {T} places.TryLock c hold left memory number next at is = absurd (try_lock_ends T (memory words.State == 0) next is)
-steps_at (places.Lock patience) c hold left memory number next at is =
+    AtMutex next (record { call = c.call; own = event number (step_at mutex_table place hold memory).act (step_at mutex_table place hold memory).outcome ∷ c.own })
+    (hold_after t (carried_out {T = T} (mutex_intent words.State place) memory) (Some c) hold)
+steps_at {T} t places.TryLock c hold memory number next at is = absurd (try_lock_ends T (memory words.State == 0) next is)
+steps_at {T} t (places.Lock patience) c hold memory number next at is =
     let w = memory words.State in
-    at_lock next c.call _ left at.0 (lock_goes_on c.own number w _ (mutex_after (places.Lock patience) (Some w)) next (lock_leads words.State patience c.own number w at.1) is)
-steps_at {T} places.Release c hold left memory number next at is =
+    let leads = lock_leads words.State patience c.own number w at.1 in
+    at_lock next c.call _ (hold_after t (acts.Exchange words.State 0 1 w (w == 0)) (Some c) hold) at.0
+    (rw (lock_takes_none t c number w (w == 0) (mutex_after (places.Lock patience) (Some w)) next refl leads is) at.2)
+    (lock_goes_on c.own number w _ (mutex_after (places.Lock patience) (Some w)) next leads is)
+steps_at {T} t places.Release c hold memory number next at is =
     let made : places.Wake ≡ next = cc in
-    subst (λ p. AtMutex {T = T} p (record { call = c.call; own = event number (acts.Store words.State 0) thens.GoesOn ∷ c.own }) left) made at.0
-steps_at places.Wake c hold left memory number next at is = absurd cc
+    subst (λ p. AtMutex {T = T} p (record { call = c.call; own = event number (acts.Store words.State 0) thens.GoesOn ∷ c.own }) None) made (at.0, rw at.2 refl, refl, refl)
+steps_at t places.Wake c hold memory number next at is = absurd cc
 
 -- Where an answer leads.
+
+-- no closure is asked where the call goes on by itself
+pub not_asked : {T : Type 0} (outcome : Then T) (A : Type 0) → outcome ≡ thens.GoesOn → answer_fault outcome ≡ None → A
+not_asked {T} outcome A goes waits = let no : answer_fault {T = T} thens.GoesOn ≡ None = subst (λ (o : Then T). answer_fault o ≡ None) goes waits in absurd cc
+
+pub not_chosen : {T : Type 0} (outcome : Then T) (A : Type 0) → outcome ≡ thens.GoesOn → choose_fault outcome ≡ None → A
+not_chosen {T} outcome A goes stands = let no : choose_fault {T = T} thens.GoesOn ≡ None = subst (λ (o : Then T). choose_fault o ≡ None) goes stands in absurd cc
 
 pub answers_at :
     {T : Type 0} (place : MutexPlace) (c : PendingCall T) (hold : Option HoldKind) (action : WaitAction) (number : ℕ) → AtMutex place c hold → answer_fault (latest_outcome c.own) ≡ None →
     AtMutex {T = T} (mutex_answered place action) (record { call = c.call; own = event number (acts.Answered action) thens.GoesOn ∷ c.own }) hold
 answers_at places.TryLock c hold action number at waits = at
-answers_at (places.Lock patience) c hold action number at waits = (at.0, lock_answered patience c.own number action at.1 waits)
-answers_at places.Release c hold action number at waits = at
-answers_at places.Wake c hold action number at waits = at
+answers_at (places.Lock patience) c hold action number at waits = (at.0, lock_answered patience c.own number action at.1 waits, at.2)
+answers_at {T} places.Release c hold action number at waits = not_asked (latest_outcome c.own) _ (ap (λ (own : List (Event T)). latest_outcome own) at.2) waits
+answers_at places.Wake c hold action number at waits = not_asked (latest_outcome c.own) _ at.2 waits
 
 pub chooses_at :
-    {T : Type 0} (place : MutexPlace) (c : PendingCall T) (hold : Option HoldKind) (choice : Option T) (number : ℕ) → AtMutex place c hold →
+    {T : Type 0} (place : MutexPlace) (c : PendingCall T) (hold : Option HoldKind) (choice : Option T) (number : ℕ) → AtMutex place c hold → choose_fault (latest_outcome c.own) ≡ None →
     AtMutex {T = T} place (record { call = c.call; own = event number (acts.Chosen choice) thens.GoesOn ∷ c.own }) hold
-chooses_at places.TryLock c hold choice number at = at
-chooses_at (places.Lock patience) c hold choice number at = (at.0, lock_chosen patience c.own number choice at.1)
-chooses_at places.Release c hold choice number at = at
-chooses_at places.Wake c hold choice number at = at
+chooses_at places.TryLock c hold choice number at stands = at
+chooses_at (places.Lock patience) c hold choice number at stands = (at.0, lock_chosen patience c.own number choice at.1, at.2)
+chooses_at {T} places.Release c hold choice number at stands = not_chosen (latest_outcome c.own) _ (ap (λ (own : List (Event T)). latest_outcome own) at.2) stands
+chooses_at places.Wake c hold choice number at stands = not_chosen (latest_outcome c.own) _ at.2 stands
 
 pub mutex_kept : {T : Type 0} → IsKept {T = T} mutex_table AtMutex
 mutex_kept =
     record {
       begins = begins_at;
-      steps = λ place c hold memory number next at free is. steps_at place c hold _ memory number next at is;
+      steps = λ place c hold memory number next at free is. steps_at mutex_table place c hold memory number next at is;
       answers = answers_at;
-      chooses = λ place c hold choice number at stands. chooses_at place c hold choice number at;
+      chooses = chooses_at;
     }
 
 -- A mutex is a lock for one.
@@ -117,7 +142,7 @@ mutex_kept =
 pub lock_intent :
     {T : Type 0} (grant : Call T → Option HoldKind) (place : MutexPlace) (c : PendingCall T) (hold : Option HoldKind) → grant calls.Lock ≡ Some kinds.Write → grant calls.TryLock ≡ Some kinds.Write → AtMutex place c hold →
     IsLockIntent {T = T} (grant c.call) hold (mutex_intent words.State place)
-lock_intent grant places.TryLock c hold locks tries at = (refl, refl, ap grant at ∙ tries)
+lock_intent grant places.TryLock c hold locks tries at = (refl, refl, ap grant at.0 ∙ tries)
 lock_intent grant (places.Lock patience) c hold locks tries at = (refl, refl, ap grant at.0 ∙ locks)
 lock_intent grant places.Release c hold locks tries at = (refl, at.1)
 lock_intent grant places.Wake c hold locks tries at = tt
@@ -131,75 +156,126 @@ mutex_is_lock z parties =
 
 -- What one more event tells.
 
--- of a step of a mutex, alone or inside another object
-pub record EventLaw {T P : Type 0} (t : Table T P) (party : ℕ) (past : List (Event T)) (pending : Option (PendingCall T)) (m : Move T) : Type 0 where
+-- of a step of a mutex, alone or inside another object, where the party had this hold before it
+pub record EventLaw {T P : Type 0} (t : Table T P) (party : ℕ) (past : List (Event T)) (hold : Option HoldKind) (pending : Option (PendingCall T)) (m : Move T) : Type 0 where
   pub cause : MatchBool (is_refusal m.outcome) (MatchOption pending ⊥ (λ c. LockCause t c.call party (event party m.act m.outcome ∷ past))) (Unit {0})
   pub exact :
       MatchOption pending (Unit {0})
       (λ c. c.call ≡ calls.TryLock → is_sight words.State m.act ≡ true → ((m.outcome ≡ thens.Answers answers.Success) ↔ (holds_of t past ≡ [])))
+  pub answers :
+      MatchOption (answer_of m.outcome) (Unit {0})
+      (λ answer. MatchOption pending ⊥ (λ c. IsLockAnswer c.call (m.act ∷ acts_of c.own) (hold_after t m.act pending hold) answer))
+  pub ends : MatchOption (answer_of m.outcome) (hold_taken t m.act pending ≡ None) (λ answer. Unit {0})
   pub asks : MatchBool (stands_at_wait m.outcome) (MatchOption pending ⊥ (λ c. spins_in is_failure c.own ≡ 10000)) (Unit {0})
   pub tries : MatchBool (is_refusal m.outcome) (MatchOption pending ⊥ (λ c. HasTried c.call (event party m.act m.outcome ∷ c.own))) (Unit {0})
 
 pub another : {T : Type 0} (one other : Call T) (A : Type 0) → one ≡ other → (one ≡ calls.TryLock → ⊥) → other ≡ calls.TryLock → A
 another one other A is not_try try = absurd (not_try (is ∙ try))
 
+-- the table's locking calls are granted the write hold
+pub record GrantsWrite {T P : Type 0} (t : Table T P) : Type 0 where
+  pub locks : t.grant calls.Lock 0 1 ≡ Some kinds.Write
+  pub tries : t.grant calls.TryLock 0 1 ≡ Some kinds.Write
+
 try_lock_law :
-    {T P : Type 0} (t : Table T P) (party : ℕ) (past : List (Event T)) (c : PendingCall T) (w : ℕ) (b : Bool) → c.call ≡ calls.TryLock → (w == 0) ≡ b → IsFreeOrHeld w (holds_of t past) →
-    EventLaw t party past (Some c) (record { act = acts.Exchange words.State 0 1 w b; outcome = outcome_of {T = T} {P = MutexPlace} (cond b (afters.Ends answers.Success) (afters.Ends answers.Interrupted)) })
-try_lock_law t party past c w true is e law =
+    {T P : Type 0} (t : Table T P) (party : ℕ) (past : List (Event T)) (hold : Option HoldKind) (c : PendingCall T) (w : ℕ) (b : Bool) → GrantsWrite t → c.call ≡ calls.TryLock → hold ≡ None → (w == 0) ≡ b → IsFreeOrHeld w (holds_of t past) →
+    EventLaw t party past hold (Some c) (record { act = acts.Exchange words.State 0 1 w b; outcome = outcome_of {T = T} {P = MutexPlace} (cond b (afters.Ends answers.Success) (afters.Ends answers.Interrupted)) })
+try_lock_law {T} t party past hold c w true grants is free e law =
+    let act : Act T = acts.Exchange words.State 0 1 w true in
+    let granted : t.grant c.call 0 1 ≡ Some kinds.Write = ap (λ (k : Call T). t.grant k 0 1) is ∙ grants.tries in
     record {
       cause = tt;
       exact = λ try sees. (λ granted. (free_exactly w (holds_of t past) law).0 (eqb-true w 0 e), λ none. refl);
+      answers = subst (λ (k : Call T). IsLockAnswer k (act ∷ acts_of c.own) (hold_after t act (Some c) hold) answers.Success) (sym is) (rw granted refl);
+      ends = tt;
       asks = tt;
       tries = tt;
     }
-try_lock_law {T} t party past c w false is e law =
-    let refuses : Event T = event party (acts.Exchange words.State 0 1 w false) (thens.Answers answers.Interrupted) in
+try_lock_law {T} t party past hold c w false grants is free e law =
+    let act : Act T = acts.Exchange words.State 0 1 w false in
+    let refuses : Event T = event party act (thens.Answers answers.Interrupted) in
     record {
       cause = subst (λ (k : Call T). LockCause t k party (refuses ∷ past)) (sym is) (rw (eqb_same party) (locked_at t past w law (eqb-false w 0 e)));
       exact = λ try sees. (λ granted. absurd cc, λ none. absurd (eqb-false w 0 e ((free_exactly w (holds_of t past) law).1 none)));
+      answers = subst (λ (k : Call T). IsLockAnswer k (act ∷ acts_of c.own) hold answers.Interrupted) (sym is) (rw free refl);
+      ends = tt;
       asks = tt;
       tries = subst (λ (k : Call T). HasTried k (refuses ∷ c.own)) (sym is) tt;
     }
 
 lock_law :
-    {T P : Type 0} (t : Table T P) (party : ℕ) (past : List (Event T)) (c : PendingCall T) (w : ℕ) (done : Bool) (a : After T MutexPlace) → call_of party past ≡ Some c → c.call ≡ calls.Lock → IsFreeOrHeld w (holds_of t past) →
-    LockLeads c.own party w (acts.Exchange words.State 0 1 w done) a → EventLaw t party past (Some c) (record { act = acts.Exchange words.State 0 1 w done; outcome = outcome_of {T = T} a })
-lock_law t party past c w done (afters.At next) called is law leads = record { cause = tt; exact = another calls.Lock c.call _ (sym is) (λ same. absurd cc); asks = tt; tries = tt }
-lock_law t party past c w done (afters.Waits next seen) called is law leads = record { cause = tt; exact = another calls.Lock c.call _ (sym is) (λ same. absurd cc); asks = leads.2; tries = tt }
-lock_law t party past c w done (afters.Ends answers.Success) called is law leads = record { cause = tt; exact = another calls.Lock c.call _ (sym is) (λ same. absurd cc); asks = tt; tries = tt }
-lock_law {T} t party past c w done (afters.Ends answers.Interrupted) called is law leads =
-    let refuses : Event T = event party (acts.Exchange words.State 0 1 w done) (thens.Answers answers.Interrupted) in
+    {T P : Type 0} (t : Table T P) (party : ℕ) (past : List (Event T)) (hold : Option HoldKind) (c : PendingCall T) (w : ℕ) (done : Bool) (a : After T MutexPlace) → GrantsWrite t → call_of party past ≡ Some c → c.call ≡ calls.Lock → hold ≡ None →
+    (w == 0) ≡ done → IsFreeOrHeld w (holds_of t past) → LockLeads c.own party w (acts.Exchange words.State 0 1 w done) a →
+    EventLaw t party past hold (Some c) (record { act = acts.Exchange words.State 0 1 w done; outcome = outcome_of {T = T} a })
+lock_law t party past hold c w done (afters.At next) grants called is free e law leads =
+    record { cause = tt; exact = another calls.Lock c.call _ (sym is) (λ same. absurd cc); answers = tt; ends = lock_takes_none t c party w done (afters.At next) next e leads refl; asks = tt; tries = tt }
+lock_law t party past hold c w done (afters.Waits next seen) grants called is free e law leads =
+    record { cause = tt; exact = another calls.Lock c.call _ (sym is) (λ same. absurd cc); answers = tt; ends = lock_takes_none t c party w done (afters.Waits next seen) next e leads refl; asks = leads.2; tries = tt }
+lock_law {T} t party past hold c w true (afters.Ends answers.Success) grants called is free e law leads =
+    let act : Act T = acts.Exchange words.State 0 1 w true in
+    let granted : t.grant c.call 0 1 ≡ Some kinds.Write = ap (λ (k : Call T). t.grant k 0 1) is ∙ grants.locks in
+    record {
+      cause = tt;
+      exact = another calls.Lock c.call _ (sym is) (λ same. absurd cc);
+      answers = subst (λ (k : Call T). IsLockAnswer k (act ∷ acts_of c.own) (hold_after t act (Some c) hold) answers.Success) (sym is) (rw granted refl);
+      ends = tt;
+      asks = tt;
+      tries = tt;
+    }
+lock_law t party past hold c w false (afters.Ends answers.Success) grants called is free e law leads = absurd (eqb-false w 0 e leads)
+lock_law t party past hold c w true (afters.Ends answers.Interrupted) grants called is free e law leads = absurd (leads.0 (eqb-true w 0 e))
+lock_law {T} t party past hold c w false (afters.Ends answers.Interrupted) grants called is free e law leads =
+    let act : Act T = acts.Exchange words.State 0 1 w false in
+    let refuses : Event T = event party act (thens.Answers answers.Interrupted) in
     let aborted : HasAborted party past = rw called leads.1 in
     record {
       cause = subst (λ (k : Call T). LockCause t k party (refuses ∷ past)) (sym is) (rw (eqb_same party) (aborted, locked_at t past w law leads.0));
       exact = another calls.Lock c.call _ (sym is) (λ same. absurd cc);
+      answers = subst (λ (k : Call T). IsLockAnswer k (act ∷ acts_of c.own) hold answers.Interrupted) (sym is) (rw free refl);
+      ends = tt;
       asks = tt;
       tries = subst (λ (k : Call T). HasTried k (refuses ∷ c.own)) (sym is) leads.2;
     }
-lock_law t party past c w done other called is law leads = absurd leads
+lock_law t party past hold c w done other grants called is free e law leads = absurd leads
 
 pub step_law :
-    {T P : Type 0} (t : Table T P) (party : ℕ) (past : List (Event T)) (c : PendingCall T) (place : MutexPlace) (hold : Option HoldKind) (memory : Word → ℕ) → call_of party past ≡ Some c → AtMutex place c hold →
-    IsFreeOrHeld (memory words.State) (holds_of t past) → EventLaw t party past (Some c) (step_at mutex_table place hold memory)
-step_law t party past c places.TryLock hold memory called at law = try_lock_law t party past c (memory words.State) (memory words.State == 0) at refl law
-step_law t party past c (places.Lock patience) hold memory called at law =
+    {T P : Type 0} (t : Table T P) (party : ℕ) (past : List (Event T)) (c : PendingCall T) (place : MutexPlace) (hold : Option HoldKind) (memory : Word → ℕ) → GrantsWrite t → call_of party past ≡ Some c → AtMutex place c hold →
+    IsFreeOrHeld (memory words.State) (holds_of t past) → EventLaw t party past hold (Some c) (step_at mutex_table place hold memory)
+step_law t party past c places.TryLock hold memory grants called at law = try_lock_law t party past hold c (memory words.State) (memory words.State == 0) grants at.0 at.1 refl law
+step_law t party past c (places.Lock patience) hold memory grants called at law =
     let w = memory words.State in
-    lock_law t party past c w (w == 0) (mutex_after (places.Lock patience) (Some w)) called at.0 law (lock_leads words.State patience c.own party w at.1)
-step_law t party past c places.Release hold memory called at law = record { cause = tt; exact = another calls.Unlock c.call _ (sym at.0) (λ same. absurd cc); asks = tt; tries = tt }
-step_law t party past c places.Wake hold memory called at law = record { cause = tt; exact = another calls.Unlock c.call _ (sym at) (λ same. absurd cc); asks = tt; tries = tt }
+    lock_law t party past hold c w (w == 0) (mutex_after (places.Lock patience) (Some w)) grants called at.0 at.2 refl law (lock_leads words.State patience c.own party w at.1)
+step_law t party past c places.Release hold memory grants called at law =
+    record { cause = tt; exact = another calls.Unlock c.call _ (sym at.0) (λ same. absurd cc); answers = tt; ends = refl; asks = tt; tries = tt }
+step_law {T} t party past c places.Wake hold memory grants called at law =
+    record {
+      cause = tt;
+      exact = another calls.Unlock c.call _ (sym at.0) (λ same. absurd cc);
+      answers = subst (λ (k : Call T). IsLockAnswer k (acts.Woke wakes.One ∷ acts_of c.own) hold answers.Done) (sym at.0) (refl, rw at.1 refl, at.3);
+      ends = tt;
+      asks = tt;
+      tries = tt;
+    }
 
-silent : {T P : Type 0} (t : Table T P) (party : ℕ) (past : List (Event T)) (pending : Option (PendingCall T)) (act : Act T) → is_sight words.State act ≡ false → EventLaw t party past pending (record { act = act; outcome = thens.GoesOn })
-silent t party past None act quiet = record { cause = tt; exact = tt; asks = tt; tries = tt }
-silent t party past (Some c) act quiet = record { cause = tt; exact = λ try sees. let no : true ≡ false = sym sees ∙ quiet in absurd cc; asks = tt; tries = tt }
+-- an act that grants nothing, and does not see the word
+silent :
+    {T P : Type 0} (t : Table T P) (party : ℕ) (past : List (Event T)) (hold : Option HoldKind) (pending : Option (PendingCall T)) (act : Act T) → is_sight words.State act ≡ false → hold_taken t act pending ≡ None →
+    EventLaw t party past hold pending (record { act = act; outcome = thens.GoesOn })
+silent t party past hold None act quiet takes = record { cause = tt; exact = tt; answers = tt; ends = takes; asks = tt; tries = tt }
+silent t party past hold (Some c) act quiet takes =
+    record { cause = tt; exact = λ try sees. let no : true ≡ false = sym sees ∙ quiet in absurd cc; answers = tt; ends = takes; asks = tt; tries = tt }
 
-event_law : {T : Type 0} (z : Arithmetic T) (parties : ℕ) (past : List (Event T)) (e : Event T) → IsPast z mutex_table parties (e ∷ past) → EventLaw mutex_table e.party past (call_of e.party past) (record { act = e.act; outcome = e.then })
+event_law :
+    {T : Type 0} (z : Arithmetic T) (parties : ℕ) (past : List (Event T)) (e : Event T) → IsPast z mutex_table parties (e ∷ past) →
+    EventLaw mutex_table e.party past (hold_of mutex_table e.party past) (call_of e.party past) (record { act = e.act; outcome = e.then })
 event_law {T} z parties past e run =
-    by_move mutex_table (call_of e.party past) (hold_of mutex_table e.party past) (word_in mutex_table past) (λ (k : Option (PendingCall T)) (m : Move T). EventLaw mutex_table e.party past k m)
+    let hold = hold_of mutex_table e.party past in
+    let pending = call_of e.party past in
+    by_move mutex_table pending hold (word_in mutex_table past) (λ (k : Option (PendingCall T)) (m : Move T). EventLaw mutex_table e.party past hold k m)
     run.0.0 (record { act = e.act; outcome = e.then })
-    (λ call _. silent mutex_table e.party past (call_of e.party past) (acts.Begun call) refl) (λ action _. silent mutex_table e.party past (call_of e.party past) (acts.Answered action) refl) (λ choice _. silent mutex_table e.party past (call_of e.party past) (acts.Chosen choice) refl)
+    (λ call _. silent mutex_table e.party past hold pending (acts.Begun call) refl refl) (λ action _. silent mutex_table e.party past hold pending (acts.Answered action) refl refl) (λ choice _. silent mutex_table e.party past hold pending (acts.Chosen choice) refl refl)
     (λ c place _ called stage.
-    step_law mutex_table e.party past c place (hold_of mutex_table e.party past) (word_in mutex_table past) called (at_place z mutex_table parties AtMutex mutex_kept past run.1 e.party c place called stage)
+    step_law mutex_table e.party past c place hold (word_in mutex_table past) (record { locks = refl; tries = refl }) called (at_place z mutex_table parties AtMutex mutex_kept past run.1 e.party c place called stage)
     (lock_word z mutex_table parties (mutex_is_lock z parties) past run.1))
     run.0.1.moved
 
@@ -209,15 +285,18 @@ keeps_mutex z parties [] run =
       told = tt;
       exclusive = lock_exclusive 0 [] (lock_word z mutex_table parties (mutex_is_lock z parties) [] run);
       cause = tt;
-      law = record { exact = tt; asks = tt; tries = tt };
+      law = record { exact = tt; answers = tt; ends = tt; asks = tt; tries = tt };
     }
-keeps_mutex z parties (e ∷ past) run =
+keeps_mutex {T} z parties (e ∷ past) run =
     let event = event_law z parties past e run in
+    let answered =
+    subst (λ h. MatchOption (answer_of e.then) (Unit {0}) (λ answer. MatchOption (call_of e.party past) ⊥ (λ c. IsLockAnswer c.call (e.act ∷ acts_of c.own) h answer)))
+    (sym (hold_of_same mutex_table e.party e.act e.then past)) event.answers in
     record {
       told = tells_memory z mutex_table parties (e ∷ past) run;
       exclusive = lock_exclusive _ (holds_of mutex_table (e ∷ past)) (lock_word z mutex_table parties (mutex_is_lock z parties) (e ∷ past) run);
       cause = event.cause;
-      law = record { exact = event.exact; asks = event.asks; tries = event.tries };
+      law = record { exact = event.exact; answers = answered; ends = event.ends; asks = event.asks; tries = event.tries };
     }
 
 -- a mutex has no other word

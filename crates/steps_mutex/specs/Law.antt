@@ -1,13 +1,20 @@
--- What a mutex keeps at every front of every run: one holder, a cause for each refusal, and how often a call tries.
-use Rattle.std.specs.Prelude.{◌≡◌, ℕ, ◌+◌, ◌↔◌, true, List, [], ◌∷◌, MatchBool, MatchOption}
+-- What a mutex keeps at every front of every run: one holder, what each answer means, a cause for each refusal, and how often a call tries.
+use Rattle.std.specs.Prelude.{◌≡◌, ℕ, ◌+◌, ◌↔◌, true, List, [], ◌∷◌, Option, Some, None, MatchBool, MatchOption}
 use Rattle.steps_events.specs.declared.event.Word.TheVariants as words
+use Rattle.steps_events.specs.declared.event.Wake.TheVariants as wakes
 use Rattle.steps_events.specs.declared.event.Call.{Call}
 use Rattle.steps_events.specs.declared.event.Call.TheVariants as calls
+use Rattle.steps_events.specs.declared.event.Act.{Act}
+use Rattle.steps_events.specs.declared.event.Act.TheVariants as acts
+use Rattle.steps_events.specs.declared.event.Answer.{Answer}
 use Rattle.steps_events.specs.declared.event.Answer.TheVariants as answers
+use Rattle.steps_events.specs.declared.event.Then.{Then}
 use Rattle.steps_events.specs.declared.event.Then.TheVariants as thens
 use Rattle.steps_events.specs.declared.event.Event.{Event}
+use Rattle.steps_events.specs.declared.hold.HoldKind.{HoldKind}
+use Rattle.steps_events.specs.declared.hold.HoldKind.TheVariants as kinds
 use Rattle.steps_events.specs.Tables.{Table}
-use Rattle.steps_events.specs.Past.{call_of, holds_of, is_failure, failures_in}
+use Rattle.steps_events.specs.Past.{call_of, holds_of, hold_of, hold_taken, is_failure, failures_in}
 use Rattle.steps_events.specs.Sights.{is_sight, AtLastSight, HasAborted, AsksAfterSpinning, stands_in, exchanges_in}
 use Rattle.steps_events.specs.Laws.{TellsMemory, IsExclusive, IsLocked, is_refusal, HasCause}
 use Rattle.steps_mutex.specs.Table.{mutex_table}
@@ -42,10 +49,45 @@ IsExactGrant t (e ∷ past) =
     MatchOption (call_of e.party past) (Unit {0})
     (λ c. c.call ≡ calls.TryLock → is_sight words.State e.act ≡ true → ((e.then ≡ thens.Answers answers.Success) ↔ (holds_of t past ≡ [])))
 
+-- What a call answers.
+
+abbrev pub answer_of : {T : Type 0} → Then T → Option (Answer T)
+answer_of (thens.Answers answer) = Some answer
+answer_of other = None
+
+-- the acts of these events
+abbrev pub acts_of : {T : Type 0} → List (Event T) → List (Act T)
+acts_of [] = []
+acts_of (e ∷ own) = e.act ∷ acts_of own
+
+-- How a call ends that has made these acts, newest first, and whose party then has this hold. An `Unlock` has stored 0 and then woken one, and made no other
+-- act: `Done`, and the hold is gone. A locking call answers `Success` exactly where it has the write hold.
+abbrev pub IsLockAnswer : {T : Type 0} → Call T → List (Act T) → Option HoldKind → Answer T → Type 0
+IsLockAnswer calls.Unlock made hold answer = (answer ≡ answers.Done) × (made ≡ acts.Woke wakes.One ∷ acts.Store words.State 0 ∷ []) × (hold ≡ None)
+IsLockAnswer call made (Some kinds.Write) answer = answer ≡ answers.Success
+IsLockAnswer call made (Some kinds.Read) answer = ⊥
+IsLockAnswer call made None answer = answer ≡ answers.Interrupted
+
+-- so does the latest event, where it answers
+abbrev pub AnswersByHold : {T P : Type 0} → Table T P → List (Event T) → Type 0
+AnswersByHold t [] = Unit {0}
+AnswersByHold t (e ∷ past) =
+    MatchOption (answer_of e.then) (Unit {0})
+    (λ answer. MatchOption (call_of e.party past) ⊥ (λ c. IsLockAnswer c.call (acts_of (e ∷ c.own)) (hold_of t e.party (e ∷ past)) answer))
+
+-- and where it answers nothing, it grants no hold
+abbrev pub AnswersWhereGranted : {T P : Type 0} → Table T P → List (Event T) → Type 0
+AnswersWhereGranted t [] = Unit {0}
+AnswersWhereGranted t (e ∷ past) = MatchOption (answer_of e.then) (hold_taken t e.act (call_of e.party past) ≡ None) (λ answer. Unit {0})
+
 -- What a mutex keeps beside what every object does.
 pub record MutexLaw {T : Type 0} (past : List (Event T)) : Type 0 where
   -- `TryLock` is granted exactly where nobody holds the mutex
   pub exact : IsExactGrant mutex_table past
+  -- a locking call answers `Success` exactly where it has the hold, and an `Unlock` has stored 0 once and then woken one, and has none
+  pub answers : AnswersByHold mutex_table past
+  -- a locking call that is granted the hold answers at once
+  pub ends : AnswersWhereGranted mutex_table past
   -- a wait closure is asked after 10000 spins, which are exchanges that failed
   pub asks : AsksAfterSpinning is_failure past
   -- and each `Lock` that gives up has tried so often
