@@ -1,22 +1,28 @@
 -- A lock with read and write holds answers by the hold: from its step at each place.
-use Rattle.std.proofs.Common.{◌≡◌, refl, sym, subst, ℕ, List, [], ◌∷◌, Option, Some, None}
+use Rattle.std.proofs.Common.{◌≡◌, refl, sym, ◌∙◌, ap, subst, ℕ, Bool, true, false, cond, List, [], ◌∷◌, Option, Some, None}
+use Rattle.steps_events.specs.declared.event.Word.TheVariants as words
 use Rattle.steps_events.specs.declared.event.Call.{Call}
 use Rattle.steps_events.specs.declared.event.Call.TheVariants as calls
 use Rattle.steps_events.specs.declared.event.Act.{Act}
+use Rattle.steps_events.specs.declared.event.Act.TheVariants as acts
 use Rattle.steps_events.specs.declared.event.Answer.TheVariants as answers
 use Rattle.steps_events.specs.declared.event.Event.{Event}
+use Rattle.steps_events.specs.declared.event.Then.TheVariants as thens
 use Rattle.steps_events.specs.declared.hold.HoldKind.{HoldKind}
 use Rattle.steps_events.specs.declared.row.After.{After}
 use Rattle.steps_events.specs.declared.row.After.TheVariants as afters
 use Rattle.steps_events.specs.Arithmetic.{Arithmetic}
-use Rattle.steps_events.specs.Rows.{outcome_of}
+use Rattle.steps_events.specs.Rows.{outcome_of, place_after}
 use Rattle.steps_events.specs.Tables.{Table}
-use Rattle.steps_events.specs.Past.{PendingCall, call_of, hold_of, hold_after, word_in}
+use Rattle.steps_events.specs.Past.{PendingCall, call_of, hold_of, hold_after, word_in, event}
 use Rattle.steps_events.specs.Moves.{Move, stage_of, step_at}
 use Rattle.steps_events.specs.Runs.{IsPast}
 use Rattle.steps_events.specs.RwAnswers.{kind_wanted, acts_of, IsRwAnswer, IsAnswered, AnswersByHold}
 use Rattle.steps_events.proofs.Holds.{hold_of_same}
 use Rattle.steps_events.proofs.Steps.{by_move}
+
+pub wants : {T : Type 0} (c : PendingCall T) (call : Call T) (kind : HoldKind) → c.call ≡ call → kind_wanted call ≡ Some kind → kind_wanted c.call ≡ Some kind
+wants {T} c call kind is kinds = ap (λ (k : Call T). kind_wanted k) is ∙ kinds
 
 -- a locking call that has its hold
 pub granted :
@@ -54,6 +60,40 @@ tries_on HasUnlocked Goes c act hold kind (afters.Waits place seen) wants none o
 tries_on HasUnlocked Goes c act hold kind (afters.Chooses place old) wants none on = tt
 tries_on HasUnlocked Goes c act hold kind (afters.Ends answer) wants none on =
     rw on (turned_away HasUnlocked c.call (act ∷ acts_of c.own) hold kind wants none)
+
+-- an exchange of the lock's word that takes the hold where it is done, and else goes on
+pub enters :
+    {T P : Type 0} (HasUnlocked : List (Act T) → Type 0) (t : Table T P) (Goes : P → Type 0) (c : PendingCall T) (hold : Option HoldKind) (from to found : ℕ) (kind : HoldKind) (b : Bool) (a : After T P) →
+    kind_wanted c.call ≡ Some kind → hold ≡ None → t.grant c.call from to ≡ Some kind → IsTryOn Goes a →
+    IsAnswered HasUnlocked (Some c) (acts.Exchange words.State from to found b) (outcome_of (cond b (afters.Ends answers.Success) a)) (hold_after t (acts.Exchange words.State from to found b) (Some c) hold)
+enters HasUnlocked t Goes c hold from to found kind true a wanted free grants on =
+    granted HasUnlocked c.call _ (hold_after t (acts.Exchange words.State from to found true) (Some c) hold) kind wanted (rw grants refl)
+enters HasUnlocked t Goes c hold from to found kind false a wanted free grants on = tries_on HasUnlocked Goes c _ hold kind a wanted free on
+
+-- What is kept of the own events of a call at its place, where a step leads.
+
+abbrev pub LeadsTo : {T P : Type 0} → (P → List (Event T) → Option HoldKind → Type 0) → List (Event T) → Option HoldKind → ℕ → Act T → After T P → Type 0
+LeadsTo At own hold number act (afters.At place) = At place (event number act thens.GoesOn ∷ own) hold
+LeadsTo At own hold number act (afters.Waits place seen) = At place (event number act (thens.Waits seen) ∷ own) hold
+LeadsTo At own hold number act (afters.Chooses place old) = At place (event number act (thens.Chooses old) ∷ own) hold
+LeadsTo At own hold number act (afters.Ends answer) = Unit {0}
+
+pub leads_on :
+    {T P : Type 0} (At : P → List (Event T) → Option HoldKind → Type 0) (own : List (Event T)) (hold : Option HoldKind) (number : ℕ) (act : Act T) (next : P) (a : After T P) →
+    LeadsTo At own hold number act a → place_after a ≡ Some next → At next (event number act (outcome_of a) ∷ own) hold
+leads_on At own hold number act next (afters.At place) to is = let made : place ≡ next = cc in subst (λ p. At p (event number act thens.GoesOn ∷ own) hold) made to
+leads_on At own hold number act next (afters.Waits place seen) to is = let made : place ≡ next = cc in subst (λ p. At p (event number act (thens.Waits seen) ∷ own) hold) made to
+leads_on At own hold number act next (afters.Chooses place old) to is = let made : place ≡ next = cc in subst (λ p. At p (event number act (thens.Chooses old) ∷ own) hold) made to
+leads_on At own hold number act next (afters.Ends answer) to is = absurd cc
+
+-- a step that tries on leads to a place of which nothing is to be kept
+pub try_leads :
+    {T P : Type 0} (Goes : P → Type 0) (At : P → List (Event T) → Option HoldKind → Type 0) → ((place : P) (own : List (Event T)) (hold : Option HoldKind) → Goes place → At place own hold) →
+    (own : List (Event T)) (hold : Option HoldKind) (number : ℕ) (act : Act T) (a : After T P) → IsTryOn Goes a → LeadsTo At own hold number act a
+try_leads Goes At free own hold number act (afters.At place) on = free place _ hold on
+try_leads Goes At free own hold number act (afters.Waits place seen) on = free place _ hold on
+try_leads Goes At free own hold number act (afters.Chooses place old) on = free place _ hold on
+try_leads Goes At free own hold number act (afters.Ends answer) on = tt
 
 -- at every front, from the step at each place
 pub answers_by_hold :

@@ -1,5 +1,5 @@
 -- What a call of a writer-preferring lock answers: by the hold that its party has then, and an `Unlock` once it has freed, counted and woken.
-use Rattle.std.proofs.Common.{◌≡◌, ℕ, ◌+◌, ◌-◌, ◌%◌, ◌^◌, ◌==◌, refl, ◌∙◌, ap, subst, Bool, true, false, cond, List, [], ◌∷◌, Option, Some, None}
+use Rattle.std.proofs.Common.{◌≡◌, ℕ, ◌+◌, ◌-◌, ◌%◌, ◌^◌, ◌==◌, refl, ap, subst, Bool, true, false, cond, List, [], ◌∷◌, Option, Some, None}
 use Rattle.std.specs.Prelude.{nat_lt}
 use Rattle.std.proofs.lemmas.Bool.{eqb-true, eqb-false}
 use Rattle.steps_events.specs.declared.WaitAction.{WaitAction}
@@ -19,12 +19,12 @@ use Rattle.steps_events.specs.declared.patience.Patience.{Patience}
 use Rattle.steps_events.specs.declared.row.After.{After}
 use Rattle.steps_events.specs.declared.row.After.TheVariants as afters
 use Rattle.steps_events.specs.Arithmetic.{Arithmetic}
-use Rattle.steps_events.specs.Rows.{carried_out, value_told, outcome_of, place_after, within}
+use Rattle.steps_events.specs.Rows.{carried_out, value_told, outcome_of, within}
 use Rattle.steps_events.specs.Past.{PendingCall, hold_of, hold_after, word_in, latest_outcome, event}
 use Rattle.steps_events.specs.RwAnswers.{kind_wanted, acts_of, IsAnswered, AnswersByHold}
 use Rattle.steps_events.specs.Moves.{step_at, answer_fault, choose_fault}
 use Rattle.steps_events.specs.Runs.{IsPast}
-use Rattle.steps_events.proofs.RwAnswers.{granted, turned_away, unlocked, IsTryOn, tries_on, answers_by_hold}
+use Rattle.steps_events.proofs.RwAnswers.{wants, turned_away, unlocked, IsTryOn, tries_on, enters, LeadsTo, leads_on, try_leads, answers_by_hold}
 use Rattle.steps_events.proofs.Parties.{IsKept, at_place}
 use Rattle.steps_rw_writer.specs.declared.Leaver.{Leaver}
 use Rattle.steps_rw_writer.specs.declared.Leaver.TheVariants as leavers
@@ -134,20 +134,8 @@ last_tries T count patience v = by_test (is_blocked v)
 
 -- What is kept of a call that leaves.
 
--- where a step leads
 abbrev Leads : {T : Type 0} → List (Event T) → Option HoldKind → ℕ → Act T → After T RwWriterPlace → Type 0
-Leads own hold number act (afters.At place) = IsLeaving place (event number act thens.GoesOn ∷ own) hold
-Leads own hold number act (afters.Waits place seen) = IsLeaving place (event number act (thens.Waits seen) ∷ own) hold
-Leads own hold number act (afters.Chooses place old) = IsLeaving place (event number act (thens.Chooses old) ∷ own) hold
-Leads own hold number act (afters.Ends answer) = Unit {0}
-
-leads_on :
-    {T : Type 0} (own : List (Event T)) (hold : Option HoldKind) (number : ℕ) (act : Act T) (next : RwWriterPlace) (a : After T RwWriterPlace) → Leads own hold number act a → place_after a ≡ Some next →
-    IsLeaving next (event number act (outcome_of a) ∷ own) hold
-leads_on {T} own hold number act next (afters.At place) to is = let made : place ≡ next = cc in subst (λ p. IsLeaving p (event number act thens.GoesOn ∷ own) hold) made to
-leads_on {T} own hold number act next (afters.Waits place seen) to is = let made : place ≡ next = cc in subst (λ p. IsLeaving p (event number act (thens.Waits seen) ∷ own) hold) made to
-leads_on {T} own hold number act next (afters.Chooses place old) to is = let made : place ≡ next = cc in subst (λ p. IsLeaving p (event number act (thens.Chooses old) ∷ own) hold) made to
-leads_on own hold number act next (afters.Ends answer) to is = absurd cc
+Leads own hold number act a = LeadsTo IsLeaving own hold number act a
 
 entering : {T : Type 0} (place : RwWriterPlace) (own : List (Event T)) (hold : Option HoldKind) → IsEntering place → IsLeaving place own hold
 entering places.Release own hold enters = absurd enters
@@ -157,21 +145,13 @@ entering (places.WakeAll who) own hold enters = absurd enters
 entering other own hold enters = tt
 
 tries_lead : {T : Type 0} (own : List (Event T)) (hold : Option HoldKind) (number : ℕ) (act : Act T) (a : After T RwWriterPlace) → TriesOn a → Leads own hold number act a
-tries_lead own hold number act (afters.At place) on = entering place _ hold on
-tries_lead own hold number act (afters.Waits place seen) on = entering place _ hold on
-tries_lead own hold number act (afters.Chooses place old) on = entering place _ hold on
-tries_lead own hold number act (afters.Ends answer) on = tt
+tries_lead own hold number act a on = try_leads IsEntering IsLeaving entering own hold number act a on
 
--- an exchange that ends its call where it is done
-enters_leads :
-    {T : Type 0} (own : List (Event T)) (hold : Option HoldKind) (number : ℕ) (act : Act T) (b : Bool) (a : After T RwWriterPlace) → TriesOn a → Leads own hold number act (cond b (afters.Ends answers.Success) a)
-enters_leads own hold number act true a on = tt
-enters_leads own hold number act false a on = tries_lead own hold number act a on
-
-marked_leads :
-    {T : Type 0} (own : List (Event T)) (hold : Option HoldKind) (number : ℕ) (act : Act T) (b : Bool) (a d : After T RwWriterPlace) → TriesOn a → TriesOn d → Leads own hold number act (cond b a d)
-marked_leads own hold number act true a d on off = tries_lead own hold number act a on
-marked_leads own hold number act false a d on off = tries_lead own hold number act d off
+-- an exchange leads on as it was done or failed
+exchange_leads :
+    {T : Type 0} (own : List (Event T)) (hold : Option HoldKind) (number : ℕ) (act : Act T) (b : Bool) (a d : After T RwWriterPlace) → Leads own hold number act a → TriesOn d → Leads own hold number act (cond b a d)
+exchange_leads own hold number act true a d on off = on
+exchange_leads own hold number act false a d on off = tries_lead own hold number act d off
 
 unmarked_leads :
     {T : Type 0} (c : PendingCall T) (hold : Option HoldKind) (number seen to w : ℕ) (b : Bool) → c.call ≡ calls.WriteLock → hold ≡ None → seen ≡ to + 1 →
@@ -190,14 +170,14 @@ leaving_leads :
     Leads c.own (hold_after rw_writer_table (step_at rw_writer_table place hold memory).act (Some c) hold) number (step_at rw_writer_table place hold memory).act
     (rw_writer_table.after place (value_told {T = T} (carried_out (rw_writer_table.intent place hold) memory)))
 leaving_leads {T} places.TryReadLook c hold memory number at leaving = tries_lead c.own hold number _ _ (try_read_tries T (memory words.State))
-leaving_leads (places.TryRead seen to) c hold memory number at leaving = enters_leads c.own _ number _ (memory words.State == seen) (afters.Ends answers.Interrupted) refl
+leaving_leads (places.TryRead seen to) c hold memory number at leaving = exchange_leads c.own _ number _ (memory words.State == seen) (afters.Ends answers.Success) (afters.Ends answers.Interrupted) tt refl
 leaving_leads {T} (places.ReadLook patience) c hold memory number at leaving = tries_lead c.own hold number _ _ (read_tries T patience (memory words.State))
-leaving_leads {T} (places.Read seen to patience) c hold memory number at leaving = enters_leads c.own _ number _ (memory words.State == seen) _ (read_tries T patience (memory words.State))
-leaving_leads places.TryWrite c hold memory number at leaving = enters_leads c.own _ number _ (memory words.State == 0) (afters.Ends answers.Interrupted) refl
+leaving_leads {T} (places.Read seen to patience) c hold memory number at leaving = exchange_leads c.own _ number _ (memory words.State == seen) (afters.Ends answers.Success) _ tt (read_tries T patience (memory words.State))
+leaving_leads places.TryWrite c hold memory number at leaving = exchange_leads c.own _ number _ (memory words.State == 0) (afters.Ends answers.Success) (afters.Ends answers.Interrupted) tt refl
 leaving_leads {T} (places.WriteLook patience) c hold memory number at leaving = tries_lead c.own hold number _ _ (write_tries T patience (memory words.State))
-leaving_leads {T} (places.Enter seen patience) c hold memory number at leaving = enters_leads c.own _ number _ (memory words.State == seen) _ (refused_tries T patience (memory words.State))
+leaving_leads {T} (places.Enter seen patience) c hold memory number at leaving = exchange_leads c.own _ number _ (memory words.State == seen) (afters.Ends answers.Success) _ tt (refused_tries T patience (memory words.State))
 leaving_leads {T} (places.Mark seen to patience) c hold memory number at leaving =
-    marked_leads c.own _ number _ (memory words.State == seen) _ _ (spin_tries T patience) (write_tries T patience (memory words.State))
+    exchange_leads c.own _ number _ (memory words.State == seen) _ _ (tries_lead c.own _ number _ _ (spin_tries T patience)) (write_tries T patience (memory words.State))
 leaving_leads (places.Unmark seen to) c hold memory number at leaving = unmarked_leads c hold number seen to (memory words.State) (memory words.State == seen) at.0 at.1 at.3.2
 leaving_leads (places.LoadCounter patience) c hold memory number at leaving = tt
 leaving_leads {T} (places.LastLook count patience) c hold memory number at leaving = tries_lead c.own hold number _ _ (last_tries T count patience (memory words.State))
@@ -244,7 +224,7 @@ answering_kept {T} =
       begins = λ call place hold is allowed. (rw_writer_kept.begins call place hold is allowed, begins_leaving {T = T} call place hold is);
       steps = λ place c hold memory number next at free is. (
         rw_writer_kept.steps place c hold memory number next at.0 free is,
-        leads_on c.own (hold_after {T = T} rw_writer_table (step_at {T = T} rw_writer_table place hold memory).act (Some c) hold) number (step_at {T = T} rw_writer_table place hold memory).act next
+        leads_on IsLeaving c.own (hold_after {T = T} rw_writer_table (step_at {T = T} rw_writer_table place hold memory).act (Some c) hold) number (step_at {T = T} rw_writer_table place hold memory).act next
             (rw_writer_table.after place (value_told {T = T} (carried_out (rw_writer_table.intent place hold) memory))) (leaving_leads place c hold memory number at.0 at.1) is,
       );
       answers = λ place c hold action number at waits. (rw_writer_kept.answers place c hold action number at.0 waits, answered_leaving place c.own hold action number at.1 waits);
@@ -252,17 +232,6 @@ answering_kept {T} =
     }
 
 -- What the step at each place answers.
-
-wants : {T : Type 0} (c : PendingCall T) (call : Call T) (kind : HoldKind) → c.call ≡ call → kind_wanted call ≡ Some kind → kind_wanted c.call ≡ Some kind
-wants {T} c call kind is kinds = ap (λ (k : Call T). kind_wanted k) is ∙ kinds
-
-enters_answers :
-    {T : Type 0} (c : PendingCall T) (hold : Option HoldKind) (seen to w : ℕ) (kind : HoldKind) (b : Bool) (a : After T RwWriterPlace) →
-    kind_wanted c.call ≡ Some kind → hold ≡ None → rw_writer_grant c.call seen to ≡ Some kind → TriesOn a →
-    IsAnswered HasUnlocked (Some c) (acts.Exchange words.State seen to w b) (outcome_of (cond b (afters.Ends answers.Success) a)) (hold_after rw_writer_table (acts.Exchange words.State seen to w b) (Some c) hold)
-enters_answers {T} c hold seen to w kind true a wanted free grants on =
-    granted HasUnlocked c.call _ (hold_after {T = T} rw_writer_table (acts.Exchange words.State seen to w true) (Some c) hold) kind wanted (rw grants refl)
-enters_answers c hold seen to w kind false a wanted free grants on = tries_on HasUnlocked IsEntering c _ hold kind a wanted free on
 
 marks_answers :
     {T : Type 0} (c : PendingCall T) (hold : Option HoldKind) (seen to w : ℕ) (b : Bool) (a d : After T RwWriterPlace) → kind_wanted c.call ≡ Some kinds.Write → hold ≡ None → rw_writer_grant c.call seen to ≡ None → TriesOn a → TriesOn d →
@@ -290,19 +259,19 @@ step_answers :
 step_answers {T} places.TryReadLook c hold memory at leaving =
     tries_on HasUnlocked IsEntering c _ hold kinds.Read (try_read_look (memory words.State)) (wants c calls.TryReadLock kinds.Read at.0 refl) at.1 (try_read_tries T (memory words.State))
 step_answers {T} (places.TryRead seen to) c hold memory at leaving =
-    enters_answers c hold seen to (memory words.State) kinds.Read (memory words.State == seen) (afters.Ends answers.Interrupted) (wants c calls.TryReadLock kinds.Read at.0 refl) at.1 (ap (λ (k : Call T). rw_writer_grant k seen to) at.0) refl
+    enters HasUnlocked rw_writer_table IsEntering c hold seen to (memory words.State) kinds.Read (memory words.State == seen) (afters.Ends answers.Interrupted) (wants c calls.TryReadLock kinds.Read at.0 refl) at.1 (ap (λ (k : Call T). rw_writer_grant k seen to) at.0) refl
 step_answers {T} (places.ReadLook patience) c hold memory at leaving =
     tries_on HasUnlocked IsEntering c _ hold kinds.Read (read_look patience (memory words.State)) (wants c calls.ReadLock kinds.Read at.0 refl) at.1 (read_tries T patience (memory words.State))
 step_answers {T} (places.Read seen to patience) c hold memory at leaving =
-    enters_answers c hold seen to (memory words.State) kinds.Read (memory words.State == seen) (read_look patience (memory words.State)) (wants c calls.ReadLock kinds.Read at.0 refl) at.1 (ap (λ (k : Call T). rw_writer_grant k seen to) at.0)
+    enters HasUnlocked rw_writer_table IsEntering c hold seen to (memory words.State) kinds.Read (memory words.State == seen) (read_look patience (memory words.State)) (wants c calls.ReadLock kinds.Read at.0 refl) at.1 (ap (λ (k : Call T). rw_writer_grant k seen to) at.0)
     (read_tries T patience (memory words.State))
 step_answers {T} places.TryWrite c hold memory at leaving =
-    enters_answers c hold 0 (2 ^ 64 - 1) (memory words.State) kinds.Write (memory words.State == 0) (afters.Ends answers.Interrupted) (wants c calls.TryWriteLock kinds.Write at.0 refl) at.1
+    enters HasUnlocked rw_writer_table IsEntering c hold 0 (2 ^ 64 - 1) (memory words.State) kinds.Write (memory words.State == 0) (afters.Ends answers.Interrupted) (wants c calls.TryWriteLock kinds.Write at.0 refl) at.1
     (ap (λ (k : Call T). rw_writer_grant k 0 (2 ^ 64 - 1)) at.0) refl
 step_answers {T} (places.WriteLook patience) c hold memory at leaving =
     tries_on HasUnlocked IsEntering c _ hold kinds.Write (write_look patience (memory words.State)) (wants c calls.WriteLock kinds.Write at.0 refl) at.1 (write_tries T patience (memory words.State))
 step_answers {T} (places.Enter seen patience) c hold memory at leaving =
-    enters_answers c hold seen (2 ^ 64 - 1) (memory words.State) kinds.Write (memory words.State == seen) (write_refused patience (memory words.State)) (wants c calls.WriteLock kinds.Write at.0 refl) at.1 (enter_grants c.call seen at.0 at.3)
+    enters HasUnlocked rw_writer_table IsEntering c hold seen (2 ^ 64 - 1) (memory words.State) kinds.Write (memory words.State == seen) (write_refused patience (memory words.State)) (wants c calls.WriteLock kinds.Write at.0 refl) at.1 (enter_grants c.call seen at.0 at.3)
     (refused_tries T patience (memory words.State))
 step_answers {T} (places.Mark seen to patience) c hold memory at leaving =
     marks_answers c hold seen to (memory words.State) (memory words.State == seen) (spins patience) (write_look patience (memory words.State)) (wants c calls.WriteLock kinds.Write at.0 refl) at.1 (mark_grants_none c.call seen to at.0 at.3.2)
