@@ -1,6 +1,7 @@
 pub mod Holds
 pub mod HoldCounts
 pub mod Steps
+pub mod RwAnswers
 pub mod Parties
 pub mod Locks
 pub mod Spins

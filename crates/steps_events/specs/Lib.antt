@@ -6,6 +6,7 @@ pub mod Rows
 pub mod Tables
 pub mod Past
 pub mod HoldCounts
+pub mod RwAnswers
 pub mod Moves
 pub mod Runs
 pub mod Sights

@@ -27,15 +27,15 @@ use Rattle.steps_events.specs.Runs.{IsPast}
 use Rattle.steps_events.specs.Sights.{is_sight, is_abort, keeps_asking, HasAborted, OtherWroteSinceSight, spins_in, stands_at_wait}
 use Rattle.steps_events.specs.Laws.{Lacks, is_refusal}
 use Rattle.steps_events.proofs.Holds.{eqb_same, eqb_other}
-use Rattle.steps_events.proofs.Steps.{by_move, tells_memory}
+use Rattle.steps_events.proofs.Steps.{by_move}
 use Rattle.steps_events.proofs.Spins.{HasSpun, begun_spun, passed_on, answered_spun, refused_leads, stands_after_spinning, refused_because}
 use Rattle.steps_events.proofs.LastSights.{IsLook, kept_or_written}
 use Rattle.steps_events.proofs.Parties.{IsKept, at_place}
 use Rattle.steps_rw_reader.specs.declared.RwReaderPlace.{RwReaderPlace}
 use Rattle.steps_rw_reader.specs.declared.RwReaderPlace.TheVariants as places
 use Rattle.steps_rw_reader.specs.Table.{lets_readers_in, read_look, rw_reader_table, rw_reader_begins, rw_reader_answered}
-use Rattle.steps_rw_reader.specs.Law.{CountsHolds, RwReaderCause, is_in_vain, KeepsRwReader}
-use Rattle.steps_rw_reader.proofs.ReaderLocks.{IsReaderLock, IsReaderIntent, reader_lock_word, reader_lock_exclusive, free_exactly, held_at, shut_at}
+use Rattle.steps_rw_reader.specs.Law.{CountsHolds, RwReaderCause, is_in_vain}
+use Rattle.steps_rw_reader.proofs.ReaderLocks.{IsReaderLock, IsReaderIntent, reader_lock_word, free_exactly, held_at, shut_at}
 
 -- What is kept of a call at its place.
 
@@ -159,10 +159,10 @@ steps_at places.Wake c hold memory number next at is = absurd cc
 
 -- Where an answer leads.
 
-asked_nothing : {T : Type 0} (own : List (Event T)) → latest_outcome own ≡ thens.GoesOn → answer_fault (latest_outcome own) ≡ None → ⊥
+pub asked_nothing : {T : Type 0} (own : List (Event T)) → latest_outcome own ≡ thens.GoesOn → answer_fault (latest_outcome own) ≡ None → ⊥
 asked_nothing {T} own goes waits = let no : answer_fault {T = T} thens.GoesOn ≡ None = subst (λ (o : Then T). answer_fault o ≡ None) goes waits in absurd cc
 
-offered_nothing : {T : Type 0} (own : List (Event T)) → latest_outcome own ≡ thens.GoesOn → choose_fault (latest_outcome own) ≡ None → ⊥
+pub offered_nothing : {T : Type 0} (own : List (Event T)) → latest_outcome own ≡ thens.GoesOn → choose_fault (latest_outcome own) ≡ None → ⊥
 offered_nothing {T} own goes stands = let no : choose_fault {T = T} thens.GoesOn ≡ None = subst (λ (o : Then T). choose_fault o ≡ None) goes stands in absurd cc
 
 answers_at :
@@ -355,7 +355,7 @@ silent : {T : Type 0} (party : ℕ) (past : List (Event T)) (pending : Option (P
 silent party past None act quiet = record { cause = tt; exact = tt; asks = tt }
 silent party past (Some c) act quiet = record { cause = tt; exact = λ try sees. let no : true ≡ false = sym sees ∙ quiet in absurd cc; asks = tt }
 
-event_law :
+pub event_law :
     {T : Type 0} (z : Arithmetic T) (parties : ℕ) (past : List (Event T)) (e : Event T) → IsPast z rw_reader_table parties (e ∷ past) → EventLaw e.party past (call_of e.party past) (record { act = e.act; outcome = e.then })
 event_law {T} z parties past e run =
     by_move rw_reader_table (call_of e.party past) (hold_of rw_reader_table e.party past) (word_in rw_reader_table past) (λ (k : Option (PendingCall T)) (m : Move T). EventLaw e.party past k m)
@@ -365,20 +365,6 @@ event_law {T} z parties past e run =
     step_law z parties e.party past c place (hold_of rw_reader_table e.party past) run.1 called (at_place z rw_reader_table parties AtRwReader rw_reader_kept past run.1 e.party c place called stage)
     (reader_lock_word z rw_reader_table parties (rw_reader_is_lock z parties) past run.1).counts)
     run.0.1.moved
-
-pub keeps_rw_reader : {T : Type 0} (z : Arithmetic T) (parties : ℕ) (past : List (Event T)) → IsPast z rw_reader_table parties past → KeepsRwReader past
-keeps_rw_reader z parties [] run =
-    let word = reader_lock_word z rw_reader_table parties (rw_reader_is_lock z parties) [] run in
-    record { told = tt; exclusive = reader_lock_exclusive 0 [] word.counts; cause = tt; law = record { counts = word.counts; exact = tt; asks = tt } }
-keeps_rw_reader z parties (e ∷ past) run =
-    let event = event_law z parties past e run in
-    let word = reader_lock_word z rw_reader_table parties (rw_reader_is_lock z parties) (e ∷ past) run in
-    record {
-      told = tells_memory z rw_reader_table parties (e ∷ past) run;
-      exclusive = reader_lock_exclusive _ (holds_of rw_reader_table (e ∷ past)) word.counts;
-      cause = event.cause;
-      law = record { counts = word.counts; exact = event.exact; asks = event.asks };
-    }
 
 -- a reader-preferring lock has no other word
 pub rw_reader_lacks : (T : Type 0) (word : Word) → same_word words.State word ≡ false → Lacks {T = T} rw_reader_table word

@@ -1,2 +1,3 @@
 pub mod ReaderLocks
 pub mod Laws
+pub mod AnswerLaws

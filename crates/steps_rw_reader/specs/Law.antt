@@ -2,6 +2,7 @@
 -- refusal, and how often a call tries.
 use Rattle.std.specs.Prelude.{◌≡◌, ℕ, ◌-◌, ◌^◌, ◌<◌, ◌==◌, ◌↔◌, ◌⊎◌, Bool, true, false, not, if◌then◌else◌, List, [], ◌∷◌, MatchOption}
 use Rattle.steps_events.specs.declared.event.Word.TheVariants as words
+use Rattle.steps_events.specs.declared.event.Wake.TheVariants as wakes
 use Rattle.steps_events.specs.declared.event.Call.{Call}
 use Rattle.steps_events.specs.declared.event.Call.TheVariants as calls
 use Rattle.steps_events.specs.declared.event.Act.{Act}
@@ -12,6 +13,7 @@ use Rattle.steps_events.specs.declared.event.Event.{Event}
 use Rattle.steps_events.specs.declared.hold.HoldKind.TheVariants as kinds
 use Rattle.steps_events.specs.Past.{Hold, call_of, holds_of, word_in}
 use Rattle.steps_events.specs.HoldCounts.{reads_in, writes_in}
+use Rattle.steps_events.specs.RwAnswers.{AnswersByHold}
 use Rattle.steps_events.specs.Sights.{is_sight, AtLastSight, HasAborted, HasMissed, AsksAfterSpinning}
 use Rattle.steps_events.specs.Laws.{TellsMemory, IsExclusive, IsLocked, HasCause}
 use Rattle.steps_rw_reader.specs.Table.{lets_readers_in, rw_reader_table}
@@ -61,12 +63,20 @@ is_in_vain (acts.Load word seen) = not (lets_readers_in seen)
 is_in_vain (acts.Exchange word from to found false) = if to == 2 ^ 64 - 1 then true else not (lets_readers_in found)
 is_in_vain act = false
 
+-- what an `Unlock` has done once it ends, newest first: it has subtracted from the word, or stored 0 there, and has then woken one
+abbrev pub HasUnlocked : {T : Type 0} → List (Act T) → Type 0
+HasUnlocked (acts.Woke wakes.One ∷ acts.Add words.State old put ∷ []) = Unit {0}
+HasUnlocked (acts.Woke wakes.One ∷ acts.Store words.State put ∷ []) = put ≡ 0
+HasUnlocked done = ⊥
+
 -- What a reader-preferring lock keeps beside what every object does.
 pub record RwReaderLaw {T : Type 0} (past : List (Event T)) : Type 0 where
   -- the word is the number of read holds, or 2^64 - 1 with one write hold and no other
   pub counts : CountsHolds (word_in rw_reader_table past words.State) (holds_of rw_reader_table past)
   -- `TryWriteLock` is granted exactly where nobody holds the lock
   pub exact : IsExactGrant past
+  -- a locking call answers `Success` with the hold of its kind, `Interrupted` with none; an `Unlock` ends with `Done`, freed and woken
+  pub answers : AnswersByHold rw_reader_table HasUnlocked past
   -- a wait closure is asked after 10000 spins, which are tries in vain
   pub asks : AsksAfterSpinning is_in_vain past
 

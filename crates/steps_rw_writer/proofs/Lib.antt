@@ -6,4 +6,5 @@ pub mod Laws
 pub mod DebtLaws
 pub mod WakeLaws
 pub mod SpinLaws
+pub mod AnswerLaws
 pub mod Causes

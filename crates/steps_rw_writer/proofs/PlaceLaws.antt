@@ -303,10 +303,10 @@ write_enters c hold number seen to w patience false call free asks = write_refus
 
 -- neither a mark nor its removal grants a hold
 
-mark_grants_none : {T : Type 0} (call : Call T) (seen to : ℕ) → call ≡ calls.WriteLock → to ≡ seen + 1 → rw_writer_grant call seen to ≡ None
+pub mark_grants_none : {T : Type 0} (call : Call T) (seen to : ℕ) → call ≡ calls.WriteLock → to ≡ seen + 1 → rw_writer_grant call seen to ≡ None
 mark_grants_none {T} call seen to is more = ap (λ (k : Call T). rw_writer_grant k seen to) is ∙ rw (is_marking seen to more) refl
 
-unmark_grants_none : {T : Type 0} (call : Call T) (seen to : ℕ) → call ≡ calls.WriteLock → seen ≡ to + 1 → rw_writer_grant call seen to ≡ None
+pub unmark_grants_none : {T : Type 0} (call : Call T) (seen to : ℕ) → call ≡ calls.WriteLock → seen ≡ to + 1 → rw_writer_grant call seen to ≡ None
 unmark_grants_none {T} call seen to is less =
     let by_one : is_unmark seen to ≡ true = rw less (eq-eqb (to + 1) (to + 1) refl) in
     ap (λ (k : Call T). rw_writer_grant k seen to) is ∙ rw (no_mark seen to (λ more. absurd (omega (arith, more, less))), by_one) refl
@@ -441,7 +441,7 @@ rw_writer_kept {T} =
 
 -- What each step does to the word.
 
-enter_grants : {T : Type 0} (call : Call T) (seen : ℕ) → call ≡ calls.WriteLock → seen < 2 → rw_writer_grant call seen (2 ^ 64 - 1) ≡ Some kinds.Write
+pub enter_grants : {T : Type 0} (call : Call T) (seen : ℕ) → call ≡ calls.WriteLock → seen < 2 → rw_writer_grant call seen (2 ^ 64 - 1) ≡ Some kinds.Write
 enter_grants {T} call seen is unheld =
     let no_less : is_unmark seen (2 ^ 64 - 1) ≡ false = eqb_other seen (2 ^ 64) (λ same. absurd (omega (arith, same, unheld))) in
     ap (λ (k : Call T). rw_writer_grant k seen (2 ^ 64 - 1)) is ∙ rw (no_mark seen (2 ^ 64 - 1) (λ more. absurd (omega (arith, more, unheld))), no_less) refl

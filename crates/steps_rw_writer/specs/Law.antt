@@ -1,7 +1,8 @@
 -- What a writer-preferring lock keeps at every front of every run: one writer or only readers, which its word counts beside the mark; a mark
 -- of a call that is under way, which keeps readers out; a cause for each refusal; and when a wait closure is asked, and what it is told.
-use Rattle.std.specs.Prelude.{◌≡◌, ℕ, ◌+◌, ◌*◌, ◌-◌, ◌^◌, ◌<◌, ◌==◌, ◌↔◌, ◌⊎◌, ◌&&◌, ◌||◌, not, Bool, true, false, if◌then◌else◌, List, [], ◌∷◌, Some, MatchBool, MatchOption}
+use Rattle.std.specs.Prelude.{◌≡◌, ◌≢◌, ℕ, ◌+◌, ◌*◌, ◌-◌, ◌%◌, ◌^◌, ◌<◌, ◌==◌, ◌↔◌, ◌⊎◌, ◌&&◌, ◌||◌, not, Bool, true, false, if◌then◌else◌, List, [], ◌∷◌, Some, MatchBool, MatchOption}
 use Rattle.steps_events.specs.declared.event.Word.TheVariants as words
+use Rattle.steps_events.specs.declared.event.Wake.TheVariants as wakes
 use Rattle.steps_events.specs.declared.event.Call.{Call}
 use Rattle.steps_events.specs.declared.event.Call.TheVariants as calls
 use Rattle.steps_events.specs.declared.event.Act.{Act}
@@ -13,6 +14,7 @@ use Rattle.steps_events.specs.declared.event.Event.{Event}
 use Rattle.steps_events.specs.declared.hold.HoldKind.TheVariants as kinds
 use Rattle.steps_events.specs.Past.{Hold, PendingCall, call_of, holds_of, word_in, is_failure}
 use Rattle.steps_events.specs.HoldCounts.{reads_in, writes_in}
+use Rattle.steps_events.specs.RwAnswers.{AnswersByHold}
 use Rattle.steps_events.specs.Sights.{is_sight, is_beginning, AtLastSight, HasAborted, HasMissed, OtherWroteSinceSight, sight_of, goes_on, stands_at_wait, spins_in, last_of}
 use Rattle.steps_events.specs.Laws.{TellsMemory, IsExclusive, IsLocked, HasCause}
 use Rattle.steps_rw_writer.specs.Table.{lets_readers_in, lets_writer_in, lets_mark, is_mark, rw_writer_table}
@@ -153,6 +155,16 @@ abbrev pub TellsClosure : {T : Type 0} → List (Event T) → Type 0
 TellsClosure [] = Unit {0}
 TellsClosure (e ∷ past) = MatchOption (call_of e.party past) (Unit {0}) (λ c. IsToldAt c e.act e.then)
 
+-- What a call answers.
+
+-- What an `Unlock` has done once it ends, newest first. A reader's: it has subtracted 2 from the word; where it found 3, it has then counted,
+-- and woken one. The writer's: it has stored 0, then counted, then woken one, then all.
+abbrev pub HasUnlocked : {T : Type 0} → List (Act T) → Type 0
+HasUnlocked (acts.Add words.State old put ∷ []) = old ≢ 3
+HasUnlocked (acts.Woke wakes.One ∷ acts.Add words.Counter count next ∷ acts.Add words.State old put ∷ []) = (old ≡ 3) × (next ≡ (count + 1) % 2 ^ 64)
+HasUnlocked (acts.Woke wakes.All ∷ acts.Woke wakes.One ∷ acts.Add words.Counter count next ∷ acts.Store words.State put ∷ []) = (put ≡ 0) × (next ≡ (count + 1) % 2 ^ 64)
+HasUnlocked done = ⊥
+
 -- What a writer-preferring lock keeps beside what every object does.
 pub record RwWriterLaw {T : Type 0} (past : List (Event T)) : Type 0 where
   -- the word is twice the number of read holds and the mark, or 2^64 - 1 with one write hold and no other
@@ -163,6 +175,8 @@ pub record RwWriterLaw {T : Type 0} (past : List (Event T)) : Type 0 where
   pub keeps_out : MarkKeepsReadersOut past
   -- `TryWriteLock` is granted exactly where nobody holds the lock and the mark is not set
   pub exact : IsExactGrant past
+  -- a locking call answers `Success` with the hold of its kind, `Interrupted` with none; an `Unlock` ends with `Done`, freed, counted and woken
+  pub answers : AnswersByHold rw_writer_table HasUnlocked past
   -- a wait closure is asked after 10000 spins
   pub asks : AsksAfterAllSpins past
   -- a reader's is told what the latest look saw, a writer's the count that it loaded last

@@ -25,7 +25,8 @@ use Rattle.steps_semaphore.proofs.Laws.{keeps_semaphore, semaphore_lacks}
 use Rattle.steps_barrier.specs.Table.{barrier_table}
 use Rattle.steps_barrier.proofs.Laws.{keeps_barrier, barrier_lacks}
 use Rattle.steps_rw_reader.specs.Table.{rw_reader_table}
-use Rattle.steps_rw_reader.proofs.Laws.{keeps_rw_reader, rw_reader_lacks}
+use Rattle.steps_rw_reader.proofs.Laws.{rw_reader_lacks}
+use Rattle.steps_rw_reader.proofs.AnswerLaws.{keeps_rw_reader}
 use Rattle.steps_rw_writer.specs.Table.{rw_writer_table}
 use Rattle.steps_rw_writer.proofs.Laws.{rw_writer_lacks}
 use Rattle.steps_rw_writer.proofs.Causes.{keeps_rw_writer}

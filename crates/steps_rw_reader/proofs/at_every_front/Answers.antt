@@ -1,4 +1,4 @@
-use Rattle.steps_rw_reader.proofs.Laws.{keeps_rw_reader}
+use Rattle.steps_rw_reader.proofs.AnswerLaws.{keeps_rw_reader}
 use Rattle.steps_rw_reader.proofs.at_every_front.Goals as goal
 
 pub returns : goal.returns
