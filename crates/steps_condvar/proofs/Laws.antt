@@ -22,7 +22,7 @@ use Rattle.steps_events.specs.declared.row.After.{After}
 use Rattle.steps_events.specs.declared.row.After.TheVariants as afters
 use Rattle.steps_events.specs.Arithmetic.{Arithmetic}
 use Rattle.steps_events.specs.Rows.{carried_out, value_told, outcome_of, within}
-use Rattle.steps_events.specs.Past.{same_word, PendingCall, call_of, call_after, call_going_on, holds_of, hold_of, hold_after, word_in, word_after, event, is_release, is_failure}
+use Rattle.steps_events.specs.Past.{same_word, PendingCall, call_of, call_after, call_going_on, holds_of, hold_of, hold_taken, hold_after, word_in, word_after, event, is_release, is_failure}
 use Rattle.steps_events.specs.Moves.{Move, step_at, fault_at, begin_fault}
 use Rattle.steps_events.specs.Runs.{IsPast}
 use Rattle.steps_events.specs.Sights.{sight_of, is_sight, spins_in, stands_at_wait}
@@ -40,7 +40,7 @@ use Rattle.steps_mutex.specs.Law as mutex_law
 use Rattle.steps_mutex.specs.Law.{LockCause, answer_of}
 use Rattle.steps_mutex.proofs.LockSteps.{LockLeads, lock_leads}
 use Rattle.steps_mutex.proofs.Laws as mutex
-use Rattle.steps_mutex.proofs.Laws.{AtMutex, another, mutex_lacks}
+use Rattle.steps_mutex.proofs.Laws.{AtMutex, lock_takes_none, another, unseen_takes_none, mutex_lacks}
 use Rattle.steps_semaphore.specs.declared.SemaphorePlace.{SemaphorePlace}
 use Rattle.steps_semaphore.specs.declared.SemaphorePlace.TheVariants as permits
 use Rattle.steps_semaphore.specs.Permits.{permits_given, permits_taken, is_take, number_answered}
@@ -151,6 +151,7 @@ pub record EventLaw {T : Type 0} (party : ℕ) (past : List (Event T)) (n : ℕ)
   pub exact :
       MatchOption pending (Unit {0})
       (λ c. c.call ≡ calls.TryLock → is_sight words.State m.act ≡ true → ((m.outcome ≡ thens.Answers answers.Success) ↔ (holds_of condvar_table past ≡ [])))
+  pub ends : MatchOption (answer_of m.outcome) (hold_taken condvar_table m.act pending ≡ None) (λ answer. Unit {0})
   pub asks : MatchBool (stands_at_wait m.outcome) (MatchOption pending ⊥ (λ c. spins_of c.call c.own ≡ 10000)) (Unit {0})
   pub tries : MatchBool (gives_up m.outcome) (MatchOption pending ⊥ (λ c. HasTried c.call (event party m.act m.outcome ∷ c.own))) (Unit {0})
 
@@ -167,11 +168,11 @@ uncounted c other = rw other refl
 -- An event of a `Wait` that does not end it.
 
 going_law :
-    {T : Type 0} (party : ℕ) (past : List (Event T)) (n : ℕ) (hold : Option HoldKind) (c : PendingCall T) (act : Act T) (outcome : Then T) → c.call ≡ calls.Wait → answer_of outcome ≡ None →
+    {T : Type 0} (party : ℕ) (past : List (Event T)) (n : ℕ) (hold : Option HoldKind) (c : PendingCall T) (act : Act T) (outcome : Then T) → c.call ≡ calls.Wait → answer_of outcome ≡ None → hold_taken condvar_table act (Some c) ≡ None →
     CountEffect n (word_after words.Waiters act n) (is_count act) (is_counted (Some c)) (is_counted (call_going_on act (event party act outcome) (Some c))) →
     WaitStep c.own (event party act outcome) (hold_after condvar_table act (Some c) hold) → MatchBool (stands_at_wait outcome) (spins_of calls.Wait c.own ≡ 10000) (Unit {0}) →
     EventLaw party past n hold (Some c) (record { act = act; outcome = outcome })
-going_law {T} party past n hold c act thens.GoesOn wait goes count step asks =
+going_law {T} party past n hold c act thens.GoesOn wait goes takes count step asks =
     record {
       count = count;
       number = refl;
@@ -179,9 +180,10 @@ going_law {T} party past n hold c act thens.GoesOn wait goes count step asks =
       asks = tt;
       tries = tt;
       steps = subst (λ (k : Call T). CallStep k c.own (event party act thens.GoesOn) (hold_after condvar_table act (Some c) hold)) (sym wait) step;
+      ends = takes;
       exact = another calls.Wait c.call _ (sym wait) (λ same. absurd cc);
     }
-going_law {T} party past n hold c act (thens.Waits seen) wait goes count step asks =
+going_law {T} party past n hold c act (thens.Waits seen) wait goes takes count step asks =
     record {
       count = count;
       number = refl;
@@ -189,9 +191,10 @@ going_law {T} party past n hold c act (thens.Waits seen) wait goes count step as
       tries = tt;
       asks = subst (λ (k : Call T). spins_of k c.own ≡ 10000) (sym wait) asks;
       steps = subst (λ (k : Call T). CallStep k c.own (event party act (thens.Waits seen)) (hold_after condvar_table act (Some c) hold)) (sym wait) step;
+      ends = takes;
       exact = another calls.Wait c.call _ (sym wait) (λ same. absurd cc);
     }
-going_law {T} party past n hold c act (thens.Chooses old) wait goes count step asks =
+going_law {T} party past n hold c act (thens.Chooses old) wait goes takes count step asks =
     record {
       count = count;
       number = refl;
@@ -199,9 +202,10 @@ going_law {T} party past n hold c act (thens.Chooses old) wait goes count step a
       asks = tt;
       tries = tt;
       steps = subst (λ (k : Call T). CallStep k c.own (event party act (thens.Chooses old)) (hold_after condvar_table act (Some c) hold)) (sym wait) step;
+      ends = takes;
       exact = another calls.Wait c.call _ (sym wait) (λ same. absurd cc);
     }
-going_law party past n hold c act (thens.Answers answer) wait goes count step asks = absurd cc
+going_law party past n hold c act (thens.Answers answer) wait goes takes count step asks = absurd cc
 
 -- its step for a permit, by how it goes on
 
@@ -233,12 +237,12 @@ permit_law :
     ((e : Event T) → call_going_on act e (Some c) ≡ Some (record { call = c.call; own = e ∷ c.own })) → WaitLeads words.Value (since_count c.own) party act a →
     EventLaw party past n hold (Some c) (record { act = act; outcome = outcome_of (permitted a) })
 permit_law party past n hold c act (afters.At next) wait so quiet frees apart wake keeps goes leads =
-    going_law party past n hold c act thens.GoesOn wait refl (still_counted n 1 c act (event party act thens.GoesOn) wait so.counted quiet quiet keeps (goes (event party act thens.GoesOn))) (looking party c act thens.GoesOn _ so frees apart wake refl) tt
+    going_law party past n hold c act thens.GoesOn wait refl (unseen_takes_none condvar_table act (Some c) apart) (still_counted n 1 c act (event party act thens.GoesOn) wait so.counted quiet quiet keeps (goes (event party act thens.GoesOn))) (looking party c act thens.GoesOn _ so frees apart wake refl) tt
 permit_law party past n hold c act (afters.Waits next seen) wait so quiet frees apart wake keeps goes leads =
-    going_law party past n hold c act (thens.Waits seen) wait refl (still_counted n 1 c act (event party act (thens.Waits seen)) wait so.counted quiet quiet keeps (goes (event party act (thens.Waits seen))))
+    going_law party past n hold c act (thens.Waits seen) wait refl (unseen_takes_none condvar_table act (Some c) apart) (still_counted n 1 c act (event party act (thens.Waits seen)) wait so.counted quiet quiet keeps (goes (event party act (thens.Waits seen))))
     (looking party c act (thens.Waits seen) _ so frees apart wake refl) (rw so.counted leads.2)
 permit_law party past n hold c act (afters.Ends answer) wait so quiet frees apart wake keeps goes leads =
-    going_law party past n hold c act thens.GoesOn wait refl (still_counted n 1 c act (event party act thens.GoesOn) wait so.counted quiet quiet keeps (goes (event party act thens.GoesOn))) (looking party c act thens.GoesOn _ so frees apart wake refl) tt
+    going_law party past n hold c act thens.GoesOn wait refl (unseen_takes_none condvar_table act (Some c) apart) (still_counted n 1 c act (event party act thens.GoesOn) wait so.counted quiet quiet keeps (goes (event party act thens.GoesOn))) (looking party c act thens.GoesOn _ so frees apart wake refl) tt
 permit_law party past n hold c act (afters.Chooses next old) wait so quiet frees apart wake keeps goes leads = absurd leads
 
 -- its lock of the mutex, by how it goes on
@@ -271,16 +275,17 @@ relock_law :
     EventLaw party past n hold (Some c) (record { act = acts.Exchange words.State 0 1 w done; outcome = outcome_of (relocked signalled a) })
 relock_law {T} party past n hold signalled c w done (afters.At next) called wait free so none law found leads =
     let act : Act T = acts.Exchange words.State 0 1 w done in
-    going_law party past n hold c act thens.GoesOn wait refl (still_counted n 2 c act (event party act thens.GoesOn) wait so.counted refl refl refl refl) (locking party w (took signalled) c done thens.GoesOn _ so tt) tt
+    going_law party past n hold c act thens.GoesOn wait refl (lock_takes_none condvar_table (Some c) (since_count c.own) party w done (afters.At next) next found leads refl) (still_counted n 2 c act (event party act thens.GoesOn) wait so.counted refl refl refl refl) (locking party w (took signalled) c done thens.GoesOn _ so tt) tt
 relock_law {T} party past n hold signalled c w done (afters.Waits next seen) called wait free so none law found leads =
     let act : Act T = acts.Exchange words.State 0 1 w done in
-    going_law party past n hold c act (thens.Waits seen) wait refl (still_counted n 2 c act (event party act (thens.Waits seen)) wait so.counted refl refl refl refl) (locking party w (took signalled) c done (thens.Waits seen) _ so tt) (rw so.counted leads.2)
+    going_law party past n hold c act (thens.Waits seen) wait refl (lock_takes_none condvar_table (Some c) (since_count c.own) party w done (afters.Waits next seen) next found leads refl) (still_counted n 2 c act (event party act (thens.Waits seen)) wait so.counted refl refl refl refl) (locking party w (took signalled) c done (thens.Waits seen) _ so tt) (rw so.counted leads.2)
 relock_law {T} party past n hold true c w true (afters.Ends answers.Success) called wait free so none law found leads =
     let act : Act T = acts.Exchange words.State 0 1 w true in
     let granted : condvar_grant c.call 0 1 ≡ Some kinds.Write = ap (λ (k : Call T). condvar_grant k 0 1) wait in
     record {
       count = ending n c act (event party act (thens.Answers answers.Success)) answers.Success wait so.counted refl refl;
       number = refl;
+      ends = tt;
       cause = tt;
       asks = tt;
       tries = tt;
@@ -296,6 +301,7 @@ relock_law {T} party past n hold false c w true (afters.Ends answers.Success) ca
     record {
       count = ending n c act e answers.InterruptedHeld wait so.counted refl refl;
       number = refl;
+      ends = tt;
       asks = tt;
       tries = tt;
       cause = subst (λ (k : Call T). CondvarCause k party (e ∷ past)) (sym wait) cause;
@@ -311,6 +317,7 @@ relock_law {T} party past n hold signalled c w false (afters.Ends answers.Interr
     record {
       count = ending n c act e answers.Interrupted wait so.counted refl refl;
       number = refl;
+      ends = tt;
       asks = tt;
       cause = subst (λ (k : Call T). CondvarCause k party (e ∷ past)) (sym wait) (held, by_signal signalled so none);
       steps = subst (λ (k : Call T). CallStep k c.own e (hold_after condvar_table act (Some c) hold)) (sym wait)
@@ -360,6 +367,7 @@ notify_law {T} party past n hold c wake act true is quiet keeps apart goes step 
     record {
       count = not_counted n act (thens.Answers answers.Done) e c (notify_waits wake c.call is) quiet keeps (goes e);
       number = refl;
+      ends = tt;
       cause = tt;
       asks = tt;
       tries = tt;
@@ -371,6 +379,7 @@ notify_law {T} party past n hold c wake act false is quiet keeps apart goes step
     record {
       count = not_counted n act thens.GoesOn e c (notify_waits wake c.call is) quiet keeps (goes e);
       number = refl;
+      ends = unseen_takes_none condvar_table act (Some c) apart;
       cause = tt;
       asks = tt;
       tries = tt;
@@ -459,6 +468,7 @@ mutex_law_here {T} party past n hold c act outcome other quiet keeps goes number
       cause = where_true (is_refusal outcome) _ _ (same_cause c.call party (e ∷ past) other) law.cause;
       steps = step;
       exact = law.exact;
+      ends = law.ends;
       asks = where_true (stands_at_wait outcome) _ _ (same_spins c.call c.own other) law.asks;
       tries = where_gives_up outcome _ _ (same_tries c.call (e ∷ c.own) other) law.tries;
     }
@@ -489,7 +499,7 @@ begun_law :
     {T : Type 0} (party : ℕ) (past : List (Event T)) (n : ℕ) (hold : Option HoldKind) (pending : Option (PendingCall T)) (call : Call T) → begin_fault condvar_table pending hold call ≡ None →
     EventLaw party past n hold pending (record { act = acts.Begun call; outcome = thens.GoesOn })
 begun_law party past n hold (Some c) call allowed = absurd cc
-begun_law party past n hold None call allowed = record { count = inl (refl, refl, begun_uncounted (is_wait call)); number = refl; cause = tt; steps = tt; exact = tt; asks = tt; tries = tt }
+begun_law party past n hold None call allowed = record { count = inl (refl, refl, begun_uncounted (is_wait call)); number = refl; cause = tt; steps = tt; exact = tt; ends = refl; asks = tt; tries = tt }
 
 -- an act that has to do with no word
 record IsApart {T : Type 0} (act : Act T) : Type 0 where
@@ -523,7 +533,7 @@ apart_law :
     {T : Type 0} (party : ℕ) (past : List (Event T)) (n : ℕ) (hold : Option HoldKind) (pending : Option (PendingCall T)) (act : Act T) → IsApart act → word_after words.Waiters act n ≡ n →
     ((c : PendingCall T) (e : Event T) → call_going_on act e (Some c) ≡ Some (record { call = c.call; own = e ∷ c.own })) → ((e : Event T) → call_going_on act e None ≡ None) →
     EventLaw party past n hold pending (record { act = act; outcome = thens.GoesOn })
-apart_law party past n hold None act apart keeps goes none = record { count = inl (apart.counts, keeps, rw (none (event party act thens.GoesOn)) refl); number = refl; cause = tt; steps = tt; exact = tt; asks = tt; tries = tt }
+apart_law party past n hold None act apart keeps goes none = record { count = inl (apart.counts, keeps, rw (none (event party act thens.GoesOn)) refl); number = refl; cause = tt; steps = tt; exact = tt; ends = unseen_takes_none condvar_table act None apart.mutex; asks = tt; tries = tt }
 apart_law party past n hold (Some c) act apart keeps goes none =
     record {
       count = inl (apart.counts, keeps, rw (goes c (event party act thens.GoesOn)) (apart_counts c (event party act thens.GoesOn) apart.counts));
@@ -532,6 +542,7 @@ apart_law party past n hold (Some c) act apart keeps goes none =
       asks = tt;
       tries = tt;
       steps = apart_step c.call c.own party act _ apart;
+      ends = unseen_takes_none condvar_table act (Some c) apart.mutex;
       exact = λ try sees. contrary _ _ apart.mutex sees;
     }
 
@@ -566,15 +577,15 @@ step_law {T} z parties party past c places.CountIn hold memory run called at law
     let so : Progress c.own 0 0 0 0 = at.2 in
     let longer : PendingCall T = record { call = c.call; own = event party act thens.GoesOn ∷ c.own } in
     let now : counts_in longer.own ≡ 1 = omega (arith, so.counted) in
-    going_law party past (memory words.Waiters) hold c act thens.GoesOn at.0 refl (inr (inl (refl, refl, counted_by c 0 at.0 so.counted, counted_by longer 1 at.0 now)))
+    going_law party past (memory words.Waiters) hold c act thens.GoesOn at.0 refl refl (inr (inl (refl, refl, counted_by c 0 at.0 so.counted, counted_by longer 1 at.0 now)))
     (onward c party act _ 0 0 0 0 so (λ yes. absurd cc) (λ yes. absurd cc) refl refl refl) tt
 step_law {T} z parties party past c (places.Release locks.Release) hold memory run called at law =
     let so : Progress c.own 1 0 0 0 = at.2.0 in
-    going_law party past (memory words.Waiters) hold c (acts.Store words.State 0) thens.GoesOn at.0 refl
+    going_law party past (memory words.Waiters) hold c (acts.Store words.State 0) thens.GoesOn at.0 refl refl
     (still_counted (memory words.Waiters) 1 c (acts.Store words.State 0) (event party (acts.Store words.State 0) thens.GoesOn) at.0 so.counted refl refl refl refl) (onward c party (acts.Store words.State 0) _ 1 0 0 0 so (λ yes. refl) (λ yes. absurd cc) refl refl refl) tt
 step_law {T} z parties party past c (places.Release locks.Wake) hold memory run called at law =
     let so : Progress c.own 1 1 0 0 = at.2.0 in
-    going_law party past (memory words.Waiters) hold c (acts.Woke wakes.One) thens.GoesOn at.0 refl
+    going_law party past (memory words.Waiters) hold c (acts.Woke wakes.One) thens.GoesOn at.0 refl refl
     (still_counted (memory words.Waiters) 1 c (acts.Woke wakes.One) (event party (acts.Woke wakes.One) thens.GoesOn) at.0 so.counted refl refl refl refl) (onward c party (acts.Woke wakes.One) _ 1 1 0 0 so (λ yes. refl) (λ yes. (refl, refl, refl)) refl refl refl) tt
 step_law z parties party past c (places.Release other) hold memory run called at law = absurd at.2
 step_law z parties party past c (places.Permit (permits.Look patience)) hold memory run called at law =
@@ -587,7 +598,7 @@ step_law {T} z parties party past c (places.CountOut signalled) hold memory run 
     let so : Progress c.own 1 1 1 (took signalled) = at.3 in
     let longer : PendingCall T = record { call = c.call; own = event party act thens.GoesOn ∷ c.own } in
     let now : counts_in longer.own ≡ 2 = omega (arith, so.counted) in
-    going_law party past (memory words.Waiters) hold c act thens.GoesOn at.0 refl (inr (inr (refl, refl, counted_by c 1 at.0 so.counted, counted_by longer 2 at.0 now)))
+    going_law party past (memory words.Waiters) hold c act thens.GoesOn at.0 refl refl (inr (inr (refl, refl, counted_by c 1 at.0 so.counted, counted_by longer 2 at.0 now)))
     (onward c party act _ 1 1 1 (took signalled) so (λ yes. refl) (λ yes. absurd cc) refl refl refl) tt
 step_law z parties party past c (places.Relock signalled (locks.Lock patience)) hold memory run called at law =
     let w = memory words.State in
@@ -628,7 +639,7 @@ keeps_condvar z parties [] run =
       told = tt;
       exclusive = lock_exclusive 0 [] (lock_word z condvar_table parties (condvar_is_lock z parties) [] run);
       cause = tt;
-      law = record { waiters = none_wait; permits = record { at_most = omega arith; told = tt; lowers = tt }; steps = tt; exact = tt; asks = tt; tries = tt };
+      law = record { waiters = none_wait; permits = record { at_most = omega arith; told = tt; lowers = tt }; steps = tt; exact = tt; ends = tt; asks = tt; tries = tt };
     }
 keeps_condvar {T} z parties (e ∷ past) run =
     let before = condvar_tallies z parties past run.1 in
@@ -649,6 +660,7 @@ keeps_condvar {T} z parties (e ∷ past) run =
         };
         steps = subst (λ h. MatchOption (call_of e.party past) (Unit {0}) (λ c. CallStep c.call c.own e h)) (sym (hold_of_same condvar_table e.party e.act e.then past)) event.steps;
         exact = event.exact;
+        ends = event.ends;
         asks = event.asks;
         tries = event.tries;
       };

@@ -19,7 +19,7 @@ use Rattle.steps_events.specs.Sights.{sight_of, is_sight, AtLastSight, keeps_ask
 use Rattle.steps_events.specs.Waits.{is_wake}
 use Rattle.steps_events.specs.Laws.{TellsMemory, IsExclusive, IsLocked, HasCause}
 use Rattle.steps_mutex.specs.Law as mutex
-use Rattle.steps_mutex.specs.Law.{LockCause, HasTriedAll, answer_of, acts_of, IsLockAnswer, IsExactGrant}
+use Rattle.steps_mutex.specs.Law.{LockCause, HasTriedAll, answer_of, acts_of, IsLockAnswer, AnswersWhereGranted, IsExactGrant}
 use Rattle.steps_semaphore.specs.Permits.{permits, permits_taken, is_take, KeepsPermits}
 use Rattle.steps_semaphore.specs.Law.{is_empty_look}
 use Rattle.steps_condvar.specs.Table.{condvar_table}
@@ -197,6 +197,8 @@ pub record CondvarLaw {T : Type 0} (past : List (Event T)) : Type 0 where
   pub steps : StepsInOrder past
   -- `TryLock` is granted exactly where nobody holds the mutex
   pub exact : IsExactGrant condvar_table past
+  -- a call that is granted the mutex answers at once
+  pub ends : AnswersWhereGranted condvar_table past
   -- a wait closure is asked after 10000 spins
   pub asks : AsksAfterAllSpins past
   -- and each call that ends without the mutex has tried so often

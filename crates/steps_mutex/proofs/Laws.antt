@@ -1,5 +1,5 @@
 -- A mutex keeps its law at every front of every run.
-use Rattle.std.proofs.Common.{◌≡◌, ℕ, ◌==◌, refl, sym, ◌∙◌, ap, subst, Bool, true, false, cond, is_some, List, [], ◌∷◌, Option, Some, None, ◌↔◌}
+use Rattle.std.proofs.Common.{◌≡◌, ℕ, zero, ◌==◌, refl, sym, ◌∙◌, ap, subst, Bool, true, false, cond, is_some, List, [], ◌∷◌, Option, Some, None, ◌↔◌}
 use Rattle.std.specs.Prelude.{MatchBool, MatchOption, not}
 use Rattle.std.proofs.lemmas.Bool.{eqb-true, eqb-false}
 use Rattle.steps_events.specs.declared.WaitAction.{WaitAction}
@@ -76,14 +76,14 @@ at_lock (places.Lock patience) call own hold lock free at = (lock, at, free)
 at_lock other call own hold lock free at = absurd at
 
 -- an exchange after which it goes on took no hold
-lock_takes_none :
-    {T P : Type 0} (t : Table T P) (c : PendingCall T) (number w : ℕ) (done : Bool) (a : After T MutexPlace) (next : MutexPlace) → (w == 0) ≡ done → LockLeads c.own number w (acts.Exchange words.State 0 1 w done) a → place_after a ≡ Some next →
-    hold_taken t (acts.Exchange words.State 0 1 w done) (Some c) ≡ None
-lock_takes_none t c number w false a next found leads is = refl
-lock_takes_none t c number w true (afters.At place) next found leads is = absurd (leads.1 (eqb-true w 0 found))
-lock_takes_none t c number w true (afters.Waits place seen) next found leads is = absurd (leads.1 (eqb-true w 0 found))
-lock_takes_none t c number w true (afters.Chooses place old) next found leads is = absurd leads
-lock_takes_none t c number w true (afters.Ends answer) next found leads is = absurd cc
+pub lock_takes_none :
+    {T P : Type 0} (t : Table T P) (pending : Option (PendingCall T)) (own : List (Event T)) (number w : ℕ) (done : Bool) (a : After T MutexPlace) (next : MutexPlace) → (w == 0) ≡ done →
+    LockLeads own number w (acts.Exchange words.State 0 1 w done) a → place_after a ≡ Some next → hold_taken t (acts.Exchange words.State 0 1 w done) pending ≡ None
+lock_takes_none t pending own number w false a next found leads is = refl
+lock_takes_none t pending own number w true (afters.At place) next found leads is = absurd (leads.1 (eqb-true w 0 found))
+lock_takes_none t pending own number w true (afters.Waits place seen) next found leads is = absurd (leads.1 (eqb-true w 0 found))
+lock_takes_none t pending own number w true (afters.Chooses place old) next found leads is = absurd leads
+lock_takes_none t pending own number w true (afters.Ends answer) next found leads is = absurd cc
 
 pub steps_at :
     {T P : Type 0} (t : Table T P) (place : MutexPlace) (c : PendingCall T) (hold : Option HoldKind) (memory : Word → ℕ) (number : ℕ) (next : MutexPlace) → AtMutex place c hold →
@@ -95,7 +95,7 @@ steps_at {T} t (places.Lock patience) c hold memory number next at is =
     let w = memory words.State in
     let leads = lock_leads words.State patience c.own number w at.1 in
     at_lock next c.call _ (hold_after t (acts.Exchange words.State 0 1 w (w == 0)) (Some c) hold) at.0
-    (rw (lock_takes_none t c number w (w == 0) (mutex_after (places.Lock patience) (Some w)) next refl leads is) at.2)
+    (rw (lock_takes_none t (Some c) c.own number w (w == 0) (mutex_after (places.Lock patience) (Some w)) next refl leads is) at.2)
     (lock_goes_on c.own number w _ (mutex_after (places.Lock patience) (Some w)) next leads is)
 steps_at {T} t places.Release c hold memory number next at is =
     let made : places.Wake ≡ next = cc in
@@ -208,9 +208,9 @@ lock_law :
     (w == 0) ≡ done → IsFreeOrHeld w (holds_of t past) → LockLeads c.own party w (acts.Exchange words.State 0 1 w done) a →
     EventLaw t party past hold (Some c) (record { act = acts.Exchange words.State 0 1 w done; outcome = outcome_of {T = T} a })
 lock_law t party past hold c w done (afters.At next) grants called is free e law leads =
-    record { cause = tt; exact = another calls.Lock c.call _ (sym is) (λ same. absurd cc); answers = tt; ends = lock_takes_none t c party w done (afters.At next) next e leads refl; asks = tt; tries = tt }
+    record { cause = tt; exact = another calls.Lock c.call _ (sym is) (λ same. absurd cc); answers = tt; ends = lock_takes_none t (Some c) c.own party w done (afters.At next) next e leads refl; asks = tt; tries = tt }
 lock_law t party past hold c w done (afters.Waits next seen) grants called is free e law leads =
-    record { cause = tt; exact = another calls.Lock c.call _ (sym is) (λ same. absurd cc); answers = tt; ends = lock_takes_none t c party w done (afters.Waits next seen) next e leads refl; asks = leads.2; tries = tt }
+    record { cause = tt; exact = another calls.Lock c.call _ (sym is) (λ same. absurd cc); answers = tt; ends = lock_takes_none t (Some c) c.own party w done (afters.Waits next seen) next e leads refl; asks = leads.2; tries = tt }
 lock_law {T} t party past hold c w true (afters.Ends answers.Success) grants called is free e law leads =
     let act : Act T = acts.Exchange words.State 0 1 w true in
     let granted : t.grant c.call 0 1 ≡ Some kinds.Write = ap (λ (k : Call T). t.grant k 0 1) is ∙ grants.locks in
@@ -257,13 +257,16 @@ step_law {T} t party past c places.Wake hold memory grants called at law =
       tries = tt;
     }
 
--- an act that grants nothing, and does not see the word
-silent :
-    {T P : Type 0} (t : Table T P) (party : ℕ) (past : List (Event T)) (hold : Option HoldKind) (pending : Option (PendingCall T)) (act : Act T) → is_sight words.State act ≡ false → hold_taken t act pending ≡ None →
-    EventLaw t party past hold pending (record { act = act; outcome = thens.GoesOn })
-silent t party past hold None act quiet takes = record { cause = tt; exact = tt; answers = tt; ends = takes; asks = tt; tries = tt }
-silent t party past hold (Some c) act quiet takes =
-    record { cause = tt; exact = λ try sees. let no : true ≡ false = sym sees ∙ quiet in absurd cc; answers = tt; ends = takes; asks = tt; tries = tt }
+-- an act that does not see the word takes no hold
+pub unseen_takes_none : {T P : Type 0} (t : Table T P) (act : Act T) (pending : Option (PendingCall T)) → is_sight words.State act ≡ false → hold_taken t act pending ≡ None
+unseen_takes_none t (acts.Exchange words.State from to found true) (Some c) quiet = absurd cc
+unseen_takes_none t (acts.Swap words.State zero put) (Some c) quiet = absurd cc
+unseen_takes_none t act pending quiet = refl
+
+silent : {T P : Type 0} (t : Table T P) (party : ℕ) (past : List (Event T)) (hold : Option HoldKind) (pending : Option (PendingCall T)) (act : Act T) → is_sight words.State act ≡ false → EventLaw t party past hold pending (record { act = act; outcome = thens.GoesOn })
+silent t party past hold None act quiet = record { cause = tt; exact = tt; answers = tt; ends = unseen_takes_none t act None quiet; asks = tt; tries = tt }
+silent t party past hold (Some c) act quiet =
+    record { cause = tt; exact = λ try sees. let no : true ≡ false = sym sees ∙ quiet in absurd cc; answers = tt; ends = unseen_takes_none t act (Some c) quiet; asks = tt; tries = tt }
 
 event_law :
     {T : Type 0} (z : Arithmetic T) (parties : ℕ) (past : List (Event T)) (e : Event T) → IsPast z mutex_table parties (e ∷ past) →
@@ -273,7 +276,7 @@ event_law {T} z parties past e run =
     let pending = call_of e.party past in
     by_move mutex_table pending hold (word_in mutex_table past) (λ (k : Option (PendingCall T)) (m : Move T). EventLaw mutex_table e.party past hold k m)
     run.0.0 (record { act = e.act; outcome = e.then })
-    (λ call _. silent mutex_table e.party past hold pending (acts.Begun call) refl refl) (λ action _. silent mutex_table e.party past hold pending (acts.Answered action) refl refl) (λ choice _. silent mutex_table e.party past hold pending (acts.Chosen choice) refl refl)
+    (λ call _. silent mutex_table e.party past hold pending (acts.Begun call) refl) (λ action _. silent mutex_table e.party past hold pending (acts.Answered action) refl) (λ choice _. silent mutex_table e.party past hold pending (acts.Chosen choice) refl)
     (λ c place _ called stage.
     step_law mutex_table e.party past c place hold (word_in mutex_table past) (record { locks = refl; tries = refl }) called (at_place z mutex_table parties AtMutex mutex_kept past run.1 e.party c place called stage)
     (lock_word z mutex_table parties (mutex_is_lock z parties) past run.1))
