@@ -21,6 +21,7 @@ use Rattle.steps_events.specs.RwAnswers.{kind_wanted, acts_of, IsRwAnswer, IsAns
 use Rattle.steps_events.proofs.Holds.{hold_of_same}
 use Rattle.steps_events.proofs.Steps.{by_move}
 
+-- a call is for the kind that its like is for
 pub wants : {T : Type 0} (c : PendingCall T) (call : Call T) (kind : HoldKind) → c.call ≡ call → kind_wanted call ≡ Some kind → kind_wanted c.call ≡ Some kind
 wants {T} c call kind is kinds = ap (λ (k : Call T). kind_wanted k) is ∙ kinds
 
@@ -38,6 +39,7 @@ pub turned_away :
 turned_away HasUnlocked calls.Unlock done hold kind wants none = absurd cc
 turned_away HasUnlocked call done hold kind wants none = rw none refl
 
+-- an `Unlock` that has done what makes one
 pub unlocked :
     {T : Type 0} (HasUnlocked : List (Act T) → Type 0) (call : Call T) (done : List (Act T)) (hold : Option HoldKind) → call ≡ calls.Unlock → hold ≡ None → HasUnlocked done →
     IsRwAnswer HasUnlocked call done hold answers.Done

@@ -109,7 +109,7 @@ leaving_leads {T} (places.Read seen to patience) c hold memory number at leaving
 leaving_leads places.TryWrite c hold memory number at leaving = exchange_leads c.own _ number _ (memory words.State == 0) (afters.Ends answers.Interrupted) refl
 leaving_leads {T} (places.Write patience) c hold memory number at leaving = exchange_leads c.own _ number _ (memory words.State == 0) _ (write_tries T patience (memory words.State))
 leaving_leads places.Release c None memory number at leaving = absurd cc
-leaving_leads places.Release c (Some kinds.Read) memory number at leaving = (refl, refl, rw leaving tt)
+leaving_leads places.Release c (Some kinds.Read) memory number at leaving = (refl, refl, rw leaving refl)
 leaving_leads places.Release c (Some kinds.Write) memory number at leaving = (refl, refl, rw leaving refl)
 leaving_leads places.Wake c hold memory number at leaving = tt
 

@@ -1,6 +1,6 @@
 -- What a reader-preferring lock keeps at every front of every run: one writer or only readers, which its word counts, a cause for each
 -- refusal, and how often a call tries.
-use Rattle.std.specs.Prelude.{◌≡◌, ℕ, ◌-◌, ◌^◌, ◌<◌, ◌==◌, ◌↔◌, ◌⊎◌, Bool, true, false, not, if◌then◌else◌, List, [], ◌∷◌, MatchOption}
+use Rattle.std.specs.Prelude.{◌≡◌, ℕ, ◌+◌, ◌-◌, ◌%◌, ◌^◌, ◌<◌, ◌==◌, ◌↔◌, ◌⊎◌, Bool, true, false, not, if◌then◌else◌, List, [], ◌∷◌, MatchOption}
 use Rattle.steps_events.specs.declared.event.Word.TheVariants as words
 use Rattle.steps_events.specs.declared.event.Wake.TheVariants as wakes
 use Rattle.steps_events.specs.declared.event.Call.{Call}
@@ -63,9 +63,9 @@ is_in_vain (acts.Load word seen) = not (lets_readers_in seen)
 is_in_vain (acts.Exchange word from to found false) = if to == 2 ^ 64 - 1 then true else not (lets_readers_in found)
 is_in_vain act = false
 
--- what an `Unlock` has done once it ends, newest first: it has subtracted from the word, or stored 0 there, and has then woken one
+-- what an `Unlock` has done once it ends, newest first: it has subtracted 1 from the word, or stored 0 there, and has then woken one
 abbrev pub HasUnlocked : {T : Type 0} → List (Act T) → Type 0
-HasUnlocked (acts.Woke wakes.One ∷ acts.Add words.State old put ∷ []) = Unit {0}
+HasUnlocked (acts.Woke wakes.One ∷ acts.Add words.State old put ∷ []) = put ≡ (old + (2 ^ 64 - 1)) % 2 ^ 64
 HasUnlocked (acts.Woke wakes.One ∷ acts.Store words.State put ∷ []) = put ≡ 0
 HasUnlocked done = ⊥
 

@@ -37,7 +37,7 @@ use Rattle.steps_rw_writer.proofs.PlaceLaws.{AtRwWriter, rw_writer_kept, asked_n
 -- What a call that leaves has done, newest first.
 
 abbrev HasFreed : {T : Type 0} → Leaver → List (Act T) → Type 0
-HasFreed {T} leavers.Reader done = (put : ℕ) × (done ≡ acts.Add words.State 3 put ∷ [])
+HasFreed leavers.Reader done = done ≡ acts.Add words.State 3 ((3 + (2 ^ 64 - 2)) % 2 ^ 64) ∷ []
 HasFreed leavers.Writer done = done ≡ acts.Store words.State 0 ∷ []
 HasFreed leavers.GivenUp done = Unit {0}
 
@@ -160,10 +160,10 @@ unmarked_leads c hold number seen to w true call free less = (rw (unmark_grants_
 unmarked_leads {T} c hold number seen to w false call free less = tries_lead c.own hold number (acts.Exchange words.State seen to w false) (unmarks_or_leaves w) (unmark_tries T w)
 
 -- a reader's release, by what it found
-read_released : {T : Type 0} (own : List (Event T)) (number w put : ℕ) (b : Bool) → (w == 3) ≡ b → own ≡ [] →
-    Leads {T = T} own None number (acts.Add words.State w put) (cond b (afters.At (places.Count leavers.Reader)) (afters.Ends answers.Done))
-read_released own number w put true is first = (refl, refl, (put, rw (eqb-true w 3 is, first) refl))
-read_released own number w put false is first = tt
+read_released : {T : Type 0} (own : List (Event T)) (number w : ℕ) (b : Bool) → (w == 3) ≡ b → own ≡ [] →
+    Leads {T = T} own None number (acts.Add words.State w ((w + (2 ^ 64 - 2)) % 2 ^ 64)) (cond b (afters.At (places.Count leavers.Reader)) (afters.Ends answers.Done))
+read_released own number w true is first = (refl, refl, rw (eqb-true w 3 is, first) refl)
+read_released own number w false is first = tt
 
 leaving_leads :
     {T : Type 0} (place : RwWriterPlace) (c : PendingCall T) (hold : Option HoldKind) (memory : Word → ℕ) (number : ℕ) → AtRwWriter place c hold → IsLeaving place c.own hold →
@@ -182,7 +182,7 @@ leaving_leads (places.Unmark seen to) c hold memory number at leaving = unmarked
 leaving_leads (places.LoadCounter patience) c hold memory number at leaving = tt
 leaving_leads {T} (places.LastLook count patience) c hold memory number at leaving = tries_lead c.own hold number _ _ (last_tries T count patience (memory words.State))
 leaving_leads places.Release c None memory number at leaving = absurd cc
-leaving_leads places.Release c (Some kinds.Read) memory number at leaving = read_released c.own number (memory words.State) _ (memory words.State == 3) refl leaving
+leaving_leads places.Release c (Some kinds.Read) memory number at leaving = read_released c.own number (memory words.State) (memory words.State == 3) refl leaving
 leaving_leads places.Release c (Some kinds.Write) memory number at leaving = (refl, refl, rw leaving refl)
 leaving_leads (places.Count who) c hold memory number at leaving = (leaving.0, refl, (memory words.Counter, acts_of c.own, leaving.2, refl))
 leaving_leads (places.WakeOne leavers.Reader) c hold memory number at leaving = tt
@@ -247,10 +247,10 @@ unmarks_answers c hold seen to w true wanted free = tt
 unmarks_answers {T} c hold seen to w false wanted free = tries_on HasUnlocked IsEntering c _ hold kinds.Write (unmarks_or_leaves w) wanted free (unmark_tries T w)
 
 read_release_answers :
-    {T : Type 0} (c : PendingCall T) (w put : ℕ) (b : Bool) → (w == 3) ≡ b → c.call ≡ calls.Unlock → c.own ≡ [] →
-    IsAnswered {T = T} HasUnlocked (Some c) (acts.Add words.State w put) (outcome_of {T = T} (cond b (afters.At (places.Count leavers.Reader)) (afters.Ends answers.Done))) None
-read_release_answers c w put true is call first = tt
-read_release_answers c w put false is call first = unlocked HasUnlocked c.call _ None call refl (rw first (eqb-false w 3 is))
+    {T : Type 0} (c : PendingCall T) (w : ℕ) (b : Bool) → (w == 3) ≡ b → c.call ≡ calls.Unlock → c.own ≡ [] →
+    IsAnswered {T = T} HasUnlocked (Some c) (acts.Add words.State w ((w + (2 ^ 64 - 2)) % 2 ^ 64)) (outcome_of {T = T} (cond b (afters.At (places.Count leavers.Reader)) (afters.Ends answers.Done))) None
+read_release_answers c w true is call first = tt
+read_release_answers c w false is call first = unlocked HasUnlocked c.call _ None call refl (rw first (eqb-false w 3 is, refl))
 
 step_answers :
     {T : Type 0} (place : RwWriterPlace) (c : PendingCall T) (hold : Option HoldKind) (memory : Word → ℕ) → AtRwWriter place c hold → IsLeaving place c.own hold →
@@ -282,12 +282,12 @@ step_answers (places.LoadCounter patience) c hold memory at leaving = tt
 step_answers {T} (places.LastLook count patience) c hold memory at leaving =
     tries_on HasUnlocked IsEntering c _ hold kinds.Write (last_look count patience (memory words.State)) (wants c calls.WriteLock kinds.Write at.0 refl) at.1 (last_tries T count patience (memory words.State))
 step_answers places.Release c None memory at leaving = absurd cc
-step_answers places.Release c (Some kinds.Read) memory at leaving = read_release_answers c (memory words.State) _ (memory words.State == 3) refl at.0 leaving
+step_answers places.Release c (Some kinds.Read) memory at leaving = read_release_answers c (memory words.State) (memory words.State == 3) refl at.0 leaving
 step_answers places.Release c (Some kinds.Write) memory at leaving = tt
 step_answers (places.Count who) c hold memory at leaving = tt
 step_answers (places.WakeOne leavers.Reader) c hold memory at leaving =
     let counted : HasCounted leavers.Reader (acts_of c.own) = leaving.2 in
-    unlocked HasUnlocked c.call _ hold at leaving.0 (rw (counted.3, counted.2.1) (refl, refl))
+    unlocked HasUnlocked c.call _ hold at leaving.0 (rw (counted.3, counted.2) (refl, refl, refl))
 step_answers (places.WakeOne leavers.Writer) c hold memory at leaving = tt
 step_answers (places.WakeOne leavers.GivenUp) c hold memory at leaving = tt
 step_answers (places.WakeAll leavers.Reader) c hold memory at leaving = absurd leaving.2

@@ -160,8 +160,9 @@ TellsClosure (e ∷ past) = MatchOption (call_of e.party past) (Unit {0}) (λ c.
 -- What an `Unlock` has done once it ends, newest first. A reader's: it has subtracted 2 from the word; where it found 3, it has then counted,
 -- and woken one. The writer's: it has stored 0, then counted, then woken one, then all.
 abbrev pub HasUnlocked : {T : Type 0} → List (Act T) → Type 0
-HasUnlocked (acts.Add words.State old put ∷ []) = old ≢ 3
-HasUnlocked (acts.Woke wakes.One ∷ acts.Add words.Counter count next ∷ acts.Add words.State old put ∷ []) = (old ≡ 3) × (next ≡ (count + 1) % 2 ^ 64)
+HasUnlocked (acts.Add words.State old put ∷ []) = (old ≢ 3) × (put ≡ (old + (2 ^ 64 - 2)) % 2 ^ 64)
+HasUnlocked (acts.Woke wakes.One ∷ acts.Add words.Counter count next ∷ acts.Add words.State old put ∷ []) =
+    (old ≡ 3) × (put ≡ (old + (2 ^ 64 - 2)) % 2 ^ 64) × (next ≡ (count + 1) % 2 ^ 64)
 HasUnlocked (acts.Woke wakes.All ∷ acts.Woke wakes.One ∷ acts.Add words.Counter count next ∷ acts.Store words.State put ∷ []) = (put ≡ 0) × (next ≡ (count + 1) % 2 ^ 64)
 HasUnlocked done = ⊥
 
