@@ -10,7 +10,7 @@ test_streams() {
         fi
     done
     if is_built "$drawer"; then
-        wants_streams "$drawer"
+        wants_streams "$drawer" out
         draws_at_length
     fi
     if is_built sync-play; then
