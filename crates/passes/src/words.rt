@@ -3,19 +3,34 @@ ghost use Rattle.std.specs.Prelude.{◌≡◌, ◌<◌, ◌+◌, ◌-◌, ◌%�
 ghost use prog.Atomic.{either};
 
 use crate::deed::Deed;
+use crate::object::Object;
 use crate::pass::Pass;
 use crate::rule::{Rule, SumRule};
 use crate::view::View;
 use atomic_table::{Play, Shared, Table};
 use std::alloc::{AllocError, Allocator, Global};
 use std::marker::Brand;
+use std::ops::Deref;
 
-/// The words of an object under its rule. A step on one tells what its `Deed` says, where it keeps the rule.
+/// The words of an object under its rule. A step on one tells what its `Deed` says, where it keeps the rule. A type keeps them to
+/// itself: who has them can make steps that tell what is not so, though none that breaks the rule.
 #[derive(Drop)]
 pub struct Words<K, T: Rule<(), K>, A: Allocator = Global> {
-    pub(crate) table: Table<(), View<T>, K, SumRule<T>, A>,
-    ghost some_word: { 0 < table.shared.table_id.words },
-    ghost no_slot: { table.shared.table_id.slots ≡ 0 },
+    object: Object<K, T, A>,
+}
+
+/// The object that has these words.
+impl<K, T: Rule<(), K>, A: Allocator> Deref for Words<K, T, A> {
+    ghost use Rattle.passes.specs.Objects.{object};
+
+    type Target = Object<K, T, A>;
+
+    #[inline(always)]
+    fn deref(&self) -> &Object<K, T, A>
+        ensures { result.now ≡ object self.now }
+    {
+        &self.object
+    }
 }
 
 /// One of the words, which can be loaded, and no more.
@@ -55,7 +70,8 @@ impl<K, T: Rule<(), K>, A: Allocator> Words<K, T, A> {
         ensures first { IfOk result (λ made. view made.1 ≡ first_view (T.first key.now)) }
     {
         let (table, seat) = Table::of_words(alloc, words, key)?;
-        Ok((Words { table }, Pass { seat }))
+        let object = Object { table };
+        Ok((Words { object }, Pass { seat }))
     }
 
     /// The word at this index, as closures see it.
@@ -65,7 +81,7 @@ impl<K, T: Rule<(), K>, A: Allocator> Words<K, T, A> {
         ensures which { IsWordOf self.now index result }
     {
         Word {
-            shared: &self.table.shared,
+            shared: &self.object.table.shared,
             index,
         }
     }
@@ -79,7 +95,7 @@ impl<K, T: Rule<(), K>, A: Allocator> Words<K, T, A> {
         ensures same { IsSamePass pass.old pass.new }
         ensures told { D.tells (key_of self.now) 0 0 (view pass.old) result (view pass.new) }
     {
-        let shared = &self.table.shared;
+        let shared = &self.object.table.shared;
         shared.load::<Brand>(&mut pass.seat, word)
     }
 
@@ -92,7 +108,7 @@ impl<K, T: Rule<(), K>, A: Allocator> Words<K, T, A> {
         ensures same { IsSamePass pass.old pass.new }
         ensures told { D.tells (key_of self.now) new 0 (view pass.old) new (view pass.new) }
     {
-        let shared = &self.table.shared;
+        let shared = &self.object.table.shared;
         shared.store::<Brand>(&mut pass.seat, word, new);
     }
 
@@ -111,7 +127,7 @@ impl<K, T: Rule<(), K>, A: Allocator> Words<K, T, A> {
         ensures same { IsSamePass pass.old pass.new }
         ensures told { D.tells (key_of self.now) old new (view pass.old) result (view pass.new) }
     {
-        let shared = &self.table.shared;
+        let shared = &self.object.table.shared;
         shared.compare_exchange::<Brand>(&mut pass.seat, word, old, new)
     }
 
@@ -124,7 +140,7 @@ impl<K, T: Rule<(), K>, A: Allocator> Words<K, T, A> {
         ensures same { IsSamePass pass.old pass.new }
         ensures told { D.tells (key_of self.now) more 0 (view pass.old) result (view pass.new) }
     {
-        let shared = &self.table.shared;
+        let shared = &self.object.table.shared;
         shared.fetch_add::<Brand>(&mut pass.seat, word, more)
     }
 
@@ -137,7 +153,7 @@ impl<K, T: Rule<(), K>, A: Allocator> Words<K, T, A> {
         ensures same { IsSamePass pass.old pass.new }
         ensures told { D.tells (key_of self.now) less 0 (view pass.old) result (view pass.new) }
     {
-        let shared = &self.table.shared;
+        let shared = &self.object.table.shared;
         shared.fetch_sub::<Brand>(&mut pass.seat, word, less)
     }
 
@@ -147,7 +163,7 @@ impl<K, T: Rule<(), K>, A: Allocator> Words<K, T, A> {
         requires inside { word < count_of self }
         ensures exact { IsWhole (part_of pass) → HasClosed (T.agrees (key_of self)) (tally_of pass) word result }
     {
-        let Words { table } = self;
+        let Object { table } = self.object;
         let Pass { seat } = pass;
         let closed = table.close_with(seat);
         let found = closed.word(word);

@@ -10,7 +10,7 @@ ghost use Rattle.passes.specs.Objects.{count_of as words_of, key_of};
 ghost use Rattle.running_barrier.specs.BarrierSteps.{OpenRoundsAreFull};
 ghost use Rattle.steps_barrier.specs.Rounds.{epoch_of, count_of};
 
-use passes::{Deed, Pass, Words, wake};
+use passes::{Deed, Object, Pass, Words, wake};
 use std::alloc::{AllocError, Allocator, Global};
 use std::hint::spin_loop;
 use std::ops::Deref;
@@ -28,13 +28,15 @@ pub struct Barrier<A: Allocator = Global> {
     ghost waiters: { key_of words ≡ number_of_waiters },
 }
 
-/// The words of a barrier, at which its passes are split and joined.
+/// At a barrier its passes are split and joined.
 impl<A: Allocator> Deref for Barrier<A> {
-    type Target = Words<u32, Rounds, A>;
+    ghost use Rattle.passes.specs.Objects.{object};
+
+    type Target = Object<u32, Rounds, A>;
 
     #[inline(always)]
-    fn deref(&self) -> &Words<u32, Rounds, A>
-        ensures { result.now ≡ self.now.words }
+    fn deref(&self) -> &Object<u32, Rounds, A>
+        ensures { result.now ≡ object self.now.words }
     {
         &self.words
     }

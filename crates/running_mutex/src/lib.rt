@@ -12,7 +12,7 @@ ghost use Rattle.running_mutex.specs.MutexSteps.{OneHolder};
 
 pub mod condition_variable;
 
-use passes::{Attempt, Deed, Pass, WaitResult, Words, try_again, wake};
+use passes::{Attempt, Deed, Object, Pass, WaitResult, Words, try_again, wake};
 use std::alloc::{AllocError, Allocator, Global};
 use std::ops::Deref;
 use std::sync::Wait;
@@ -27,13 +27,15 @@ pub struct Mutex<A: Allocator = Global> {
     ghost one_word: { count_of words ≡ 1 },
 }
 
-/// The words of a mutex, at which its passes are split and joined.
+/// At a mutex its passes are split and joined.
 impl<A: Allocator> Deref for Mutex<A> {
-    type Target = Words<(), Holds, A>;
+    ghost use Rattle.passes.specs.Objects.{object};
+
+    type Target = Object<(), Holds, A>;
 
     #[inline(always)]
-    fn deref(&self) -> &Words<(), Holds, A>
-        ensures { result.now ≡ self.now.words }
+    fn deref(&self) -> &Object<(), Holds, A>
+        ensures { result.now ≡ object self.now.words }
     {
         &self.words
     }

@@ -5,7 +5,7 @@ ghost use Rattle.passes.specs.Objects.{count_of};
 ghost use Rattle.running_rwlock.specs.RwReaderSteps.{NoHoldBesideAWriteHold};
 
 use crate::hold::{ReadHold, RwHold, WriteHold};
-use passes::{Attempt, Deed, Pass, WaitResult, Words, try_again, wake};
+use passes::{Attempt, Deed, Object, Pass, WaitResult, Words, try_again, wake};
 use std::alloc::{AllocError, Allocator, Global};
 use std::ops::Deref;
 use std::sync::Wait;
@@ -20,13 +20,15 @@ pub struct RwLockReaderPreference<A: Allocator = Global> {
     ghost one_word: { count_of words ≡ 1 },
 }
 
-/// The words of a lock, at which its passes are split and joined.
+/// At a lock its passes are split and joined.
 impl<A: Allocator> Deref for RwLockReaderPreference<A> {
-    type Target = Words<(), Held<()>, A>;
+    ghost use Rattle.passes.specs.Objects.{object};
+
+    type Target = Object<(), Held<()>, A>;
 
     #[inline(always)]
-    fn deref(&self) -> &Words<(), Held<()>, A>
-        ensures { result.now ≡ self.now.words }
+    fn deref(&self) -> &Object<(), Held<()>, A>
+        ensures { result.now ≡ object self.now.words }
     {
         &self.words
     }
