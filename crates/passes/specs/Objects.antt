@@ -3,34 +3,33 @@ use Rattle.std.specs.Prelude.{◌≡◌, ℕ, List, slice_index}
 use mathlib.Core.Option as maybe
 use Rattle.atomic_table.specs.Seated.{TableId}
 use Rattle.passes.specs.declared.pass.Pass.{Pass}
-use Rattle.passes.specs.declared.object.Object.{Object}
+use Rattle.passes.specs.declared.origin.Origin.{Origin}
 use Rattle.passes.specs.declared.words.Words.{Words}
 use Rattle.passes.specs.declared.words.Word.{Word}
 use Rattle.passes.specs.Passes.{object_of}
 
 module _ {K T A : Type 0} where
-  -- the object that has these words
-  abbrev pub object : Words K T A → Object K T A
-  object w = w.object
+  -- what the passes of these words come from
+  abbrev pub origin : Words K T A → Origin K T A
+  origin w = w.origin
 
-  -- the pass belongs to the object
-  abbrev pub IsPassAt : Object K T A → Pass T → Type 0
-  IsPassAt o p = object_of p ≡ o.table.shared.table_id
+  -- the pass comes from there
+  abbrev pub IsPassFrom : Origin K T A → Pass T → Type 0
+  IsPassFrom o p = object_of p ≡ o.table.shared.table_id
 
   abbrev pub id_of : Words K T A → TableId
-  id_of w = w.object.table.shared.table_id
+  id_of w = w.origin.table.shared.table_id
 
-  -- the pass belongs to the object that has these words
   abbrev pub IsPassOf : Words K T A → Pass T → Type 0
   IsPassOf w p = object_of p ≡ id_of w
 
   -- the key that the rule reads
   abbrev pub key_of : Words K T A → K
-  key_of w = w.object.table.shared.key
+  key_of w = w.origin.table.shared.key
 
   -- how many words there are
   abbrev pub count_of : Words K T A → ℕ
-  count_of w = w.object.table.shared.table_id.words
+  count_of w = w.origin.table.shared.table_id.words
 
   -- the word at this index
   abbrev pub IsWordOf : Words K T A → ℕ → Word K T → Type 0

@@ -7,7 +7,7 @@
 
 mod attempt;
 mod deed;
-mod object;
+mod origin;
 mod part;
 mod pass;
 mod rule;
@@ -20,7 +20,7 @@ mod words;
 
 pub use attempt::{Attempt, try_again};
 pub use deed::Deed;
-pub use object::Object;
+pub use origin::Origin;
 pub use part::{Part, Sights};
 pub use pass::Pass;
 pub use rule::{Rule, SumRule};

@@ -1,7 +1,7 @@
 //! The right to call an object.
 ghost use Rattle.std.specs.Prelude.{◌≡◌, ◌<◌, []};
 
-use crate::object::Object;
+use crate::origin::Origin;
 use crate::rule::Rule;
 use crate::tally::Tally;
 use crate::view::View;
@@ -42,16 +42,16 @@ impl<T: Tally> Pass<T> {
     ghost use Rattle.passes.specs.Parts.{half, IsAgain, IsSamePart, AddUp};
     ghost use Rattle.passes.specs.Views.{left_view, right_view, joined_view};
     ghost use Rattle.passes.specs.Passes.{part_of, view};
-    ghost use Rattle.passes.specs.Objects.{IsPassAt};
+    ghost use Rattle.passes.specs.Objects.{IsPassFrom};
 
     /// Two passes of the same object. What they counted adds up to what this one had counted, and both know what it knew; they weigh
     /// together what it weighed. `Err`, which never comes today, would hand the pass back.
-    pub fn split<K, A: Allocator>(self, of: &Object<K, T, A>) -> Result<(Pass<T>, Pass<T>), Pass<T>>
+    pub fn split<K, A: Allocator>(self, of: &Origin<K, T, A>) -> Result<(Pass<T>, Pass<T>), Pass<T>>
     where
         T: Rule<(), K>,
-        requires own { IsPassAt of.now self }
+        requires own { IsPassFrom of.now self }
         ensures never_refused { is_ok result ≡ true }
-        ensures own { IfOk result (λ parts. IsPassAt of.now parts.0 × IsPassAt of.now parts.1) }
+        ensures own { IfOk result (λ parts. IsPassFrom of.now parts.0 × IsPassFrom of.now parts.1) }
         ensures views { IfOk result (λ parts. (view parts.0 ≡ left_view (view self)) × (view parts.1 ≡ right_view T.core (view self))) }
         ensures weights { IfOk result (λ parts. AddUp (part_of self) (part_of parts.0) (part_of parts.1)) }
     {
@@ -65,13 +65,13 @@ impl<T: Tally> Pass<T> {
     pub fn join<K, A: Allocator>(
         a: Pass<T>,
         b: Pass<T>,
-        of: &Object<K, T, A>,
+        of: &Origin<K, T, A>,
     ) -> Result<Pass<T>, (Pass<T>, Pass<T>)>
     where
         T: Rule<(), K>,
-        requires own { IsPassAt of.now a × IsPassAt of.now b }
+        requires own { IsPassFrom of.now a × IsPassFrom of.now b }
         ensures never_refused { is_ok result ≡ true }
-        ensures own { IfOk result (IsPassAt of.now) }
+        ensures own { IfOk result (IsPassFrom of.now) }
         ensures views { IfOk result (λ both. view both ≡ joined_view T.add (view a) (view b)) }
         ensures weights { IfOk result (λ both. AddUp (part_of both) (part_of a) (part_of b)) }
         ensures again { (p : Part) → IsSamePart (part_of a) (half p) → IsSamePart (part_of b) (half p) → IfOk result (λ both. IsAgain p (part_of both)) }

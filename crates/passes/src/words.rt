@@ -3,7 +3,7 @@ ghost use Rattle.std.specs.Prelude.{◌≡◌, ◌<◌, ◌+◌, ◌-◌, ◌%�
 ghost use prog.Atomic.{either};
 
 use crate::deed::Deed;
-use crate::object::Object;
+use crate::origin::Origin;
 use crate::pass::Pass;
 use crate::rule::{Rule, SumRule};
 use crate::view::View;
@@ -16,20 +16,20 @@ use std::ops::Deref;
 /// itself: who has them can make steps that tell what is not so, though none that breaks the rule.
 #[derive(Drop)]
 pub struct Words<K, T: Rule<(), K>, A: Allocator = Global> {
-    object: Object<K, T, A>,
+    origin: Origin<K, T, A>,
 }
 
-/// The object that has these words.
+/// What the passes of these words come from.
 impl<K, T: Rule<(), K>, A: Allocator> Deref for Words<K, T, A> {
-    ghost use Rattle.passes.specs.Objects.{object};
+    ghost use Rattle.passes.specs.Objects.{origin};
 
-    type Target = Object<K, T, A>;
+    type Target = Origin<K, T, A>;
 
     #[inline(always)]
-    fn deref(&self) -> &Object<K, T, A>
-        ensures { result.now ≡ object self.now }
+    fn deref(&self) -> &Origin<K, T, A>
+        ensures { result.now ≡ origin self.now }
     {
-        &self.object
+        &self.origin
     }
 }
 
@@ -70,8 +70,8 @@ impl<K, T: Rule<(), K>, A: Allocator> Words<K, T, A> {
         ensures first { IfOk result (λ made. view made.1 ≡ first_view (T.first key.now)) }
     {
         let (table, seat) = Table::of_words(alloc, words, key)?;
-        let object = Object { table };
-        Ok((Words { object }, Pass { seat }))
+        let origin = Origin { table };
+        Ok((Words { origin }, Pass { seat }))
     }
 
     /// The word at this index, as closures see it.
@@ -81,7 +81,7 @@ impl<K, T: Rule<(), K>, A: Allocator> Words<K, T, A> {
         ensures which { IsWordOf self.now index result }
     {
         Word {
-            shared: &self.object.table.shared,
+            shared: &self.origin.table.shared,
             index,
         }
     }
@@ -95,7 +95,7 @@ impl<K, T: Rule<(), K>, A: Allocator> Words<K, T, A> {
         ensures same { IsSamePass pass.old pass.new }
         ensures told { D.tells (key_of self.now) 0 0 (view pass.old) result (view pass.new) }
     {
-        let shared = &self.object.table.shared;
+        let shared = &self.origin.table.shared;
         shared.load::<Brand>(&mut pass.seat, word)
     }
 
@@ -108,7 +108,7 @@ impl<K, T: Rule<(), K>, A: Allocator> Words<K, T, A> {
         ensures same { IsSamePass pass.old pass.new }
         ensures told { D.tells (key_of self.now) new 0 (view pass.old) new (view pass.new) }
     {
-        let shared = &self.object.table.shared;
+        let shared = &self.origin.table.shared;
         shared.store::<Brand>(&mut pass.seat, word, new);
     }
 
@@ -127,7 +127,7 @@ impl<K, T: Rule<(), K>, A: Allocator> Words<K, T, A> {
         ensures same { IsSamePass pass.old pass.new }
         ensures told { D.tells (key_of self.now) old new (view pass.old) result (view pass.new) }
     {
-        let shared = &self.object.table.shared;
+        let shared = &self.origin.table.shared;
         shared.compare_exchange::<Brand>(&mut pass.seat, word, old, new)
     }
 
@@ -140,7 +140,7 @@ impl<K, T: Rule<(), K>, A: Allocator> Words<K, T, A> {
         ensures same { IsSamePass pass.old pass.new }
         ensures told { D.tells (key_of self.now) more 0 (view pass.old) result (view pass.new) }
     {
-        let shared = &self.object.table.shared;
+        let shared = &self.origin.table.shared;
         shared.fetch_add::<Brand>(&mut pass.seat, word, more)
     }
 
@@ -153,7 +153,7 @@ impl<K, T: Rule<(), K>, A: Allocator> Words<K, T, A> {
         ensures same { IsSamePass pass.old pass.new }
         ensures told { D.tells (key_of self.now) less 0 (view pass.old) result (view pass.new) }
     {
-        let shared = &self.object.table.shared;
+        let shared = &self.origin.table.shared;
         shared.fetch_sub::<Brand>(&mut pass.seat, word, less)
     }
 
@@ -163,7 +163,7 @@ impl<K, T: Rule<(), K>, A: Allocator> Words<K, T, A> {
         requires inside { word < count_of self }
         ensures exact { IsWhole (part_of pass) → HasClosed (T.agrees (key_of self)) (tally_of pass) word result }
     {
-        let Object { table } = self.object;
+        let Origin { table } = self.origin;
         let Pass { seat } = pass;
         let closed = table.close_with(seat);
         let found = closed.word(word);

@@ -10,7 +10,7 @@ ghost use Rattle.passes.specs.Objects.{count_of as words_of, key_of};
 ghost use Rattle.running_barrier.specs.BarrierSteps.{OpenRoundsAreFull};
 ghost use Rattle.steps_barrier.specs.Rounds.{epoch_of, count_of};
 
-use passes::{Deed, Object, Pass, Words, wake};
+use passes::{Deed, Origin, Pass, Words, wake};
 use std::alloc::{AllocError, Allocator, Global};
 use std::hint::spin_loop;
 use std::ops::Deref;
@@ -28,15 +28,15 @@ pub struct Barrier<A: Allocator = Global> {
     ghost waiters: { key_of words ≡ number_of_waiters },
 }
 
-/// At a barrier its passes are split and joined.
+/// What the passes of a barrier come from, at which they are split and joined.
 impl<A: Allocator> Deref for Barrier<A> {
-    ghost use Rattle.passes.specs.Objects.{object};
+    ghost use Rattle.passes.specs.Objects.{origin};
 
-    type Target = Object<u32, Rounds, A>;
+    type Target = Origin<u32, Rounds, A>;
 
     #[inline(always)]
-    fn deref(&self) -> &Object<u32, Rounds, A>
-        ensures { result.now ≡ object self.now.words }
+    fn deref(&self) -> &Origin<u32, Rounds, A>
+        ensures { result.now ≡ origin self.now.words }
     {
         &self.words
     }

@@ -12,7 +12,7 @@ ghost use Rattle.running_mutex.specs.MutexSteps.{OneHolder};
 
 pub mod condition_variable;
 
-use passes::{Attempt, Deed, Object, Pass, WaitResult, Words, try_again, wake};
+use passes::{Attempt, Deed, Origin, Pass, WaitResult, Words, try_again, wake};
 use std::alloc::{AllocError, Allocator, Global};
 use std::ops::Deref;
 use std::sync::Wait;
@@ -27,15 +27,15 @@ pub struct Mutex<A: Allocator = Global> {
     ghost one_word: { count_of words ≡ 1 },
 }
 
-/// At a mutex its passes are split and joined.
+/// What the passes of a mutex come from, at which they are split and joined.
 impl<A: Allocator> Deref for Mutex<A> {
-    ghost use Rattle.passes.specs.Objects.{object};
+    ghost use Rattle.passes.specs.Objects.{origin};
 
-    type Target = Object<(), Holds, A>;
+    type Target = Origin<(), Holds, A>;
 
     #[inline(always)]
-    fn deref(&self) -> &Object<(), Holds, A>
-        ensures { result.now ≡ object self.now.words }
+    fn deref(&self) -> &Origin<(), Holds, A>
+        ensures { result.now ≡ origin self.now.words }
     {
         &self.words
     }

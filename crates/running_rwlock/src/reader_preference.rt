@@ -5,7 +5,7 @@ ghost use Rattle.passes.specs.Objects.{count_of};
 ghost use Rattle.running_rwlock.specs.RwReaderSteps.{NoHoldBesideAWriteHold};
 
 use crate::hold::{ReadHold, RwHold, WriteHold};
-use passes::{Attempt, Deed, Object, Pass, WaitResult, Words, try_again, wake};
+use passes::{Attempt, Deed, Origin, Pass, WaitResult, Words, try_again, wake};
 use std::alloc::{AllocError, Allocator, Global};
 use std::ops::Deref;
 use std::sync::Wait;
@@ -20,15 +20,15 @@ pub struct RwLockReaderPreference<A: Allocator = Global> {
     ghost one_word: { count_of words ≡ 1 },
 }
 
-/// At a lock its passes are split and joined.
+/// What the passes of a lock come from, at which they are split and joined.
 impl<A: Allocator> Deref for RwLockReaderPreference<A> {
-    ghost use Rattle.passes.specs.Objects.{object};
+    ghost use Rattle.passes.specs.Objects.{origin};
 
-    type Target = Object<(), Held<()>, A>;
+    type Target = Origin<(), Held<()>, A>;
 
     #[inline(always)]
-    fn deref(&self) -> &Object<(), Held<()>, A>
-        ensures { result.now ≡ object self.now.words }
+    fn deref(&self) -> &Origin<(), Held<()>, A>
+        ensures { result.now ≡ origin self.now.words }
     {
         &self.words
     }

@@ -6,7 +6,7 @@
 ghost use Rattle.std.specs.Prelude.{◌≡◌, ◌<◌, ◌≤◌, IfOk};
 ghost use Rattle.passes.specs.Objects.{count_of};
 
-use passes::{Attempt, Deed, Object, Pass, WaitResult, Words, success_if, try_again, wake};
+use passes::{Attempt, Deed, Origin, Pass, WaitResult, Words, success_if, try_again, wake};
 use std::alloc::{AllocError, Allocator, Global};
 use std::ops::Deref;
 use std::sync::Wait;
@@ -21,15 +21,15 @@ pub struct Semaphore<A: Allocator = Global> {
     ghost one_word: { count_of words ≡ 1 },
 }
 
-/// At a semaphore its passes are split and joined.
+/// What the passes of a semaphore come from, at which they are split and joined.
 impl<A: Allocator> Deref for Semaphore<A> {
-    ghost use Rattle.passes.specs.Objects.{object};
+    ghost use Rattle.passes.specs.Objects.{origin};
 
-    type Target = Object<u64, Permits, A>;
+    type Target = Origin<u64, Permits, A>;
 
     #[inline(always)]
-    fn deref(&self) -> &Object<u64, Permits, A>
-        ensures { result.now ≡ object self.now.words }
+    fn deref(&self) -> &Origin<u64, Permits, A>
+        ensures { result.now ≡ origin self.now.words }
     {
         &self.words
     }

@@ -1,4 +1,4 @@
-//! An object, as its users have it.
+//! Where the passes of an object come from.
 ghost use Rattle.std.specs.Prelude.{◌≡◌, ◌<◌};
 
 use crate::rule::{Rule, SumRule};
@@ -6,10 +6,10 @@ use crate::view::View;
 use atomic_table::Table;
 use std::alloc::{Allocator, Global};
 
-/// An object, as its users have it: its passes are split and joined here, and no step can be made. A type over `Words` gives it by
-/// `Deref`.
+/// What the passes of an object come from: they are split and joined here, and no step can be made. A type over `Words` gives it to
+/// its users by `Deref`.
 #[derive(Drop)]
-pub struct Object<K, T: Rule<(), K>, A: Allocator = Global> {
+pub struct Origin<K, T: Rule<(), K>, A: Allocator = Global> {
     pub(crate) table: Table<(), View<T>, K, SumRule<T>, A>,
     ghost some_word: { 0 < table.shared.table_id.words },
     ghost no_slot: { table.shared.table_id.slots ≡ 0 },
