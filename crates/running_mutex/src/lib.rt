@@ -11,6 +11,8 @@ ghost use Rattle.passes.specs.Passes.{tally_of};
 ghost use Rattle.running_mutex.specs.MutexSteps.{OneHolder};
 
 pub mod condition_variable;
+#[cfg(test)]
+mod tests;
 
 use passes::{Attempt, Deed, Origin, Pass, WaitResult, Words, try_again, wake};
 use std::alloc::{AllocError, Allocator, Global};

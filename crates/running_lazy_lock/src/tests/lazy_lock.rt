@@ -1,0 +1,137 @@
+//! The running lazy value.
+mod gives;
+
+use crate::LazyLock;
+use linked_list_allocator::LocalHeap;
+use std::sync::atomic::{AtomicU64, Ordering};
+use std::test::Fail;
+use std::thread;
+
+#[test]
+fn a_value_is_made_once_and_read_twice(rt: HostRuntime) -> Result<(), Fail> {
+    let calls = AtomicU64::new(0);
+    let made = LazyLock::new(rt.alloc(), || -> u64 {
+        calls.fetch_add(1, Ordering::SeqCst);
+        42
+    });
+    let Ok((lazy, mut pass)) = made else {
+        return Err("no memory")?;
+    };
+    assert_eq!(rt; calls.load(Ordering::SeqCst), 0);
+    assert_eq!(rt; *LazyLock::force(&lazy, &rt, &mut pass), 42);
+    assert_eq!(rt; *LazyLock::force(&lazy, &rt, &mut pass), 42);
+    assert_eq!(rt; calls.load(Ordering::SeqCst), 1);
+    Ok(())
+}
+
+#[test]
+fn two_threads_force_one_value(rt: HostRuntime) -> Result<(), Fail> {
+    let calls = AtomicU64::new(0);
+    let made = LazyLock::new(rt.alloc(), || -> u64 {
+        calls.fetch_add(1, Ordering::SeqCst);
+        thread::yield_now();
+        42
+    });
+    let Ok((lazy, pass)) = made else {
+        return Err("no memory")?;
+    };
+    let Ok((mut one, mut two)) = pass.split(&lazy) else {
+        unreachable!()
+    };
+    let (first, second) = thread::join(
+        &rt,
+        || *LazyLock::force(&lazy, &rt, &mut one),
+        || *LazyLock::force(&lazy, &rt, &mut two),
+    );
+    assert_eq!(rt; (first, second), (42, 42));
+    assert_eq!(rt; calls.load(Ordering::SeqCst), 1);
+    Ok(())
+}
+
+/// Counts how often it is dropped.
+struct Counted<'c> {
+    drops: &'c AtomicU64,
+}
+
+impl Drop for Counted<'_> {
+    fn drop(self) {
+        self.drops.fetch_add(1, Ordering::SeqCst);
+        let Counted { drops: _ } = self;
+    }
+}
+
+#[test]
+fn a_made_value_is_dropped_with_the_lock(rt: HostRuntime) -> Result<(), Fail> {
+    let drops = AtomicU64::new(0);
+    let Ok((lazy, mut pass)) = LazyLock::new(rt.alloc(), || Counted { drops: &drops }) else {
+        return Err("no memory")?;
+    };
+    LazyLock::force(&lazy, &rt, &mut pass);
+    LazyLock::force(&lazy, &rt, &mut pass);
+    assert_eq!(rt; drops.load(Ordering::SeqCst), 0);
+    drop(lazy);
+    assert_eq!(rt; drops.load(Ordering::SeqCst), 1);
+    Ok(())
+}
+
+#[test]
+fn a_closure_that_never_ran_is_dropped_with_the_lock(rt: HostRuntime) -> Result<(), Fail> {
+    let drops = AtomicU64::new(0);
+    let held = Counted { drops: &drops };
+    let made = LazyLock::<u64, _>::new(rt.alloc(), move || -> u64 {
+        drop(held);
+        42
+    });
+    let Ok((lazy, _pass)) = made else {
+        return Err("no memory")?;
+    };
+    assert_eq!(rt; drops.load(Ordering::SeqCst), 0);
+    drop(lazy);
+    assert_eq!(rt; drops.load(Ordering::SeqCst), 1);
+    Ok(())
+}
+
+/// The once is two blocks of 16 bytes, and the closure's lock three.
+#[test]
+fn a_lazy_value_that_finds_no_memory_hands_its_closure_back(rt: HostRuntime) -> Result<(), Fail> {
+    for (size, room) in [
+        (0, false),
+        (16, false),
+        (32, false),
+        (48, false),
+        (64, false),
+        (80, true),
+    ] {
+        let heap = LocalHeap::new(rt.alloc(), size)?;
+        match LazyLock::new(&heap, || -> u64 { 42 }) {
+            Ok((lazy, mut pass)) => {
+                assert!(rt; room);
+                assert_eq!(rt; *LazyLock::force(&lazy, &rt, &mut pass), 42);
+                drop(lazy);
+            }
+            Err((_, closure)) => {
+                assert!(rt; !room);
+                assert_eq!(rt; closure(), 42);
+            }
+        }
+        assert_eq!(rt; heap.used(), 0);
+    }
+    Ok(())
+}
+
+fn shared<X: Sync>(_: &X) {}
+
+/// A lazy value may be shared also where its closure may only be moved from thread to thread.
+fn shared_where_it_moves<T: Send + Sync, F: Send>(lazy: &LazyLock<T, F>) {
+    shared(lazy);
+}
+
+#[test]
+fn a_lazy_value_is_shared_where_its_closure_moves(rt: HostRuntime) -> Result<(), Fail> {
+    let Ok((lazy, mut pass)) = LazyLock::new(rt.alloc(), || -> u64 { 42 }) else {
+        return Err("no memory")?;
+    };
+    shared_where_it_moves(&lazy);
+    assert_eq!(rt; *LazyLock::force(&lazy, &rt, &mut pass), 42);
+    Ok(())
+}
