@@ -5,6 +5,7 @@ use Rattle.passes.specs.declared.view.View.{View}
 use Rattle.running_once.specs.declared.Runs.{Runs}
 use Rattle.running_once.specs.declared.OncePass.{OncePass}
 use Rattle.running_once.specs.OnceShown as once
+use Rattle.running_spin_lock.specs.declared.hold.SpinHolds.{SpinHolds}
 use Rattle.running_spin_lock.specs.declared.pass.SpinPass.{SpinPass}
 use Rattle.running_spin_lock.specs.SpinShown as spin
 use Rattle.running_lazy_lock.specs.declared.pass.LazyPass.{LazyPass}
@@ -20,12 +21,19 @@ init_in p = p.init
 abbrev pub IsLazyPass : {T F G A : Type 0} → LazyLock T F G A → LazyPass → Type 0
 IsLazyPass l p = once.IsOncePass l.once (once_in p) × spin.IsSpinPass l.init (init_in p)
 
--- what the pass knows of the once
+-- what the pass knows of the once, and of the closure's lock
 abbrev pub known_by : LazyPass → View Runs
 known_by p = once.known_by (once_in p)
 
+abbrev pub known_of_init : LazyPass → View SpinHolds
+known_of_init p = spin.view (init_in p)
+
+-- what it weighs of each
 abbrev pub part_of : LazyPass → Part
 part_of p = once.part_of_once (once_in p)
+
+abbrev pub part_of_init : LazyPass → Part
+part_of_init p = spin.part_of (init_in p)
 
 -- how many closures its owner ran to their end: 0 or 1
 abbrev pub ended_of : LazyPass → ℕ

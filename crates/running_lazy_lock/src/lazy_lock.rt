@@ -22,15 +22,16 @@ pub struct LazyLock<T, F = fn() -> T, G: Gives<T, F> = Brand, A: Allocator = Glo
 }
 
 impl<T: Drop, F: Drop, A: Allocator + Clone> LazyLock<T, F, Brand, A> {
-    ghost use Rattle.running_lazy_lock.specs.LazyShown.{IsLazyPass, known_by};
+    ghost use Rattle.running_lazy_lock.specs.LazyShown.{IsLazyPass, known_by, known_of_init};
     ghost use Rattle.passes.specs.Views.{first_view};
     ghost use Rattle.running_once.specs.OnceRule.{no_runs};
+    ghost use Rattle.running_spin_lock.specs.SpinRule.{no_holds};
 
     /// A lazy value with this closure, of which nothing is kept, and the pass that is whole. `Err` where there was no memory; then
     /// nothing was made, and the closure comes back.
     pub fn new(alloc: A, init: F) -> Result<(LazyLock<T, F, Brand, A>, LazyPass), (AllocError, F)>
         ensures own { IfOk result (λ made. IsLazyPass made.0 made.1) }
-        ensures first { IfOk result (λ made. known_by made.1 ≡ first_view no_runs) }
+        ensures first { IfOk result (λ made. (known_by made.1 ≡ first_view no_runs) × (known_of_init made.1 ≡ first_view no_holds)) }
         ensures refused { IfErr result (λ refused. refused.1 ≡ init) }
     {
         LazyLock::keeping(alloc, init)
@@ -38,15 +39,16 @@ impl<T: Drop, F: Drop, A: Allocator + Clone> LazyLock<T, F, Brand, A> {
 }
 
 impl<T: Drop, F: Drop, G: Gives<T, F>, A: Allocator + Clone> LazyLock<T, F, G, A> {
-    ghost use Rattle.running_lazy_lock.specs.LazyShown.{IsLazyPass, known_by};
+    ghost use Rattle.running_lazy_lock.specs.LazyShown.{IsLazyPass, known_by, known_of_init};
     ghost use Rattle.passes.specs.Views.{first_view};
     ghost use Rattle.running_once.specs.OnceRule.{no_runs};
+    ghost use Rattle.running_spin_lock.specs.SpinRule.{no_holds};
 
     /// The same, where `may` is kept of the closure, and so `gives` is known of the value.
     pub fn keeping(alloc: A, init: F) -> Result<(LazyLock<T, F, G, A>, LazyPass), (AllocError, F)>
         requires kept { G.may init }
         ensures own { IfOk result (λ made. IsLazyPass made.0 made.1) }
-        ensures first { IfOk result (λ made. known_by made.1 ≡ first_view no_runs) }
+        ensures first { IfOk result (λ made. (known_by made.1 ≡ first_view no_runs) × (known_of_init made.1 ≡ first_view no_holds)) }
         ensures refused { IfErr result (λ refused. refused.1 ≡ init) }
     {
         let Ok(for_once) = alloc.clone() else {
@@ -78,7 +80,7 @@ impl<T: Drop, F: Drop, G: Gives<T, F>, A: Allocator + Clone> LazyLock<T, F, G, A
 
 impl<T: Drop, F: FnOnce() -> T + Drop, G: Gives<T, F>, A: Allocator> LazyLock<T, F, G, A> {
     ghost use Rattle.passes.specs.Parts.{IsWhole};
-    ghost use Rattle.running_spin_lock.specs.SpinShown.{IsSpinPass, HasStayed};
+    ghost use Rattle.running_spin_lock.specs.SpinShown.{IsSpinPass, HasLockedOnce};
     ghost use Rattle.running_lazy_lock.specs.LazyShown.{IsLazyPass, IsComplete, HasForced, HasSeenOnce, ended_of, part_of};
 
     /// The value. Calls the closure for it, if no other call has begun to; else comes back once that has ended. A closure that forces
@@ -100,7 +102,7 @@ impl<T: Drop, F: FnOnce() -> T + Drop, G: Gives<T, F>, A: Allocator> LazyLock<T,
             |init: &mut SpinPass| -> OnceToken<'_, Made<T, F, G>>
                 requires own { IsSpinPass this.now.init init.old }
                 requires keeps { (f : F) → G.may f → F.IsAlwaysCallable f × ((value : T) → F.post f value → G.gives f value) }
-                ensures stayed { HasStayed init.old init.new }
+                ensures locked { HasLockedOnce init.old init.new }
                 ensures of { result.of ≡ this.entry.now.value.id }
                 ensures made { IsGiven G.may F.post result.value }
             { this.make(rt, init) },
@@ -126,7 +128,7 @@ impl<T: Drop, F: FnOnce() -> T + Drop, G: Gives<T, F>, A: Allocator> LazyLock<T,
     fn make<'t, R: Wait>(&'t self, rt: &R, pass: &mut SpinPass) -> OnceToken<'t, Made<T, F, G>>
         requires own { IsSpinPass self.now.init pass.old }
         requires keeps { (f : F) → G.may f → F.IsAlwaysCallable f × ((value : T) → F.post f value → G.gives f value) }
-        ensures stayed { HasStayed pass.old pass.new }
+        ensures locked { HasLockedOnce pass.old pass.new }
         ensures of { result.of ≡ self.now.value.id }
         ensures made { IsGiven G.may F.post result.value }
     {
@@ -140,7 +142,7 @@ impl<T: Drop, F: FnOnce() -> T + Drop, G: Gives<T, F>, A: Allocator> LazyLock<T,
     /// The closure, out of its lock.
     fn take<R: Wait>(&self, rt: &R, pass: &mut SpinPass) -> Init<T, F, G>
         requires own { IsSpinPass self.now.init pass.old }
-        ensures stayed { HasStayed pass.old pass.new }
+        ensures locked { HasLockedOnce pass.old pass.new }
     {
         let taken = {
             let mut guard = SpinLock::blocking_lock(pass, &self.init, rt);
