@@ -3,14 +3,16 @@ ghost use Rattle.std.specs.Prelude.{◌≡◌, ◌<◌, IfOk, IfErr};
 ghost use Rattle.running_lazy_lock.specs.Given.{IsGiven};
 
 use crate::gives::Gives;
-use crate::init::{Init, Made};
+use crate::init::{Given, Init};
 use crate::pass::LazyPass;
+use boxcar::slot::{OnceSlot, Written};
+use boxcar::tag::Tag;
 use running_once::Once;
 use running_spin_lock::{SpinLock, SpinPass};
 use std::alloc::{AllocError, Allocator, Global};
 use std::hint::spin_loop;
 use std::marker::{Brand, PhantomData};
-use std::sync::{OnceLock, OnceToken, Wait};
+use std::sync::Wait;
 
 /// A value that is made when it is first asked for. It may be shared by threads where the closure may go from one to another, and the
 /// value may go and be shared.
@@ -18,7 +20,7 @@ use std::sync::{OnceLock, OnceToken, Wait};
 pub struct LazyLock<T, F = fn() -> T, G: Gives<T, F> = Brand, A: Allocator = Global> {
     pub(crate) once: Once<A>,
     pub(crate) init: SpinLock<Option<Init<T, F, G>>, A>,
-    pub(crate) value: OnceLock<Made<T, F, G>>,
+    pub(crate) value: OnceSlot<T, Given<F, G>>,
 }
 
 impl<T: Drop, F: Drop, A: Allocator + Clone> LazyLock<T, F, Brand, A> {
@@ -66,7 +68,7 @@ impl<T: Drop, F: Drop, G: Gives<T, F>, A: Allocator + Clone> LazyLock<T, F, G, A
                 LazyLock {
                     once,
                     init,
-                    value: OnceLock::new(),
+                    value: OnceSlot::new(&Tag::empty()),
                 },
                 LazyPass {
                     once: once_pass,
@@ -99,7 +101,7 @@ impl<T: Drop, F: FnOnce() -> T + Drop, G: Gives<T, F>, A: Allocator> LazyLock<T,
             rt,
             &mut pass.once,
             &mut pass.init,
-            |init: &mut SpinPass| -> OnceToken<'_, Made<T, F, G>>
+            |init: &mut SpinPass| -> Written<T>
                 requires own { IsSpinPass this.now.init init.old }
                 requires keeps { (f : F) → G.may f → F.IsAlwaysCallable f × ((value : T) → F.post f value → G.gives f value) }
                 ensures locked { HasLockedOnce init.old init.new }
@@ -108,7 +110,7 @@ impl<T: Drop, F: FnOnce() -> T + Drop, G: Gives<T, F>, A: Allocator> LazyLock<T,
             { this.make(rt, init) },
         );
         match made {
-            Some(token) => this.value.value(&token).value(),
+            Some(written) => this.value.value(&written),
             None => this.read(rt),
         }
     }
@@ -119,22 +121,22 @@ impl<T: Drop, F: FnOnce() -> T + Drop, G: Gives<T, F>, A: Allocator> LazyLock<T,
         ensures given { IsGiven G.may G.gives result.now }
     {
         match self.value.get() {
-            Some(made) => made.value(),
-            None => self.value.wait(rt).value(),
+            Some(value) => value,
+            None => never(rt),
         }
     }
 
     /// Calls the closure, and puts its value where all can read it. What shows that it is there.
-    fn make<'t, R: Wait>(&'t self, rt: &R, pass: &mut SpinPass) -> OnceToken<'t, Made<T, F, G>>
+    fn make<R: Wait>(&self, rt: &R, pass: &mut SpinPass) -> Written<T>
         requires own { IsSpinPass self.now.init pass.old }
         requires keeps { (f : F) → G.may f → F.IsAlwaysCallable f × ((value : T) → F.post f value → G.gives f value) }
         ensures locked { HasLockedOnce pass.old pass.new }
         ensures of { result.of ≡ self.now.value.id }
         ensures made { IsGiven G.may F.post result.value }
     {
-        let made = self.take(rt, pass).call();
-        match self.value.set(rt, made) {
-            Ok(token) => token,
+        let value = self.take(rt, pass).call();
+        match self.value.set_written(value) {
+            Ok(written) => written,
             Err(_) => never(rt),
         }
     }
