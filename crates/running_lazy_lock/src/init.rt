@@ -1,8 +1,8 @@
-//! The closure before it is called, and the value after.
+//! The closure before it is called, and what is known of its value after.
 ghost use Rattle.running_lazy_lock.specs.Given.{IsGiven};
 
 use crate::gives::Gives;
-use running_spin_lock::SpinLock;
+use boxcar::slot::SlotRule;
 use std::marker::{Model, PhantomData};
 
 /// The closure, of which `may` is kept.
@@ -20,20 +20,13 @@ impl<T, F, G: Gives<T, F>> Model for Init<T, F, G> {
     ghost invariant = { λ init. G.may init.make };
 }
 
-/// The value, which such a closure gives.
-#[derive(Drop)]
-pub(crate) struct Made<T, F, G: Gives<T, F>> {
-    pub(crate) value: T,
-    // Names the closure's type as a lock of it would: threads may share the value where that may only go from one to another.
-    pub(crate) by: PhantomData<SpinLock<(F, G)>>,
+/// What is known of the value in its slot: such a closure gives it.
+pub(crate) struct Given<F, G> {
+    by: PhantomData<(F, G)>,
 }
 
-impl<T, F, G: Gives<T, F>> Model for Made<T, F, G> {
-    ghost Value = { T };
-
-    ghost view = { λ made. made.value };
-
-    ghost invariant = { λ made. IsGiven G.may G.gives made.value };
+impl<T, F, G: Gives<T, F>> SlotRule<T> for Given<F, G> {
+    ghost holds = { λ _ value. IsGiven G.may G.gives value };
 }
 
 impl<T, F, G: Gives<T, F>> Init<T, F, G> {
@@ -49,29 +42,14 @@ impl<T, F, G: Gives<T, F>> Init<T, F, G> {
     }
 
     /// The value that the closure gives.
-    pub(crate) fn call(self) -> Made<T, F, G>
+    pub(crate) fn call(self) -> T
     where
         F: FnOnce() -> T,
         requires keeps { (f : F) → G.may f → F.IsAlwaysCallable f × ((value : T) → F.post f value → G.gives f value) }
         ensures made { IsGiven G.may F.post result }
+        ensures given { IsGiven G.may G.gives result }
     {
         let make = self.into_closure();
-        Made {
-            value: make(),
-            by: PhantomData,
-        }
-    }
-}
-
-impl<T, F, G: Gives<T, F>> Made<T, F, G> {
-    ghost use Rattle.std.specs.Prelude.{◌≡◌};
-
-    /// The value.
-    #[inline(always)]
-    pub(crate) fn value(&self) -> &T
-        ensures same { result.now ≡ self.now }
-        ensures given { IsGiven G.may G.gives result.now }
-    {
-        &self.value
+        make()
     }
 }

@@ -3,14 +3,16 @@ ghost use Rattle.std.specs.Prelude.{◌≡◌, ◌<◌, IfOk, IfErr};
 ghost use Rattle.running_lazy_lock.specs.Given.{IsGiven};
 
 use crate::gives::Gives;
-use crate::init::{Init, Made};
+use crate::init::{Given, Init};
 use crate::pass::LazyPass;
+use boxcar::slot::{OnceSlot, Written};
+use boxcar::tag::Tag;
 use running_once::Once;
 use running_spin_lock::{SpinLock, SpinPass};
 use std::alloc::{AllocError, Allocator, Global};
 use std::hint::spin_loop;
 use std::marker::{Brand, PhantomData};
-use std::sync::{OnceLock, OnceToken, Wait};
+use std::sync::Wait;
 
 /// A value that is made when it is first asked for. It may be shared by threads where the closure may go from one to another, and the
 /// value may go and be shared.
@@ -18,19 +20,20 @@ use std::sync::{OnceLock, OnceToken, Wait};
 pub struct LazyLock<T, F = fn() -> T, G: Gives<T, F> = Brand, A: Allocator = Global> {
     pub(crate) once: Once<A>,
     pub(crate) init: SpinLock<Option<Init<T, F, G>>, A>,
-    pub(crate) value: OnceLock<Made<T, F, G>>,
+    pub(crate) value: OnceSlot<T, Given<F, G>>,
 }
 
 impl<T: Drop, F: Drop, A: Allocator + Clone> LazyLock<T, F, Brand, A> {
-    ghost use Rattle.running_lazy_lock.specs.LazyShown.{IsLazyPass, known_by};
+    ghost use Rattle.running_lazy_lock.specs.LazyShown.{IsLazyPass, known_by, known_of_init};
     ghost use Rattle.passes.specs.Views.{first_view};
     ghost use Rattle.running_once.specs.OnceRule.{no_runs};
+    ghost use Rattle.running_spin_lock.specs.SpinRule.{no_holds};
 
     /// A lazy value with this closure, of which nothing is kept, and the pass that is whole. `Err` where there was no memory; then
     /// nothing was made, and the closure comes back.
     pub fn new(alloc: A, init: F) -> Result<(LazyLock<T, F, Brand, A>, LazyPass), (AllocError, F)>
         ensures own { IfOk result (λ made. IsLazyPass made.0 made.1) }
-        ensures first { IfOk result (λ made. known_by made.1 ≡ first_view no_runs) }
+        ensures first { IfOk result (λ made. (known_by made.1 ≡ first_view no_runs) × (known_of_init made.1 ≡ first_view no_holds)) }
         ensures refused { IfErr result (λ refused. refused.1 ≡ init) }
     {
         LazyLock::keeping(alloc, init)
@@ -38,15 +41,16 @@ impl<T: Drop, F: Drop, A: Allocator + Clone> LazyLock<T, F, Brand, A> {
 }
 
 impl<T: Drop, F: Drop, G: Gives<T, F>, A: Allocator + Clone> LazyLock<T, F, G, A> {
-    ghost use Rattle.running_lazy_lock.specs.LazyShown.{IsLazyPass, known_by};
+    ghost use Rattle.running_lazy_lock.specs.LazyShown.{IsLazyPass, known_by, known_of_init};
     ghost use Rattle.passes.specs.Views.{first_view};
     ghost use Rattle.running_once.specs.OnceRule.{no_runs};
+    ghost use Rattle.running_spin_lock.specs.SpinRule.{no_holds};
 
     /// The same, where `may` is kept of the closure, and so `gives` is known of the value.
     pub fn keeping(alloc: A, init: F) -> Result<(LazyLock<T, F, G, A>, LazyPass), (AllocError, F)>
         requires kept { G.may init }
         ensures own { IfOk result (λ made. IsLazyPass made.0 made.1) }
-        ensures first { IfOk result (λ made. known_by made.1 ≡ first_view no_runs) }
+        ensures first { IfOk result (λ made. (known_by made.1 ≡ first_view no_runs) × (known_of_init made.1 ≡ first_view no_holds)) }
         ensures refused { IfErr result (λ refused. refused.1 ≡ init) }
     {
         let Ok(for_once) = alloc.clone() else {
@@ -64,7 +68,7 @@ impl<T: Drop, F: Drop, G: Gives<T, F>, A: Allocator + Clone> LazyLock<T, F, G, A
                 LazyLock {
                     once,
                     init,
-                    value: OnceLock::new(),
+                    value: OnceSlot::new(&Tag::empty()),
                 },
                 LazyPass {
                     once: once_pass,
@@ -78,7 +82,7 @@ impl<T: Drop, F: Drop, G: Gives<T, F>, A: Allocator + Clone> LazyLock<T, F, G, A
 
 impl<T: Drop, F: FnOnce() -> T + Drop, G: Gives<T, F>, A: Allocator> LazyLock<T, F, G, A> {
     ghost use Rattle.passes.specs.Parts.{IsWhole};
-    ghost use Rattle.running_spin_lock.specs.SpinShown.{IsSpinPass, HasStayed};
+    ghost use Rattle.running_spin_lock.specs.SpinShown.{IsSpinPass, HasLockedOnce};
     ghost use Rattle.running_lazy_lock.specs.LazyShown.{IsLazyPass, IsComplete, HasForced, HasSeenOnce, ended_of, part_of};
 
     /// The value. Calls the closure for it, if no other call has begun to; else comes back once that has ended. A closure that forces
@@ -97,16 +101,16 @@ impl<T: Drop, F: FnOnce() -> T + Drop, G: Gives<T, F>, A: Allocator> LazyLock<T,
             rt,
             &mut pass.once,
             &mut pass.init,
-            |init: &mut SpinPass| -> OnceToken<'_, Made<T, F, G>>
+            |init: &mut SpinPass| -> Written<T>
                 requires own { IsSpinPass this.now.init init.old }
                 requires keeps { (f : F) → G.may f → F.IsAlwaysCallable f × ((value : T) → F.post f value → G.gives f value) }
-                ensures stayed { HasStayed init.old init.new }
+                ensures locked { HasLockedOnce init.old init.new }
                 ensures of { result.of ≡ this.entry.now.value.id }
                 ensures made { IsGiven G.may F.post result.value }
             { this.make(rt, init) },
         );
         match made {
-            Some(token) => this.value.value(&token).value(),
+            Some(written) => this.value.value(&written),
             None => this.read(rt),
         }
     }
@@ -117,22 +121,22 @@ impl<T: Drop, F: FnOnce() -> T + Drop, G: Gives<T, F>, A: Allocator> LazyLock<T,
         ensures given { IsGiven G.may G.gives result.now }
     {
         match self.value.get() {
-            Some(made) => made.value(),
-            None => self.value.wait(rt).value(),
+            Some(value) => value,
+            None => never(rt),
         }
     }
 
     /// Calls the closure, and puts its value where all can read it. What shows that it is there.
-    fn make<'t, R: Wait>(&'t self, rt: &R, pass: &mut SpinPass) -> OnceToken<'t, Made<T, F, G>>
+    fn make<R: Wait>(&self, rt: &R, pass: &mut SpinPass) -> Written<T>
         requires own { IsSpinPass self.now.init pass.old }
         requires keeps { (f : F) → G.may f → F.IsAlwaysCallable f × ((value : T) → F.post f value → G.gives f value) }
-        ensures stayed { HasStayed pass.old pass.new }
+        ensures locked { HasLockedOnce pass.old pass.new }
         ensures of { result.of ≡ self.now.value.id }
         ensures made { IsGiven G.may F.post result.value }
     {
-        let made = self.take(rt, pass).call();
-        match self.value.set(rt, made) {
-            Ok(token) => token,
+        let value = self.take(rt, pass).call();
+        match self.value.set_written(value) {
+            Ok(written) => written,
             Err(_) => never(rt),
         }
     }
@@ -140,7 +144,7 @@ impl<T: Drop, F: FnOnce() -> T + Drop, G: Gives<T, F>, A: Allocator> LazyLock<T,
     /// The closure, out of its lock.
     fn take<R: Wait>(&self, rt: &R, pass: &mut SpinPass) -> Init<T, F, G>
         requires own { IsSpinPass self.now.init pass.old }
-        ensures stayed { HasStayed pass.old pass.new }
+        ensures locked { HasLockedOnce pass.old pass.new }
     {
         let taken = {
             let mut guard = SpinLock::blocking_lock(pass, &self.init, rt);

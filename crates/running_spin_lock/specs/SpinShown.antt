@@ -1,11 +1,12 @@
 -- What contracts see of a spin lock, its pass and its guard, and what a call changes in a pass.
-use Rattle.std.specs.Prelude.{◌≡◌, ℕ, ◌<◌, ◌≤◌}
+use Rattle.std.specs.Prelude.{◌≡◌, ℕ, ◌+◌, ◌<◌, ◌≤◌}
 use Rattle.std.specs.Borrow.{GName}
 use Rattle.atomic_table.specs.Seated.{TableId}
 use Rattle.passes.specs.declared.part.Part.{Part}
 use Rattle.passes.specs.declared.part.Sights.{Sights}
 use Rattle.passes.specs.declared.view.View.{View}
 use Rattle.passes.specs.Parts.{IsWhole}
+use Rattle.passes.specs.Sights.{HasWritten}
 use Rattle.passes.specs.Views.{looked}
 use Rattle.running_spin_lock.specs.declared.hold.SpinHolds.{SpinHolds}
 use Rattle.running_spin_lock.specs.declared.pass.SpinPass.{SpinPass}
@@ -77,6 +78,10 @@ module _ {T A : Type 0} where
   abbrev pub HasUnlocked : SpinLockGuard T A → SpinPass → Type 0
   HasUnlocked g q = IsOf q g × IsHere q × (view q ≡ unlocked (view_with g))
 
+  -- what the guard lends
+  abbrev pub value_of : SpinLockGuard T A → T
+  value_of g = g.value
+
   -- the guard, with this value
   abbrev pub guard_with : SpinLockGuard T A → T → SpinLockGuard T A
   guard_with g x = record g { value = x }
@@ -90,3 +95,10 @@ pub record HasStayed (p q : SpinPass) : Type 0 where
   pub same : IsSamePass p q
   pub part : part_of q ≡ part_of p
   pub grants : grants_of p ≤ grants_of q
+
+-- it was granted once, and that guard is gone; nothing else changed but what was seen on the way
+pub record HasLockedOnce (p q : SpinPass) : Type 0 where
+  pub same : IsSamePass p q
+  pub part : part_of q ≡ part_of p
+  pub grants : grants_of q ≡ grants_of p + 1
+  pub saw : HasWritten (sights_of p) (sights_of q)

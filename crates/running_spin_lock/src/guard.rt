@@ -24,11 +24,13 @@ pub struct SpinLockGuard<'p, T, A: Allocator = Global> {
 }
 
 impl<T, A: Allocator> Deref for SpinLockGuard<'_, T, A> {
+    ghost use Rattle.running_spin_lock.specs.SpinShown.{value_of};
+
     type Target = T;
 
     #[inline(always)]
     fn deref(&self) -> &T
-        ensures { result.now ≡ self.now.value }
+        ensures { result.now ≡ value_of self.now }
     {
         &self.value
     }
@@ -39,12 +41,12 @@ impl<T, A: Allocator> DerefMut for SpinLockGuard<'_, T, A> {
     ghost use mir.Syntax.{named};
     ghost use Rattle.std.specs.Borrow.{sem, Lends};
     ghost use Rattle.running_spin_lock.specs.contracts.guard.SpinLockGuard.{the_row};
-    ghost use Rattle.running_spin_lock.specs.SpinShown.{guard_with};
+    ghost use Rattle.running_spin_lock.specs.SpinShown.{value_of, guard_with};
 
     #[inline(always)]
     fn deref_mut(&mut self) -> &mut T
         ensures* writes_back { sem 𝓛 (Lends (the_row (record { mir = named 1; lft = [] }) T.row A.row A.Allocator) T.row self.entry result (guard_with self.old)) }
-        ensures value { result.now ≡ self.old.value }
+        ensures value { result.now ≡ value_of self.old }
     {
         &mut self.value
     }

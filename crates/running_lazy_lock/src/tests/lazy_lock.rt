@@ -1,8 +1,16 @@
 //! The running lazy value.
 mod gives;
 
-use crate::LazyLock;
+ghost use Rattle.std.specs.Prelude.{◌≡◌};
+ghost use Rattle.passes.specs.Views.{first_view};
+ghost use Rattle.running_once.specs.OnceRule.{no_runs};
+ghost use Rattle.running_spin_lock.specs.SpinRule.{no_holds};
+ghost use Rattle.running_spin_lock.specs.SpinShown.{grants_of};
+ghost use Rattle.running_lazy_lock.specs.LazyShown.{IsLazyPass, known_by, known_of_init, init_in, ended_of};
+
+use crate::{LazyLock, LazyPass};
 use linked_list_allocator::LocalHeap;
+use std::sync::Wait;
 use std::sync::atomic::{AtomicU64, Ordering};
 use std::test::Fail;
 use std::thread;
@@ -21,6 +29,32 @@ fn a_value_is_made_once_and_read_twice(rt: HostRuntime) -> Result<(), Fail> {
     assert_eq!(rt; *LazyLock::force(&lazy, &rt, &mut pass), 42);
     assert_eq!(rt; *LazyLock::force(&lazy, &rt, &mut pass), 42);
     assert_eq!(rt; calls.load(Ordering::SeqCst), 1);
+    Ok(())
+}
+
+/// Forces twice by the pass of a new value: the closure ran once, and its lock was granted once.
+fn force_twice<F: FnOnce() -> u64 + Drop, R: Wait>(
+    rt: &R,
+    lazy: &LazyLock<u64, F>,
+    pass: &mut LazyPass,
+) -> u64
+    requires own { IsLazyPass lazy.now pass.old }
+    requires may { (f : F) → F.IsAlwaysCallable f }
+    requires once { known_by pass.old ≡ first_view no_runs }
+    requires init { known_of_init pass.old ≡ first_view no_holds }
+    ensures ran { ended_of pass.new ≡ 1 }
+    ensures granted { grants_of (init_in pass.new) ≡ 1 }
+{
+    LazyLock::force(lazy, rt, pass);
+    *LazyLock::force(lazy, rt, pass)
+}
+
+#[test]
+fn the_closure_is_taken_once(rt: HostRuntime) -> Result<(), Fail> {
+    let Ok((lazy, mut pass)) = LazyLock::new(rt.alloc(), || -> u64 { 42 }) else {
+        return Err("no memory")?;
+    };
+    assert_eq!(rt; force_twice(&rt, &lazy, &mut pass), 42);
     Ok(())
 }
 

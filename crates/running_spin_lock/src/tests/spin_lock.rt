@@ -3,10 +3,10 @@ mod kept;
 mod refusals;
 mod threads;
 
-ghost use Rattle.std.specs.Prelude.{◌≡◌, ◌+◌};
-ghost use Rattle.running_spin_lock.specs.SpinShown.{IsSpinPass, IsSamePass, IsAlone, HasStayed, grants_of};
+ghost use Rattle.std.specs.Prelude.{◌≡◌, ◌+◌, ◌*◌, ◌^◌, ◌<◌, IfSome};
+ghost use Rattle.running_spin_lock.specs.SpinShown.{IsSpinPass, IsSamePass, IsAlone, HasStayed, grants_of, value_of};
 
-use crate::{PoisonError, SpinLock, SpinPass};
+use crate::{PoisonError, SpinLock, SpinLockGuard, SpinPass};
 use std::sync::Wait;
 use std::test::Fail;
 
@@ -46,6 +46,37 @@ fn one_holder_at_a_time(rt: HostRuntime) -> Result<(), Fail> {
         refused_while_held(&lock, &mut one, &mut two),
         Some((true, false))
     );
+    Ok(())
+}
+
+/// What is written through a guard is what it lends.
+fn double(guard: &mut SpinLockGuard<'_, u64>)
+    requires small { value_of guard.old < 2 ^ 63 }
+    ensures doubled { value_of guard.new ≡ 2 * value_of guard.old }
+{
+    **guard *= 2;
+}
+
+/// Writes a number, doubles it and halves it, under one guard.
+fn half_of_double(lock: &SpinLock<u64>, pass: &mut SpinPass, number: u64) -> Option<u64>
+    requires own { IsSpinPass lock.now pass.old }
+    requires small { number < 2 ^ 63 }
+    ensures half { IfSome result (λ half. half ≡ number) }
+{
+    match SpinLock::try_lock(pass, lock) {
+        Some(mut guard) => {
+            *guard = number;
+            double(&mut guard);
+            Some(*guard / 2)
+        }
+        None => None,
+    }
+}
+
+#[test]
+fn what_was_written_is_lent(rt: HostRuntime) -> Result<(), Fail> {
+    let (lock, mut pass) = SpinLock::new(rt.alloc(), 7u64)?;
+    assert_eq!(rt; half_of_double(&lock, &mut pass, 21), Some(21));
     Ok(())
 }
 
