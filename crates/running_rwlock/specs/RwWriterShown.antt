@@ -11,7 +11,7 @@ use Rattle.passes.specs.Objects.{IsPassOf}
 use Rattle.running_rwlock.specs.declared.hold.RwPass.{Ghosts}
 use Rattle.running_rwlock.specs.declared.hold.RwHold.{RwHold}
 use Rattle.running_rwlock.specs.declared.writer_preference.RwLockWriterPreference.{RwLockWriterPreference}
-use Rattle.running_rwlock.specs.declared.writer_preference.RwWriterPass.{RwWriterPass}
+use Rattle.running_rwlock.specs.declared.writer_preference.pass.RwWriterPass.{RwWriterPass}
 use Rattle.tallies.specs.declared.rw_writer.MarkedHolds.{MarkedHolds}
 use Rattle.tallies.specs.Held.{read_holds, write_holds}
 use Rattle.running_rwlock.specs.RwShown.{IsReadHold, IsWriteHold, pass_of}
