@@ -5,6 +5,7 @@
 ghost use Rattle.std.specs.Prelude.{◌≡◌, ◌≤◌};
 
 mod barrier;
+mod condvar;
 mod lazy_lock;
 mod mutex;
 mod once;
@@ -47,10 +48,13 @@ pub enum Line {
     StdMutexAddUnlock,
     SpinLockUnlock,
     LazyForce,
+    BareLoadAdd,
+    StdCondvarNotifyOne,
+    CondvarNotifyOne,
 }
 
 /// Every line, in the order of the table.
-pub const LINES: [Line; 24] = [
+pub const LINES: [Line; 27] = [
     Line::BareExchangeStore,
     Line::StdMutexLockUnlock,
     Line::MutexLockUnlock,
@@ -75,6 +79,9 @@ pub const LINES: [Line; 24] = [
     Line::StdMutexAddUnlock,
     Line::SpinLockUnlock,
     Line::LazyForce,
+    Line::BareLoadAdd,
+    Line::StdCondvarNotifyOne,
+    Line::CondvarNotifyOne,
 ];
 
 impl Line {
@@ -109,6 +116,9 @@ impl Line {
             Line::StdMutexAddUnlock => "std mutex add unlock",
             Line::SpinLockUnlock => "spin lock unlock",
             Line::LazyForce => "lazy force",
+            Line::BareLoadAdd => "bare load add",
+            Line::StdCondvarNotifyOne => "std condvar notify_one",
+            Line::CondvarNotifyOne => "condvar notify_one",
         }
     }
 
@@ -140,6 +150,9 @@ impl Line {
             Line::StdMutexAddUnlock => Ok(yardsticks::std_mutex_add_unlock(rt)),
             Line::SpinLockUnlock => spin_lock::lock_unlock(rt, alloc),
             Line::LazyForce => lazy_lock::force(rt, alloc),
+            Line::BareLoadAdd => Ok(yardsticks::bare_load_add()),
+            Line::StdCondvarNotifyOne => Ok(yardsticks::std_condvar_notify_one()),
+            Line::CondvarNotifyOne => condvar::notify_one(alloc),
         }
     }
 }

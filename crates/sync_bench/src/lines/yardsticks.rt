@@ -2,7 +2,7 @@
 
 use crate::lines::{Operation, successes};
 use std::sync::atomic::{AtomicU64, Ordering};
-use std::sync::{Barrier, Mutex, OnceLock, RwLock, Wait};
+use std::sync::{Barrier, Condvar, Mutex, OnceLock, RwLock, Wait};
 
 /// Takes and frees a bare word: the least that a lock and an unlock can do.
 pub fn bare_exchange_store() -> u32 {
@@ -247,5 +247,48 @@ impl<R: Wait> Operation for StdAdd<'_, R> {
         let mut guard = self.mutex.lock(self.rt);
         *guard = guard.wrapping_add(1);
         *guard > 0
+    }
+}
+
+/// Looks at a bare word, and adds the lesser of 1 and what it saw to another: the least that a notify of one can do.
+pub fn bare_load_add() -> u32 {
+    successes(&mut BareNotify {
+        counter: AtomicU64::new(0),
+        word: AtomicU64::new(0),
+    })
+}
+
+#[derive(Drop)]
+struct BareNotify {
+    counter: AtomicU64,
+    word: AtomicU64,
+}
+
+impl Operation for BareNotify {
+    #[inline(always)]
+    fn once(&mut self) -> bool {
+        let seen = self.counter.load(Ordering::SeqCst);
+        self.word.fetch_add(seen.min(1), Ordering::SeqCst);
+        seen == 0
+    }
+}
+
+/// Notifies a condition variable of std at which nobody waits.
+pub fn std_condvar_notify_one() -> u32 {
+    successes(&mut StdCondvar {
+        condvar: Condvar::new(),
+    })
+}
+
+#[derive(Drop)]
+struct StdCondvar {
+    condvar: Condvar,
+}
+
+impl Operation for StdCondvar {
+    #[inline(always)]
+    fn once(&mut self) -> bool {
+        self.condvar.notify_one();
+        true
     }
 }

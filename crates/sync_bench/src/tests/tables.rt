@@ -6,7 +6,7 @@ use std::test::Fail;
 use std::time::{Clock, Duration};
 
 /// The names of the lines, in the order of the table.
-const NAMES: [&str; 24] = [
+const NAMES: [&str; 27] = [
     "bare exchange store",
     "std mutex lock unlock",
     "mutex lock unlock",
@@ -31,6 +31,9 @@ const NAMES: [&str; 24] = [
     "std mutex add unlock",
     "spin lock unlock",
     "lazy force",
+    "bare load add",
+    "std condvar notify_one",
+    "condvar notify_one",
 ];
 
 const HEAD: &str = "name\tmedian\tlower tenth\tupper tenth\n";
