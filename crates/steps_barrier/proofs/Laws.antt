@@ -22,20 +22,22 @@ use Rattle.steps_events.specs.declared.row.After.TheVariants as afters
 use Rattle.steps_events.specs.Arithmetic.{Arithmetic}
 use Rattle.steps_events.specs.Rows.{carried_out, value_told, outcome_of, place_after, within}
 use Rattle.steps_events.specs.Past.{same_word, PendingCall, call_of, hold_of, word_in, word_after, event}
-use Rattle.steps_events.specs.Moves.{Move, step_at}
+use Rattle.steps_events.specs.Moves.{Move, step_at, is_step}
 use Rattle.steps_events.specs.Runs.{IsPast}
-use Rattle.steps_events.specs.Sights.{is_sight, AtLast, goes_on, spins_in, stands_at_wait, last_of}
+use Rattle.steps_events.specs.Sights.{sight_of, is_sight, AtLast, spins_in, last_of}
+use Rattle.steps_events.specs.Asks.{WhereAsked, sight_at}
 use Rattle.steps_events.specs.Laws.{Lacks, is_refusal}
-use Rattle.steps_events.proofs.Holds.{no_holds}
+use Rattle.steps_events.proofs.Holds.{eqb_other, no_holds}
 use Rattle.steps_events.proofs.Steps.{by_move, tells_memory}
 use Rattle.steps_events.proofs.Spins.{spins_left, spins_spent}
 use Rattle.steps_events.proofs.Parties.{IsKept, at_place}
+use Rattle.steps_events.proofs.Asks.{asked_maps, spins_no_more}
 use Rattle.steps_events.proofs.Own.{IsToldOf, own_at_last, at_last_maps}
 use Rattle.steps_barrier.specs.declared.BarrierPlace.{BarrierPlace}
 use Rattle.steps_barrier.specs.declared.BarrierPlace.TheVariants as places
 use Rattle.steps_barrier.specs.Rounds.{epoch_of, count_of, with_arrival, is_arrival, arrivals_in, round_of, full_rounds, IsFull, CountsArrivals}
 use Rattle.steps_barrier.specs.Table.{barrier_table, barrier_begins, barrier_intent, barrier_after}
-use Rattle.steps_barrier.specs.Law.{BarrierCause, is_ok, is_wake_of_all, is_wake, since_arrival, EndsOkOrFull, IsToldSight, KeepsBarrier}
+use Rattle.steps_barrier.specs.Law.{BarrierCause, is_ok, is_wake_of_all, is_wake, since_arrival, EndsOkOrFull, looks_on, steps_on, KeepsBarrier}
 use Rattle.steps_barrier.proofs.Rounds.{count_is, epoch_is, counts_none, counts_more, later_epoch, filled_round, is_full}
 
 -- What is kept of a call at its place.
@@ -47,9 +49,10 @@ ArrivedFrom n v own = (to : ℕ) × (found : ℕ) × (last_of is_arrival own ≡
 abbrev pub AtBarrier : {T : Type 0} → ℕ → BarrierPlace → PendingCall T → Option HoldKind → Type 0
 AtBarrier n (places.Look m) c hold = (c.call ≡ calls.Wait) × (m ≡ n) × (arrivals_in c.own ≡ 0)
 AtBarrier n (places.Arrive m seen to) c hold = (c.call ≡ calls.Wait) × (m ≡ n) × (count_of seen < n) × (to ≡ with_arrival n seen) × (arrivals_in c.own ≡ 0)
-AtBarrier n places.Wake c hold = (c.call ≡ calls.Wait) × ((v : ℕ) × ArrivedFrom n v c.own × (count_of v + 1 ≡ n))
+AtBarrier n places.Wake c hold = (c.call ≡ calls.Wait) × ((v : ℕ) × ArrivedFrom n v c.own × (count_of v + 1 ≡ n)) × (spins_in is_step (since_arrival c.own) ≡ 0)
 AtBarrier n (places.Stay epoch spins) c hold =
     (c.call ≡ calls.Wait) × ((v : ℕ) × ArrivedFrom n v c.own × (epoch_of v ≡ epoch) × (count_of v + 1 ≢ n)) × (spins_in (is_sight words.State) (since_arrival c.own) ≡ spins) × (spins ≤ 10000)
+    × (spins_in is_step (since_arrival c.own) ≡ spins)
 
 -- Where a call begins.
 
@@ -88,11 +91,11 @@ joined_steps :
 joined_steps {T} n m c hold seen to found number outcome next true wait same below fills is =
     let made : places.Wake ≡ next = cc in
     subst (λ p. AtBarrier {T = T} n p (record { call = c.call; own = event number (acts.Exchange words.State seen to found true) outcome ∷ c.own }) hold) made
-    (wait, (seen, (to, found, refl, below), eqb-true (count_of seen + 1) m fills ∙ same))
+    (wait, (seen, (to, found, refl, below), eqb-true (count_of seen + 1) m fills ∙ same), refl)
 joined_steps {T} n m c hold seen to found number outcome next false wait same below fills is =
     let made : places.Stay (epoch_of seen) 0 ≡ next = cc in
     subst (λ p. AtBarrier {T = T} n p (record { call = c.call; own = event number (acts.Exchange words.State seen to found true) outcome ∷ c.own }) hold) made
-    (wait, (seen, (to, found, refl, below), refl, λ is. eqb-false (count_of seen + 1) m fills (is ∙ sym same)), refl, omega arith)
+    (wait, (seen, (to, found, refl, below), refl, λ is. eqb-false (count_of seen + 1) m fills (is ∙ sym same)), refl, omega arith, refl)
 
 arrive_steps :
     {T : Type 0} (n m : ℕ) (c : PendingCall T) (hold : Option HoldKind) (seen to w number : ℕ) (outcome : Then T) (next : BarrierPlace) (done : Bool) → c.call ≡ calls.Wait → m ≡ n → count_of seen < n → arrivals_in c.own ≡ 0 →
@@ -115,11 +118,11 @@ stay_steps n epoch spins c hold v number next false left at spun is = absurd cc
 stay_steps {T} n epoch spins c hold v number next true true at spun is =
     let made : places.Stay epoch (spins + 1) ≡ next = cc in
     subst (λ p. AtBarrier {T = T} n p (record { call = c.call; own = event number (acts.Load words.State v) thens.GoesOn ∷ c.own }) hold) made
-    (at.0, at.1, omega (arith, at.2), spins_left spins spun)
+    (at.0, at.1, omega (arith, at.2), spins_left spins spun, omega (arith, at.4))
 stay_steps {T} n epoch spins c hold v number next true false at spun is =
     let made : places.Stay epoch spins ≡ next = cc in
     subst (λ p. AtBarrier {T = T} n p (record { call = c.call; own = event number (acts.Load words.State v) (thens.Waits v) ∷ c.own }) hold) made
-    (at.0, at.1, omega (arith, at.2), at.3)
+    (at.0, at.1, omega (arith, at.2), at.3, omega (arith, at.4))
 
 steps_at :
     {T : Type 0} (n : ℕ) (place : BarrierPlace) (c : PendingCall T) (hold left : Option HoldKind) (memory : Word → ℕ) (number : ℕ) (next : BarrierPlace) → AtBarrier n place c hold →
@@ -138,16 +141,16 @@ answers_at :
     AtBarrier {T = T} n place (record { call = c.call; own = event number (acts.Answered action) thens.GoesOn ∷ c.own }) hold
 answers_at n (places.Look m) c hold action number at = (at.0, at.1, omega (arith, at.2))
 answers_at n (places.Arrive m seen to) c hold action number at = (at.0, at.1, at.2, at.3, omega (arith, at.4))
-answers_at n places.Wake c hold action number at = at
-answers_at n (places.Stay epoch spins) c hold action number at = (at.0, at.1, omega (arith, at.2), at.3)
+answers_at n places.Wake c hold action number at = (at.0, at.1, omega (arith, at.2))
+answers_at n (places.Stay epoch spins) c hold action number at = (at.0, at.1, omega (arith, at.2), at.3, omega (arith, at.4))
 
 chooses_at :
     {T : Type 0} (n : ℕ) (place : BarrierPlace) (c : PendingCall T) (hold : Option HoldKind) (choice : Option T) (number : ℕ) → AtBarrier n place c hold →
     AtBarrier {T = T} n place (record { call = c.call; own = event number (acts.Chosen choice) thens.GoesOn ∷ c.own }) hold
 chooses_at n (places.Look m) c hold choice number at = (at.0, at.1, omega (arith, at.2))
 chooses_at n (places.Arrive m seen to) c hold choice number at = (at.0, at.1, at.2, at.3, omega (arith, at.4))
-chooses_at n places.Wake c hold choice number at = at
-chooses_at n (places.Stay epoch spins) c hold choice number at = (at.0, at.1, omega (arith, at.2), at.3)
+chooses_at n places.Wake c hold choice number at = (at.0, at.1, omega (arith, at.2))
+chooses_at n (places.Stay epoch spins) c hold choice number at = (at.0, at.1, omega (arith, at.2), at.3, omega (arith, at.4))
 
 pub barrier_kept : {T : Type 0} (n : ℕ) → IsKept {T = T} (barrier_table n) (AtBarrier n)
 barrier_kept n =
@@ -157,6 +160,30 @@ barrier_kept n =
       answers = λ place c hold action number at stands. answers_at n place c hold action number at;
       chooses = λ place c hold choice number at stands. chooses_at n place c hold choice number at;
     }
+
+-- No call goes on by itself more than 10000 times since its arrival.
+
+where_arrived : (none : Bool) (counted : ℕ) → counted ≤ 10000 → cond none 0 counted ≤ 10000
+where_arrived true counted bounded = omega arith
+where_arrived false counted bounded = bounded
+
+spins_bounded : {T : Type 0} (n : ℕ) (place : BarrierPlace) (c : PendingCall T) (hold : Option HoldKind) → AtBarrier n place c hold → steps_on c.call c.own ≤ 10000
+spins_bounded n (places.Look m) c hold at = rw at.2 (omega arith)
+spins_bounded n (places.Arrive m seen to) c hold at = rw at.4 (omega arith)
+spins_bounded n places.Wake c hold at = where_arrived (arrivals_in c.own == 0) _ (omega (arith, at.2))
+spins_bounded n (places.Stay epoch spins) c hold at = where_arrived (arrivals_in c.own == 0) _ (omega (arith, at.3, at.4))
+
+-- a call with an arrival has arrived
+has_arrived : {T : Type 0} (own : List (Event T)) (act : Act T) → last_of is_arrival own ≡ Some act → (arrivals_in own == 0) ≡ false
+has_arrived [] act is = absurd cc
+has_arrived (e ∷ own) act is = by_test (is_arrival e.act) is (λ last. has_arrived own act last)
+  where
+    by_test : (arrives : Bool) → cond arrives (Some e.act) (last_of is_arrival own) ≡ Some act → (last_of is_arrival own ≡ Some act → (arrivals_in own == 0) ≡ false) → (cond arrives 1 0 + arrivals_in own == 0) ≡ false
+    by_test true last before = eqb_other (1 + arrivals_in own) 0 (λ none. absurd (omega (arith, none)))
+    by_test false last before = ap (λ n. n == 0) same ∙ before last
+      where
+        same : 0 + arrivals_in own ≡ arrivals_in own
+        same = omega arith
 
 -- What a step does to the word: nothing, or it counts one arrival.
 
@@ -284,22 +311,20 @@ leaves_by_epoch {T} z n parties fits party past run c called v w arrived counts 
 
 -- What one more event tells.
 
+-- what is so of a call where it asks its wait closure
+abbrev pub IsAskedSo : {T : Type 0} → PendingCall T → Act T → ℕ → Type 0
+IsAskedSo c act told = (looks_on c.call c.own ≡ 10000) × (sight_of words.State act ≡ Some told)
+
 pub record EventLaw {T : Type 0} (n party : ℕ) (past : List (Event T)) (pending : Option (PendingCall T)) (m : Move T) : Type 0 where
   pub cause : MatchBool (is_refusal m.outcome) (MatchOption pending ⊥ (λ c. BarrierCause n c.call party (event party m.act m.outcome ∷ past))) (Unit {0})
   pub once : MatchBool (is_arrival m.act) (MatchOption pending ⊥ (λ c. arrivals_in c.own ≡ 0)) (Unit {0})
   pub passes : MatchBool (is_ok m.outcome) (StandsInFullRound n party past) (Unit {0})
   pub wakes : MatchBool (is_ok m.outcome) (MatchBool (is_wake_of_all m.act) (Unit {0}) (AtLast is_arrival (λ before. arrivals_in before % n + 1 ≢ n) party past)) (Unit {0})
   pub exact : is_sight words.State m.act ≡ true → ((m.outcome ≡ thens.Answers answers.Full) ↔ (n ≡ 0))
-  pub asks : MatchBool (stands_at_wait m.outcome) (MatchOption pending ⊥ (λ c. spins_in (is_sight words.State) (since_arrival c.own) ≡ 10000)) (Unit {0})
+  pub asks : WhereAsked IsAskedSo pending m.act m.outcome
   pub alone : MatchBool (is_wake m.act) ((is_wake_of_all m.act ≡ true) × (m.outcome ≡ thens.Answers answers.Ok) × AtLast is_arrival (λ before. arrivals_in before % n + 1 ≡ n) party past) (Unit {0})
   pub answers : EndsOkOrFull m.outcome
-  pub tells : IsToldSight m.act m.outcome
-  pub spins : is_sight words.State m.act ≡ true → MatchOption pending ⊥ (λ c. 0 < arrivals_in c.own) →
-      MatchBool (goes_on m.outcome) (MatchOption pending ⊥ (λ c. spins_in (is_sight words.State) (since_arrival c.own) < 10000)) (Unit {0})
   pub leaves : is_sight words.State m.act ≡ true → MatchOption pending ⊥ (λ c. 0 < arrivals_in c.own) → LeavesAt n party past m.outcome
-
-spins_fewer : (spins spun : ℕ) → spun ≡ spins → nat_lt spins 10000 ≡ true → spun < 10000
-spins_fewer spins spun is left = omega (arith, is, spins_left spins left)
 
 -- only a barrier of 0 refuses
 nobody_fits : (n m arrivals v : ℕ) → n < 2 ^ 32 → CountsArrivals n arrivals v → m ≡ n → nat_lt (count_of v) m ≡ false → n ≡ 0
@@ -313,7 +338,7 @@ look_law :
     {T : Type 0} (n m party : ℕ) (past : List (Event T)) (c : PendingCall T) (act : Act T) (v : ℕ) (below : Bool) → n < 2 ^ 32 → c.call ≡ calls.Wait → m ≡ n → arrivals_in c.own ≡ 0 → CountsArrivals n (arrivals_in past) v →
     is_arrival act ≡ false → is_wake act ≡ false → nat_lt (count_of v) m ≡ below → EventLaw n party past (Some c) (record { act = act; outcome = outcome_of {T = T} (look_after m v below) })
 look_law n m party past c act v true fits wait same first counts quiet asleep below =
-    record { cause = tt; once = rw quiet tt; passes = tt; wakes = tt; alone = rw asleep tt; exact = λ sees. (λ full. absurd cc, λ none. absurd (none_of v n (below_of v m n same below) none)); asks = tt; answers = tt; tells = tt; spins = λ sees arrived. absurd (omega (arith, first, arrived)); leaves = λ sees arrived. absurd (omega (arith, first, arrived)) }
+    record { cause = tt; once = rw quiet tt; passes = tt; wakes = tt; alone = rw asleep tt; exact = λ sees. (λ full. absurd cc, λ none. absurd (none_of v n (below_of v m n same below) none)); asks = tt; answers = tt; leaves = λ sees arrived. absurd (omega (arith, first, arrived)) }
 look_law {T} n m party past c act v false fits wait same first counts quiet asleep below =
     let none : n ≡ 0 = nobody_fits n m (arrivals_in past) v fits counts same below in
     let refuses : Event T = event party act (thens.Answers answers.Full) in
@@ -326,16 +351,14 @@ look_law {T} n m party past c act v false fits wait same first counts quiet asle
       exact = λ sees. (λ full. none, λ is. refl);
       asks = tt;
       answers = tt;
-      tells = tt;
-      spins = λ sees arrived. absurd (omega (arith, first, arrived));
       leaves = λ sees arrived. absurd (omega (arith, first, arrived));
     }
 
 joined_law :
     {T : Type 0} (n party : ℕ) (past : List (Event T)) (c : PendingCall T) (seen to w : ℕ) (fills : Bool) → count_of seen < n → arrivals_in c.own ≡ 0 →
     EventLaw n party past (Some c) (record { act = acts.Exchange words.State seen to w true; outcome = outcome_of {T = T} (joined_after seen fills) })
-joined_law n party past c seen to w true below first = record { cause = tt; once = first; passes = tt; wakes = tt; alone = tt; exact = λ sees. (λ full. absurd cc, λ none. absurd (none_of seen n below none)); asks = tt; answers = tt; tells = tt; spins = λ sees arrived. absurd (omega (arith, first, arrived)); leaves = λ sees arrived. absurd (omega (arith, first, arrived)) }
-joined_law n party past c seen to w false below first = record { cause = tt; once = first; passes = tt; wakes = tt; alone = tt; exact = λ sees. (λ full. absurd cc, λ none. absurd (none_of seen n below none)); asks = tt; answers = tt; tells = tt; spins = λ sees arrived. absurd (omega (arith, first, arrived)); leaves = λ sees arrived. absurd (omega (arith, first, arrived)) }
+joined_law n party past c seen to w true below first = record { cause = tt; once = first; passes = tt; wakes = tt; alone = tt; exact = λ sees. (λ full. absurd cc, λ none. absurd (none_of seen n below none)); asks = tt; answers = tt; leaves = λ sees arrived. absurd (omega (arith, first, arrived)) }
+joined_law n party past c seen to w false below first = record { cause = tt; once = first; passes = tt; wakes = tt; alone = tt; exact = λ sees. (λ full. absurd cc, λ none. absurd (none_of seen n below none)); asks = tt; answers = tt; leaves = λ sees arrived. absurd (omega (arith, first, arrived)) }
 
 arrive_law :
     {T : Type 0} (n m party : ℕ) (past : List (Event T)) (c : PendingCall T) (seen to w : ℕ) (done : Bool) → n < 2 ^ 32 → c.call ≡ calls.Wait → m ≡ n → count_of seen < n → arrivals_in c.own ≡ 0 → CountsArrivals n (arrivals_in past) w →
@@ -361,16 +384,14 @@ stay_law z n parties fits party past run c called hold epoch spins w false left 
       exact = λ sight. (λ full. absurd cc, λ none. absurd (none_of v n below none));
       asks = tt;
       answers = tt;
-      tells = tt;
-      spins = λ sight arrived. tt;
       leaves = λ sight arrived. leaves_by_epoch z n parties fits party past run c called v w at.1.1 counts (thens.Answers answers.Ok) (λ ok. other, λ other. refl);
     }
 stay_law z n parties fits party past run c called hold epoch spins w true true at counts sees spun =
     let epoch_seen : epoch_of w ≡ epoch_of at.1.0 = eqb-true (epoch_of w) epoch sees ∙ sym at.1.2 in
-    record { cause = tt; once = tt; passes = tt; wakes = tt; alone = tt; exact = λ sight. (λ full. absurd cc, λ none. absurd (none_of at.1.0 n at.1.1.3 none)); asks = tt; answers = tt; tells = tt; spins = λ sight arrived. spins_fewer spins (spins_in (is_sight words.State) (since_arrival c.own)) at.2 spun; leaves = λ sight arrived. leaves_by_epoch z n parties fits party past run c called at.1.0 w at.1.1 counts thens.GoesOn (λ ok. absurd cc, λ other. absurd (other epoch_seen)) }
+    record { cause = tt; once = tt; passes = tt; wakes = tt; alone = tt; exact = λ sight. (λ full. absurd cc, λ none. absurd (none_of at.1.0 n at.1.1.3 none)); asks = tt; answers = tt; leaves = λ sight arrived. leaves_by_epoch z n parties fits party past run c called at.1.0 w at.1.1 counts thens.GoesOn (λ ok. absurd cc, λ other. absurd (other epoch_seen)) }
 stay_law z n parties fits party past run c called hold epoch spins w true false at counts sees spun =
     let epoch_seen : epoch_of w ≡ epoch_of at.1.0 = eqb-true (epoch_of w) epoch sees ∙ sym at.1.2 in
-    record { cause = tt; once = tt; passes = tt; wakes = tt; alone = tt; exact = λ sight. (λ full. absurd cc, λ none. absurd (none_of at.1.0 n at.1.1.3 none)); asks = at.2 ∙ spins_spent spins at.3 spun; answers = tt; tells = refl; spins = λ sight arrived. tt; leaves = λ sight arrived. leaves_by_epoch z n parties fits party past run c called at.1.0 w at.1.1 counts (thens.Waits w) (λ ok. absurd cc, λ other. absurd (other epoch_seen)) }
+    record { cause = tt; once = tt; passes = tt; wakes = tt; alone = tt; exact = λ sight. (λ full. absurd cc, λ none. absurd (none_of at.1.0 n at.1.1.3 none)); asks = (rw (has_arrived c.own _ at.1.1.2) (at.2 ∙ spins_spent spins at.3 spun), refl); answers = tt; leaves = λ sight arrived. leaves_by_epoch z n parties fits party past run c called at.1.0 w at.1.1 counts (thens.Waits w) (λ ok. absurd cc, λ other. absurd (other epoch_seen)) }
 
 step_law :
     {T : Type 0} (z : Arithmetic T) (n parties : ℕ) → n < 2 ^ 32 → (party : ℕ) (past : List (Event T)) → IsPast z (barrier_table n) parties past → (c : PendingCall T) → call_of party past ≡ Some c →
@@ -393,8 +414,6 @@ step_law z n parties fits party past run c called places.Wake hold memory at cou
       exact = λ sees. absurd cc;
       asks = tt;
       answers = tt;
-      tells = tt;
-      spins = λ sees arrived. absurd cc;
       leaves = λ sees arrived. absurd cc;
     }
 step_law z n parties fits party past run c called (places.Stay epoch spins) hold memory at counts =
@@ -406,23 +425,28 @@ event_law {T} z n parties fits past e run =
     by_move (barrier_table n) (call_of e.party past) (hold_of (barrier_table n) e.party past) (word_in (barrier_table n) past)
     (λ (k : Option (PendingCall T)) (m : Move T). EventLaw n e.party past k m)
     run.0.0 (record { act = e.act; outcome = e.then })
-    (λ call _. record { cause = tt; once = tt; passes = tt; wakes = tt; alone = tt; exact = λ sees. absurd cc; asks = tt; answers = tt; tells = tt; spins = λ sees arrived. absurd cc; leaves = λ sees arrived. absurd cc })
-    (λ action _. record { cause = tt; once = tt; passes = tt; wakes = tt; alone = tt; exact = λ sees. absurd cc; asks = tt; answers = tt; tells = tt; spins = λ sees arrived. absurd cc; leaves = λ sees arrived. absurd cc })
-    (λ choice _. record { cause = tt; once = tt; passes = tt; wakes = tt; alone = tt; exact = λ sees. absurd cc; asks = tt; answers = tt; tells = tt; spins = λ sees arrived. absurd cc; leaves = λ sees arrived. absurd cc })
+    (λ call _. record { cause = tt; once = tt; passes = tt; wakes = tt; alone = tt; exact = λ sees. absurd cc; asks = tt; answers = tt; leaves = λ sees arrived. absurd cc })
+    (λ action _. record { cause = tt; once = tt; passes = tt; wakes = tt; alone = tt; exact = λ sees. absurd cc; asks = tt; answers = tt; leaves = λ sees arrived. absurd cc })
+    (λ choice _. record { cause = tt; once = tt; passes = tt; wakes = tt; alone = tt; exact = λ sees. absurd cc; asks = tt; answers = tt; leaves = λ sees arrived. absurd cc })
     (λ c place _ called stage.
     step_law z n parties fits e.party past run.1 c called place (hold_of (barrier_table n) e.party past) (word_in (barrier_table n) past)
     (at_place z (barrier_table n) parties (AtBarrier n) (barrier_kept n) past run.1 e.party c place called stage) (barrier_counts z n parties fits past run.1))
     run.0.1.moved
 
 pub keeps_barrier : {T : Type 0} (z : Arithmetic T) (n parties : ℕ) (past : List (Event T)) → n < 2 ^ 32 → IsPast z (barrier_table n) parties past → KeepsBarrier n past
-keeps_barrier z n parties [] fits run = record { told = tt; unheld = refl; cause = tt; law = record { counts = barrier_counts z n parties fits [] run; nobody = nobody_arrives z n parties [] run; once = tt; passes = tt; wakes = tt; alone = tt; leaves = tt; exact = tt; asks = tt; spins = tt; tells = tt; answers = tt } }
+keeps_barrier z n parties [] fits run = record { told = tt; unheld = refl; cause = tt; law = record { counts = barrier_counts z n parties fits [] run; nobody = nobody_arrives z n parties [] run; once = tt; passes = tt; wakes = tt; alone = tt; leaves = tt; exact = tt; asks = tt; spins = λ party. tt; tells = tt; answers = tt } }
 keeps_barrier z n parties (e ∷ past) fits run =
     let event = event_law z n parties fits past e run in
     record {
       told = tells_memory z (barrier_table n) parties (e ∷ past) run;
       unheld = no_holds (barrier_table n) (λ call from to. refl) (e ∷ past);
       cause = event.cause;
-      law = record { counts = barrier_counts z n parties fits (e ∷ past) run; nobody = nobody_arrives z n parties (e ∷ past) run; once = event.once; passes = event.passes; leaves = event.leaves; wakes = event.wakes; alone = event.alone; exact = event.exact; asks = event.asks; spins = event.spins; tells = event.tells; answers = event.answers };
+      law = record { counts = barrier_counts z n parties fits (e ∷ past) run; nobody = nobody_arrives z n parties (e ∷ past) run; once = event.once; passes = event.passes; leaves = event.leaves; wakes = event.wakes; alone = event.alone; exact = event.exact; 
+        asks = asked_maps IsAskedSo (λ c act told. looks_on c.call c.own ≡ 10000) (λ c act told so. so.0) (call_of e.party past) e.act e.then event.asks;
+        spins = spins_no_more z (barrier_table n) parties (AtBarrier n) steps_on (barrier_kept n) (spins_bounded n) (e ∷ past) run;
+        tells = asked_maps IsAskedSo (λ c act told. sight_at words.State c.call c.own act ≡ Some told) (λ c act told so. so.1) (call_of e.party past) e.act e.then event.asks;
+        answers = event.answers;
+      };
     }
 
 -- a barrier has no other word

@@ -1,5 +1,5 @@
 -- What a barrier keeps at every front of every run: rounds of n arrivals, each of which is full before one of its calls answers `Ok`.
-use Rattle.std.specs.Prelude.{◌≡◌, ◌≢◌, ℕ, ◌+◌, ◌%◌, ◌^◌, ◌<◌, ◌↔◌, Bool, true, false, if◌then◌else◌, List, [], ◌∷◌, Some, MatchBool, MatchOption}
+use Rattle.std.specs.Prelude.{◌≡◌, ◌≢◌, ℕ, ◌+◌, ◌%◌, ◌^◌, ◌<◌, ◌==◌, ◌↔◌, Bool, true, false, if◌then◌else◌, List, [], ◌∷◌, Some, MatchBool, MatchOption}
 use Rattle.steps_events.specs.declared.event.Word.TheVariants as words
 use Rattle.steps_events.specs.declared.event.Call.{Call}
 use Rattle.steps_events.specs.declared.event.Call.TheVariants as calls
@@ -11,7 +11,9 @@ use Rattle.steps_events.specs.declared.event.Then.{Then}
 use Rattle.steps_events.specs.declared.event.Then.TheVariants as thens
 use Rattle.steps_events.specs.declared.event.Event.{Event}
 use Rattle.steps_events.specs.Past.{call_of, holds_of, word_in}
-use Rattle.steps_events.specs.Sights.{sight_of, is_sight, AtLast, goes_on, spins_in, stands_at_wait}
+use Rattle.steps_events.specs.Moves.{is_step}
+use Rattle.steps_events.specs.Sights.{is_sight, AtLast, spins_in}
+use Rattle.steps_events.specs.Asks.{SpinCount, AsksAfterSpinning, SpinsNoMore, sight_at, TellsRefusal}
 use Rattle.steps_events.specs.Laws.{TellsMemory, HasCause}
 use Rattle.steps_barrier.specs.Rounds.{is_arrival, arrivals_in, round_of, full_rounds, IsFull, CountsArrivals}
 use Rattle.steps_barrier.specs.Table.{barrier_table}
@@ -97,31 +99,17 @@ abbrev pub since_arrival : {T : Type 0} → List (Event T) → List (Event T)
 since_arrival [] = []
 since_arrival (e ∷ own) = if is_arrival e.act then [] else e ∷ since_arrival own
 
--- a wait closure is asked only after exactly 10000 spins, which are looks since the call's arrival
-abbrev pub AsksAfterStaying : {T : Type 0} → List (Event T) → Type 0
-AsksAfterStaying [] = Unit {0}
-AsksAfterStaying (e ∷ past) =
-    MatchBool (stands_at_wait e.then)
-    (MatchOption (call_of e.party past) ⊥ (λ c. spins_in (is_sight words.State) (since_arrival c.own) ≡ 10000))
-    (Unit {0})
+-- what a call has counted since its arrival; one that has not arrived neither spins nor asks
+abbrev pub once_arrived : {T : Type 0} → (List (Event T) → ℕ) → SpinCount T
+once_arrived counted call own = if arrivals_in own == 0 then 0 else counted (since_arrival own)
 
--- a call that has arrived spins 10000 times at most: a look by which it goes on by itself comes after fewer
-abbrev pub SpinsNoMore : {T : Type 0} → List (Event T) → Type 0
-SpinsNoMore [] = Unit {0}
-SpinsNoMore (e ∷ past) =
-    is_sight words.State e.act ≡ true →
-    HasArrived e.party past →
-    MatchBool (goes_on e.then) (MatchOption (call_of e.party past) ⊥ (λ c. spins_in (is_sight words.State) (since_arrival c.own) < 10000)) (Unit {0})
+-- its spins: the looks after which it went on by itself
+abbrev pub looks_on : {T : Type 0} → SpinCount T
+looks_on call own = once_arrived (spins_in (is_sight words.State)) call own
 
--- where a call is left at its wait closure, the closure is told what the act saw of the word
-abbrev pub IsToldSight : {T : Type 0} → Act T → Then T → Type 0
-IsToldSight act (thens.Waits told) = sight_of words.State act ≡ Some told
-IsToldSight act outcome = Unit {0}
-
--- a wait closure that the latest event asks is told the whole word that the event saw
-abbrev pub TellsSight : {T : Type 0} → List (Event T) → Type 0
-TellsSight [] = Unit {0}
-TellsSight (e ∷ past) = IsToldSight e.act e.then
+-- its steps of any kind after which it went on by itself
+abbrev pub steps_on : {T : Type 0} → SpinCount T
+steps_on call own = once_arrived (spins_in is_step) call own
 
 -- What a barrier keeps beside what every object does.
 pub record BarrierLaw {T : Type 0} (n : ℕ) (past : List (Event T)) : Type 0 where
@@ -141,12 +129,12 @@ pub record BarrierLaw {T : Type 0} (n : ℕ) (past : List (Event T)) : Type 0 wh
   pub alone : WakesAsFiller n past
   -- a barrier of 0 refuses each call, and no other refuses any
   pub exact : IsExactRefusal n past
-  -- a call that has arrived spins 10000 times at most
-  pub spins : SpinsNoMore past
   -- a wait closure is asked after 10000 spins, which are looks since the call's arrival
-  pub asks : AsksAfterStaying past
-  -- and told the whole word that the latest look saw
-  pub tells : TellsSight past
+  pub asks : AsksAfterSpinning looks_on past
+  -- a call that has arrived goes on by itself no more often
+  pub spins : SpinsNoMore steps_on past
+  -- the closure is told the whole word that the latest look saw
+  pub tells : TellsRefusal (sight_at words.State) past
   -- a call comes back with `Ok` or `Full` alone
   pub answers : AnswersOkOrFull past
 

@@ -5,5 +5,6 @@ pub mod RwAnswers
 pub mod Parties
 pub mod Locks
 pub mod Spins
+pub mod Asks
 pub mod LastSights
 pub mod Own

@@ -86,17 +86,6 @@ pub refused_leads :
 refused_leads in_vain wrap patience seen own number act next so tries quiet is =
     refused_by_leads in_vain wrap patience seen own number act next patience.keep (nat_lt patience.spins 10000) so tries quiet refl is
 
--- it stands only after all its spins
-pub stands_after_spinning :
-    {T P : Type 0} (in_vain : Act T → Bool) (wrap : Patience → P) (patience : Patience) (seen : ℕ) (own : List (Event T)) → HasSpun in_vain patience own →
-    MatchBool (stands_at_wait (outcome_of (within wrap (refused {T = T} patience seen)))) (spins_in in_vain own ≡ 10000) (Unit {0})
-stands_after_spinning {T} in_vain wrap patience seen own so = by_tests patience.keep (nat_lt patience.spins 10000) refl
-  where
-    by_tests : (keep left : Bool) → nat_lt patience.spins 10000 ≡ left → MatchBool (stands_at_wait (outcome_of (within wrap (refused_by {T = T} patience seen keep left)))) (spins_in in_vain own ≡ 10000) (Unit {0})
-    by_tests true true spins = tt
-    by_tests true false spins = so.spun ∙ spins_spent patience.spins so.within_limit spins
-    by_tests false left spins = tt
-
 -- it gives up only where its closure has answered Abort
 pub refused_because :
     {T P : Type 0} (in_vain : Act T → Bool) (wrap : Patience → P) (patience : Patience) (seen : ℕ) (own : List (Event T)) (Because : Type 0) → HasSpun in_vain patience own → (keeps_asking own ≡ false → Because) →

@@ -10,5 +10,6 @@ pub mod RwAnswers
 pub mod Moves
 pub mod Runs
 pub mod Sights
+pub mod Asks
 pub mod Waits
 pub mod Laws

@@ -92,14 +92,6 @@ abbrev pub spins_in : {T : Type 0} → (Act T → Bool) → List (Event T) → �
 spins_in in_vain [] = 0
 spins_in in_vain (e ∷ own) = (if (in_vain e.act && goes_on e.then) then 1 else 0) + spins_in in_vain own
 
--- a wait closure is asked only after exactly 10000 spins
-abbrev pub AsksAfterSpinning : {T : Type 0} → (Act T → Bool) → List (Event T) → Type 0
-AsksAfterSpinning in_vain [] = Unit {0}
-AsksAfterSpinning in_vain (e ∷ past) =
-    MatchBool (stands_at_wait e.then)
-    (MatchOption (call_of e.party past) ⊥ (λ c. spins_in in_vain c.own ≡ 10000))
-    (Unit {0})
-
 -- how often a call stood at its wait closure
 abbrev pub stands_in : {T : Type 0} → List (Event T) → ℕ
 stands_in [] = 0

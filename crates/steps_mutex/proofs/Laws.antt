@@ -1,5 +1,5 @@
 -- A mutex keeps its law at every front of every run.
-use Rattle.std.proofs.Common.{◌≡◌, ℕ, zero, ◌==◌, refl, sym, ◌∙◌, ap, subst, Bool, true, false, cond, is_some, List, [], ◌∷◌, Option, Some, None, ◌↔◌}
+use Rattle.std.proofs.Common.{◌≡◌, ◌≢◌, ◌≤◌, ℕ, zero, ◌==◌, refl, sym, ◌∙◌, ap, subst, Bool, true, false, cond, is_some, List, [], ◌∷◌, Option, Some, None, ◌↔◌, inl, inr, arith}
 use Rattle.std.specs.Prelude.{MatchBool, MatchOption, not}
 use Rattle.std.proofs.lemmas.Bool.{eqb-true, eqb-false}
 use Rattle.steps_events.specs.declared.WaitAction.{WaitAction}
@@ -21,28 +21,30 @@ use Rattle.steps_events.specs.declared.row.After.TheVariants as afters
 use Rattle.steps_events.specs.Arithmetic.{Arithmetic}
 use Rattle.steps_events.specs.Tables.{Table}
 use Rattle.steps_events.specs.Rows.{carried_out, value_told, outcome_of, place_after}
-use Rattle.steps_events.specs.Past.{same_word, PendingCall, call_of, holds_of, hold_of, hold_taken, hold_after, word_in, latest_outcome, event, is_failure}
-use Rattle.steps_events.specs.Moves.{Move, step_at, hold_fault, answer_fault, choose_fault}
+use Rattle.steps_events.specs.Past.{Hold, same_word, PendingCall, call_of, holds_of, hold_of, hold_taken, hold_after, word_in, latest_outcome, event, is_failure}
+use Rattle.steps_events.specs.Moves.{Move, step_at, hold_fault, answer_fault, choose_fault, is_step}
 use Rattle.steps_events.specs.Runs.{IsPast}
-use Rattle.steps_events.specs.Sights.{is_sight, HasAborted, spins_in, stands_at_wait}
+use Rattle.steps_events.specs.Sights.{sight_of, is_sight, keeps_asking, HasAborted, spins_in}
+use Rattle.steps_events.specs.Asks.{WhereAsked, sight_at, whole_call}
 use Rattle.steps_events.specs.Laws.{Lacks, is_refusal}
 use Rattle.steps_events.proofs.Holds.{eqb_same, hold_of_same}
 use Rattle.steps_events.proofs.Steps.{by_move, tells_memory}
 use Rattle.steps_events.proofs.Parties.{IsKept, at_place}
+use Rattle.steps_events.proofs.Asks.{asked_maps, spins_no_more}
 use Rattle.steps_events.proofs.Locks.{IsLock, IsLockIntent, IsFreeOrHeld, lock_word, lock_exclusive, locked_at, free_exactly}
 use Rattle.steps_mutex.specs.declared.MutexPlace.{MutexPlace}
 use Rattle.steps_mutex.specs.declared.MutexPlace.TheVariants as places
 use Rattle.steps_mutex.specs.Table.{mutex_table, mutex_begins, mutex_intent, mutex_after, mutex_answered}
-use Rattle.steps_mutex.specs.Law.{LockCause, HasTried, answer_of, acts_of, IsLockAnswer, KeepsMutex}
+use Rattle.steps_mutex.specs.Law.{LockCause, HasTried, answer_of, acts_of, IsLockAnswer, lock_spins, steps_on, KeepsMutex}
 use Rattle.steps_mutex.proofs.LockSteps.{HasTriedSo, AtLock, lock_begins, LockLeads, lock_leads, lock_goes_on, lock_answered, lock_chosen}
 
 -- What is kept of a call at its place.
 
 abbrev pub AtMutex : {T : Type 0} → MutexPlace → PendingCall T → Option HoldKind → Type 0
-AtMutex places.TryLock c hold = (c.call ≡ calls.TryLock) × (hold ≡ None)
+AtMutex places.TryLock c hold = (c.call ≡ calls.TryLock) × (hold ≡ None) × (c.own ≡ [])
 AtMutex (places.Lock patience) c hold = (c.call ≡ calls.Lock) × HasTriedSo patience c.own × (hold ≡ None)
 AtMutex places.Release c hold = (c.call ≡ calls.Unlock) × (is_some hold ≡ true) × (c.own ≡ [])
-AtMutex places.Wake c hold = (c.call ≡ calls.Unlock) × (acts_of c.own ≡ acts.Store words.State 0 ∷ []) × (latest_outcome c.own ≡ thens.GoesOn) × (hold ≡ None)
+AtMutex places.Wake c hold = (c.call ≡ calls.Unlock) × (acts_of c.own ≡ acts.Store words.State 0 ∷ []) × (latest_outcome c.own ≡ thens.GoesOn) × (hold ≡ None) × (spins_in is_step c.own ≡ 1)
 
 -- Where a call begins.
 
@@ -52,7 +54,7 @@ pub begins_at :
 begins_at {T} calls.TryLock place (Some kind) is allowed = absurd cc
 begins_at {T} calls.TryLock place None is allowed =
     let made : places.TryLock ≡ place = cc in
-    subst (λ p. AtMutex {T = T} p (record { call = calls.TryLock; own = [] }) None) made (refl, refl)
+    subst (λ p. AtMutex {T = T} p (record { call = calls.TryLock; own = [] }) None) made (refl, refl, refl)
 begins_at {T} calls.Lock place (Some kind) is allowed = absurd cc
 begins_at {T} calls.Lock place None is allowed =
     let made : places.Lock (record { spins = 0; keep = true }) ≡ place = cc in
@@ -99,7 +101,7 @@ steps_at {T} t (places.Lock patience) c hold memory number next at is =
     (lock_goes_on c.own number w _ (mutex_after (places.Lock patience) (Some w)) next leads is)
 steps_at {T} t places.Release c hold memory number next at is =
     let made : places.Wake ≡ next = cc in
-    subst (λ p. AtMutex {T = T} p (record { call = c.call; own = event number (acts.Store words.State 0) thens.GoesOn ∷ c.own }) None) made (at.0, rw at.2 refl, refl, refl)
+    subst (λ p. AtMutex {T = T} p (record { call = c.call; own = event number (acts.Store words.State 0) thens.GoesOn ∷ c.own }) None) made (at.0, rw at.2 refl, refl, refl, rw at.2 refl)
 steps_at t places.Wake c hold memory number next at is = absurd cc
 
 -- Where an answer leads.
@@ -114,7 +116,7 @@ not_chosen {T} outcome A goes stands = let no : choose_fault {T = T} thens.GoesO
 pub answers_at :
     {T : Type 0} (place : MutexPlace) (c : PendingCall T) (hold : Option HoldKind) (action : WaitAction) (number : ℕ) → AtMutex place c hold → answer_fault (latest_outcome c.own) ≡ None →
     AtMutex {T = T} (mutex_answered place action) (record { call = c.call; own = event number (acts.Answered action) thens.GoesOn ∷ c.own }) hold
-answers_at places.TryLock c hold action number at waits = at
+answers_at {T} places.TryLock c hold action number at waits = not_asked (latest_outcome c.own) _ (ap (λ (own : List (Event T)). latest_outcome own) at.2) waits
 answers_at (places.Lock patience) c hold action number at waits = (at.0, lock_answered patience c.own number action at.1 waits, at.2)
 answers_at {T} places.Release c hold action number at waits = not_asked (latest_outcome c.own) _ (ap (λ (own : List (Event T)). latest_outcome own) at.2) waits
 answers_at places.Wake c hold action number at waits = not_asked (latest_outcome c.own) _ at.2 waits
@@ -122,7 +124,7 @@ answers_at places.Wake c hold action number at waits = not_asked (latest_outcome
 pub chooses_at :
     {T : Type 0} (place : MutexPlace) (c : PendingCall T) (hold : Option HoldKind) (choice : Option T) (number : ℕ) → AtMutex place c hold → choose_fault (latest_outcome c.own) ≡ None →
     AtMutex {T = T} place (record { call = c.call; own = event number (acts.Chosen choice) thens.GoesOn ∷ c.own }) hold
-chooses_at places.TryLock c hold choice number at stands = at
+chooses_at {T} places.TryLock c hold choice number at stands = not_chosen (latest_outcome c.own) _ (ap (λ (own : List (Event T)). latest_outcome own) at.2) stands
 chooses_at (places.Lock patience) c hold choice number at stands = (at.0, lock_chosen patience c.own number choice at.1, at.2)
 chooses_at {T} places.Release c hold choice number at stands = not_chosen (latest_outcome c.own) _ (ap (λ (own : List (Event T)). latest_outcome own) at.2) stands
 chooses_at places.Wake c hold choice number at stands = not_chosen (latest_outcome c.own) _ at.2 stands
@@ -135,6 +137,13 @@ mutex_kept =
       answers = answers_at;
       chooses = chooses_at;
     }
+
+-- No call goes on by itself more than 10000 times.
+pub spins_bounded : {T : Type 0} (place : MutexPlace) (c : PendingCall T) (hold : Option HoldKind) → AtMutex place c hold → spins_in is_step c.own ≤ 10000
+spins_bounded places.TryLock c hold at = rw at.2 (omega arith)
+spins_bounded (places.Lock patience) c hold at = omega (arith, at.1.goes_on, at.1.so.within_limit)
+spins_bounded places.Release c hold at = rw at.2 (omega arith)
+spins_bounded places.Wake c hold at = omega (arith, at.4)
 
 -- A mutex is a lock for one.
 
@@ -156,6 +165,15 @@ mutex_is_lock z parties =
 
 -- What one more event tells.
 
+-- what is so of a call where it asks its wait closure
+abbrev pub IsAskedSo : {T : Type 0} → PendingCall T → Act T → ℕ → Type 0
+IsAskedSo c act told = (lock_spins c.call c.own ≡ 10000) × (sight_of words.State act ≡ Some told) × (keeps_asking c.own ≡ true)
+
+-- a word that is not free is 1
+held_at_one : (w : ℕ) (holds : List Hold) → IsFreeOrHeld w holds → w ≢ 0 → w ≡ 1
+held_at_one w holds (inl free) other = absurd (other free.0)
+held_at_one w holds (inr held) other = held.1
+
 -- of a step of a mutex, alone or inside another object, where the party had this hold before it
 pub record EventLaw {T P : Type 0} (t : Table T P) (party : ℕ) (past : List (Event T)) (hold : Option HoldKind) (pending : Option (PendingCall T)) (m : Move T) : Type 0 where
   pub cause : MatchBool (is_refusal m.outcome) (MatchOption pending ⊥ (λ c. LockCause t c.call party (event party m.act m.outcome ∷ past))) (Unit {0})
@@ -166,7 +184,7 @@ pub record EventLaw {T P : Type 0} (t : Table T P) (party : ℕ) (past : List (E
       MatchOption (answer_of m.outcome) (Unit {0})
       (λ answer. MatchOption pending ⊥ (λ c. IsLockAnswer c.call (m.act ∷ acts_of c.own) (hold_after t m.act pending hold) answer))
   pub ends : MatchOption (answer_of m.outcome) (hold_taken t m.act pending ≡ None) (λ answer. Unit {0})
-  pub asks : MatchBool (stands_at_wait m.outcome) (MatchOption pending ⊥ (λ c. spins_in is_failure c.own ≡ 10000)) (Unit {0})
+  pub asks : WhereAsked IsAskedSo pending m.act m.outcome
   pub tries : MatchBool (is_refusal m.outcome) (MatchOption pending ⊥ (λ c. HasTried c.call (event party m.act m.outcome ∷ c.own))) (Unit {0})
 
 pub another : {T : Type 0} (one other : Call T) (A : Type 0) → one ≡ other → (one ≡ calls.TryLock → ⊥) → other ≡ calls.TryLock → A
@@ -209,8 +227,8 @@ lock_law :
     EventLaw t party past hold (Some c) (record { act = acts.Exchange words.State 0 1 w done; outcome = outcome_of {T = T} a })
 lock_law t party past hold c w done (afters.At next) grants called is free e law leads =
     record { cause = tt; exact = another calls.Lock c.call _ (sym is) (λ same. absurd cc); answers = tt; ends = lock_takes_none t (Some c) c.own party w done (afters.At next) next e leads refl; asks = tt; tries = tt }
-lock_law t party past hold c w done (afters.Waits next seen) grants called is free e law leads =
-    record { cause = tt; exact = another calls.Lock c.call _ (sym is) (λ same. absurd cc); answers = tt; ends = lock_takes_none t (Some c) c.own party w done (afters.Waits next seen) next e leads refl; asks = leads.2; tries = tt }
+lock_law {T} t party past hold c w done (afters.Waits next seen) grants called is free e law leads =
+    record { cause = tt; exact = another calls.Lock c.call _ (sym is) (λ same. absurd cc); answers = tt; ends = lock_takes_none t (Some c) c.own party w done (afters.Waits next seen) next e leads refl; asks = (subst (λ (k : Call T). lock_spins k c.own ≡ 10000) (sym is) leads.2, ap (λ v. Some v) (held_at_one w (holds_of t past) law leads.1 ∙ sym leads.4), leads.3); tries = tt }
 lock_law {T} t party past hold c w true (afters.Ends answers.Success) grants called is free e law leads =
     let act : Act T = acts.Exchange words.State 0 1 w true in
     let granted : t.grant c.call 0 1 ≡ Some kinds.Write = ap (λ (k : Call T). t.grant k 0 1) is ∙ grants.locks in
@@ -288,7 +306,7 @@ keeps_mutex z parties [] run =
       told = tt;
       exclusive = lock_exclusive 0 [] (lock_word z mutex_table parties (mutex_is_lock z parties) [] run);
       cause = tt;
-      law = record { exact = tt; answers = tt; ends = tt; asks = tt; tries = tt };
+      law = record { exact = tt; answers = tt; ends = tt; asks = tt; spins = λ party. tt; tells = tt; stops = tt; tries = tt };
     }
 keeps_mutex {T} z parties (e ∷ past) run =
     let event = event_law z parties past e run in
@@ -299,7 +317,13 @@ keeps_mutex {T} z parties (e ∷ past) run =
       told = tells_memory z mutex_table parties (e ∷ past) run;
       exclusive = lock_exclusive _ (holds_of mutex_table (e ∷ past)) (lock_word z mutex_table parties (mutex_is_lock z parties) (e ∷ past) run);
       cause = event.cause;
-      law = record { exact = event.exact; answers = answered; ends = event.ends; asks = event.asks; tries = event.tries };
+      law = record { exact = event.exact; answers = answered; ends = event.ends; 
+        asks = asked_maps IsAskedSo (λ c act told. lock_spins c.call c.own ≡ 10000) (λ c act told so. so.0) (call_of e.party past) e.act e.then event.asks;
+        spins = spins_no_more z mutex_table parties AtMutex steps_on mutex_kept spins_bounded (e ∷ past) run;
+        tells = asked_maps IsAskedSo (λ c act told. sight_at words.State c.call c.own act ≡ Some told) (λ c act told so. so.1) (call_of e.party past) e.act e.then event.asks;
+        stops = asked_maps IsAskedSo (λ c act told. keeps_asking (whole_call c.call c.own) ≡ true) (λ c act told so. so.2) (call_of e.party past) e.act e.then event.asks;
+        tries = event.tries;
+      };
     }
 
 -- a mutex has no other word

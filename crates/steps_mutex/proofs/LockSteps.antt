@@ -14,7 +14,7 @@ use Rattle.steps_events.specs.declared.row.After.{After}
 use Rattle.steps_events.specs.declared.row.After.TheVariants as afters
 use Rattle.steps_events.specs.Rows.{outcome_of, place_after, within, answered}
 use Rattle.steps_events.specs.Past.{latest_outcome, event, is_failure, failures_in}
-use Rattle.steps_events.specs.Moves.{answer_fault}
+use Rattle.steps_events.specs.Moves.{answer_fault, is_step}
 use Rattle.steps_events.specs.Sights.{keeps_asking, spins_in, stands_at_wait, stands_in, exchanges_in}
 use Rattle.steps_events.proofs.Spins.{HasSpun, begun_spun, spins_left, spins_spent, answered_keep, waits_by}
 use Rattle.steps_mutex.specs.declared.MutexPlace.{MutexPlace}
@@ -27,6 +27,8 @@ pub record HasTriedSo {T : Type 0} (patience : Patience) (own : List (Event T)) 
   pub so : HasSpun is_failure patience own
   pub tried : exchanges_in own ≡ patience.spins + stands_in own
   pub failed : failures_in own ≡ exchanges_in own
+  -- it goes on by itself only where it spins
+  pub goes_on : spins_in is_step own ≡ patience.spins
   -- it stands and gives up only after all its spins
   pub stands : stands_at_wait (latest_outcome own) ≡ true → patience.spins ≡ 10000
   pub gives_up : patience.keep ≡ false → patience.spins ≡ 10000
@@ -37,13 +39,13 @@ AtLock (places.Lock patience) own = HasTriedSo patience own
 AtLock other own = ⊥
 
 pub lock_begins : {T : Type 0} → AtLock {T = T} (places.Lock (record { spins = 0; keep = true })) []
-lock_begins = record { so = begun_spun is_failure; tried = refl; failed = refl; stands = λ waits. absurd cc; gives_up = λ gave. absurd cc }
+lock_begins = record { so = begun_spun is_failure; tried = refl; failed = refl; goes_on = refl; stands = λ waits. absurd cc; gives_up = λ gave. absurd cc }
 
--- How a call goes on after an exchange that found the value: it has spun once more, or stands after 10000 spins; it is granted where the word was 0,
+-- How a call goes on after an exchange that found the value: it has spun once more, or stands after 10000 spins, where it still asks, and is told 1; it is granted where the word was 0,
 -- and gives up where it was not, after its closure answered Abort.
 abbrev pub LockLeads : {T : Type 0} → List (Event T) → ℕ → ℕ → Act T → After T MutexPlace → Type 0
 LockLeads own number w act (afters.At next) = AtLock next (event number act thens.GoesOn ∷ own) × (w ≢ 0)
-LockLeads own number w act (afters.Waits next seen) = AtLock next (event number act (thens.Waits seen) ∷ own) × (w ≢ 0) × (spins_in is_failure own ≡ 10000)
+LockLeads own number w act (afters.Waits next seen) = AtLock next (event number act (thens.Waits seen) ∷ own) × (w ≢ 0) × (spins_in is_failure own ≡ 10000) × (keeps_asking own ≡ true) × (seen ≡ 1)
 LockLeads own number w act (afters.Ends answers.Success) = w ≡ 0
 LockLeads own number w act (afters.Ends answers.Interrupted) =
     (w ≢ 0) × (keeps_asking own ≡ false) × HasTriedAll (event number act (thens.Answers answers.Interrupted) ∷ own)
@@ -64,6 +66,7 @@ lock_leads_by word patience own number w false true true tried is keeps spins = 
     so = record { spun = omega (arith, tried.so.spun); keeps = tried.so.keeps; within_limit = spins_left patience.spins spins };
     tried = omega (arith, tried.tried);
     failed = omega (arith, tried.failed);
+    goes_on = omega (arith, tried.goes_on);
     stands = λ waits. absurd cc;
     gives_up = λ gave. let no : true ≡ false = sym keeps ∙ gave in absurd cc;
   },
@@ -75,11 +78,14 @@ lock_leads_by word patience own number w false true false tried is keeps spins =
         so = record { spun = omega (arith, tried.so.spun); keeps = tried.so.keeps; within_limit = tried.so.within_limit };
         tried = omega (arith, tried.tried);
         failed = omega (arith, tried.failed);
+        goes_on = omega (arith, tried.goes_on);
         stands = λ waits. all;
         gives_up = λ gave. all;
       },
       eqb-false w 0 is,
       tried.so.spun ∙ all,
+      tried.so.keeps ∙ keeps,
+      refl,
     )
 lock_leads_by word patience own number w false false left tried is keeps spins =
     (eqb-false w 0 is, tried.so.keeps ∙ keeps, (omega (arith, tried.tried, tried.gives_up keeps), omega (arith, tried.failed)))
@@ -111,6 +117,7 @@ lock_answered patience own number action tried waits =
       so = record { spun = omega (arith, tried.so.spun); keeps = answered_keep patience.keep action own number tried.so.keeps; within_limit = tried.so.within_limit };
       tried = omega (arith, tried.tried);
       failed = omega (arith, tried.failed);
+      goes_on = omega (arith, tried.goes_on);
       stands = λ stands. tried.stands (waits_by (latest_outcome own) waits);
       gives_up = λ gave. tried.stands (waits_by (latest_outcome own) waits);
     }
@@ -123,6 +130,7 @@ lock_chosen patience own number choice tried =
       so = record { spun = omega (arith, tried.so.spun); keeps = tried.so.keeps; within_limit = tried.so.within_limit };
       tried = omega (arith, tried.tried);
       failed = omega (arith, tried.failed);
+      goes_on = omega (arith, tried.goes_on);
       stands = λ stands. absurd cc;
       gives_up = tried.gives_up;
     }

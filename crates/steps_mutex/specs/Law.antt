@@ -1,4 +1,5 @@
--- What a mutex keeps at every front of every run: one holder, what each answer means, a cause for each refusal, and how often a call tries.
+-- What a mutex keeps at every front of every run: one holder, what each answer means, a cause for each refusal, how often a call tries, and when it
+-- asks its wait closure.
 use Rattle.std.specs.Prelude.{◌≡◌, ℕ, ◌+◌, ◌↔◌, true, List, [], ◌∷◌, Option, Some, None, MatchBool, MatchOption}
 use Rattle.steps_events.specs.declared.event.Word.TheVariants as words
 use Rattle.steps_events.specs.declared.event.Wake.TheVariants as wakes
@@ -15,7 +16,9 @@ use Rattle.steps_events.specs.declared.hold.HoldKind.{HoldKind}
 use Rattle.steps_events.specs.declared.hold.HoldKind.TheVariants as kinds
 use Rattle.steps_events.specs.Tables.{Table}
 use Rattle.steps_events.specs.Past.{call_of, holds_of, hold_of, hold_taken, is_failure, failures_in}
-use Rattle.steps_events.specs.Sights.{is_sight, AtLastSight, HasAborted, AsksAfterSpinning, stands_in, exchanges_in}
+use Rattle.steps_events.specs.Moves.{is_step}
+use Rattle.steps_events.specs.Sights.{is_sight, AtLastSight, HasAborted, spins_in, stands_in, exchanges_in}
+use Rattle.steps_events.specs.Asks.{SpinCount, AsksAfterSpinning, SpinsNoMore, sight_at, TellsRefusal, whole_call, AsksUntilAbort}
 use Rattle.steps_events.specs.Laws.{TellsMemory, IsExclusive, IsLocked, is_refusal, HasCause}
 use Rattle.steps_mutex.specs.Table.{mutex_table}
 
@@ -80,6 +83,17 @@ abbrev pub AnswersWhereGranted : {T P : Type 0} → Table T P → List (Event T)
 AnswersWhereGranted t [] = Unit {0}
 AnswersWhereGranted t (e ∷ past) = MatchOption (answer_of e.then) (hold_taken t e.act (call_of e.party past) ≡ None) (λ answer. Unit {0})
 
+-- When a call asks its wait closure.
+
+-- the spins of a `Lock` are its exchanges that failed; no other call asks
+abbrev pub lock_spins : {T : Type 0} → SpinCount T
+lock_spins calls.Lock own = spins_in is_failure own
+lock_spins other own = 0
+
+-- the steps of any kind after which a call went on by itself
+abbrev pub steps_on : {T : Type 0} → SpinCount T
+steps_on call own = spins_in is_step own
+
 -- What a mutex keeps beside what every object does.
 pub record MutexLaw {T : Type 0} (past : List (Event T)) : Type 0 where
   -- `TryLock` is granted exactly where nobody holds the mutex
@@ -88,8 +102,14 @@ pub record MutexLaw {T : Type 0} (past : List (Event T)) : Type 0 where
   pub answers : AnswersByHold mutex_table past
   -- a locking call that is granted the hold answers at once
   pub ends : AnswersWhereGranted mutex_table past
-  -- a wait closure is asked after 10000 spins, which are exchanges that failed
-  pub asks : AsksAfterSpinning is_failure past
+  -- a wait closure is asked after 10000 spins, which are exchanges of a `Lock` that failed
+  pub asks : AsksAfterSpinning lock_spins past
+  -- no call goes on by itself more often
+  pub spins : SpinsNoMore steps_on past
+  -- the closure is told the value that the exchange found
+  pub tells : TellsRefusal (sight_at words.State) past
+  -- and asked no more once it has answered Abort
+  pub stops : AsksUntilAbort whole_call past
   -- and each `Lock` that gives up has tried so often
   pub tries : GivesUpAfterTrying past
 

@@ -22,19 +22,21 @@ use Rattle.steps_events.specs.declared.row.After.TheVariants as afters
 use Rattle.steps_events.specs.Arithmetic.{Arithmetic}
 use Rattle.steps_events.specs.Rows.{carried_out, value_told, outcome_of, place_after, within, refused}
 use Rattle.steps_events.specs.Past.{same_word, PendingCall, call_of, holds_of, hold_of, hold_after, word_in, latest_outcome, event}
-use Rattle.steps_events.specs.Moves.{Move, step_at, hold_fault, answer_fault, choose_fault}
+use Rattle.steps_events.specs.Moves.{Move, step_at, hold_fault, answer_fault, choose_fault, is_step}
 use Rattle.steps_events.specs.Runs.{IsPast}
-use Rattle.steps_events.specs.Sights.{is_sight, is_abort, keeps_asking, HasAborted, OtherWroteSinceSight, spins_in, stands_at_wait}
+use Rattle.steps_events.specs.Sights.{sight_of, is_sight, is_abort, keeps_asking, HasAborted, OtherWroteSinceSight, spins_in}
+use Rattle.steps_events.specs.Asks.{WhereAsked}
 use Rattle.steps_events.specs.Laws.{Lacks, is_refusal}
 use Rattle.steps_events.proofs.Holds.{eqb_same, eqb_other}
 use Rattle.steps_events.proofs.Steps.{by_move}
-use Rattle.steps_events.proofs.Spins.{HasSpun, begun_spun, passed_on, answered_spun, refused_leads, stands_after_spinning, refused_because}
+use Rattle.steps_events.proofs.Spins.{HasSpun, begun_spun, passed_on, answered_spun, refused_leads, refused_because}
+use Rattle.steps_events.proofs.Asks.{refused_asks}
 use Rattle.steps_events.proofs.LastSights.{IsLook, kept_or_written}
 use Rattle.steps_events.proofs.Parties.{IsKept, at_place}
 use Rattle.steps_rw_reader.specs.declared.RwReaderPlace.{RwReaderPlace}
 use Rattle.steps_rw_reader.specs.declared.RwReaderPlace.TheVariants as places
 use Rattle.steps_rw_reader.specs.Table.{lets_readers_in, read_look, rw_reader_table, rw_reader_begins, rw_reader_answered}
-use Rattle.steps_rw_reader.specs.Law.{CountsHolds, RwReaderCause, is_in_vain}
+use Rattle.steps_rw_reader.specs.Law.{CountsHolds, RwReaderCause, is_in_vain, lock_spins, steps_in_vain}
 use Rattle.steps_rw_reader.proofs.ReaderLocks.{IsReaderLock, IsReaderIntent, reader_lock_word, free_exactly, held_at, shut_at}
 
 -- What is kept of a call at its place.
@@ -50,7 +52,7 @@ AtRwReader (places.TryRead seen to) c hold = (c.call ≡ calls.TryReadLock) × (
 AtRwReader (places.ReadLook patience) c hold = (c.call ≡ calls.ReadLock) × (hold ≡ None) × HasSpun is_in_vain patience c.own
 AtRwReader (places.Read seen to patience) c hold = (c.call ≡ calls.ReadLock) × (hold ≡ None) × Enters seen to × HasSpun is_in_vain patience c.own × (latest_outcome c.own ≡ thens.GoesOn)
 AtRwReader places.TryWrite c hold = (c.call ≡ calls.TryWriteLock) × (hold ≡ None)
-AtRwReader (places.Write patience) c hold = (c.call ≡ calls.WriteLock) × (hold ≡ None) × HasSpun is_in_vain patience c.own
+AtRwReader (places.Write patience) c hold = (c.call ≡ calls.WriteLock) × (hold ≡ None) × HasSpun is_in_vain patience c.own × (spins_in is_step c.own ≡ spins_in is_in_vain c.own)
 AtRwReader places.Release c hold = (c.call ≡ calls.Unlock) × (is_some hold ≡ true)
 AtRwReader places.Wake c hold = c.call ≡ calls.Unlock
 
@@ -70,7 +72,7 @@ begins_at {T} calls.TryWriteLock place None is allowed =
     subst (λ p. AtRwReader {T = T} p (record { call = calls.TryWriteLock; own = [] }) None) made (refl, refl)
 begins_at {T} calls.WriteLock place None is allowed =
     let made : places.Write (record { spins = 0; keep = true }) ≡ place = cc in
-    subst (λ p. AtRwReader {T = T} p (record { call = calls.WriteLock; own = [] }) None) made (refl, refl, begun_spun is_in_vain)
+    subst (λ p. AtRwReader {T = T} p (record { call = calls.WriteLock; own = [] }) None) made (refl, refl, begun_spun is_in_vain, refl)
 begins_at {T} calls.Unlock place (Some kind) is allowed =
     let made : places.Release ≡ place = cc in
     subst (λ p. AtRwReader {T = T} p (record { call = calls.Unlock; own = [] }) (Some kind)) made (refl, refl)
@@ -123,14 +125,14 @@ enter_leads patience c hold seen to w number next false read free enters spun is
     read_leads patience c hold (acts.Exchange words.State seen to w false) w number next (lets_readers_in w) read free spun refl (rw (not_full seen to enters) refl) refl is
 
 write_leads :
-    {T : Type 0} (patience : Patience) (c : PendingCall T) (hold : Option HoldKind) (w number : ℕ) (next : RwReaderPlace) (b : Bool) → c.call ≡ calls.WriteLock → hold ≡ None → HasSpun is_in_vain patience c.own →
+    {T : Type 0} (patience : Patience) (c : PendingCall T) (hold : Option HoldKind) (w number : ℕ) (next : RwReaderPlace) (b : Bool) → c.call ≡ calls.WriteLock → hold ≡ None → HasSpun is_in_vain patience c.own → spins_in is_step c.own ≡ spins_in is_in_vain c.own →
     place_after {T = T} (cond b (afters.Ends answers.Success) (within places.Write (refused patience w))) ≡ Some next →
     AtRwReader next (record { call = c.call; own = event number (acts.Exchange words.State 0 (2 ^ 64 - 1) w b) (outcome_of {T = T} (cond b (afters.Ends answers.Success) (within places.Write (refused patience w)))) ∷ c.own })
     (hold_after rw_reader_table (acts.Exchange words.State 0 (2 ^ 64 - 1) w b) (Some c) hold)
-write_leads patience c hold w number next true write free spun is = absurd cc
-write_leads {T} patience c hold w number next false write free spun is =
+write_leads patience c hold w number next true write free spun alike is = absurd cc
+write_leads {T} patience c hold w number next false write free spun alike is =
     let led = refused_leads is_in_vain places.Write patience w c.own number (acts.Exchange words.State 0 (2 ^ 64 - 1) w false) next spun refl refl is in
-    subst (λ p. AtRwReader {T = T} p (record { call = c.call; own = event number (acts.Exchange words.State 0 (2 ^ 64 - 1) w false) (outcome_of {T = T} (within places.Write (refused patience w))) ∷ c.own }) hold) led.1 (write, free, led.2)
+    subst (λ p. AtRwReader {T = T} p (record { call = c.call; own = event number (acts.Exchange words.State 0 (2 ^ 64 - 1) w false) (outcome_of {T = T} (within places.Write (refused patience w))) ∷ c.own }) hold) led.1 (write, free, led.2, rw alike refl)
 
 -- a call that tries once ends with its exchange
 tried_once : (T : Type 0) (b : Bool) (next : RwReaderPlace) → place_after {T = T} (cond b (afters.Ends answers.Success) (afters.Ends answers.Interrupted)) ≡ Some next → ⊥
@@ -148,7 +150,7 @@ steps_at (places.ReadLook patience) c hold memory number next at is =
     read_leads patience c hold (acts.Load words.State (memory words.State)) (memory words.State) number next (lets_readers_in (memory words.State)) at.0 at.1 at.2 refl refl refl is
 steps_at (places.Read seen to patience) c hold memory number next at is = enter_leads patience c hold seen to (memory words.State) number next (memory words.State == seen) at.0 at.1 at.2 at.3 is
 steps_at {T} places.TryWrite c hold memory number next at is = absurd (tried_once T (memory words.State == 0) next is)
-steps_at (places.Write patience) c hold memory number next at is = write_leads patience c hold (memory words.State) number next (memory words.State == 0) at.0 at.1 at.2 is
+steps_at (places.Write patience) c hold memory number next at is = write_leads patience c hold (memory words.State) number next (memory words.State == 0) at.0 at.1 at.2 at.3 is
 steps_at {T} places.Release c hold memory number next at is =
     let made : places.Wake ≡ next = cc in
     subst
@@ -173,7 +175,7 @@ answers_at (places.TryRead seen to) c hold action number at waits = absurd (aske
 answers_at (places.ReadLook patience) c hold action number at waits = (at.0, at.1, answered_spun is_in_vain patience c.own number action at.2 refl)
 answers_at (places.Read seen to patience) c hold action number at waits = absurd (asked_nothing c.own at.4 waits)
 answers_at places.TryWrite c hold action number at waits = at
-answers_at (places.Write patience) c hold action number at waits = (at.0, at.1, answered_spun is_in_vain patience c.own number action at.2 refl)
+answers_at (places.Write patience) c hold action number at waits = (at.0, at.1, answered_spun is_in_vain patience c.own number action at.2 refl, omega (arith, at.3))
 answers_at places.Release c hold action number at waits = at
 answers_at places.Wake c hold action number at waits = at
 
@@ -185,7 +187,7 @@ chooses_at (places.TryRead seen to) c hold choice number at stands = absurd (off
 chooses_at (places.ReadLook patience) c hold choice number at stands = (at.0, at.1, passed_on is_in_vain patience c.own number (acts.Chosen choice) thens.GoesOn at.2 refl refl)
 chooses_at (places.Read seen to patience) c hold choice number at stands = absurd (offered_nothing c.own at.4 stands)
 chooses_at places.TryWrite c hold choice number at stands = at
-chooses_at (places.Write patience) c hold choice number at stands = (at.0, at.1, passed_on is_in_vain patience c.own number (acts.Chosen choice) thens.GoesOn at.2 refl refl)
+chooses_at (places.Write patience) c hold choice number at stands = (at.0, at.1, passed_on is_in_vain patience c.own number (acts.Chosen choice) thens.GoesOn at.2 refl refl, omega (arith, at.3))
 chooses_at places.Release c hold choice number at stands = at
 chooses_at places.Wake c hold choice number at stands = at
 
@@ -219,14 +221,29 @@ rw_reader_is_lock z parties =
       steps = λ past party c place run called stage. reader_intent place c (hold_of rw_reader_table party past) (at_place z rw_reader_table parties AtRwReader rw_reader_kept past run party c place called stage);
     }
 
+-- No call tries in vain and goes on by itself more than 10000 times.
+pub spins_bounded : {T : Type 0} (place : RwReaderPlace) (c : PendingCall T) (hold : Option HoldKind) → AtRwReader place c hold → steps_in_vain c.call c.own ≤ 10000
+spins_bounded {T} places.TryReadLook c hold at = subst (λ (k : Call T). steps_in_vain k c.own ≤ 10000) (sym at.0) (omega arith)
+spins_bounded {T} (places.TryRead seen to) c hold at = subst (λ (k : Call T). steps_in_vain k c.own ≤ 10000) (sym at.0) (omega arith)
+spins_bounded {T} (places.ReadLook patience) c hold at = subst (λ (k : Call T). steps_in_vain k c.own ≤ 10000) (sym at.0) (omega (arith, at.2.spun, at.2.within_limit))
+spins_bounded {T} (places.Read seen to patience) c hold at = subst (λ (k : Call T). steps_in_vain k c.own ≤ 10000) (sym at.0) (omega (arith, at.3.spun, at.3.within_limit))
+spins_bounded {T} places.TryWrite c hold at = subst (λ (k : Call T). steps_in_vain k c.own ≤ 10000) (sym at.0) (omega arith)
+spins_bounded {T} (places.Write patience) c hold at = subst (λ (k : Call T). steps_in_vain k c.own ≤ 10000) (sym at.0) (omega (arith, at.3, at.2.spun, at.2.within_limit))
+spins_bounded {T} places.Release c hold at = subst (λ (k : Call T). steps_in_vain k c.own ≤ 10000) (sym at.0) (omega arith)
+spins_bounded {T} places.Wake c hold at = subst (λ (k : Call T). steps_in_vain k c.own ≤ 10000) (sym at) (omega arith)
+
 -- What one more event tells.
+
+-- what is so of a call where it asks its wait closure
+abbrev pub IsAskedSo : {T : Type 0} → PendingCall T → Act T → ℕ → Type 0
+IsAskedSo c act told = (lock_spins c.call c.own ≡ 10000) × (sight_of words.State act ≡ Some told) × (keeps_asking c.own ≡ true)
 
 pub record EventLaw {T : Type 0} (party : ℕ) (past : List (Event T)) (pending : Option (PendingCall T)) (m : Move T) : Type 0 where
   pub cause : MatchBool (is_refusal m.outcome) (MatchOption pending ⊥ (λ c. RwReaderCause c.call party (event party m.act m.outcome ∷ past))) (Unit {0})
   pub exact :
       MatchOption pending (Unit {0})
       (λ c. c.call ≡ calls.TryWriteLock → is_sight words.State m.act ≡ true → ((m.outcome ≡ thens.Answers answers.Success) ↔ (holds_of rw_reader_table past ≡ [])))
-  pub asks : MatchBool (stands_at_wait m.outcome) (MatchOption pending ⊥ (λ c. spins_in is_in_vain c.own ≡ 10000)) (Unit {0})
+  pub asks : WhereAsked IsAskedSo pending m.act m.outcome
 
 another : {T : Type 0} (one other : Call T) (A : Type 0) → one ≡ other → (one ≡ calls.TryWriteLock → ⊥) → other ≡ calls.TryWriteLock → A
 another one other A is_not_try is try = absurd (is (is_not_try ∙ try))
@@ -262,14 +279,15 @@ try_enter_law {T} party past c seen to w false try is law =
 
 read_law :
     {T : Type 0} (party : ℕ) (past : List (Event T)) (c : PendingCall T) (patience : Patience) (act : Act T) (w : ℕ) (b : Bool) → call_of party past ≡ Some c → c.call ≡ calls.ReadLock → HasSpun is_in_vain patience c.own →
-    is_sight words.State act ≡ true → lets_readers_in w ≡ b → CountsHolds w (holds_of rw_reader_table past) →
+    sight_of words.State act ≡ Some w → lets_readers_in w ≡ b → CountsHolds w (holds_of rw_reader_table past) →
     EventLaw party past (Some c) (record { act = act; outcome = outcome_of {T = T} (read_after patience w b) })
 read_law party past c patience act w true called read spun sight sees law = record { cause = tt; exact = another calls.ReadLock c.call _ (sym read) (λ same. absurd cc); asks = tt }
 read_law {T} party past c patience act w false called read spun sight sees law =
     record {
       cause = refused_because is_in_vain places.ReadLook patience w c.own _ spun (λ aborted. because aborted);
       exact = another calls.ReadLock c.call _ (sym read) (λ same. absurd cc);
-      asks = stands_after_spinning is_in_vain places.ReadLook patience w c.own spun;
+      asks = refused_asks is_in_vain places.ReadLook patience w c act IsAskedSo spun
+          (λ spent asking. (subst (λ (k : Call T). lock_spins k c.own ≡ 10000) (sym read) spent, sight, asking));
     }
   where
     ended : Event T
@@ -313,7 +331,8 @@ write_law {T} party past c patience w false called write spun sees law =
     record {
       cause = refused_because is_in_vain places.Write patience w c.own _ spun (λ aborted. because aborted);
       exact = another calls.WriteLock c.call _ (sym write) (λ same. absurd cc);
-      asks = stands_after_spinning is_in_vain places.Write patience w c.own spun;
+      asks = refused_asks is_in_vain places.Write patience w c (acts.Exchange words.State 0 (2 ^ 64 - 1) w false) IsAskedSo spun
+          (λ spent asking. (subst (λ (k : Call T). lock_spins k c.own ≡ 10000) (sym write) spent, refl, asking));
     }
   where
     ended : Event T

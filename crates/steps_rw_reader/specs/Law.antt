@@ -1,5 +1,5 @@
 -- What a reader-preferring lock keeps at every front of every run: one writer or only readers, which its word counts, a cause for each
--- refusal, and how often a call tries.
+-- refusal, and when a call asks its wait closure.
 use Rattle.std.specs.Prelude.{◌≡◌, ℕ, ◌+◌, ◌-◌, ◌%◌, ◌^◌, ◌<◌, ◌==◌, ◌↔◌, ◌⊎◌, Bool, true, false, not, if◌then◌else◌, List, [], ◌∷◌, MatchOption}
 use Rattle.steps_events.specs.declared.event.Word.TheVariants as words
 use Rattle.steps_events.specs.declared.event.Wake.TheVariants as wakes
@@ -14,7 +14,9 @@ use Rattle.steps_events.specs.declared.hold.HoldKind.TheVariants as kinds
 use Rattle.steps_events.specs.Past.{Hold, call_of, holds_of, word_in}
 use Rattle.steps_events.specs.HoldCounts.{reads_in, writes_in}
 use Rattle.steps_events.specs.RwAnswers.{AnswersByHold}
-use Rattle.steps_events.specs.Sights.{is_sight, AtLastSight, HasAborted, HasMissed, AsksAfterSpinning}
+use Rattle.steps_events.specs.Moves.{is_step}
+use Rattle.steps_events.specs.Sights.{is_sight, AtLastSight, HasAborted, HasMissed, spins_in}
+use Rattle.steps_events.specs.Asks.{SpinCount, AsksAfterSpinning, SpinsNoMore, sight_at, TellsRefusal, whole_call, AsksUntilAbort}
 use Rattle.steps_events.specs.Laws.{TellsMemory, IsExclusive, IsLocked, HasCause}
 use Rattle.steps_rw_reader.specs.Table.{lets_readers_in, rw_reader_table}
 
@@ -63,6 +65,17 @@ is_in_vain (acts.Load word seen) = not (lets_readers_in seen)
 is_in_vain (acts.Exchange word from to found false) = if to == 2 ^ 64 - 1 then true else not (lets_readers_in found)
 is_in_vain act = false
 
+-- the spins of a `ReadLock` or a `WriteLock`; no other call spins, nor asks
+abbrev pub lock_spins : {T : Type 0} → SpinCount T
+lock_spins calls.ReadLock own = spins_in is_in_vain own
+lock_spins calls.WriteLock own = spins_in is_in_vain own
+lock_spins other own = 0
+
+-- what it does in vain and then goes on by itself: of a `WriteLock` each step, whatever it is
+abbrev pub steps_in_vain : {T : Type 0} → SpinCount T
+steps_in_vain calls.WriteLock own = spins_in is_step own
+steps_in_vain other own = lock_spins other own
+
 -- what an `Unlock` has done once it ends, newest first: it has subtracted 1 from the word, or stored 0 there, and has then woken one
 abbrev pub HasUnlocked : {T : Type 0} → List (Act T) → Type 0
 HasUnlocked (acts.Woke wakes.One ∷ acts.Add words.State old put ∷ []) = put ≡ (old + (2 ^ 64 - 1)) % 2 ^ 64
@@ -77,8 +90,14 @@ pub record RwReaderLaw {T : Type 0} (past : List (Event T)) : Type 0 where
   pub exact : IsExactGrant past
   -- a locking call answers `Success` with the hold of its kind, `Interrupted` with none; an `Unlock` ends with `Done`, freed and woken
   pub answers : AnswersByHold rw_reader_table HasUnlocked past
-  -- a wait closure is asked after 10000 spins, which are tries in vain
-  pub asks : AsksAfterSpinning is_in_vain past
+  -- a wait closure is asked after 10000 spins, which are tries in vain of a `ReadLock` or a `WriteLock`
+  pub asks : AsksAfterSpinning lock_spins past
+  -- no call tries in vain more often and goes on by itself
+  pub spins : SpinsNoMore steps_in_vain past
+  -- the closure is told the value that the latest try saw
+  pub tells : TellsRefusal (sight_at words.State) past
+  -- and asked no more once it has answered Abort
+  pub stops : AsksUntilAbort whole_call past
 
 pub record KeepsRwReader {T : Type 0} (past : List (Event T)) : Type 0 where
   -- each act that tells a word's value tells what the memory holds there

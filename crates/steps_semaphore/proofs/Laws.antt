@@ -1,5 +1,5 @@
 -- A semaphore keeps its law at every front of every run.
-use Rattle.std.proofs.Common.{◌≡◌, ◌≢◌, ℕ, ◌+◌, ◌-◌, ◌<◌, ◌%◌, ◌^◌, ◌==◌, refl, sym, ◌∙◌, ap, subst, Bool, true, false, cond, List, [], ◌∷◌, Option, Some, None, inl, inr, arith}
+use Rattle.std.proofs.Common.{◌≡◌, ◌≢◌, ℕ, ◌+◌, ◌-◌, ◌≤◌, ◌<◌, ◌%◌, ◌^◌, ◌==◌, refl, sym, ◌∙◌, ap, subst, Bool, true, false, cond, List, [], ◌∷◌, Option, Some, None, inl, inr, arith}
 use Rattle.std.specs.Prelude.{IfSome, MatchBool, MatchOption, nat_lt, not}
 use Rattle.std.proofs.lemmas.Bool.{eqb-true, eqb-false}
 use Rattle.steps_events.specs.declared.WaitAction.{WaitAction}
@@ -22,17 +22,19 @@ use Rattle.steps_events.specs.Rows.{carried_out, value_told, outcome_of, place_a
 use Rattle.steps_events.specs.Past.{same_word, PendingCall, call_of, hold_of, word_in, word_after, latest_outcome, event}
 use Rattle.steps_events.specs.Moves.{Move, step_at, answer_fault}
 use Rattle.steps_events.specs.Runs.{IsPast}
-use Rattle.steps_events.specs.Sights.{sight_of, is_sight, is_abort, HasAborted, spins_in, stands_at_wait}
+use Rattle.steps_events.specs.Sights.{sight_of, is_sight, is_abort, keeps_asking, HasAborted}
+use Rattle.steps_events.specs.Asks.{WhereAsked, sight_at, whole_call}
 use Rattle.steps_events.specs.Laws.{is_apart, Lacks, is_refusal}
 use Rattle.steps_events.proofs.Holds.{some_same, eqb_same, no_holds}
 use Rattle.steps_events.proofs.Steps.{by_move, tells_memory}
 use Rattle.steps_events.proofs.Spins.{begun_spun}
 use Rattle.steps_events.proofs.Parties.{IsKept, at_place}
+use Rattle.steps_events.proofs.Asks.{asked_maps, spins_no_more}
 use Rattle.steps_semaphore.specs.declared.SemaphorePlace.{SemaphorePlace}
 use Rattle.steps_semaphore.specs.declared.SemaphorePlace.TheVariants as places
 use Rattle.steps_semaphore.specs.Table.{semaphore_table, semaphore_begins, semaphore_intent, semaphore_after, semaphore_answered}
 use Rattle.steps_semaphore.specs.Permits.{permits_given, permits_taken, is_take, number_answered}
-use Rattle.steps_semaphore.specs.Law.{permits_posted, semaphore_gives, semaphore_value, SemaphoreCause, is_empty_look, KeepsSemaphore}
+use Rattle.steps_semaphore.specs.Law.{permits_posted, semaphore_gives, semaphore_value, SemaphoreCause, is_empty_look, wait_spins, KeepsSemaphore}
 use Rattle.steps_semaphore.proofs.Permits.{Effect, Tallies, tallies_first, tallies_after, lowered}
 use Rattle.steps_semaphore.proofs.WaitSteps.{one_less, AtWait, WaitLeads, wait_leads, wait_goes_on, wait_effect, wait_answered, wait_chosen}
 
@@ -146,20 +148,34 @@ semaphore_kept initial =
       chooses = λ place c hold choice number at stands. chooses_at place c hold choice number at;
     }
 
+-- No call spins more than 10000 times.
+spins_bounded : {T : Type 0} (place : SemaphorePlace) (c : PendingCall T) (hold : Option HoldKind) → AtSemaphore place c hold → wait_spins c.call c.own ≤ 10000
+spins_bounded {T} places.Value c hold at = subst (λ (k : Call T). wait_spins k c.own ≤ 10000) (sym at) (omega arith)
+spins_bounded {T} (places.Post n) c hold at = subst (λ (k : Call T). wait_spins k c.own ≤ 10000) (sym at) (omega arith)
+spins_bounded {T} places.Wake c hold at = subst (λ (k : Call T). wait_spins k c.own ≤ 10000) (sym at.1) (omega arith)
+spins_bounded {T} places.TryLook c hold at = subst (λ (k : Call T). wait_spins k c.own ≤ 10000) (sym at) (omega arith)
+spins_bounded {T} (places.TryTake seen to) c hold at = subst (λ (k : Call T). wait_spins k c.own ≤ 10000) (sym at.0) (omega arith)
+spins_bounded {T} (places.Look patience) c hold at = subst (λ (k : Call T). wait_spins k c.own ≤ 10000) (sym at.0) (omega (arith, at.1.spun, at.1.within_limit))
+spins_bounded {T} (places.Take seen to patience) c hold at = subst (λ (k : Call T). wait_spins k c.own ≤ 10000) (sym at.0) (omega (arith, at.1.0.spun, at.1.0.within_limit))
+
 -- What a step does to the word, what it tells, and why it refuses.
+
+-- what is so of a call where it asks its wait closure
+abbrev IsAskedSo : {T : Type 0} → PendingCall T → Act T → ℕ → Type 0
+IsAskedSo c act told = (wait_spins c.call c.own ≡ 10000) × (sight_of words.State act ≡ Some told) × (keeps_asking c.own ≡ true)
 
 pub record EventLaw {T : Type 0} (initial party : ℕ) (past : List (Event T)) (pending : Option (PendingCall T)) (w : ℕ) (m : Move T) : Type 0 where
   pub effect : Effect w (word_after words.State m.act w) (semaphore_gives m.act pending) (is_take words.State m.act)
   pub told : IfSome (sight_of words.State m.act) (λ v. v ≡ w)
   pub answered : IfSome (number_answered m.outcome) (λ v. v ≡ w)
   pub cause : MatchBool (is_refusal m.outcome) (MatchOption pending ⊥ (λ c. SemaphoreCause initial c.call party (event party m.act m.outcome ∷ past))) (Unit {0})
-  pub asks : MatchBool (stands_at_wait m.outcome) (MatchOption pending ⊥ (λ c. spins_in is_empty_look c.own ≡ 10000)) (Unit {0})
+  pub asks : WhereAsked IsAskedSo pending m.act m.outcome
 
 -- what follows from a look, apart from the act
 pub record LookLaw {T : Type 0} (initial party : ℕ) (past : List (Event T)) (c : PendingCall T) (w : ℕ) (act : Act T) (outcome : Then T) : Type 0 where
   pub answered : IfSome (number_answered outcome) (λ v. v ≡ w)
   pub cause : MatchBool (is_refusal outcome) (SemaphoreCause initial c.call party (event party act outcome ∷ past)) (Unit {0})
-  pub asks : MatchBool (stands_at_wait outcome) (spins_in is_empty_look c.own ≡ 10000) (Unit {0})
+  pub asks : WhereAsked IsAskedSo (Some c) act outcome
 
 try_law :
     {T : Type 0} (initial party : ℕ) (past : List (Event T)) (c : PendingCall T) (w : ℕ) (act : Act T) (gone : Bool) → c.call ≡ calls.TryWait → w ≡ semaphore_value initial past → is_sight words.State act ≡ true → (w == 0) ≡ gone →
@@ -177,7 +193,8 @@ wait_law :
     {T : Type 0} (initial party : ℕ) (past : List (Event T)) (c : PendingCall T) (w : ℕ) (act : Act T) (a : After T SemaphorePlace) → call_of party past ≡ Some c → c.call ≡ calls.Wait →
     w ≡ semaphore_value initial past → sight_of words.State act ≡ Some w → WaitLeads words.State c.own party act a → LookLaw initial party past c w act (outcome_of {T = T} a)
 wait_law initial party past c w act (afters.At next) called wait law told leads = record { answered = tt; cause = tt; asks = tt }
-wait_law initial party past c w act (afters.Waits next seen) called wait law told leads = record { answered = tt; cause = tt; asks = leads.2 }
+wait_law {T} initial party past c w act (afters.Waits next seen) called wait law told leads =
+    record { answered = tt; cause = tt; asks = (subst (λ (k : Call T). wait_spins k c.own ≡ 10000) (sym wait) leads.2, leads.4, leads.3) }
 wait_law initial party past c w act (afters.Ends answers.Success) called wait law told leads = record { answered = tt; cause = tt; asks = tt }
 wait_law {T} initial party past c w act (afters.Ends answers.Interrupted) called wait law told leads =
     let refuses : Event T = event party act (thens.Answers answers.Interrupted) in
@@ -253,7 +270,7 @@ semaphore_tallies z initial parties fits (e ∷ past) run =
 
 pub keeps_semaphore : {T : Type 0} (z : Arithmetic T) (initial parties : ℕ) (past : List (Event T)) → initial < 2 ^ 64 → IsPast z (semaphore_table initial) parties past → KeepsSemaphore initial past
 keeps_semaphore z initial parties [] fits run =
-    record { told = tt; unheld = refl; cause = tt; law = record { permits = record { at_most = omega arith; told = tt; lowers = tt }; asks = tt } }
+    record { told = tt; unheld = refl; cause = tt; law = record { permits = record { at_most = omega arith; told = tt; lowers = tt }; asks = tt; spins = λ party. tt; tells = tt; stops = tt } }
 keeps_semaphore z initial parties (e ∷ past) fits run =
     let before = semaphore_tallies z initial parties fits past run.1 in
     let after = semaphore_tallies z initial parties fits (e ∷ past) run in
@@ -268,7 +285,10 @@ keeps_semaphore z initial parties (e ∷ past) fits run =
           told = (rw before.0 at event.told, rw before.0 at event.answered);
           lowers = lowered _ _ _ _ _ (is_take words.State e.act) before event.effect;
         };
-        asks = event.asks;
+        asks = asked_maps IsAskedSo (λ c act told. wait_spins c.call c.own ≡ 10000) (λ c act told so. so.0) (call_of e.party past) e.act e.then event.asks;
+        spins = spins_no_more z (semaphore_table initial) parties AtSemaphore wait_spins (semaphore_kept initial) spins_bounded (e ∷ past) run;
+        tells = asked_maps IsAskedSo (λ c act told. sight_at words.State c.call c.own act ≡ Some told) (λ c act told so. so.1) (call_of e.party past) e.act e.then event.asks;
+        stops = asked_maps IsAskedSo (λ c act told. keeps_asking (whole_call c.call c.own) ≡ true) (λ c act told so. so.2) (call_of e.party past) e.act e.then event.asks;
       };
     }
 

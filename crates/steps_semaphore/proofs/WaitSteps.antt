@@ -44,11 +44,11 @@ AtWait (places.Look patience) own = HasSpun is_empty_look patience own
 AtWait (places.Take seen to patience) own = HasSpun is_empty_look patience own × (seen ≡ to + 1) × (latest_outcome own ≡ thens.GoesOn)
 AtWait other own = ⊥
 
--- How a call goes on after a step on the word: it tries again, or stands after 10000 spins; where it succeeds it has taken a permit, and where it
+-- How a call goes on after a step on the word: it tries again, or stands after 10000 spins, where it still asks, and is told what it saw; where it succeeds it has taken a permit, and where it
 -- gives up it saw none, after its closure answered Abort.
 abbrev pub WaitLeads : {T : Type 0} → Word → List (Event T) → ℕ → Act T → After T SemaphorePlace → Type 0
 WaitLeads word own number act (afters.At next) = AtWait next (event number act thens.GoesOn ∷ own) × (is_take word act ≡ false)
-WaitLeads word own number act (afters.Waits next seen) = AtWait next (event number act (thens.Waits seen) ∷ own) × (is_take word act ≡ false) × (spins_in is_empty_look own ≡ 10000)
+WaitLeads word own number act (afters.Waits next seen) = AtWait next (event number act (thens.Waits seen) ∷ own) × (is_take word act ≡ false) × (spins_in is_empty_look own ≡ 10000) × (keeps_asking own ≡ true) × (sight_of word act ≡ Some seen)
 WaitLeads word own number act (afters.Ends answers.Success) = is_take word act ≡ true
 WaitLeads word own number act (afters.Ends answers.Interrupted) = (sight_of word act ≡ Some 0) × (is_take word act ≡ false) × (keeps_asking own ≡ false)
 WaitLeads word own number act other = ⊥
@@ -71,8 +71,8 @@ look_leads_by :
     (v == 0) ≡ gone → patience.keep ≡ keep → nat_lt patience.spins 10000 ≡ left → WaitLeads word own number act (wait_after patience v gone keep left)
 look_leads_by word patience own number v act true true true so look sees keeps spins =
     (record { spun = rw (look.empty ∙ sees) (omega (arith, so.spun)); keeps = rw look.quiet so.keeps; within_limit = spins_left patience.spins spins }, look.takes)
-look_leads_by word patience own number v act true true false so look sees keeps spins =
-    (record { spun = rw (look.empty ∙ sees) (omega (arith, so.spun)); keeps = rw look.quiet so.keeps; within_limit = so.within_limit }, look.takes, so.spun ∙ spins_spent patience.spins so.within_limit spins)
+look_leads_by {T} word patience own number v act true true false so look sees keeps spins =
+    (record { spun = rw (look.empty ∙ sees) (omega (arith, so.spun)); keeps = rw look.quiet so.keeps; within_limit = so.within_limit }, look.takes, so.spun ∙ spins_spent patience.spins so.within_limit spins, so.keeps ∙ keeps, subst (λ n. sight_of word act ≡ Some n) (eqb-true v 0 sees) look.sees)
 look_leads_by {T} word patience own number v act true false left so look sees keeps spins =
     (subst (λ n. sight_of word act ≡ Some n) (eqb-true v 0 sees) look.sees, look.takes, so.keeps ∙ keeps)
 look_leads_by word patience own number v act false keep left so look sees keeps spins =

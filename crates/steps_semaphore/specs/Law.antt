@@ -1,4 +1,4 @@
--- What a semaphore keeps at every front of every run: its permits, a cause for each refusal, and how often a call tries.
+-- What a semaphore keeps at every front of every run: its permits, a cause for each refusal, and when a call asks its wait closure.
 use Rattle.std.specs.Prelude.{◌≡◌, ℕ, ◌==◌, Bool, false, List, [], Option, Some, None}
 use Rattle.steps_events.specs.declared.event.Word.TheVariants as words
 use Rattle.steps_events.specs.declared.event.Call.{Call}
@@ -7,7 +7,8 @@ use Rattle.steps_events.specs.declared.event.Act.{Act}
 use Rattle.steps_events.specs.declared.event.Act.TheVariants as acts
 use Rattle.steps_events.specs.declared.event.Event.{Event}
 use Rattle.steps_events.specs.Past.{PendingCall, holds_of}
-use Rattle.steps_events.specs.Sights.{AtLastSight, HasAborted, AsksAfterSpinning}
+use Rattle.steps_events.specs.Sights.{AtLastSight, HasAborted, spins_in}
+use Rattle.steps_events.specs.Asks.{SpinCount, AsksAfterSpinning, SpinsNoMore, sight_at, TellsRefusal, whole_call, AsksUntilAbort}
 use Rattle.steps_events.specs.Laws.{TellsMemory, HasCause}
 use Rattle.steps_semaphore.specs.Table.{semaphore_table}
 use Rattle.steps_semaphore.specs.Permits.{permits, KeepsPermits}
@@ -44,12 +45,23 @@ is_zero (Some v) = v == 0
 abbrev pub is_empty_look : {T : Type 0} → Act T → Bool
 is_empty_look act = is_zero (look_of act)
 
+-- the spins of a `Wait`; no other call spins, nor asks
+abbrev pub wait_spins : {T : Type 0} → SpinCount T
+wait_spins calls.Wait own = spins_in is_empty_look own
+wait_spins other own = 0
+
 -- What a semaphore keeps beside what every object does.
 pub record SemaphoreLaw {T : Type 0} (initial : ℕ) (past : List (Event T)) : Type 0 where
   -- no more permits are taken than given, and each value that is told is what was given less what was taken
   pub permits : KeepsPermits words.State semaphore_gives initial past
-  -- a wait closure is asked after 10000 spins, which are looks that saw no permit
-  pub asks : AsksAfterSpinning is_empty_look past
+  -- a wait closure is asked after 10000 spins, which are looks of a `Wait` that saw no permit
+  pub asks : AsksAfterSpinning wait_spins past
+  -- no call spins more often
+  pub spins : SpinsNoMore wait_spins past
+  -- the closure is told the value that the latest look saw
+  pub tells : TellsRefusal (sight_at words.State) past
+  -- and asked no more once it has answered Abort
+  pub stops : AsksUntilAbort whole_call past
 
 pub record KeepsSemaphore {T : Type 0} (initial : ℕ) (past : List (Event T)) : Type 0 where
   -- each act that tells a word's value tells what the memory holds there

@@ -1,0 +1,52 @@
+-- When a wait closure is asked, from the step at each place.
+use Rattle.std.proofs.Common.{◌≡◌, ◌≤◌, ℕ, ◌+◌, refl, ◌∙◌, Bool, true, false, cond, List, [], ◌∷◌, Option, Some, None}
+use Rattle.std.specs.Prelude.{nat_lt, MatchOption}
+use Rattle.steps_events.specs.declared.event.Act.{Act}
+use Rattle.steps_events.specs.declared.event.Event.{Event}
+use Rattle.steps_events.specs.declared.event.Answer.TheVariants as answers
+use Rattle.steps_events.specs.declared.event.Then.{Then}
+use Rattle.steps_events.specs.declared.event.Then.TheVariants as thens
+use Rattle.steps_events.specs.declared.hold.HoldKind.{HoldKind}
+use Rattle.steps_events.specs.declared.patience.Patience.{Patience}
+use Rattle.steps_events.specs.declared.row.After.TheVariants as afters
+use Rattle.steps_events.specs.Arithmetic.{Arithmetic}
+use Rattle.steps_events.specs.Rows.{refused, within, outcome_of}
+use Rattle.steps_events.specs.Tables.{Table}
+use Rattle.steps_events.specs.Past.{PendingCall, call_of, hold_of}
+use Rattle.steps_events.specs.Runs.{IsPast}
+use Rattle.steps_events.specs.Sights.{keeps_asking, spins_in}
+use Rattle.steps_events.specs.Asks.{WhereAsked, SpinCount, SpinsNoMore}
+use Rattle.steps_events.proofs.Spins.{HasSpun, spins_spent}
+use Rattle.steps_events.proofs.Parties.{IsKept, IsAtPlace, each_call}
+
+-- what is so of each call that asks may be told in other words
+pub asked_maps :
+    {T : Type 0} (P Q : PendingCall T → Act T → ℕ → Type 0) → ((c : PendingCall T) (act : Act T) (told : ℕ) → P c act told → Q c act told) →
+    (pending : Option (PendingCall T)) (act : Act T) (outcome : Then T) → WhereAsked P pending act outcome → WhereAsked Q pending act outcome
+asked_maps P Q maps None act (thens.Waits told) asked = absurd asked
+asked_maps P Q maps (Some c) act (thens.Waits told) asked = maps c act told asked
+asked_maps P Q maps pending act thens.GoesOn asked = tt
+asked_maps P Q maps pending act (thens.Chooses old) asked = tt
+asked_maps P Q maps pending act (thens.Answers answer) asked = tt
+
+-- a refused call asks only after all its spins, and while it keeps on asking
+pub refused_asks :
+    {T P : Type 0} (in_vain : Act T → Bool) (wrap : Patience → P) (patience : Patience) (seen : ℕ) (c : PendingCall T) (act : Act T) (Q : PendingCall T → Act T → ℕ → Type 0) → HasSpun in_vain patience c.own →
+    (spins_in in_vain c.own ≡ 10000 → keeps_asking c.own ≡ true → Q c act seen) → WhereAsked Q (Some c) act (outcome_of (within wrap (refused {T = T} patience seen)))
+refused_asks {T} in_vain wrap patience seen c act Q so asked = by_tests patience.keep (nat_lt patience.spins 10000) refl refl
+  where
+    by_tests : (keep left : Bool) → patience.keep ≡ keep → nat_lt patience.spins 10000 ≡ left →
+        WhereAsked {T = T} Q (Some c) act (outcome_of (within wrap (cond keep (cond left (afters.At (record { spins = patience.spins + 1; keep = patience.keep })) (afters.Waits patience seen)) (afters.Ends answers.Interrupted))))
+    by_tests true true keeps spins = tt
+    by_tests true false keeps spins = asked (so.spun ∙ spins_spent patience.spins so.within_limit spins) (so.keeps ∙ keeps)
+    by_tests false left keeps spins = tt
+
+-- no call spins more often, where none does at its place
+pub spins_no_more :
+    {T P : Type 0} (z : Arithmetic T) (t : Table T P) (parties : ℕ) (At : P → PendingCall T → Option HoldKind → Type 0) (spins : SpinCount T) → IsKept t At →
+    ((place : P) (c : PendingCall T) (hold : Option HoldKind) → At place c hold → spins c.call c.own ≤ 10000) → (past : List (Event T)) → IsPast z t parties past → SpinsNoMore spins past
+spins_no_more {T} z t parties At spins kept bounded past run party = by_call (call_of party past) (each_call z t parties At kept past run party)
+  where
+    by_call : (pending : Option (PendingCall T)) → IsAtPlace t At pending (hold_of t party past) → MatchOption pending (Unit {0}) (λ c. spins c.call c.own ≤ 10000)
+    by_call None at = tt
+    by_call (Some c) at = bounded at.0 c (hold_of t party past) at.2
