@@ -1,7 +1,8 @@
 -- What markup is: characters, each of them escaped where it has to be, and elements, each of them closed.
-use Rattle.std.specs.Prelude.{◌≡◌, ℕ, Bool, ◌==◌, ◌||◌, ◌&&◌, not, nat_lt, if◌then◌else◌, List, [], ◌++◌, codes}
+use Rattle.std.specs.Prelude.{◌≡◌, ℕ, Bool, ◌==◌, ◌||◌, ◌&&◌, not, nat_lt, if◌then◌else◌, List, [], ◌∷◌, ◌++◌, codes}
 use Rattle.std.specs.List.{flat_map}
 use Rattle.std.specs.Char.{encode_utf8}
+use Rattle.std.specs.Str.{encode_utf8_all}
 use Rattle.markup.specs.declared.name.Tag.{Tag}
 use Rattle.markup.specs.declared.name.Tag.TheVariants as tags
 use Rattle.markup.specs.declared.name.Key.{Key}
@@ -33,7 +34,6 @@ tag_words tags.Style = codes "style"
 tag_words tags.Defs = codes "defs"
 tag_words tags.Pattern = codes "pattern"
 tag_words tags.Marker = codes "marker"
-tag_words tags.Group = codes "g"
 tag_words tags.Rect = codes "rect"
 tag_words tags.Line = codes "line"
 tag_words tags.Circle = codes "circle"
@@ -72,11 +72,13 @@ pub record Attribute : Type 0 where
   pub key : Key
   pub value : List ℕ
 
--- Markup: nothing, a character and what follows it, or an element, what is inside it and what follows it.
+-- Markup: nothing, a character and what follows it, an element, what is inside it and what follows it, or a group, its title, what
+-- else is inside it and what follows it.
 pub data Tree : Type 0 where
   Nothing : Tree
   Character : ℕ → Tree → Tree
   Element : Tag → List Attribute → Tree → Tree → Tree
+  Group : List ℕ → Tree → Tree → Tree
 
 abbrev pub attribute_bytes : Attribute → List ℕ
 attribute_bytes a = codes " " ++ (key_words a.key ++ (codes "=\"" ++ (flat_map shown a.value ++ codes "\"")))
@@ -94,6 +96,15 @@ written Nothing = []
 written (Character char rest) = shown char ++ written rest
 written (Element tag attributes inside rest) =
     (opening_bytes tag attributes ++ (codes ">" ++ (written inside ++ closing_bytes tag))) ++ written rest
+written (Group title inside rest) =
+    (codes "<g><title>" ++ (flat_map shown title ++ (codes "</title>" ++ (written inside ++ codes "</g>")))) ++ written rest
+
+-- The titles of all groups, in order, as bytes.
+abbrev pub group_titles : Tree → List (List ℕ)
+group_titles Nothing = []
+group_titles (Character char rest) = group_titles rest
+group_titles (Element tag attributes inside rest) = group_titles inside ++ group_titles rest
+group_titles (Group title inside rest) = encode_utf8_all title ∷ (group_titles inside ++ group_titles rest)
 
 -- What bytes are.
 
@@ -105,12 +116,13 @@ IsWords bytes = (chars : List ℕ) × (bytes ≡ flat_map shown chars)
 abbrev pub IsOpening : Tag → List ℕ → Type 0
 IsOpening tag bytes = (attributes : List Attribute) × (bytes ≡ opening_bytes tag attributes)
 
--- text and elements, each of them closed
-abbrev pub IsMarkup : List ℕ → Type 0
-IsMarkup bytes = (tree : Tree) × (bytes ≡ written tree)
+-- text, elements and groups, each of them closed, in which the groups have these titles
+abbrev pub IsMarkup : List (List ℕ) → List ℕ → Type 0
+IsMarkup titles bytes = (tree : Tree) × (bytes ≡ written tree) × (group_titles tree ≡ titles)
 
--- one element with all that is in it, and nothing beside it
-pub record IsElement (tag : Tag) (bytes : List ℕ) : Type 0 where
+-- one element with all that is in it, and nothing beside it, in which the groups have these titles
+pub record IsElement (tag : Tag) (titles : List (List ℕ)) (bytes : List ℕ) : Type 0 where
   pub attributes : List Attribute
   pub inside : Tree
+  pub titles_are : group_titles inside ≡ titles
   pub bytes_are : bytes ≡ written (Element tag attributes inside Nothing)

@@ -1,16 +1,16 @@
 //! Markup: text and closed elements, one after the other.
-ghost use Rattle.std.specs.Prelude.{◌≡◌, string_bytes};
+ghost use Rattle.std.specs.Prelude.{◌≡◌, [], string_bytes};
 ghost use Rattle.markup.specs.Tree.{IsMarkup};
 
 use crate::words::Words;
 use std::alloc::{AllocError, Global};
 
-/// Text and elements, each of which is closed.
+/// Text and elements, each of which is closed, and no group.
 #[derive(Debug, Drop)]
 pub struct Markup {
     pub(crate) alloc: Global,
     pub(crate) bytes: String,
-    ghost closed: { ∥ IsMarkup (string_bytes bytes) ∥₁ },
+    ghost closed: { ∥ IsMarkup [] (string_bytes bytes) ∥₁ },
 }
 
 impl Markup {
@@ -41,7 +41,7 @@ impl Markup {
 
     /// The bytes.
     pub fn as_str(&self) -> &str
-        ensures { ∥ IsMarkup result.now ∥₁ }
+        ensures { ∥ IsMarkup [] result.now ∥₁ }
     {
         self.bytes.as_str()
     }

@@ -1,7 +1,9 @@
 //! An element whose attributes are being written.
-ghost use Rattle.std.specs.Prelude.{◌≡◌, IfOk, string_bytes};
-ghost use Rattle.markup.specs.Tree.{IsOpening, IsElement};
+ghost use Rattle.std.specs.Prelude.{◌≡◌, [], List, ℕ, IfOk, string_bytes};
+ghost use Rattle.markup.specs.Tree.{IsOpening, IsMarkup, IsElement};
+ghost use Rattle.markup.specs.Group.{titles_of};
 
+use crate::group::{Group, push_groups};
 use crate::markup::Markup;
 use crate::name::{Key, Tag, key_name, tag_name};
 use crate::words::Words;
@@ -84,13 +86,35 @@ impl Opening {
     }
 
     /// The bytes of the element whole.
-    #[tactic(auto, using(crate::proofs::Trees::element))]
     pub fn whole(self, inside: &Markup) -> Result<String, AllocError>
-        ensures { IfOk result (λ bytes. ∥ IsElement self.tag (string_bytes bytes) ∥₁) }
+        ensures { IfOk result (λ bytes. ∥ IsElement self.tag [] (string_bytes bytes) ∥₁) }
+    {
+        self.close(inside.as_str())
+    }
+
+    /// The bytes of the element whole: with these groups inside, in order, each on a line of its own, after and before other markup.
+    pub fn whole_with(
+        self,
+        before: &Markup,
+        groups: &[Group<'_>],
+        after: &Markup,
+    ) -> Result<String, AllocError>
+        ensures { IfOk result (λ bytes. ∥ IsElement self.tag (titles_of groups.now) (string_bytes bytes) ∥₁) }
+    {
+        let mut inside = String::from_str(self.alloc, before.as_str())?;
+        push_groups(&mut inside, groups)?;
+        inside.push_str(after.as_str())?;
+        self.close(inside.as_str())
+    }
+
+    /// The bytes of the element with this inside, and closed.
+    fn close(self, inside: &str) -> Result<String, AllocError>
+        ensures { (titles : List (List ℕ)) → ∥ IsMarkup titles inside.now ∥₁ →
+            IfOk result (λ bytes. ∥ IsElement self.tag titles (string_bytes bytes) ∥₁) }
     {
         let Opening { tag, mut bytes, .. } = self;
         bytes.push_str(">")?;
-        bytes.push_str(inside.as_str())?;
+        bytes.push_str(inside)?;
         bytes.push_str("</")?;
         bytes.push_str(tag_name(tag))?;
         bytes.push_str(">")?;

@@ -21,11 +21,11 @@ fn an_element_is_closed(rt: HostRuntime) -> Result<(), Fail> {
     let mut both = Markup::new(rt.alloc());
     both.add(&circle)?;
     both.say("&")?;
-    let empty = Opening::new(rt.alloc(), Tag::Group)?.empty()?;
+    let empty = Opening::new(rt.alloc(), Tag::Defs)?.empty()?;
     both.add(&empty)?;
     assert_eq!(rt;
         both.as_str(),
-        "<circle class=\"a&quot;b\" r=\"5\"><title>1 &lt; 2</title></circle>&amp;<g></g>"
+        "<circle class=\"a&quot;b\" r=\"5\"><title>1 &lt; 2</title></circle>&amp;<defs></defs>"
     );
     Ok(())
 }

@@ -1,5 +1,7 @@
 //! Text, with each special character escaped.
-ghost use Rattle.std.specs.Prelude.{◌≡◌, ◌++◌, if◌then◌else◌, is_ok, string_bytes};
+ghost use Rattle.std.specs.Prelude.{◌≡◌, ◌++◌, OnOk, string_bytes};
+ghost use Rattle.std.specs.List.{flat_map};
+ghost use Rattle.std.specs.Str.{chars, encode_utf8_all};
 ghost use Rattle.markup.specs.Tree.{IsWords, shown};
 
 use std::alloc::{AllocError, Global};
@@ -11,9 +13,9 @@ pub struct Words {
     ghost escaped: { ∥ IsWords (string_bytes bytes) ∥₁ },
 }
 
-/// Writes a character as markup has it, or nothing where memory runs out.
+/// Writes a character as markup has it.
 fn push_shown(bytes: &mut String, char: char) -> Result<(), AllocError>
-    ensures { string_bytes bytes.new ≡ (if is_ok result then string_bytes bytes.old ++ shown char else string_bytes bytes.old) }
+    ensures { OnOk result (string_bytes bytes.new ≡ string_bytes bytes.old ++ shown char) }
 {
     match char {
         '"' => bytes.push_str("&quot;"),
@@ -26,33 +28,24 @@ fn push_shown(bytes: &mut String, char: char) -> Result<(), AllocError>
     }
 }
 
+/// Writes text as markup has it.
+pub(crate) fn push_words(bytes: &mut String, text: &str) -> Result<(), AllocError>
+    ensures shown { OnOk result (string_bytes bytes.new ≡ string_bytes bytes.old ++ flat_map shown (chars text.now)) }
+    ensures text { encode_utf8_all (chars text.now) ≡ text.now }
+{
+    for char in text.chars() {
+        push_shown(bytes, char)?;
+    }
+    Ok(())
+}
+
 impl Words {
-    /// No text yet.
-    #[tactic(auto, using(crate::proofs::Trees::words_none))]
-    pub fn new(alloc: Global) -> Words {
-        Words {
-            bytes: String::new(alloc),
-        }
-    }
-
     /// This text.
+    #[tactic(auto, using(crate::proofs::Trees::words_of))]
     pub fn of(alloc: Global, text: &str) -> Result<Words, AllocError> {
-        let mut words = Words::new(alloc);
-        words.say(text)?;
-        Ok(words)
-    }
-
-    /// A character more. Where memory runs out, nothing more.
-    fn show(&mut self, char: char) -> Result<(), AllocError> {
-        push_shown(&mut self.bytes, char)
-    }
-
-    /// This text more.
-    pub fn say(&mut self, text: &str) -> Result<(), AllocError> {
-        for char in text.chars() {
-            self.show(char)?;
-        }
-        Ok(())
+        let mut bytes = String::new(alloc);
+        push_words(&mut bytes, text)?;
+        Ok(Words { bytes })
     }
 
     /// The text.
