@@ -41,6 +41,7 @@ use Rattle.steps_rw_writer.proofs.PlaceLaws.{AtRwWriter, Asks, MayGiveUp, failed
 use Rattle.steps_rw_writer.proofs.DebtLaws.{no_wake_is_lost}
 use Rattle.steps_rw_writer.proofs.WakeLaws.{readers_are_woken}
 use Rattle.steps_rw_writer.proofs.SpinLaws.{event_asks}
+use Rattle.steps_rw_writer.proofs.MarkLaws.{event_marks, event_stands}
 use Rattle.steps_rw_writer.proofs.AnswerLaws.{answers_at_every_front}
 use Rattle.steps_rw_writer.proofs.Laws.{event_keeps, writer_lock_word, setter_is_under_way}
 
@@ -475,7 +476,7 @@ event_exact {T} z parties past e run =
 pub keeps_rw_writer : {T : Type 0} (z : Arithmetic T) (parties : ℕ) (past : List (Event T)) → IsPast z rw_writer_table parties past → KeepsRwWriter past
 keeps_rw_writer z parties [] run =
     let word = writer_lock_word z parties [] run in
-    record { told = tt; cause = tt; exclusive = writer_lock_exclusive 0 [] false word.counts; law = record { counts = word.counts; mark = tt; keeps_out = tt; exact = tt; answers = tt; asks = tt; tells = tt; counted = no_wake_is_lost z parties [] run; woken = readers_are_woken z parties [] run } }
+    record { told = tt; cause = tt; exclusive = writer_lock_exclusive 0 [] false word.counts; law = record { counts = word.counts; mark = tt; keeps_out = tt; exact = tt; answers = tt; asks = tt; tells = tt; marks = tt; stands = tt; counted = no_wake_is_lost z parties [] run; woken = readers_are_woken z parties [] run } }
 keeps_rw_writer z parties (e ∷ past) run =
     let word = event_keeps z parties past e run (writer_lock_word z parties past run.1) in
     let asks = event_asks z parties past e run in
@@ -483,5 +484,5 @@ keeps_rw_writer z parties (e ∷ past) run =
       told = tells_memory z rw_writer_table parties (e ∷ past) run;
       exclusive = writer_lock_exclusive _ (holds_of rw_writer_table (e ∷ past)) (is_marked_after (e ∷ past)) word.kept.counts;
       cause = event_cause z parties past e run;
-      law = record { counts = word.kept.counts; mark = setter_is_under_way z parties (e ∷ past) run; keeps_out = word.keeps_out; exact = event_exact z parties past e run; answers = answers_at_every_front z parties (e ∷ past) run; asks = asks.0; tells = asks.1; counted = no_wake_is_lost z parties (e ∷ past) run; woken = readers_are_woken z parties (e ∷ past) run };
+      law = record { counts = word.kept.counts; mark = setter_is_under_way z parties (e ∷ past) run; keeps_out = word.keeps_out; exact = event_exact z parties past e run; answers = answers_at_every_front z parties (e ∷ past) run; asks = asks.0; tells = asks.1; marks = event_marks z parties past e run; stands = event_stands z parties past e run; counted = no_wake_is_lost z parties (e ∷ past) run; woken = readers_are_woken z parties (e ∷ past) run };
     }

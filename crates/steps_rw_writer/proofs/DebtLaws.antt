@@ -298,12 +298,12 @@ fits_counter {T} z parties (e ∷ past) run = rw (event_counts z parties past e 
 
 -- How a writer comes to stand: it loads the counter, and looks.
 
-abbrev is_last : RwWriterPlace → Bool
+abbrev pub is_last : RwWriterPlace → Bool
 is_last (places.LastLook count patience) = true
 is_last place = false
 
 -- it neither stands nor is at its last look
-abbrev IsPlain : {T : Type 0} → After T RwWriterPlace → Type 0
+abbrev pub IsPlain : {T : Type 0} → After T RwWriterPlace → Type 0
 IsPlain (afters.At place) = is_last place ≡ false
 IsPlain (afters.Waits place seen) = ⊥
 IsPlain (afters.Chooses place old) = ⊥
@@ -371,7 +371,7 @@ last_look_stands T count w patience = by_test (is_blocked w) refl
     by_test true is = inr (record { count = count; patience = patience; from = refl; leads = refl; looks = refl; blocked = is })
     by_test false is = inl (plain_look T patience w)
 
-write_step :
+pub write_step :
     {T : Type 0} (place : RwWriterPlace) (c : PendingCall T) (hold : Option HoldKind) (memory : Word → ℕ) → AtRwWriter place c hold → c.call ≡ calls.WriteLock →
     IsPlain {T = T} (rw_writer_table.after place (value_told {T = T} (carried_out (rw_writer_table.intent place hold) memory)))
     ⊎ (LoadsCount (memory words.Counter) (step_at {T = T} rw_writer_table place hold memory).act (rw_writer_table.after place (value_told {T = T} (carried_out (rw_writer_table.intent place hold) memory)))

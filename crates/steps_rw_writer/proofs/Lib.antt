@@ -6,5 +6,6 @@ pub mod Laws
 pub mod DebtLaws
 pub mod WakeLaws
 pub mod SpinLaws
+pub mod MarkLaws
 pub mod AnswerLaws
 pub mod Causes

@@ -1,6 +1,6 @@
 -- What a writer-preferring lock keeps at every front of every run: one writer or only readers, which its word counts beside the mark; a mark
 -- of a call that is under way, which keeps readers out; a cause for each refusal; and when a wait closure is asked, and what it is told.
-use Rattle.std.specs.Prelude.{◌≡◌, ◌≢◌, ℕ, ◌+◌, ◌*◌, ◌-◌, ◌%◌, ◌^◌, ◌<◌, ◌==◌, ◌↔◌, ◌⊎◌, ◌&&◌, ◌||◌, not, Bool, true, false, if◌then◌else◌, List, [], ◌∷◌, Some, MatchBool, MatchOption}
+use Rattle.std.specs.Prelude.{◌≡◌, ◌≢◌, ℕ, ◌+◌, ◌*◌, ◌-◌, ◌%◌, ◌^◌, ◌<◌, ◌==◌, ◌↔◌, ◌⊎◌, ◌&&◌, ◌||◌, not, Bool, true, false, if◌then◌else◌, List, [], ◌∷◌, Option, Some, None, MatchBool, MatchOption}
 use Rattle.steps_events.specs.declared.event.Word.TheVariants as words
 use Rattle.steps_events.specs.declared.event.Wake.TheVariants as wakes
 use Rattle.steps_events.specs.declared.event.Call.{Call}
@@ -19,7 +19,7 @@ use Rattle.steps_events.specs.Sights.{is_sight, is_beginning, AtLastSight, HasAb
 use Rattle.steps_events.specs.Laws.{TellsMemory, IsExclusive, IsLocked, HasCause}
 use Rattle.steps_rw_writer.specs.Table.{lets_readers_in, lets_writer_in, lets_mark, is_mark, rw_writer_table}
 use Rattle.steps_rw_writer.specs.Marks.{setter_of, is_marked_after, has_marked}
-use Rattle.steps_rw_writer.specs.Debts.{loads_count, NoWakeIsLost, ReadersAreWoken}
+use Rattle.steps_rw_writer.specs.Debts.{loads_count, is_blocked_after, NoWakeIsLost, ReadersAreWoken}
 
 -- The word, the holds and the mark.
 
@@ -155,6 +155,43 @@ abbrev pub TellsClosure : {T : Type 0} → List (Event T) → Type 0
 TellsClosure [] = Unit {0}
 TellsClosure (e ∷ past) = MatchOption (call_of e.party past) (Unit {0}) (λ c. IsToldAt c e.act e.then)
 
+-- A writer marks before it waits.
+
+-- what an act tells that was a look: a load of the word, or an exchange that failed
+abbrev pub look_of : {T : Type 0} → Act T → Option ℕ
+look_of (acts.Load words.State seen) = Some seen
+look_of (acts.Exchange words.State from to found false) = Some found
+look_of act = None
+
+-- what the call's latest act told, where that was a look after which it goes on by itself
+abbrev pub latest_look : {T : Type 0} → List (Event T) → Option ℕ
+latest_look [] = None
+latest_look (e ∷ own) = if goes_on e.then then look_of e.act else None
+
+-- readers are in, and the mark is not set, but may be
+abbrev pub is_unmarked : ℕ → Bool
+is_unmarked word = lets_mark word && not (lets_writer_in word)
+
+-- an exchange of this value for one more
+abbrev pub SetsMarkFrom : {T : Type 0} → ℕ → Act T → Type 0
+SetsMarkFrom seen (acts.Exchange words.State from to found done) = (from ≡ seen) × (to ≡ seen + 1)
+SetsMarkFrom seen act = ⊥
+
+-- a `WriteLock` whose look shows readers and no mark tries in its next step to set it
+abbrev pub MarksBesideReaders : {T : Type 0} → List (Event T) → Type 0
+MarksBesideReaders [] = Unit {0}
+MarksBesideReaders (e ∷ past) =
+    MatchOption (call_of e.party past) (Unit {0})
+    (λ c. c.call ≡ calls.WriteLock → MatchOption (latest_look c.own) (Unit {0}) (λ seen. is_unmarked seen ≡ true → SetsMarkFrom seen e.act))
+
+-- a writer's wait closure is asked only by an event that sees the word, where a write hold stands, or the mark and a read hold
+abbrev pub StandsWhereBlocked : {T : Type 0} → List (Event T) → Type 0
+StandsWhereBlocked [] = Unit {0}
+StandsWhereBlocked (e ∷ past) =
+    MatchBool (stands_at_wait e.then)
+    (MatchOption (call_of e.party past) ⊥ (λ c. c.call ≡ calls.WriteLock → (is_sight words.State e.act ≡ true) × (is_blocked_after past ≡ true)))
+    (Unit {0})
+
 -- What a call answers.
 
 -- What an `Unlock` has done once it ends, newest first. A reader's: it has subtracted 2 from the word; where it found 3, it has then counted,
@@ -182,6 +219,10 @@ pub record RwWriterLaw {T : Type 0} (past : List (Event T)) : Type 0 where
   pub asks : AsksAfterAllSpins past
   -- a reader's is told what the latest look saw, a writer's the count that it loaded last
   pub tells : TellsClosure past
+  -- a writer that sees readers and no mark tries to set it next
+  pub marks : MarksBesideReaders past
+  -- and stands only where the lock is blocked: by a writer, or by the mark beside readers
+  pub stands : StandsWhereBlocked past
   -- while a writer stands, whoever frees the lock owes a counter step until it has made it
   pub counted : NoWakeIsLost past
   -- while a reader stands that saw an odd word, whoever makes the word even owes a wake of all until it has made it
