@@ -95,6 +95,7 @@ pub record HasStayed (p q : SpinPass) : Type 0 where
   pub same : IsSamePass p q
   pub part : part_of q ≡ part_of p
   pub grants : grants_of p ≤ grants_of q
+  pub saw : (sights_of p).count ≤ (sights_of q).count
 
 -- it was granted once, and that guard is gone; nothing else changed but what was seen on the way
 pub record HasLockedOnce (p q : SpinPass) : Type 0 where

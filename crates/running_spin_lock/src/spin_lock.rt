@@ -81,6 +81,7 @@ impl<T, A: Allocator> SpinLock<T, A> {
         requires own { IsSpinPass this.now pass.old }
         ensures same_borrow { borrow_of result ≡ pass.entry.ghost_name }
         ensures granted { HasEntered pass.old result }
+        ensures exact { IsAlone pass.old → HasLocked pass.old result }
     {
         let mut seat = pass.rise();
         if !this.swap(&mut seat) {
@@ -106,6 +107,7 @@ impl<T, A: Allocator> SpinLock<T, A> {
         ensures never_poisoned { is_ok result ≡ true }
         ensures same_borrow { IfOk result (λ guard. borrow_of guard ≡ pass.entry.ghost_name) }
         ensures granted { IfOk result (HasEntered pass.old) }
+        ensures exact { IsAlone pass.old → IfOk result (HasLocked pass.old) }
     {
         Ok(SpinLock::blocking_lock(pass, this, rt))
     }
