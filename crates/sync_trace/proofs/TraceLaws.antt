@@ -2,19 +2,21 @@
 use Rattle.std.proofs.Common.{◌≡◌, ℕ, refl, sym, ◌∙◌, ap, subst, List, [], ◌∷◌, Option, Some, None, Result, Ok, Err}
 use Rattle.steps_events.specs.declared.event.Event.{Event}
 use Rattle.steps_events.specs.Integers.{u64_arithmetic}
+use Rattle.steps_events.specs.Runs.{after}
 use Rattle.sync_steps.specs.Machine.{Configuration, StandsAt}
 use Rattle.sync_play.specs.declared.header.Header.{Header}
 use Rattle.sync_play.specs.Lexer.{lines_of}
 use Rattle.sync_walk.specs.declared.walk.FaultyLine.{FaultyLine}
 use Rattle.sync_walk.specs.declared.walk.Rest.{Rest}
 use Rattle.sync_walk.specs.declared.walk.Step.{Step}
+use Rattle.sync_walk.specs.Law.{events_in}
 use Rattle.sync_walk.specs.Walk.{Walk, nothing, go_walk, lines_walk, opened, rest_walk, IsNextStep}
 use Rattle.sync_trace.specs.declared.rows.Row.{Row}
 use Rattle.sync_trace.specs.Cells.{Texts, cells_at}
 use Rattle.sync_trace.specs.Rows.{Entry, entries, added}
 use Rattle.sync_trace.specs.declared.trace.Rows.{Rows}
 use Rattle.sync_trace.specs.Table.{table}
-use Rattle.sync_trace.specs.Trace.{rows_with, HasAdded, RowsAndFault, rows_of_walk, rows_of_opened, rows_of, AreRowsOf, Written, trace_of}
+use Rattle.sync_trace.specs.Trace.{rows_with, HasAdded, RowsAndFault, rows_of_walk, rows_of_opened, rows_of, AreRowsOf, HasPlayed, Written, trace_of}
 
 abbrev Ev : Type 0
 Ev = Event ℕ
@@ -25,9 +27,10 @@ pub record IsHalfway (header : Header) (past : List Ev) (first rest : Rest) (old
   pub stands : StandsAt u64_arithmetic header.object header.parties here machine
   pub rows : rows_with header past (rest_walk header.object header.parties past first).steps (entries old) ≡ rows_with header here (rest_walk header.object header.parties here rest).steps (entries new)
   pub fault : (rest_walk header.object header.parties past first).fault ≡ (rest_walk header.object header.parties here rest).fault
+  pub events : after (events_in (rest_walk header.object header.parties past first).steps) past ≡ after (events_in (rest_walk header.object header.parties here rest).steps) here
 
 pub begins : (header : Header) (past : List Ev) (rest : Rest) (rows : List Row) (machine : Configuration ℕ) → StandsAt u64_arithmetic header.object header.parties past machine → IsHalfway header past rest rest rows rows machine
-begins header past rest rows machine stands = record { here = past; stands = stands; rows = refl; fault = refl }
+begins header past rest rows machine stands = record { here = past; stands = stands; rows = refl; fault = refl; events = refl }
 
 -- a step, whatever run stands at the machine
 abbrev Steps : Header → Rest → Rest → Configuration ℕ → Configuration ℕ → Result (Option Step) FaultyLine → Type 0
@@ -49,13 +52,21 @@ goes_on header past first rest rest' old rows rows' machine machine' told step c
       rows = h.rows ∙ ap (λ (w : Walk). rows_with header h.here w.steps (entries rows)) next.0
           ∙ ap (λ (t : Texts). rows_with header there walk.steps (added t (entries rows))) text ∙ ap (λ (l : List Entry). rows_with header there walk.steps l) (sym is);
       fault = h.fault ∙ ap (λ (w : Walk). w.fault) next.0;
+      events = h.events ∙ ap (λ (w : Walk). after (events_in w.steps) h.here) next.0;
     }
 
 pub ends : (header : Header) (past : List Ev) (first rest rest' : Rest) (old rows : List Row) (machine machine' : Configuration ℕ) (told : Option Step) → told ≡ None → IsHalfway header past first rest old rows machine →
     Steps header rest rest' machine machine' (Ok told) → HasAdded header past (rest_walk header.object header.parties past first) old rows None
 ends header past first rest rest' old rows machine machine' told none h steps =
     let next = subst (λ (x : Option Step). IsNextStep header.object header.parties h.here rest rest' machine' (Ok x)) none (steps header.parties h.here h.stands) in
-    (sym (h.rows ∙ ap (λ (w : Walk). rows_with header h.here w.steps (entries rows)) next), sym (h.fault ∙ ap (λ (w : Walk). w.fault) next))
+    (sym (h.rows ∙ ap (λ (w : Walk). rows_with header h.here w.steps (entries rows)) next.0), sym (h.fault ∙ ap (λ (w : Walk). w.fault) next.0))
+
+pub ends_so : (header : Header) (past : List Ev) (first rest rest' : Rest) (old rows : List Row) (machine machine' : Configuration ℕ) (told : Option Step) → told ≡ None → IsHalfway header past first rest old rows machine →
+    Steps header rest rest' machine machine' (Ok told) → HasPlayed header past (rest_walk header.object header.parties past first) machine' None
+ends_so header past first rest rest' old rows machine machine' told none h steps =
+    let next = subst (λ (x : Option Step). IsNextStep header.object header.parties h.here rest rest' machine' (Ok x)) none (steps header.parties h.here h.stands) in
+    let here : after (events_in (rest_walk header.object header.parties past first).steps) past ≡ h.here = h.events ∙ ap (λ (w : Walk). after (events_in w.steps) h.here) next.0 in
+    subst (λ (l : List Ev). StandsAt u64_arithmetic header.object header.parties l machine') (sym here) next.1
 
 pub fails : (header : Header) (past : List Ev) (first rest rest' : Rest) (old rows : List Row) (machine machine' : Configuration ℕ) (fault : FaultyLine) → IsHalfway header past first rest old rows machine →
     Steps header rest rest' machine machine' (Err fault) → HasAdded header past (rest_walk header.object header.parties past first) old rows (Some fault)

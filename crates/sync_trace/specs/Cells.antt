@@ -147,9 +147,11 @@ or_dash (byte ∷ bytes) = byte ∷ bytes
 abbrev pub holds_text : Object ℕ → ℕ → List (Event ℕ) → List ℕ
 holds_text o parties past = or_dash (holders o past parties)
 
--- The cells of a row, but for its number.
+-- The cells of a row, but for its number; and for those that show more of it than a line, the step, and what its party holds then.
 
 pub record Texts : Type 0 where
+  pub step : Step
+  pub hold : Option HoldKind
   pub line : List ℕ
   pub party : List ℕ
   pub act : List ℕ
@@ -160,6 +162,8 @@ pub record Texts : Type 0 where
 abbrev pub texts_of : Cells → Texts
 texts_of cells =
     record {
+      step = cells.step;
+      hold = cells.hold;
       line = string_bytes cells.line;
       party = string_bytes cells.party;
       act = string_bytes cells.act;
@@ -172,6 +176,8 @@ texts_of cells =
 abbrev pub cells_at : Header → List (Event ℕ) → Step → Texts
 cells_at header past step =
     record {
+      step = step;
+      hold = hold_of (table_of u64_arithmetic header.object) step.event.party past;
       line = decimal step.line;
       party = decimal (step.event.party + 1);
       act = act_words step.event.act;

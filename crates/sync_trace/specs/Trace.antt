@@ -1,10 +1,14 @@
 -- The trace of a text: what is written of it, and its first fault.
-use Rattle.std.specs.Prelude.{◌≡◌, ℕ, List, [], ◌∷◌, Option, Some, Result, Ok, Err}
+use Rattle.std.specs.Prelude.{◌≡◌, ℕ, List, [], ◌∷◌, Option, Some, None, Result, Ok, Err}
 use Rattle.steps_events.specs.declared.event.Event.{Event}
+use Rattle.steps_events.specs.Integers.{u64_arithmetic}
+use Rattle.steps_events.specs.Runs.{after}
+use Rattle.sync_steps.specs.Machine.{Configuration, StandsAt}
 use Rattle.sync_play.specs.declared.header.Header.{Header}
 use Rattle.sync_play.specs.Lexer.{lines_of}
 use Rattle.sync_walk.specs.declared.walk.FaultyLine.{FaultyLine}
 use Rattle.sync_walk.specs.declared.walk.Step.{Step}
+use Rattle.sync_walk.specs.Law.{events_in}
 use Rattle.sync_walk.specs.Walk.{Walk, lines_walk, opened}
 use Rattle.sync_trace.specs.declared.rows.Row.{Row}
 use Rattle.sync_trace.specs.declared.trace.Rows.{Rows}
@@ -25,6 +29,11 @@ rows_with header past steps rows = folded (cells_along header past steps) rows
 -- the rows of a walk were added, and its fault is told
 abbrev pub HasAdded : Header → List (Event ℕ) → Walk → List Row → List Row → Option FaultyLine → Type 0
 HasAdded header past walk old new fault = (entries new ≡ rows_with header past walk.steps (entries old)) × (fault ≡ walk.fault)
+
+-- where the walk has no fault, all its events were played
+abbrev pub HasPlayed : Header → List (Event ℕ) → Walk → Configuration ℕ → Option FaultyLine → Type 0
+HasPlayed header past walk machine None = StandsAt u64_arithmetic header.object header.parties (after (events_in walk.steps) past) machine
+HasPlayed header past walk machine (Some fault) = Unit {0}
 
 -- the rows of a text, and its fault
 pub record RowsAndFault : Type 0 where

@@ -32,7 +32,7 @@ struct Line<'t> {
 }
 
 /// The number of a row's step, or those of its first and its last.
-fn steps_text(alloc: Global, row: &Row) -> Result<String, AllocError>
+pub fn steps_text(alloc: Global, row: &Row) -> Result<String, AllocError>
     ensures { IfOk result (λ text. string_bytes text ≡ meaning.steps_words row.now.first row.now.last) }
 {
     let first = row.first;
@@ -47,7 +47,7 @@ fn steps_text(alloc: Global, row: &Row) -> Result<String, AllocError>
 }
 
 /// How many steps a row has, where it has more than one.
-fn times_text(alloc: Global, row: &Row) -> Result<String, AllocError>
+pub fn times_text(alloc: Global, row: &Row) -> Result<String, AllocError>
     ensures { IfOk result (λ text. string_bytes text ≡ meaning.times_words row.now.first row.now.last) }
 {
     let mut text = String::new(alloc);

@@ -29,7 +29,7 @@ pub struct Trace {
 }
 
 /// Adds the rows of the steps that are left of a text, and tells the line with a fault that ends them early, if there is one.
-fn add_steps(
+pub fn add_steps(
     alloc: Global,
     header: Header,
     machine: &mut Machine<u64>,
@@ -37,8 +37,10 @@ fn add_steps(
     rows: &mut Vec<Row>,
 ) -> Result<Option<FaultyLine>, AllocError>
     requires countable { rest.old.line + length rest.old.lines.now < 2 ^ 64 }
-    ensures { (past : List (AnEvent ℕ)) → StandsAt u64_arithmetic header.object header.parties past machine.old →
+    ensures added { (past : List (AnEvent ℕ)) → StandsAt u64_arithmetic header.object header.parties past machine.old →
         IfOk result (meaning.HasAdded header past (rest_walk header.object header.parties past rest.old) rows.old.items rows.new.items) }
+    ensures stands { (past : List (AnEvent ℕ)) → StandsAt u64_arithmetic header.object header.parties past machine.old →
+        IfOk result (meaning.HasPlayed header past (rest_walk header.object header.parties past rest.old) machine.new) }
 {
     loop {
         match next_step(header.object, machine, rest) {

@@ -104,9 +104,10 @@ rest_walk o parties past rest = walk_from o parties past rest.line rest.left res
 abbrev pub most_steps : Rest → ℕ
 most_steps rest = steps_left rest.left.task + length rest.lines.now * 2 ^ 64
 
--- What a walker tells of the rest after the past, and what it leaves: nothing more is asked, or the next step, or the fault.
+-- What a walker tells of the rest after the past, and what it leaves: nothing more is asked, or the next step, or the fault. But for a
+-- fault, the machine stands after what was told.
 abbrev pub IsNextStep : Object ℕ → ℕ → List (Event ℕ) → Rest → Rest → Configuration ℕ → Result (Option Step) FaultyLine → Type 0
-IsNextStep o parties past old new machine (Ok None) = rest_walk o parties past old ≡ ended
+IsNextStep o parties past old new machine (Ok None) = (rest_walk o parties past old ≡ ended) × StandsAt u64_arithmetic o parties past machine
 IsNextStep o parties past old new machine (Ok (Some step)) =
     (rest_walk o parties past old ≡ step_then step (rest_walk o parties (step.event ∷ past) new)) × StandsAt u64_arithmetic o parties (step.event ∷ past) machine
 IsNextStep o parties past old new machine (Err fault) = rest_walk o parties past old ≡ stopped fault.line fault.fault

@@ -8,4 +8,4 @@ returns-in-Err c = opens_none c.args.text.now _ c.in-Err.fault c.in-Err.ensures.
 pub returns : goal.returns
 returns c =
     let told = c.in-Ok.ensures in
-    rows_read c.args.text.now c.in-Ok.opened.0 c.in-Ok.opened.1 _ _ c.in_ok-fault.fault told.opened told.line told.left c.new-rows.ensures.items (c.in_ok-fault.ensures [] c.in_ok-machine.ensures)
+    rows_read c.args.text.now c.in-Ok.opened.0 c.in-Ok.opened.1 _ _ c.in_ok-fault.fault told.opened told.line told.left c.new-rows.ensures.items (c.in_ok-fault.ensures.added [] c.in_ok-machine.ensures)

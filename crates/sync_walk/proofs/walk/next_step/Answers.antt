@@ -33,9 +33,11 @@ returns-in_default-clause-step c parties past stands =
     let here = c.loop-event.invariant.2 parties past stands in
     let o = c.args.object in
     let number = c.loop-event.rest.line in
-    let lines = c.loop-event.rest.lines.now in
-    here.0 ∙ walk_passes o parties number past c.loop-event.rest.left lines _ c.in-Ok-None.field-0-is (c.in-Ok-None.ensures.first o parties past here.1)
-    ∙ lines_end o parties (number + 1) past (lines_of lines) (search rules)
+    let lines = c.loop-event.rest.lines.now in (
+      here.0 ∙ walk_passes o parties number past c.loop-event.rest.left lines _ c.in-Ok-None.field-0-is (c.in-Ok-None.ensures.first o parties past here.1)
+          ∙ lines_end o parties (number + 1) past (lines_of lines) (search rules),
+      pass_stands o parties past c.loop-event.rest.left c.next_event.new.left _ _ c.in-Ok-None.field-0-is (c.in-Ok-None.ensures.turn o parties past here.1),
+    )
 
 pub returns-in_default-clause-countable : goal.returns-in_default-clause-countable
 returns-in_default-clause-countable c = c.loop-event.invariant.0
