@@ -7,4 +7,5 @@ pub mod DebtLaws
 pub mod WakeLaws
 pub mod SpinLaws
 pub mod AnswerLaws
+pub mod AskLaws
 pub mod Causes
