@@ -1,5 +1,5 @@
 -- When a wait closure is asked, from the step at each place.
-use Rattle.std.proofs.Common.{◌≡◌, ◌≤◌, ℕ, ◌+◌, refl, ◌∙◌, Bool, true, false, cond, List, [], ◌∷◌, Option, Some, None}
+use Rattle.std.proofs.Common.{◌≡◌, ◌≤◌, ℕ, ◌+◌, ◌-◌, refl, ◌∙◌, Bool, true, false, cond, List, [], ◌∷◌, Option, Some, None, arith}
 use Rattle.std.specs.Prelude.{nat_lt, MatchOption}
 use Rattle.steps_events.specs.declared.event.Act.{Act}
 use Rattle.steps_events.specs.declared.event.Event.{Event}
@@ -15,7 +15,7 @@ use Rattle.steps_events.specs.Tables.{Table}
 use Rattle.steps_events.specs.Past.{PendingCall, call_of, hold_of}
 use Rattle.steps_events.specs.Runs.{IsPast}
 use Rattle.steps_events.specs.Sights.{keeps_asking, spins_in}
-use Rattle.steps_events.specs.Asks.{WhereAsked, SpinCount, SpinsNoMore}
+use Rattle.steps_events.specs.Asks.{WhereAsked, SpinCount, SpinsNoMore, but_last_try}
 use Rattle.steps_events.proofs.Spins.{HasSpun, spins_spent}
 use Rattle.steps_events.proofs.Parties.{IsKept, IsAtPlace, each_call}
 
@@ -50,3 +50,22 @@ spins_no_more {T} z t parties At spins kept bounded past run party = by_call (ca
     by_call : (pending : Option (PendingCall T)) → IsAtPlace t At pending (hold_of t party past) → MatchOption pending (Unit {0}) (λ c. spins c.call c.own ≤ 10000)
     by_call None at = tt
     by_call (Some c) at = bounded at.0 c (hold_of t party past) at.2
+
+-- and so with the last try of a call that gives up
+pub last_try_bounded : {T : Type 0} (own : List (Event T)) (spins : ℕ) → spins ≤ 10000 → but_last_try own spins ≤ 10000
+last_try_bounded own spins bounded = by_test (keeps_asking own)
+  where
+    by_test : (keep : Bool) → cond keep spins (spins - 1) ≤ 10000
+    by_test true = bounded
+    by_test false = omega (arith, bounded)
+
+-- two things are kept at each place, where each of them is
+pub both_kept :
+    {T P : Type 0} (t : Table T P) (At Also : P → PendingCall T → Option HoldKind → Type 0) → IsKept t At → IsKept t Also → IsKept t (λ place c hold. At place c hold × Also place c hold)
+both_kept t At Also kept also =
+    record {
+      begins = λ call place hold is allowed. (kept.begins call place hold is allowed, also.begins call place hold is allowed);
+      steps = λ place c hold memory number next at free is. (kept.steps place c hold memory number next at.0 free is, also.steps place c hold memory number next at.1 free is);
+      answers = λ place c hold action number at waits. (kept.answers place c hold action number at.0 waits, also.answers place c hold action number at.1 waits);
+      chooses = λ place c hold choice number at stands. (kept.chooses place c hold choice number at.0 stands, also.chooses place c hold choice number at.1 stands);
+    }

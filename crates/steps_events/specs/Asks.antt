@@ -1,6 +1,6 @@
 -- How a call waits that has a wait closure: it spins so often, then asks; what it tells the closure; and that it asks no more once that has
 -- answered Abort. What counts as a spin, what refuses a call, and which events are those of one wait, is each object's own.
-use Rattle.std.specs.Prelude.{◌≡◌, ◌≤◌, ℕ, true, List, [], ◌∷◌, Option, Some, MatchOption}
+use Rattle.std.specs.Prelude.{◌≡◌, ◌≤◌, ℕ, ◌-◌, true, if◌then◌else◌, List, [], ◌∷◌, Option, Some, MatchOption}
 use Rattle.steps_events.specs.declared.event.Word.{Word}
 use Rattle.steps_events.specs.declared.event.Call.{Call}
 use Rattle.steps_events.specs.declared.event.Act.{Act}
@@ -31,6 +31,10 @@ AsksAfterSpinning spins past = AsksWhere (λ c act told. spins c.call c.own ≡ 
 -- and no call spins more often: it asks, or it is answered
 abbrev pub SpinsNoMore : {T : Type 0} → SpinCount T → List (Event T) → Type 0
 SpinsNoMore spins past = (party : ℕ) → MatchOption (call_of party past) (Unit {0}) (λ c. spins c.call c.own ≤ 10000)
+
+-- The spins of a call whose last try may go on by itself too, to what it has yet to do as it gives up: that try is none of them.
+abbrev pub but_last_try : {T : Type 0} → List (Event T) → ℕ → ℕ
+but_last_try own spins = if keeps_asking own then spins else spins - 1
 
 -- what it was that refused a call with these own events, by the act that leaves it at its closure
 abbrev pub Refusing : Type 0 → Type 0

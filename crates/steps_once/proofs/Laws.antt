@@ -22,10 +22,10 @@ use Rattle.steps_events.specs.Rows.{carried_out, value_told, outcome_of, place_a
 use Rattle.steps_events.specs.Past.{same_word, PendingCall, call_of, hold_of, word_in, word_after, event}
 use Rattle.steps_events.specs.Moves.{Move, step_at, is_step}
 use Rattle.steps_events.specs.Runs.{IsPast}
-use Rattle.steps_events.specs.Sights.{AtLast, last_of}
+use Rattle.steps_events.specs.Sights.{AtLast, acts_in, last_of}
 use Rattle.steps_events.specs.Waits.{stands, is_wake}
 use Rattle.steps_events.specs.Laws.{Lacks, is_refusal}
-use Rattle.steps_events.proofs.Holds.{some_same, no_holds}
+use Rattle.steps_events.proofs.Holds.{some_same, eqb_other, no_holds}
 use Rattle.steps_events.proofs.Steps.{by_move, carried_is_step, tells_memory}
 use Rattle.steps_events.proofs.Parties.{IsKept, at_place}
 use Rattle.steps_events.proofs.Own.{own_among}
@@ -33,7 +33,7 @@ use Rattle.steps_once.specs.declared.OncePlace.{OncePlace}
 use Rattle.steps_once.specs.declared.OncePlace.TheVariants as places
 use Rattle.steps_once.specs.Table.{once_table, once_begins, once_intent, found_after, once_after}
 use Rattle.steps_once.specs.Closures.{is_begin, is_end, is_load, begins_in, ends_in}
-use Rattle.steps_once.specs.Law.{OnceCause, IsNextStep, RunsToItsEnd, IsAnswerOf, answer_of, tells_end, flag_of, IsLeftAt, load_of, is_done, KeepsOnce}
+use Rattle.steps_once.specs.Law.{OnceCause, is_look, IsNextStep, RunsInOrder, IsAnswerOf, answer_of, tells_end, flag_of, IsLeftAt, load_of, is_done, KeepsOnce}
 use Rattle.steps_once.proofs.Closures.{is_running, has_missed, missed_since, IsClosureIntent, RunsOneClosure, IsState, at_most_one, complete_ended, closure_front, stays_complete, tells_state, own_began}
 
 -- What is kept of a call at its place.
@@ -174,70 +174,104 @@ its_call_kept =
       chooses = λ place c hold choice number at stands. at;
     }
 
--- Where a call is after the step that began its closure, and after that which ended it.
+-- What a call's step before was, at each place.
+
+-- its latest step, by whether it began a closure, or ended one
+abbrev pub HasMade : {T : Type 0} → Bool → Bool → List (Event T) → Type 0
+HasMade {T} begun ended own = (before : Act T) × (last_of is_step own ≡ Some before) × (is_begin before ≡ begun) × (is_end before ≡ ended)
 
 abbrev pub IsWhereLed : {T : Type 0} → OncePlace → PendingCall T → Option HoldKind → Type 0
-IsWhereLed place c hold = IfSome (last_of is_step c.own) (λ before. (is_begin before ≡ true → place ≡ places.Run) × (is_end before ≡ true → place ≡ places.Complete))
+IsWhereLed places.IsCompleted c hold = last_of is_step c.own ≡ None
+IsWhereLed places.Look c hold = (last_of is_step c.own ≡ None) × (acts_in is_step c.own ≡ 0)
+IsWhereLed places.Begin c hold = HasMade false false c.own × (acts_in is_step c.own ≡ 1)
+IsWhereLed places.Run c hold = HasMade true false c.own
+IsWhereLed places.Complete c hold = HasMade false true c.own
+IsWhereLed places.Stay c hold = HasMade false false c.own × (2 ≤ acts_in is_step c.own)
 
-exchange_leads :
-    (T : Type 0) (next : OncePlace) (w : ℕ) (done : Bool) → place_after {T = T} (begin_after done) ≡ Some next →
-    (is_begin {T = T} (acts.Exchange words.State 0 1 w done) ≡ true → next ≡ places.Run) × (is_end {T = T} (acts.Exchange words.State 0 1 w done) ≡ true → next ≡ places.Complete)
-exchange_leads T next w true is = (λ _. sym (some_same places.Run next is), λ no. absurd cc)
-exchange_leads T next w false is = (λ no. absurd cc, λ no. absurd cc)
+begins_led : {T : Type 0} (call : Call T) (place : OncePlace) (hold : Option HoldKind) → once_begins call ≡ Some place → IsWhereLed {T = T} place (record { call = call; own = [] }) hold
+begins_led {T} calls.IsCompleted place hold is = subst (λ p. IsWhereLed {T = T} p (record { call = calls.IsCompleted; own = [] }) hold) (some_same places.IsCompleted place is) refl
+begins_led {T} calls.CallOnce place hold is = subst (λ p. IsWhereLed {T = T} p (record { call = calls.CallOnce; own = [] }) hold) (some_same places.Look place is) (refl, refl)
+begins_led other place hold is = absurd cc
+
+-- where a step leads
+look_leads : {T : Type 0} (c : PendingCall T) (hold : Option HoldKind) (w number : ℕ) (outcome : Then T) (next : OncePlace) (complete : Bool) → acts_in is_step c.own ≡ 0 → place_after {T = T} (seen_after places.Begin complete) ≡ Some next →
+    IsWhereLed next (record { call = c.call; own = event number (acts.Load words.State w) outcome ∷ c.own }) hold
+look_leads c hold w number outcome next true first is = absurd cc
+look_leads {T} c hold w number outcome next false first is =
+    subst (λ p. IsWhereLed {T = T} p (record { call = c.call; own = event number (acts.Load words.State w) outcome ∷ c.own }) hold) (some_same places.Begin next is)
+    ((acts.Load words.State w, refl, refl, refl), omega (arith, first))
+
+exchange_leads : {T : Type 0} (c : PendingCall T) (hold : Option HoldKind) (w number : ℕ) (outcome : Then T) (next : OncePlace) (done : Bool) → acts_in is_step c.own ≡ 1 → place_after {T = T} (begin_after done) ≡ Some next →
+    IsWhereLed next (record { call = c.call; own = event number (acts.Exchange words.State 0 1 w done) outcome ∷ c.own }) hold
+exchange_leads {T} c hold w number outcome next true second is =
+    subst (λ p. IsWhereLed {T = T} p (record { call = c.call; own = event number (acts.Exchange words.State 0 1 w true) outcome ∷ c.own }) hold) (some_same places.Run next is)
+    (acts.Exchange words.State 0 1 w true, refl, refl, refl)
+exchange_leads {T} c hold w number outcome next false second is =
+    subst (λ p. IsWhereLed {T = T} p (record { call = c.call; own = event number (acts.Exchange words.State 0 1 w false) outcome ∷ c.own }) hold) (some_same places.Stay next is)
+    ((acts.Exchange words.State 0 1 w false, refl, refl, refl), omega (arith, second))
+
+stay_leads : {T : Type 0} (c : PendingCall T) (hold : Option HoldKind) (w number : ℕ) (outcome : Then T) (next : OncePlace) (complete : Bool) → 2 ≤ acts_in is_step c.own → place_after {T = T} (seen_after places.Stay complete) ≡ Some next →
+    IsWhereLed next (record { call = c.call; own = event number (acts.Load words.State w) outcome ∷ c.own }) hold
+stay_leads c hold w number outcome next true later is = absurd cc
+stay_leads {T} c hold w number outcome next false later is =
+    subst (λ p. IsWhereLed {T = T} p (record { call = c.call; own = event number (acts.Load words.State w) outcome ∷ c.own }) hold) (some_same places.Stay next is)
+    ((acts.Load words.State w, refl, refl, refl), omega (arith, later))
 
 step_leads :
-    {T : Type 0} (place : OncePlace) (c : PendingCall T) (hold : Option HoldKind) (memory : Word → ℕ) (number : ℕ) (next : OncePlace) →
+    {T : Type 0} (place : OncePlace) (c : PendingCall T) (hold left : Option HoldKind) (memory : Word → ℕ) (number : ℕ) (next : OncePlace) → IsWhereLed place c hold →
     place_after {T = T} (once_after place (value_told {T = T} (carried_out (once_intent words.State place) memory))) ≡ Some next →
-    IsWhereLed next (record { call = c.call; own = event number (step_at once_table place hold memory).act (step_at once_table place hold memory).outcome ∷ c.own }) hold
-step_leads places.IsCompleted c hold memory number next is = absurd cc
-step_leads places.Look c hold memory number next is = (λ no. absurd cc, λ no. absurd cc)
-step_leads {T} places.Begin c hold memory number next is = exchange_leads T next (memory words.State) (memory words.State == 0) is
-step_leads places.Run c hold memory number next is = (λ no. absurd cc, λ _. sym (some_same places.Complete next is))
-step_leads places.Complete c hold memory number next is = absurd cc
-step_leads places.Stay c hold memory number next is = (λ no. absurd cc, λ no. absurd cc)
+    IsWhereLed next (record { call = c.call; own = event number (step_at once_table place hold memory).act (step_at once_table place hold memory).outcome ∷ c.own }) left
+step_leads places.IsCompleted c hold left memory number next led is = absurd cc
+step_leads places.Look c hold left memory number next led is = look_leads c left (memory words.State) number _ next (memory words.State == 2) led.1 is
+step_leads places.Begin c hold left memory number next led is = exchange_leads c left (memory words.State) number _ next (memory words.State == 0) led.1 is
+step_leads {T} places.Run c hold left memory number next led is =
+    subst (λ p. IsWhereLed {T = T} p (record { call = c.call; own = event number acts.Ended thens.GoesOn ∷ c.own }) left) (some_same places.Complete next is) (acts.Ended, refl, refl, refl)
+step_leads places.Complete c hold left memory number next led is = absurd cc
+step_leads places.Stay c hold left memory number next led is = stay_leads c left (memory words.State) number _ next (memory words.State == 2) led.1 is
+
+-- an answer of a closure is no step
+answer_led : {T : Type 0} (place : OncePlace) (c : PendingCall T) (hold : Option HoldKind) (e : Event T) → is_step e.act ≡ false → IsWhereLed place c hold → IsWhereLed place (record { call = c.call; own = e ∷ c.own }) hold
+answer_led places.IsCompleted c hold e quiet led = rw quiet led
+answer_led places.Look c hold e quiet led = rw quiet (led.0, omega (arith, led.1))
+answer_led places.Begin c hold e quiet led = rw quiet (led.0, omega (arith, led.1))
+answer_led places.Run c hold e quiet led = rw quiet led
+answer_led places.Complete c hold e quiet led = rw quiet led
+answer_led places.Stay c hold e quiet led = rw quiet (led.0, omega (arith, led.1))
 
 pub led_kept : {T : Type 0} → IsKept {T = T} once_table IsWhereLed
 led_kept =
     record {
-      begins = λ call place hold is allowed. tt;
-      steps = λ place c hold memory number next at free is. step_leads place c hold memory number next is;
-      answers = λ place c hold action number at stands. at;
-      chooses = λ place c hold choice number at stands. at;
+      begins = λ call place hold is allowed. begins_led call place hold is;
+      steps = λ place c hold memory number next at free is. step_leads place c hold _ memory number next at is;
+      answers = λ place c hold action number at stands. answer_led place c hold (event number (acts.Answered action) thens.GoesOn) refl at;
+      chooses = λ place c hold choice number at stands. answer_led place c hold (event number (acts.Chosen choice) thens.GoesOn) refl at;
     }
 
--- so its next step is the closure's end, or the store of 2
-next_step :
-    {T : Type 0} (last : Option (Act T)) (place : OncePlace) (act : Act T) (outcome : Then T) →
-    IfSome last (λ before. (is_begin before ≡ true → place ≡ places.Run) × (is_end before ≡ true → place ≡ places.Complete)) →
-    (place ≡ places.Run → act ≡ acts.Ended) → (place ≡ places.Complete → (act ≡ acts.Store words.State 2) × (outcome ≡ thens.Answers answers.Done)) →
-    IfSome last (λ before. IsNextStep (is_begin before) (is_end before) act outcome)
-next_step None place act outcome led ends puts = tt
-next_step {T} (Some before) place act outcome led ends puts = by_test (is_begin before) (is_end before) led
-  where
-    by_test : (begun ended : Bool) → (begun ≡ true → place ≡ places.Run) × (ended ≡ true → place ≡ places.Complete) → IsNextStep {T = T} begun ended act outcome
-    by_test true ended led = ends (led.0 refl)
-    by_test false true led = puts (led.1 refl)
-    by_test false false led = tt
+-- so its next step follows that
+
+-- how a step that was made goes on
+abbrev GoesOnFrom : {T : Type 0} → List (Event T) → Act T → Then T → Type 0
+GoesOnFrom own act outcome = MatchOption (last_of is_step own) (is_look act ≡ true) (λ before. IsNextStep (is_begin before) (is_end before) (acts_in is_step own == 1) act outcome)
 
 step_runs :
     {T : Type 0} (c : PendingCall T) (place : OncePlace) (hold : Option HoldKind) (memory : Word → ℕ) → IsWhereLed place c hold →
-    IfSome (last_of is_step c.own) (λ before. IsNextStep {T = T} (is_begin before) (is_end before) (step_at once_table place hold memory).act (step_at once_table place hold memory).outcome)
-step_runs c places.IsCompleted hold memory led = next_step (last_of is_step c.own) places.IsCompleted _ _ led (λ no. absurd cc) (λ no. absurd cc)
-step_runs c places.Look hold memory led = next_step (last_of is_step c.own) places.Look _ _ led (λ no. absurd cc) (λ no. absurd cc)
-step_runs c places.Begin hold memory led = next_step (last_of is_step c.own) places.Begin _ _ led (λ no. absurd cc) (λ no. absurd cc)
-step_runs c places.Run hold memory led = next_step (last_of is_step c.own) places.Run _ _ led (λ _. refl) (λ no. absurd cc)
-step_runs c places.Complete hold memory led = next_step (last_of is_step c.own) places.Complete _ _ led (λ no. absurd cc) (λ _. (refl, refl))
-step_runs c places.Stay hold memory led = next_step (last_of is_step c.own) places.Stay _ _ led (λ no. absurd cc) (λ no. absurd cc)
+    GoesOnFrom {T = T} c.own (step_at once_table place hold memory).act (step_at once_table place hold memory).outcome
+step_runs c places.IsCompleted hold memory led = rw led refl
+step_runs c places.Look hold memory led = rw led.0 refl
+step_runs c places.Begin hold memory led = rw (led.0.1, led.0.2, led.0.3, led.1) refl
+step_runs c places.Run hold memory led = rw (led.1, led.2) refl
+step_runs c places.Complete hold memory led = rw (led.1, led.2, led.3) (refl, refl)
+step_runs c places.Stay hold memory led = rw (led.0.1, led.0.2, led.0.3, eqb_other (acts_in is_step c.own) 1 (λ one. absurd (omega (arith, one, led.1)))) refl
 
 abbrev MoveRuns : {T : Type 0} → Option (PendingCall T) → Move T → Type 0
-MoveRuns {T} pending m = MatchBool (is_step m.act) (MatchOption pending ⊥ (λ c. IfSome (last_of is_step c.own) (λ before. IsNextStep {T = T} (is_begin before) (is_end before) m.act m.outcome))) (Unit {0})
+MoveRuns {T} pending m = MatchBool (is_step m.act) (MatchOption pending ⊥ (λ c. GoesOnFrom {T = T} c.own m.act m.outcome)) (Unit {0})
 
 move_runs : {T : Type 0} (c : PendingCall T) (place : OncePlace) (hold : Option HoldKind) (memory : Word → ℕ) → IsWhereLed place c hold → MoveRuns (Some c) (step_at once_table place hold memory)
 move_runs c place hold memory led = rw (carried_is_step (once_intent words.State place) memory) (step_runs c place hold memory led)
 
-runs_to_its_end : {T : Type 0} (z : Arithmetic T) (parties : ℕ) (past : List (Event T)) → IsPast z once_table parties past → RunsToItsEnd past
-runs_to_its_end z parties [] run = tt
-runs_to_its_end {T} z parties (e ∷ past) run =
+runs_in_order : {T : Type 0} (z : Arithmetic T) (parties : ℕ) (past : List (Event T)) → IsPast z once_table parties past → RunsInOrder past
+runs_in_order z parties [] run = tt
+runs_in_order {T} z parties (e ∷ past) run =
     by_move once_table (call_of e.party past) (hold_of once_table e.party past) (word_in once_table past) (λ (k : Option (PendingCall T)) (m : Move T). MoveRuns k m)
     run.0.0 (record { act = e.act; outcome = e.then })
     (λ call _. tt) (λ action _. tt) (λ choice _. tt)
@@ -351,7 +385,7 @@ keeps_once z parties (e ∷ past) run =
       told = tells_memory z once_table parties (e ∷ past) run;
       unheld = no_holds once_table (λ call from to. refl) (e ∷ past);
       cause = event.cause;
-      law = record { one = most.0; ends = most.2; own = event.own; runs = runs_to_its_end z parties (e ∷ past) run; waits = event.waits; suits = event.suits; answers = event.answers; tells = event.tells; leaves = event.leaves; done = event.done; stays = stays_complete z once_table parties (runs_one z parties) past e run; spins = event.spins; state = tells_state once_table (e ∷ past) front.state };
+      law = record { one = most.0; ends = most.2; own = event.own; runs = runs_in_order z parties (e ∷ past) run; waits = event.waits; suits = event.suits; answers = event.answers; tells = event.tells; leaves = event.leaves; done = event.done; stays = stays_complete z once_table parties (runs_one z parties) past e run; spins = event.spins; state = tells_state once_table (e ∷ past) front.state };
     }
 
 -- a once has no other word

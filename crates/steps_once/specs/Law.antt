@@ -1,5 +1,5 @@
 -- What a once keeps at every front of every run: one closure runs, once, and ends before any call tells of it.
-use Rattle.std.specs.Prelude.{◌≡◌, ◌≤◌, ℕ, ◌==◌, ◌↔◌, Bool, true, false, Option, Some, None, IfSome, List, [], ◌∷◌, MatchBool, MatchOption}
+use Rattle.std.specs.Prelude.{◌≡◌, ◌≤◌, ℕ, ◌==◌, ◌&&◌, ◌↔◌, Bool, true, false, Option, Some, None, IfSome, List, [], ◌∷◌, MatchBool, MatchOption}
 use Rattle.steps_events.specs.declared.event.Word.TheVariants as words
 use Rattle.steps_events.specs.declared.event.Act.{Act}
 use Rattle.steps_events.specs.declared.event.Act.TheVariants as acts
@@ -12,7 +12,7 @@ use Rattle.steps_events.specs.declared.event.Then.TheVariants as thens
 use Rattle.steps_events.specs.declared.event.Event.{Event}
 use Rattle.steps_events.specs.Past.{call_of, holds_of, word_in}
 use Rattle.steps_events.specs.Moves.{is_step}
-use Rattle.steps_events.specs.Sights.{last_of}
+use Rattle.steps_events.specs.Sights.{acts_in, last_of}
 use Rattle.steps_events.specs.Waits.{OnlySpins}
 use Rattle.steps_events.specs.Laws.{TellsMemory, HasCause}
 use Rattle.steps_once.specs.Closures.{is_begin, is_end, begins_in, ends_in, EndsItsOwn, WaitsForAnother, StaysTwo, TellsState}
@@ -24,17 +24,31 @@ OnceCause call party events = ⊥
 
 -- The closure.
 
--- what follows a step of a call, by whether that began its closure, or ended it: its end; or the store of 2, which answers `Done`
-abbrev pub IsNextStep : {T : Type 0} → Bool → Bool → Act T → Then T → Type 0
-IsNextStep begun ended act outcome =
-    MatchBool begun (act ≡ acts.Ended) (MatchBool ended ((act ≡ acts.Store words.State 2) × (outcome ≡ thens.Answers answers.Done)) (Unit {0}))
+-- a look
+abbrev pub is_look : {T : Type 0} → Act T → Bool
+is_look (acts.Load words.State seen) = true
+is_look act = false
 
--- who begins the closure ends it next, and then says so: the latest event, if it is a step, follows its call's step before
-abbrev pub RunsToItsEnd : {T : Type 0} → List (Event T) → Type 0
-RunsToItsEnd [] = Unit {0}
-RunsToItsEnd (e ∷ past) =
+-- the exchange of 0 for 1, whatever it found
+abbrev pub is_try : {T : Type 0} → Act T → Bool
+is_try (acts.Exchange words.State from to found done) = (from == 0) && (to == 1)
+is_try act = false
+
+-- What follows a step of a call, by whether that began its closure, ended it, or was the call's first. After the begin, the closure's end; after the
+-- end, the store of 2, which answers `Done`; after the first, which was a look, the exchange; and after any other a look.
+abbrev pub IsNextStep : {T : Type 0} → Bool → Bool → Bool → Act T → Then T → Type 0
+IsNextStep begun ended first act outcome =
+    MatchBool begun (act ≡ acts.Ended)
+    (MatchBool ended ((act ≡ acts.Store words.State 2) × (outcome ≡ thens.Answers answers.Done))
+    (MatchBool first (is_try act ≡ true) (is_look act ≡ true)))
+
+-- so the latest event, if it is a step, follows its call's step before; the first of a call is a look
+abbrev pub RunsInOrder : {T : Type 0} → List (Event T) → Type 0
+RunsInOrder [] = Unit {0}
+RunsInOrder (e ∷ past) =
     MatchBool (is_step e.act)
-    (MatchOption (call_of e.party past) ⊥ (λ c. IfSome (last_of is_step c.own) (λ before. IsNextStep (is_begin before) (is_end before) e.act e.then)))
+    (MatchOption (call_of e.party past) ⊥
+    (λ c. MatchOption (last_of is_step c.own) (is_look e.act ≡ true) (λ before. IsNextStep (is_begin before) (is_end before) (acts_in is_step c.own == 1) e.act e.then)))
     (Unit {0})
 
 -- The answers.
@@ -105,8 +119,9 @@ pub record OnceLaw {T : Type 0} (past : List (Event T)) : Type 0 where
   pub ends : ends_in past ≤ begins_in past
   -- it ends in the call that began it
   pub own : EndsItsOwn past
-  -- that call ends it at its next step, and then stores 2 and answers `Done`
-  pub runs : RunsToItsEnd past
+  -- a call looks first, and then makes its exchange; the one that begins the closure ends it at its next step, and then stores 2 and answers `Done`;
+  -- any other only looks from then on
+  pub runs : RunsInOrder past
   -- a call waits only for a closure that has begun
   pub waits : WaitsForAnother past
   -- `CallOnce` answers `Done` alone, and `IsCompleted` a flag

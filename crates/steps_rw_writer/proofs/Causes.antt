@@ -34,14 +34,17 @@ use Rattle.steps_rw_writer.specs.declared.RwWriterPlace.{RwWriterPlace}
 use Rattle.steps_rw_writer.specs.declared.RwWriterPlace.TheVariants as places
 use Rattle.steps_rw_writer.specs.Table.{is_odd, lets_readers_in, lets_writer_in, lets_mark, is_marked, is_blocked, try_read_look, read_look, spins, marks_or_spins, unmarks_or_leaves, write_refused, write_look, last_look, released, woken_one, woken_all, rw_writer_table}
 use Rattle.steps_rw_writer.specs.Marks.{is_marked_after}
-use Rattle.steps_rw_writer.specs.Law.{CountsHolds, HasMissedAfterAbort, RwWriterCause, IsExactGrant, KeepsRwWriter}
+use Rattle.steps_rw_writer.specs.Law.{CountsHolds, HasMissedAfterAbort, RwWriterCause, IsExactGrant, spins_of, told_by, KeepsRwWriter}
 use Rattle.steps_rw_writer.proofs.WordLaws.{held_by_none, writer_lock_exclusive}
 use Rattle.steps_rw_writer.proofs.StageLaws.{same_call}
 use Rattle.steps_rw_writer.proofs.PlaceLaws.{AtRwWriter, Asks, MayGiveUp, failed_after_abort, IsLeaver, even_word, held_above, here}
 use Rattle.steps_rw_writer.proofs.DebtLaws.{no_wake_is_lost}
 use Rattle.steps_rw_writer.proofs.WakeLaws.{readers_are_woken}
-use Rattle.steps_rw_writer.proofs.SpinLaws.{event_asks}
+use Rattle.steps_rw_writer.proofs.SpinLaws.{IsAskedSo, event_asks}
 use Rattle.steps_rw_writer.proofs.MarkLaws.{event_marks, event_stands}
+use Rattle.steps_rw_writer.proofs.AskLaws.{spins_at_most, stands_after_last_look}
+use Rattle.steps_events.specs.Asks.{whole_call}
+use Rattle.steps_events.proofs.Asks.{asked_maps}
 use Rattle.steps_rw_writer.proofs.AnswerLaws.{answers_at_every_front}
 use Rattle.steps_rw_writer.proofs.Laws.{event_keeps, writer_lock_word, setter_is_under_way}
 
@@ -476,7 +479,7 @@ event_exact {T} z parties past e run =
 pub keeps_rw_writer : {T : Type 0} (z : Arithmetic T) (parties : ℕ) (past : List (Event T)) → IsPast z rw_writer_table parties past → KeepsRwWriter past
 keeps_rw_writer z parties [] run =
     let word = writer_lock_word z parties [] run in
-    record { told = tt; cause = tt; exclusive = writer_lock_exclusive 0 [] false word.counts; law = record { counts = word.counts; mark = tt; keeps_out = tt; exact = tt; answers = tt; asks = tt; tells = tt; marks = tt; stands = tt; counted = no_wake_is_lost z parties [] run; woken = readers_are_woken z parties [] run } }
+    record { told = tt; cause = tt; exclusive = writer_lock_exclusive 0 [] false word.counts; law = record { counts = word.counts; mark = tt; keeps_out = tt; exact = tt; answers = tt; asks = tt; spins = spins_at_most z parties [] run; waits = tt; tells = tt; stops = tt; marks = tt; stands = tt; counted = no_wake_is_lost z parties [] run; woken = readers_are_woken z parties [] run } }
 keeps_rw_writer z parties (e ∷ past) run =
     let word = event_keeps z parties past e run (writer_lock_word z parties past run.1) in
     let asks = event_asks z parties past e run in
@@ -484,5 +487,13 @@ keeps_rw_writer z parties (e ∷ past) run =
       told = tells_memory z rw_writer_table parties (e ∷ past) run;
       exclusive = writer_lock_exclusive _ (holds_of rw_writer_table (e ∷ past)) (is_marked_after (e ∷ past)) word.kept.counts;
       cause = event_cause z parties past e run;
-      law = record { counts = word.kept.counts; mark = setter_is_under_way z parties (e ∷ past) run; keeps_out = word.keeps_out; exact = event_exact z parties past e run; answers = answers_at_every_front z parties (e ∷ past) run; asks = asks.0; tells = asks.1; marks = event_marks z parties past e run; stands = event_stands z parties past e run; counted = no_wake_is_lost z parties (e ∷ past) run; woken = readers_are_woken z parties (e ∷ past) run };
+      law = record { counts = word.kept.counts; mark = setter_is_under_way z parties (e ∷ past) run; keeps_out = word.keeps_out; exact = event_exact z parties past e run; answers = answers_at_every_front z parties (e ∷ past) run; 
+        asks = asked_maps IsAskedSo (λ c act told. spins_of c.call c.own ≡ 10000) (λ c act told so. so.0) (call_of e.party past) e.act e.then asks;
+        spins = spins_at_most z parties (e ∷ past) run;
+        waits = stands_after_last_look z parties (e ∷ past) run;
+        tells = asked_maps IsAskedSo (λ c act told. told_by c.call c.own act ≡ Some told) (λ c act told so. so.1) (call_of e.party past) e.act e.then asks;
+        stops = asked_maps IsAskedSo (λ c act told. keeps_asking (whole_call c.call c.own) ≡ true) (λ c act told so. so.2) (call_of e.party past) e.act e.then asks;
+        marks = event_marks z parties past e run;
+        stands = event_stands z parties past e run;
+        counted = no_wake_is_lost z parties (e ∷ past) run; woken = readers_are_woken z parties (e ∷ past) run };
     }

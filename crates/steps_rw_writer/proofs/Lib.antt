@@ -8,4 +8,5 @@ pub mod WakeLaws
 pub mod SpinLaws
 pub mod MarkLaws
 pub mod AnswerLaws
+pub mod AskLaws
 pub mod Causes

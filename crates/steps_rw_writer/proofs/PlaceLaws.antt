@@ -184,7 +184,7 @@ mark_sets v is =
     let other : (v == 2 ^ 64 - 2) ≡ false = not_true (v == 2 ^ 64 - 2) (and_right (not (is_odd v)) (not (v == 2 ^ 64 - 2)) is) in
     (even_of v (not_true (is_odd v) (and_left (not (is_odd v)) (not (v == 2 ^ 64 - 2)) is)), eqb-false v (2 ^ 64 - 2) other, refl)
 
-mark_clears : (v : ℕ) → is_marked v ≡ true → Clears v (v - 1)
+pub mark_clears : (v : ℕ) → is_marked v ≡ true → Clears v (v - 1)
 mark_clears v is =
     let other : (v == 2 ^ 64 - 1) ≡ false = not_true (v == 2 ^ 64 - 1) (and_right (is_odd v) (not (v == 2 ^ 64 - 1)) is) in
     let odd : v % 2 ≡ 1 = odd_of v (and_left (is_odd v) (not (v == 2 ^ 64 - 1)) is) in

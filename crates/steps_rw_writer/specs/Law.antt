@@ -16,6 +16,7 @@ use Rattle.steps_events.specs.Past.{Hold, PendingCall, call_of, holds_of, word_i
 use Rattle.steps_events.specs.HoldCounts.{reads_in, writes_in}
 use Rattle.steps_events.specs.RwAnswers.{AnswersByHold}
 use Rattle.steps_events.specs.Sights.{is_sight, is_beginning, AtLastSight, HasAborted, HasMissed, OtherWroteSinceSight, sight_of, goes_on, stands_at_wait, spins_in, last_of}
+use Rattle.steps_events.specs.Asks.{SpinCount, but_last_try, AsksAfterSpinning, SpinsNoMore, Refusing, TellsRefusal, whole_call, AsksUntilAbort}
 use Rattle.steps_events.specs.Laws.{TellsMemory, IsExclusive, IsLocked, HasCause}
 use Rattle.steps_rw_writer.specs.Table.{lets_readers_in, lets_writer_in, lets_mark, is_mark, rw_writer_table}
 use Rattle.steps_rw_writer.specs.Marks.{setter_of, is_marked_after, has_marked}
@@ -125,35 +126,45 @@ write_spins_in loads_next (e ∷ own) =
     (if (not loads_next && goes_on e.then && is_write_in_vain e.act) then 1 else 0) + write_spins_in (loads_count e.act) own
 
 -- how often the call has spun; no call but a `ReadLock` or a `WriteLock` spins
-abbrev pub spins_of : {T : Type 0} → Call T → List (Event T) → ℕ
+abbrev pub spins_of : {T : Type 0} → SpinCount T
 spins_of calls.ReadLock own = spins_in is_read_in_vain own
 spins_of calls.WriteLock own = write_spins_in false own
 spins_of call own = 0
 
--- a wait closure is asked only after exactly 10000 spins
-abbrev pub AsksAfterAllSpins : {T : Type 0} → List (Event T) → Type 0
-AsksAfterAllSpins [] = Unit {0}
-AsksAfterAllSpins (e ∷ past) =
-    MatchBool (stands_at_wait e.then)
-    (MatchOption (call_of e.party past) ⊥ (λ c. spins_of c.call c.own ≡ 10000))
-    (Unit {0})
+-- What a reader tries in vain and then goes on by itself; of a writer the tries in vain but those after which it loads the counter, and but the last
+-- of one that gives up, after which it takes the mark away.
+abbrev pub spins_on : {T : Type 0} → SpinCount T
+spins_on calls.ReadLock own = spins_in is_read_in_vain own
+spins_on calls.WriteLock own = but_last_try own (write_spins_in true own)
+spins_on call own = 0
+
+-- the latest of these events loaded the counter
+abbrev pub has_just_loaded : {T : Type 0} → List (Event T) → Bool
+has_just_loaded [] = false
+has_just_loaded (e ∷ own) = loads_count e.act
+
+-- a writer's last look, which follows its load of the counter
+abbrev pub is_last_look : {T : Type 0} → Act T → List (Event T) → Bool
+is_last_look (acts.Load words.State seen) own = has_just_loaded own
+is_last_look act own = false
+
+-- where its last look is in vain, a writer stands
+abbrev pub StandsAfterLastLook : {T : Type 0} → List (Event T) → Type 0
+StandsAfterLastLook [] = Unit {0}
+StandsAfterLastLook (e ∷ past) =
+    MatchOption (call_of e.party past) (Unit {0})
+    (λ c. c.call ≡ calls.WriteLock → is_last_look e.act c.own ≡ true → is_write_in_vain e.act ≡ true → stands_at_wait e.then ≡ true)
 
 -- What a wait closure is told: of a reader what its latest act saw of the word, of a writer the count that it loaded last.
 
-abbrev pub IsToldClosure : {T : Type 0} → Call T → List (Event T) → Act T → ℕ → Type 0
-IsToldClosure calls.ReadLock own act told = sight_of words.State act ≡ Some told
-IsToldClosure calls.WriteLock own act told = last_of loads_count own ≡ Some (acts.Load words.Counter told)
-IsToldClosure call own act told = ⊥
+abbrev pub count_told : {T : Type 0} → Option (Act T) → Option ℕ
+count_told None = None
+count_told (Some act) = sight_of words.Counter act
 
--- where a call is left at its wait closure
-abbrev pub IsToldAt : {T : Type 0} → PendingCall T → Act T → Then T → Type 0
-IsToldAt c act (thens.Waits told) = IsToldClosure c.call c.own act told
-IsToldAt c act outcome = Unit {0}
-
--- so it is of the wait closure that the latest event asks
-abbrev pub TellsClosure : {T : Type 0} → List (Event T) → Type 0
-TellsClosure [] = Unit {0}
-TellsClosure (e ∷ past) = MatchOption (call_of e.party past) (Unit {0}) (λ c. IsToldAt c e.act e.then)
+abbrev pub told_by : {T : Type 0} → Refusing T
+told_by calls.ReadLock own act = sight_of words.State act
+told_by calls.WriteLock own act = count_told (last_of loads_count own)
+told_by call own act = None
 
 -- A writer marks before it waits.
 
@@ -216,9 +227,15 @@ pub record RwWriterLaw {T : Type 0} (past : List (Event T)) : Type 0 where
   -- a locking call answers `Success` with the hold of its kind, `Interrupted` with none; an `Unlock` ends with `Done`, freed, counted and woken
   pub answers : AnswersByHold rw_writer_table HasUnlocked past
   -- a wait closure is asked after 10000 spins
-  pub asks : AsksAfterAllSpins past
-  -- a reader's is told what the latest look saw, a writer's the count that it loaded last
-  pub tells : TellsClosure past
+  pub asks : AsksAfterSpinning spins_of past
+  -- no call spins more often
+  pub spins : SpinsNoMore spins_on past
+  -- and a writer that has loaded the counter, and then looks in vain, stands
+  pub waits : StandsAfterLastLook past
+  -- a reader's closure is told what the latest look saw, a writer's the count that it loaded last
+  pub tells : TellsRefusal told_by past
+  -- and asked no more once it has answered Abort
+  pub stops : AsksUntilAbort whole_call past
   -- a writer that sees readers and no mark tries to set it next
   pub marks : MarksBesideReaders past
   -- and stands only where the lock is blocked: by a writer, or by the mark beside readers
