@@ -16,9 +16,13 @@ shapes columns = map shape columns
 abbrev pub one_more : Line × ℕ → Line × ℕ
 one_more (line, count) = (line, count + 1)
 
+-- each of these lines has so many figures
+abbrev pub with_figures : ℕ → List Line → List (Line × ℕ)
+with_figures count lines = map (λ line. (line, count)) lines
+
 -- every line has so many figures, in the order of the table
 abbrev pub lines_at : ℕ → List (Line × ℕ)
-lines_at count = map (λ line. (line, count)) LINES
+lines_at count = with_figures count LINES
 
 -- there is a figure
 abbrev pub IsFilled : Column → Type 0

@@ -33,6 +33,7 @@ pub enum Line {
     StdRwLockWriteUnlock,
     RwReaderReadUnlock,
     RwReaderWriteUnlock,
+    BareLoadExchangeSubtractTest,
     BareLoadExchangeStoreAdd,
     RwWriterReadUnlock,
     RwWriterWriteUnlock,
@@ -50,7 +51,7 @@ pub enum Line {
 }
 
 /// Every line, in the order of the table.
-pub const LINES: [Line; 24] = [
+pub const LINES: [Line; 25] = [
     Line::BareExchangeStore,
     Line::StdMutexLockUnlock,
     Line::MutexLockUnlock,
@@ -61,6 +62,7 @@ pub const LINES: [Line; 24] = [
     Line::StdRwLockWriteUnlock,
     Line::RwReaderReadUnlock,
     Line::RwReaderWriteUnlock,
+    Line::BareLoadExchangeSubtractTest,
     Line::BareLoadExchangeStoreAdd,
     Line::RwWriterReadUnlock,
     Line::RwWriterWriteUnlock,
@@ -95,6 +97,7 @@ impl Line {
             Line::StdRwLockWriteUnlock => "std rwlock write unlock",
             Line::RwReaderReadUnlock => "rwlock reader read unlock",
             Line::RwReaderWriteUnlock => "rwlock reader write unlock",
+            Line::BareLoadExchangeSubtractTest => "bare load exchange subtract test",
             Line::BareLoadExchangeStoreAdd => "bare load exchange store add",
             Line::RwWriterReadUnlock => "rwlock writer read unlock",
             Line::RwWriterWriteUnlock => "rwlock writer write unlock",
@@ -126,6 +129,9 @@ impl Line {
             Line::StdRwLockWriteUnlock => Ok(yardsticks::std_rwlock_write_unlock(rt)),
             Line::RwReaderReadUnlock => rwreader::read_unlock(rt, alloc),
             Line::RwReaderWriteUnlock => rwreader::write_unlock(rt, alloc),
+            Line::BareLoadExchangeSubtractTest => Ok(
+                yardsticks::bare_load_exchange_subtract_test(),
+            ),
             Line::BareLoadExchangeStoreAdd => Ok(yardsticks::bare_load_exchange_store_add()),
             Line::RwWriterReadUnlock => rwwriter::read_unlock(rt, alloc),
             Line::RwWriterWriteUnlock => rwwriter::write_unlock(rt, alloc),

@@ -1,7 +1,7 @@
 //! Runs the lines, and takes the time of each.
 ghost use Rattle.std.specs.Prelude.{◌≡◌, ◌+◌, ◌-◌, ◌*◌, ◌/◌, ◌^◌, min, map, IfOk, IfErr, OnOk};
 ghost use Rattle.std.specs.Duration.{as_nanos};
-ghost use Rattle.sync_bench.specs.Columns.{shape, shapes, one_more, lines_at};
+ghost use Rattle.sync_bench.specs.Columns.{shape, shapes, with_figures, one_more, lines_at};
 ghost use Rattle.sync_bench.specs.Faults.{EndsMeasuring};
 
 use crate::fault::BenchFault;
@@ -38,12 +38,12 @@ fn figure(rt: &(impl Clock + Wait), alloc: Global, line: Line) -> Result<u64, Be
     Ok(hundredths(spent))
 }
 
-/// A column for each line, with room for its figures, so that no round takes memory.
-fn empty_columns(alloc: Global, rounds: usize) -> Result<Vec<Column>, AllocError>
-    ensures { IfOk result (λ columns. shapes columns.items ≡ lines_at 0) }
+/// A column for each of these lines, with room for its figures, so that no round takes memory.
+fn empty_columns(alloc: Global, lines: &[Line], rounds: usize) -> Result<Vec<Column>, AllocError>
+    ensures { IfOk result (λ columns. shapes columns.items ≡ with_figures 0 lines.now) }
 {
     let mut columns = Vec::new(alloc);
-    for line in LINES {
+    for &line in lines {
         let figures = Vec::with_capacity(alloc, rounds)?;
         columns.push(Column { line, figures })?;
     }
@@ -88,7 +88,7 @@ pub fn measured(
     ensures ok { IfOk result (λ columns. shapes columns.items ≡ lines_at rounds) }
     ensures err { IfErr result EndsMeasuring }
 {
-    let mut columns = empty_columns(alloc, rounds as usize)?;
+    let mut columns = empty_columns(alloc, &LINES, rounds as usize)?;
     for _ in 0..rounds {
         one_round(rt, alloc, &mut columns)?;
     }
