@@ -34,6 +34,7 @@ pub enum Line {
     StdRwLockWriteUnlock,
     RwReaderReadUnlock,
     RwReaderWriteUnlock,
+    BareLoadExchangeSubtractTest,
     BareLoadExchangeStoreAdd,
     RwWriterReadUnlock,
     RwWriterWriteUnlock,
@@ -54,7 +55,7 @@ pub enum Line {
 }
 
 /// Every line, in the order of the table.
-pub const LINES: [Line; 27] = [
+pub const LINES: [Line; 28] = [
     Line::BareExchangeStore,
     Line::StdMutexLockUnlock,
     Line::MutexLockUnlock,
@@ -65,6 +66,7 @@ pub const LINES: [Line; 27] = [
     Line::StdRwLockWriteUnlock,
     Line::RwReaderReadUnlock,
     Line::RwReaderWriteUnlock,
+    Line::BareLoadExchangeSubtractTest,
     Line::BareLoadExchangeStoreAdd,
     Line::RwWriterReadUnlock,
     Line::RwWriterWriteUnlock,
@@ -102,6 +104,7 @@ impl Line {
             Line::StdRwLockWriteUnlock => "std rwlock write unlock",
             Line::RwReaderReadUnlock => "rwlock reader read unlock",
             Line::RwReaderWriteUnlock => "rwlock reader write unlock",
+            Line::BareLoadExchangeSubtractTest => "bare load exchange subtract test",
             Line::BareLoadExchangeStoreAdd => "bare load exchange store add",
             Line::RwWriterReadUnlock => "rwlock writer read unlock",
             Line::RwWriterWriteUnlock => "rwlock writer write unlock",
@@ -136,6 +139,9 @@ impl Line {
             Line::StdRwLockWriteUnlock => Ok(yardsticks::std_rwlock_write_unlock(rt)),
             Line::RwReaderReadUnlock => rwreader::read_unlock(rt, alloc),
             Line::RwReaderWriteUnlock => rwreader::write_unlock(rt, alloc),
+            Line::BareLoadExchangeSubtractTest => Ok(
+                yardsticks::bare_load_exchange_subtract_test(),
+            ),
             Line::BareLoadExchangeStoreAdd => Ok(yardsticks::bare_load_exchange_store_add()),
             Line::RwWriterReadUnlock => rwwriter::read_unlock(rt, alloc),
             Line::RwWriterWriteUnlock => rwwriter::write_unlock(rt, alloc),

@@ -6,7 +6,7 @@ use std::test::Fail;
 use std::time::{Clock, Duration};
 
 /// The names of the lines, in the order of the table.
-const NAMES: [&str; 27] = [
+const NAMES: [&str; 28] = [
     "bare exchange store",
     "std mutex lock unlock",
     "mutex lock unlock",
@@ -17,6 +17,7 @@ const NAMES: [&str; 27] = [
     "std rwlock write unlock",
     "rwlock reader read unlock",
     "rwlock reader write unlock",
+    "bare load exchange subtract test",
     "bare load exchange store add",
     "rwlock writer read unlock",
     "rwlock writer write unlock",
