@@ -205,6 +205,7 @@ impl<A: Allocator> ConditionVariable<A> {
         requires own { IsCondPass self.now pass.old }
         requires may { W.IsAlwaysCallable wake_all }
         ensures posted { HasNotified (λ waiting. waiting) pass.old pass.new }
+        ensures exact { IsWhole (part_of (waits_in pass.old)) → HasGiven 0 0 pass.old pass.new }
         ensures woke { HasWoken W.Fn wake_all }
     {
         let waiting = self.waiting(&mut pass.waits);

@@ -49,11 +49,11 @@ use Rattle.steps_semaphore.proofs.Laws.{semaphore_apart}
 use Rattle.steps_semaphore.proofs.WaitSteps.{WaitLeads, wait_leads, wait_effect}
 use Rattle.steps_condvar.specs.declared.CondvarPlace.{CondvarPlace}
 use Rattle.steps_condvar.specs.declared.CondvarPlace.TheVariants as places
-use Rattle.steps_condvar.specs.Table.{permits_for, condvar_table, condvar_grant, permitted, relocked}
+use Rattle.steps_condvar.specs.Table.{condvar_table, condvar_grant, permitted, relocked}
 use Rattle.steps_condvar.specs.Waiters.{is_count, counts_in, since_count, is_wait, is_counted, CountsWaiters}
-use Rattle.steps_condvar.specs.Law.{wake_for, count_read, amount_for, condvar_gives, condvar_value, takes_in, HasAbortedSince, FoundNoPermit, FoundMutexHeld, IsSignalled, CondvarCause, wait_answer, WaitStep, is_read, is_post, PutsSum, NotifyStep, LockStep, CallStep, spins_of, gives_up, HasTried, KeepsCondvar}
+use Rattle.steps_condvar.specs.Law.{wake_for, count_read, amount_for, condvar_gives, condvar_value, takes_in, HasAbortedSince, FoundNoPermit, FoundMutexHeld, IsSignalled, CondvarCause, IsWaitAnswer, WaitStep, is_read, is_post, PutsSum, NotifyStep, LockStep, CallStep, spins_of, gives_up, HasTried, KeepsCondvar}
 use Rattle.steps_condvar.proofs.Counts.{CountEffect, none_wait, counts_after}
-use Rattle.steps_condvar.proofs.Places.{notify, Progress, SawNone, SignalIs, took, AtCondvar, outcome_within, condvar_kept}
+use Rattle.steps_condvar.proofs.Places.{notify, amount_is, Progress, SawNone, SignalIs, took, AtCondvar, outcome_within, condvar_kept}
 
 -- A condition variable has a lock for one: its mutex.
 
@@ -85,10 +85,6 @@ condvar_is_lock z parties =
 notify_wakes : {T : Type 0} (wake : Wake) (call : Call T) → call ≡ notify wake → wake_for call ≡ Some wake
 notify_wakes {T} wakes.One call is = ap (λ (k : Call T). wake_for k) is
 notify_wakes {T} wakes.All call is = ap (λ (k : Call T). wake_for k) is
-
-amount_is : (wake : Wake) (waiters : ℕ) → permits_for wake waiters ≡ amount_for (Some wake) waiters
-amount_is wakes.One waiters = refl
-amount_is wakes.All waiters = refl
 
 step_effect :
     {T : Type 0} (place : CondvarPlace) (c : PendingCall T) (hold : Option HoldKind) (memory : Word → ℕ) → AtCondvar place c hold →
@@ -248,7 +244,7 @@ permit_law party past n hold c act (afters.Chooses next old) wait so quiet frees
 -- its lock of the mutex, by how it goes on
 
 locking :
-    {T : Type 0} (party w takes : ℕ) (c : PendingCall T) (done : Bool) (outcome : Then T) (hold : Option HoldKind) → Progress c.own 2 1 1 takes → MatchOption (answer_of outcome) (Unit {0}) (λ answer. answer ≡ wait_answer (takes_in c.own) hold) →
+    {T : Type 0} (party w takes : ℕ) (c : PendingCall T) (done : Bool) (outcome : Then T) (hold : Option HoldKind) → Progress c.own 2 1 1 takes → MatchOption (answer_of outcome) (Unit {0}) (λ answer. IsWaitAnswer (takes_in c.own) hold answer) →
     WaitStep c.own (event party (acts.Exchange words.State 0 1 w done) outcome) hold
 locking {T} party w takes c done outcome hold so answer =
     record {
@@ -260,7 +256,7 @@ locking {T} party w takes c done outcome hold so answer =
       answers = by_answer (answer_of outcome) answer;
     }
   where
-    by_answer : (o : Option (Answer T)) → MatchOption o (Unit {0}) (λ a. a ≡ wait_answer (takes_in c.own) hold) → MatchOption o (Unit {0}) (λ a. (a ≡ wait_answer (takes_in c.own) hold) × (counts_in c.own ≡ 2))
+    by_answer : (o : Option (Answer T)) → MatchOption o (Unit {0}) (λ a. IsWaitAnswer (takes_in c.own) hold a) → MatchOption o (Unit {0}) (λ a. IsWaitAnswer (takes_in c.own) hold a × (counts_in c.own ≡ 2))
     by_answer None is = tt
     by_answer (Some a) is = (is, so.counted)
 
@@ -571,7 +567,7 @@ step_law {T} z parties party past c (places.Post wake amount) hold memory run ca
     notify_law party past (memory words.Waiters) hold c wake (step_at {T = T} condvar_table (places.Post wake amount) hold memory).act false at.0 refl refl refl (λ e. refl)
     (record { reads = λ yes. absurd cc; posts = λ yes. (at.2, at.3); sums = ap (λ k. (memory words.Value + k) % 2 ^ 64) (at.4 ∙ amount_is wake (count_read c.own)); wakes = λ yes. absurd cc; ends = tt; apart = refl })
 step_law {T} z parties party past c (places.Wake wake) hold memory run called at law =
-    notify_law party past (memory words.Waiters) hold c wake (acts.Woke wake) true at.0 refl refl refl (λ e. refl) (record { reads = λ yes. absurd cc; posts = λ yes. absurd cc; sums = tt; wakes = λ yes. (refl, refl, at.2); ends = (refl, refl, at.2); apart = refl })
+    notify_law party past (memory words.Waiters) hold c wake (acts.Woke wake) true at.0 refl refl refl (λ e. refl) (record { reads = λ yes. absurd cc; posts = λ yes. absurd cc; sums = tt; wakes = λ yes. (refl, refl, at.2); ends = (refl, record { waiters = count_read c.own; value = at.3; three = ap (λ (made : List (Act T)). acts.Woke wake ∷ made) at.4 }); apart = refl })
 step_law {T} z parties party past c places.CountIn hold memory run called at law =
     let act : Act T = (step_at condvar_table places.CountIn hold memory).act in
     let so : Progress c.own 0 0 0 0 = at.2 in

@@ -1,5 +1,5 @@
 -- What is kept of a call at each place of a condition variable: at the mutex's and the semaphore's rows what these keep.
-use Rattle.std.proofs.Common.{◌≡◌, ◌∙◌, ℕ, ◌+◌, ◌==◌, refl, sym, ap, subst, Bool, true, false, cond, is_some, List, [], ◌∷◌, Option, Some, None, arith}
+use Rattle.std.proofs.Common.{◌≡◌, ◌∙◌, ℕ, ◌+◌, ◌%◌, ◌^◌, ◌==◌, refl, sym, ap, subst, Bool, true, false, cond, is_some, List, [], ◌∷◌, Option, Some, None, arith}
 use Rattle.std.proofs.lemmas.Bool.{eqb-true}
 use Rattle.steps_events.specs.declared.WaitAction.{WaitAction}
 use Rattle.steps_events.specs.declared.event.Word.{Word}
@@ -27,6 +27,7 @@ use Rattle.steps_events.proofs.Spins.{HasSpun, begun_spun, passed_on}
 use Rattle.steps_mutex.specs.declared.MutexPlace.{MutexPlace}
 use Rattle.steps_mutex.specs.declared.MutexPlace.TheVariants as locks
 use Rattle.steps_mutex.specs.Table.{mutex_intent, mutex_after}
+use Rattle.steps_mutex.specs.Law.{acts_of}
 use Rattle.steps_mutex.proofs.LockSteps.{AtLock, LockLeads, lock_begins, lock_leads, lock_answered, lock_chosen}
 use Rattle.steps_mutex.proofs.Laws as mutex
 use Rattle.steps_mutex.proofs.Laws.{AtMutex, not_asked, not_chosen}
@@ -39,7 +40,7 @@ use Rattle.steps_condvar.specs.declared.CondvarPlace.{CondvarPlace}
 use Rattle.steps_condvar.specs.declared.CondvarPlace.TheVariants as places
 use Rattle.steps_condvar.specs.Table.{permits_for, condvar_begins, condvar_after, condvar_answered, condvar_table, permitted, relocked}
 use Rattle.steps_condvar.specs.Waiters.{is_count, counts_in, since_count}
-use Rattle.steps_condvar.specs.Law.{count_read, takes_in, is_wake_one, is_read, is_post}
+use Rattle.steps_condvar.specs.Law.{count_read, amount_for, takes_in, is_wake_one, is_read, is_post}
 
 -- the call of a notify that wakes so
 abbrev pub notify : {T : Type 0} → Wake → Call T
@@ -69,6 +70,14 @@ SignalIs false own = SawNone own
 abbrev pub took : Bool → ℕ
 took signalled = cond signalled 1 0
 
+-- the acts of a notify that has read the waiter count
+abbrev pub has_read : {T : Type 0} → ℕ → List (Act T)
+has_read waiters = acts.Load words.Waiters waiters ∷ []
+
+pub amount_is : (wake : Wake) (waiters : ℕ) → permits_for wake waiters ≡ amount_for (Some wake) waiters
+amount_is wakes.One waiters = refl
+amount_is wakes.All waiters = refl
+
 -- the unlock of a `Wait`
 abbrev pub AtRelease : {T : Type 0} → MutexPlace → List (Event T) → Option HoldKind → Type 0
 AtRelease locks.Release own hold = Progress own 1 0 0 0 × HasSpun is_empty_look (record { spins = 0; keep = true }) (since_count own) × (is_some hold ≡ true)
@@ -77,10 +86,11 @@ AtRelease other own hold = ⊥
 
 abbrev pub AtCondvar : {T : Type 0} → CondvarPlace → PendingCall T → Option HoldKind → Type 0
 AtCondvar (places.Mutex place) c hold = AtMutex place c hold
-AtCondvar (places.Read wake) c hold = (c.call ≡ notify wake) × (latest_outcome c.own ≡ thens.GoesOn) × (acts_in is_read c.own ≡ 0) × (acts_in is_post c.own ≡ 0)
-AtCondvar (places.Post wake amount) c hold =
-    (c.call ≡ notify wake) × (latest_outcome c.own ≡ thens.GoesOn) × (acts_in is_read c.own ≡ 1) × (acts_in is_post c.own ≡ 0) × (amount ≡ permits_for wake (count_read c.own))
-AtCondvar (places.Wake wake) c hold = (c.call ≡ notify wake) × (latest_outcome c.own ≡ thens.GoesOn) × (acts_in is_post c.own ≡ 1)
+AtCondvar (places.Read wake) c hold = (c.call ≡ notify wake) × (latest_outcome c.own ≡ thens.GoesOn) × (acts_in is_read c.own ≡ 0) × (acts_in is_post c.own ≡ 0) × (acts_of c.own ≡ [])
+AtCondvar {T} (places.Post wake amount) c hold =
+    (c.call ≡ notify wake) × (latest_outcome c.own ≡ thens.GoesOn) × (acts_in is_read c.own ≡ 1) × (acts_in is_post c.own ≡ 0) × (amount ≡ permits_for wake (count_read c.own)) × (acts_of c.own ≡ has_read (count_read c.own))
+AtCondvar {T} (places.Wake wake) c hold =
+    (c.call ≡ notify wake) × (latest_outcome c.own ≡ thens.GoesOn) × (acts_in is_post c.own ≡ 1) × (value : ℕ) × (acts_of c.own ≡ acts.Add words.Value value ((value + amount_for (Some wake) (count_read c.own)) % 2 ^ 64) ∷ has_read (count_read c.own))
 AtCondvar places.CountIn c hold = (c.call ≡ calls.Wait) × (latest_outcome c.own ≡ thens.GoesOn) × Progress c.own 0 0 0 0 × (is_some hold ≡ true)
 AtCondvar (places.Release place) c hold = (c.call ≡ calls.Wait) × (latest_outcome c.own ≡ thens.GoesOn) × AtRelease place c.own hold
 AtCondvar (places.Permit place) c hold = (c.call ≡ calls.Wait) × (hold ≡ None) × Progress c.own 1 1 1 0 × AtWait place (since_count c.own)
@@ -128,10 +138,10 @@ begins_at :
     AtCondvar {T = T} place (record { call = call; own = [] }) hold
 begins_at {T} calls.NotifyOne place hold is allowed =
     let made : places.Read wakes.One ≡ place = cc in
-    subst (λ p. AtCondvar {T = T} p (record { call = calls.NotifyOne; own = [] }) hold) made (refl, refl, refl, refl)
+    subst (λ p. AtCondvar {T = T} p (record { call = calls.NotifyOne; own = [] }) hold) made (refl, refl, refl, refl, refl)
 begins_at {T} calls.NotifyAll place hold is allowed =
     let made : places.Read wakes.All ≡ place = cc in
-    subst (λ p. AtCondvar {T = T} p (record { call = calls.NotifyAll; own = [] }) hold) made (refl, refl, refl, refl)
+    subst (λ p. AtCondvar {T = T} p (record { call = calls.NotifyAll; own = [] }) hold) made (refl, refl, refl, refl, refl)
 begins_at {T} calls.Wait place None is allowed = absurd cc
 begins_at {T} calls.Wait place (Some kind) is allowed =
     let made : places.CountIn ≡ place = cc in
@@ -231,10 +241,14 @@ steps_at {T} (places.Read wake) c hold memory number next at is =
     let n = memory words.Waiters in
     let made : places.Post wake (permits_for wake n) ≡ next = cc in
     subst (λ p. AtCondvar {T = T} p (record { call = c.call; own = event number (acts.Load words.Waiters n) thens.GoesOn ∷ c.own }) hold) made
-    (at.0, refl, omega (arith, at.2), omega (arith, at.3), refl)
+    (at.0, refl, omega (arith, at.2), omega (arith, at.3), refl, ap (λ (made : List (Act T)). acts.Load words.Waiters n ∷ made) at.4)
 steps_at {T} (places.Post wake amount) c hold memory number next at is =
     let made : places.Wake wake ≡ next = cc in
-    subst (λ p. AtCondvar {T = T} p (record { call = c.call; own = event number (step_at condvar_table (places.Post wake amount) hold memory).act thens.GoesOn ∷ c.own }) hold) made (at.0, refl, omega (arith, at.3))
+    let v = memory words.Value in
+    let gives : amount ≡ amount_for (Some wake) (count_read c.own) = at.4 ∙ amount_is wake (count_read c.own) in
+    let posted : ℕ → Act T = λ k. acts.Add words.Value v ((v + k) % 2 ^ 64) in
+    subst (λ p. AtCondvar {T = T} p (record { call = c.call; own = event number (step_at condvar_table (places.Post wake amount) hold memory).act thens.GoesOn ∷ c.own }) hold) made
+    (at.0, refl, omega (arith, at.3), v, ap (λ (k : ℕ). posted k ∷ acts_of c.own) gives ∙ ap (λ (made : List (Act T)). posted (amount_for (Some wake) (count_read c.own)) ∷ made) at.5)
 steps_at (places.Wake wake) c hold memory number next at is = absurd cc
 steps_at {T} places.CountIn c hold memory number next at is =
     let made : places.Release locks.Release ≡ next = cc in

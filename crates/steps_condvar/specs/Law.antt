@@ -14,6 +14,7 @@ use Rattle.steps_events.specs.declared.event.Then.{Then}
 use Rattle.steps_events.specs.declared.event.Then.TheVariants as thens
 use Rattle.steps_events.specs.declared.event.Event.{Event}
 use Rattle.steps_events.specs.declared.hold.HoldKind.{HoldKind}
+use Rattle.steps_events.specs.declared.hold.HoldKind.TheVariants as kinds
 use Rattle.steps_events.specs.Past.{PendingCall, call_of, holds_of, hold_of, is_release, is_failure}
 use Rattle.steps_events.specs.Sights.{sight_of, is_sight, AtLastSight, keeps_asking, spins_in, stands_at_wait, acts_in}
 use Rattle.steps_events.specs.Waits.{is_wake}
@@ -92,11 +93,13 @@ abbrev pub is_wake_one : {T : Type 0} → Act T → Bool
 is_wake_one (acts.Woke wakes.One) = true
 is_wake_one act = false
 
--- `Success` for a signalled call with the hold, `InterruptedHeld` for an unsignalled one with it, `Interrupted` without it
-abbrev pub wait_answer : {T : Type 0} → ℕ → Option HoldKind → Answer T
-wait_answer takes None = answers.Interrupted
-wait_answer zero (Some kind) = answers.InterruptedHeld
-wait_answer (suc takes) (Some kind) = answers.Success
+-- How a `Wait` ends that has taken so many permits, and whose party then has this hold: `Success` for a signalled call with the write hold,
+-- `InterruptedHeld` for an unsignalled one with it, `Interrupted` without a hold.
+abbrev pub IsWaitAnswer : {T : Type 0} → ℕ → Option HoldKind → Answer T → Type 0
+IsWaitAnswer takes None answer = answer ≡ answers.Interrupted
+IsWaitAnswer takes (Some kinds.Read) answer = ⊥
+IsWaitAnswer zero (Some kinds.Write) answer = answer ≡ answers.InterruptedHeld
+IsWaitAnswer (suc takes) (Some kinds.Write) answer = answer ≡ answers.Success
 
 -- what a `Wait` with these own events does next, by the hold that its party has then
 pub record WaitStep {T : Type 0} (own : List (Event T)) (e : Event T) (hold : Option HoldKind) : Type 0 where
@@ -111,7 +114,7 @@ pub record WaitStep {T : Type 0} (own : List (Event T)) (e : Event T) (hold : Op
   -- it locks once it has counted itself out
   pub locks : is_sight words.State e.act ≡ true → counts_in own ≡ 2
   -- and its answer tells whether it was signalled, and whether it has the mutex
-  pub answers : MatchOption (answer_of e.then) (Unit {0}) (λ answer. (answer ≡ wait_answer (takes_in own) hold) × (counts_in own ≡ 2))
+  pub answers : MatchOption (answer_of e.then) (Unit {0}) (λ answer. IsWaitAnswer (takes_in own) hold answer × (counts_in own ≡ 2))
 
 -- a load of the waiter count
 abbrev pub is_read : {T : Type 0} → Act T → Bool
@@ -127,6 +130,12 @@ abbrev pub PutsSum : {T : Type 0} → ℕ → Act T → Type 0
 PutsSum amount (acts.Add words.Value old put) = put ≡ (old + amount) % 2 ^ 64
 PutsSum amount act = Unit {0}
 
+-- The acts of a notify that has ended, newest first: it read the waiter count, posted as many permits as that tells, and woke. It made no other.
+pub record HasNotified {T : Type 0} (wake : Wake) (made : List (Act T)) : Type 0 where
+  pub waiters : ℕ
+  pub value : ℕ
+  pub three : made ≡ acts.Woke wake ∷ acts.Add words.Value value ((value + amount_for (Some wake) waiters) % 2 ^ 64) ∷ acts.Load words.Waiters waiters ∷ []
+
 -- what a notify does next, with this wake
 pub record NotifyStep {T : Type 0} (wake : Wake) (own : List (Event T)) (e : Event T) : Type 0 where
   -- it reads the waiter count once
@@ -137,7 +146,7 @@ pub record NotifyStep {T : Type 0} (wake : Wake) (own : List (Event T)) (e : Eve
   pub sums : PutsSum (amount_for (Some wake) (count_read own)) e.act
   -- it wakes once it has posted, as its name says, and ends with that
   pub wakes : is_wake e.act ≡ true → (e.act ≡ acts.Woke wake) × (e.then ≡ thens.Answers answers.Done) × (acts_in is_post own ≡ 1)
-  pub ends : MatchOption (answer_of e.then) (Unit {0}) (λ answer. (answer ≡ answers.Done) × (e.act ≡ acts.Woke wake) × (acts_in is_post own ≡ 1))
+  pub ends : MatchOption (answer_of e.then) (Unit {0}) (λ answer. (answer ≡ answers.Done) × HasNotified wake (acts_of (e ∷ own)))
   -- and has to do with the mutex at no time
   pub apart : is_sight words.State e.act ≡ false
 
