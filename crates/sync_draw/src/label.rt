@@ -1,6 +1,6 @@
 //! A step in words, and how it is marked.
 use crate::story::Step;
-use crate::terms::say_value;
+use crate::terms::{name_of, say_value};
 use std::alloc::{AllocError, Global};
 use sync_play::print::print_answer;
 use sync_steps::WaitAction;
@@ -97,21 +97,41 @@ fn say_count(out: &mut String, count: u64) -> Result<(), AllocError> {
     }
 }
 
+/// Says which word a step is on; the first word of an object goes without its name.
+fn say_word(out: &mut String, object: &Object<u64>, word: Word) -> Result<(), AllocError> {
+    if word == Word::State {
+        return Ok(());
+    }
+    let name = name_of(object, word);
+    write!(out, "{name} ")
+}
+
+/// Says a word and what a value of it means.
+fn say_seen(
+    out: &mut String,
+    object: &Object<u64>,
+    word: Word,
+    value: u64,
+) -> Result<(), AllocError> {
+    say_word(out, object, word)?;
+    say_value(out, object, word, value)
+}
+
 /// What a step did, in the object's terms.
 fn say_act(out: &mut String, object: &Object<u64>, act: &Act<u64>) -> Result<(), AllocError> {
     match *act {
         Act::Begun(_) => Ok(()),
         Act::Load { word, seen } => {
             write!(out, "sees ")?;
-            say_value(out, object, word, seen)
+            say_seen(out, object, word, seen)
         }
         Act::Store { word, put } => {
             write!(out, "stores ")?;
-            say_value(out, object, word, put)
+            say_seen(out, object, word, put)
         }
         Act::Swap { word, old, put } if old == put => {
             write!(out, "found ")?;
-            say_value(out, object, word, old)
+            say_seen(out, object, word, old)
         }
         Act::Swap { word, old, put } | Act::Add { word, old, put } => {
             say_change(out, object, word, old, put)
@@ -125,7 +145,7 @@ fn say_act(out: &mut String, object: &Object<u64>, act: &Act<u64>) -> Result<(),
         } => say_change(out, object, word, from, to),
         Act::Exchange { word, found, .. } => {
             write!(out, "found ")?;
-            say_value(out, object, word, found)
+            say_seen(out, object, word, found)
         }
         Act::Woke(Wake::One) => write!(out, "wakes one"),
         Act::Woke(Wake::All) => write!(out, "wakes all"),
@@ -145,7 +165,7 @@ fn say_change(
     old: u64,
     put: u64,
 ) -> Result<(), AllocError> {
-    say_value(out, object, word, old)?;
+    say_seen(out, object, word, old)?;
     write!(out, " → ")?;
     say_value(out, object, word, put)
 }

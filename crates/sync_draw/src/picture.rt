@@ -412,7 +412,7 @@ fn left_out(alloc: Global, story: &Story, layout: &Layout) -> Result<String, All
     if idle > 0 {
         write!(
             note,
-            "Without a lane: {idle} of the parties, which make no step. "
+            "Without a step, and so without a lane: {idle} of the parties. "
         )?;
     }
     if story.left_out > 0 {
