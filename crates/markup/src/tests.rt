@@ -1,3 +1,4 @@
+use crate::group::Group;
 use crate::markup::Markup;
 use crate::name::{Key, Tag};
 use crate::opening::Opening;
@@ -26,6 +27,25 @@ fn an_element_is_closed(rt: HostRuntime) -> Result<(), Fail> {
     assert_eq!(rt;
         both.as_str(),
         "<circle class=\"a&quot;b\" r=\"5\"><title>1 &lt; 2</title></circle>&amp;<defs></defs>"
+    );
+    Ok(())
+}
+
+#[test]
+fn groups_stand_between_other_markup(rt: HostRuntime) -> Result<(), Fail> {
+    let mut before = Markup::new(rt.alloc());
+    before.say("<")?;
+    let inside = Opening::new(rt.alloc(), Tag::Circle)?.empty()?;
+    let groups = vec![in rt.alloc(); Group { title: "1 & 2", inside }, Group { title: "", inside: Markup::new(rt.alloc()) }]?;
+    let mut after = Markup::new(rt.alloc());
+    after.say("→")?;
+    let picture = Opening::new(rt.alloc(), Tag::Svg)?.whole_with(&before, &groups, &after)?;
+    assert_eq!(rt;
+        picture.as_str(),
+        "\
+<svg>&lt;<g><title>1 &amp; 2</title><circle></circle></g>
+<g><title></title></g>
+→</svg>"
     );
     Ok(())
 }

@@ -1,3 +1,4 @@
 pub mod Picture
 pub mod Run
 pub mod Story
+pub mod Title

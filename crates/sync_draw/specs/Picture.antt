@@ -1,8 +1,20 @@
 -- What a picture is, as bytes.
-use Rattle.std.specs.Prelude.{◌≡◌, ℕ, List, ◌++◌, codes}
+use Rattle.std.specs.Prelude.{◌≡◌, ℕ, List, ◌++◌, map, codes, string_bytes}
 use Rattle.markup.specs.declared.name.Tag.TheVariants as tags
 use Rattle.markup.specs.Tree.{IsElement}
+use Rattle.sync_trace.specs.Trace.{rows_of}
+use Rattle.sync_draw.specs.declared.story.Step.{Step}
+use Rattle.sync_draw.specs.Story.{kept}
+use Rattle.sync_draw.specs.Title.{title_words}
 
--- an `svg` element with all that is in it, and then the end of the line
-abbrev pub IsPicture : List ℕ → Type 0
-IsPicture bytes = (element : List ℕ) × (bytes ≡ element ++ codes "\n") × ∥ IsElement tags.Svg element ∥₁
+-- an `svg` element with all that is in it, in which the groups have these titles, and then the end of the line
+abbrev pub IsPicture : List (List ℕ) → List ℕ → Type 0
+IsPicture titles bytes = (element : List ℕ) × (bytes ≡ element ++ codes "\n") × ∥ IsElement tags.Svg titles element ∥₁
+
+-- the titles of a story's steps
+abbrev pub step_titles : List Step → List (List ℕ)
+step_titles steps = map (λ step. string_bytes step.title) steps
+
+-- a picture with a group for each row of the text's trace, in order, as far as they have room, whose title is that row in words
+abbrev pub IsPictureOf : List ℕ → List ℕ → Type 0
+IsPictureOf text bytes = IsPicture (map title_words (kept (rows_of text).rows)) bytes

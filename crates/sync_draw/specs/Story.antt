@@ -1,30 +1,40 @@
--- What became of playing a part of a text for its picture: the events that it means, or its fault.
-use Rattle.std.specs.Prelude.{◌≡◌, ℕ, List, Result, Ok, Err}
+-- What a picture keeps of a text: the first rows of its trace.
+use Rattle.std.specs.Prelude.{◌≡◌, ℕ, ◌-◌, List, ◌++◌, map, take, Option, Result, Ok, string_bytes}
 use Rattle.steps_events.specs.declared.event.Event.{Event}
-use Rattle.steps_events.specs.declared.event.Object.{Object}
-use Rattle.steps_events.specs.Integers.{u64_arithmetic}
-use Rattle.steps_events.specs.Runs.{after}
-use Rattle.sync_steps.specs.Machine.{Configuration, StandsAt}
-use Rattle.sync_play.specs.declared.fault.TextFault.{TextFault}
-use Rattle.sync_play.specs.Fault.{FaultAt, IsFaultOf}
-use Rattle.sync_play.specs.Text.{output_after}
+use Rattle.steps_events.specs.declared.hold.HoldKind.{HoldKind}
+use Rattle.sync_play.specs.Fault.{FaultAt}
+use Rattle.sync_play.specs.Text.{output_of}
+use Rattle.sync_trace.specs.Rows.{Entry, number_after}
+use Rattle.sync_trace.specs.Trace.{rows_of}
+use Rattle.sync_draw.specs.declared.story.Step.{Step}
+use Rattle.sync_draw.specs.declared.story.Story.{Story}
+use Rattle.sync_draw.specs.Title.{title_words}
 
--- the events that were meant were played
-pub record PlaysAll {E : Type 0} (o : Object ℕ) (parties : ℕ) (past : List (Event ℕ)) (meant : Result (List (Event ℕ)) E) (machine : Configuration ℕ) : Type 0 where
-  pub events : List (Event ℕ)
-  pub are_meant : meant ≡ Ok events
-  pub stands : StandsAt u64_arithmetic o parties (after events past) machine
+-- what is drawn of a row: its words; what its step was, and how often; and what its party holds then
+pub record Shown : Type 0 where
+  pub title : List ℕ
+  pub event : Event ℕ
+  pub count : ℕ
+  pub hold : Option HoldKind
 
--- playing what is meant has done so, or tells its fault, or memory ran out
-abbrev pub IsPlayed : Object ℕ → ℕ → List (Event ℕ) → Result (List (Event ℕ)) FaultAt → Configuration ℕ → Result (Unit {0}) TextFault → Type 0
-IsPlayed o parties past meant machine (Ok u) = PlaysAll o parties past meant machine
-IsPlayed o parties past meant machine (Err fault) = IsFaultOf fault meant
+abbrev pub shown_of : Step → Shown
+shown_of step = record { title = string_bytes step.title; event = step.event; count = step.count; hold = step.hold }
+
+abbrev pub shown_at : Entry → Shown
+shown_at row = record { title = title_words row; event = row.cells.step.event; count = number_after (row.last - row.first); hold = row.cells.hold }
+
+-- the rows that have room in a picture
+abbrev pub kept : List Entry → List Entry
+kept rows = take 2000 rows
+
+-- the steps are the rows of the text's trace, as far as they have room
+abbrev pub HasTold : List ℕ → Story → Type 0
+HasTold text story = map shown_of story.steps.items ≡ map shown_at (kept (rows_of text).rows)
 
 -- the text has an output, and so no fault
 abbrev pub HasOutput : Result (List ℕ) FaultAt → Type 0
 HasOutput output = (bytes : List ℕ) × (output ≡ Ok bytes)
 
--- all lines after the first were played, or the first fault of them is told, or memory ran out
-abbrev pub ArePlayed : Object ℕ → ℕ → List (List ℕ) → List (Event ℕ) → Result (Unit {0}) TextFault → Type 0
-ArePlayed o parties lines past (Ok u) = HasOutput (output_after o parties 2 lines past)
-ArePlayed o parties lines past (Err fault) = IsFaultOf fault (output_after o parties 2 lines past)
+-- the text has an output, and this is the last line of it
+abbrev pub EndsOutput : List ℕ → Story → Type 0
+EndsOutput text story = (front : List ℕ) × (output_of text ≡ Ok (front ++ string_bytes story.last))

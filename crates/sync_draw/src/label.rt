@@ -1,6 +1,6 @@
 //! A step in words, and how it is marked.
 use crate::story::Step;
-use crate::terms::say_value;
+use crate::terms::{name_of, say_value};
 use std::alloc::{AllocError, Global};
 use sync_play::print::print_answer;
 use sync_steps::WaitAction;
@@ -97,21 +97,41 @@ fn say_count(out: &mut String, count: u64) -> Result<(), AllocError> {
     }
 }
 
+/// Says which word a step is on; the first word of an object goes without its name.
+fn say_word(out: &mut String, object: &Object<u64>, word: Word) -> Result<(), AllocError> {
+    if word == Word::State {
+        return Ok(());
+    }
+    let name = name_of(object, word);
+    write!(out, "{name} ")
+}
+
+/// Says a word and what a value of it means.
+fn say_seen(
+    out: &mut String,
+    object: &Object<u64>,
+    word: Word,
+    value: u64,
+) -> Result<(), AllocError> {
+    say_word(out, object, word)?;
+    say_value(out, object, word, value)
+}
+
 /// What a step did, in the object's terms.
 fn say_act(out: &mut String, object: &Object<u64>, act: &Act<u64>) -> Result<(), AllocError> {
     match *act {
         Act::Begun(_) => Ok(()),
         Act::Load { word, seen } => {
             write!(out, "sees ")?;
-            say_value(out, object, word, seen)
+            say_seen(out, object, word, seen)
         }
         Act::Store { word, put } => {
             write!(out, "stores ")?;
-            say_value(out, object, word, put)
+            say_seen(out, object, word, put)
         }
         Act::Swap { word, old, put } if old == put => {
             write!(out, "found ")?;
-            say_value(out, object, word, old)
+            say_seen(out, object, word, old)
         }
         Act::Swap { word, old, put } | Act::Add { word, old, put } => {
             say_change(out, object, word, old, put)
@@ -125,7 +145,7 @@ fn say_act(out: &mut String, object: &Object<u64>, act: &Act<u64>) -> Result<(),
         } => say_change(out, object, word, from, to),
         Act::Exchange { word, found, .. } => {
             write!(out, "found ")?;
-            say_value(out, object, word, found)
+            say_seen(out, object, word, found)
         }
         Act::Woke(Wake::One) => write!(out, "wakes one"),
         Act::Woke(Wake::All) => write!(out, "wakes all"),
@@ -145,7 +165,7 @@ fn say_change(
     old: u64,
     put: u64,
 ) -> Result<(), AllocError> {
-    say_value(out, object, word, old)?;
+    say_seen(out, object, word, old)?;
     write!(out, " → ")?;
     say_value(out, object, word, put)
 }
@@ -174,53 +194,6 @@ pub fn outcome_of(alloc: Global, then: &Then<u64>) -> Result<String, AllocError>
             }
             print_answer(&mut out, answer)?;
         }
-    }
-    Ok(out)
-}
-
-/// What a step did, in numbers.
-fn say_numbers(out: &mut String, act: &Act<u64>) -> Result<(), AllocError> {
-    match *act {
-        Act::Begun(_) => write!(out, "a call begins"),
-        Act::Load { seen, .. } => write!(out, "load, {seen}"),
-        Act::Store { put, .. } => write!(out, "store of {put}"),
-        Act::Swap { old, put, .. } => write!(out, "swap of {old} for {put}"),
-        Act::Add { old, put, .. } => write!(out, "add, from {old} to {put}"),
-        Act::Exchange {
-            from,
-            to,
-            done: true,
-            ..
-        } => write!(out, "exchange of {from} for {to}, done"),
-        Act::Exchange {
-            from,
-            to,
-            found,
-            ..
-        } => write!(out, "exchange of {from} for {to}, found {found}, failed"),
-        Act::Woke(_) => write!(out, "a call of its wake closure"),
-        Act::Answered(_) => write!(out, "its wait closure answers"),
-        Act::Chosen(_) => write!(out, "its choice closure answers"),
-        Act::Ended => write!(out, "its closure ends"),
-        Act::ReadCell(value) => write!(out, "read of the value {value}"),
-    }
-}
-
-/// What a step did and how its call then stands, in numbers.
-pub fn numbers_of(alloc: Global, step: &Step) -> Result<String, AllocError> {
-    let party = step.event.party as u128 + 1;
-    let mut out = String::new(alloc);
-    write!(out, "party {party}: ")?;
-    say_numbers(&mut out, &step.event.act)?;
-    if step.count > 1 {
-        write!(out, ", ")?;
-        say_count(&mut out, step.count)?;
-        write!(out, " times")?;
-    }
-    match step.event.then {
-        Then::GoesOn | Then::Answers(_) => {}
-        Then::Waits(told) => write!(out, "; its wait closure is told {told}")?,
-        Then::Chooses(told) => write!(out, "; its choice closure is told {told}")?,
     }
     Ok(out)
 }

@@ -482,6 +482,11 @@ impl Layout {
         }
     }
 
+    /// The lane of a party.
+    pub fn lane_of(&self, party: usize) -> Option<&Lane> {
+        self.lanes.iter().find(|lane| lane.party == party)
+    }
+
     /// Where the band of a word ends.
     pub fn right_of(&self, word: Word) -> u64
         ensures { result < 2 ^ 40 }

@@ -18,3 +18,4 @@ mod style;
 mod terms;
 #[cfg(test)]
 mod tests;
+pub mod title;

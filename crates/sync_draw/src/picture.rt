@@ -1,19 +1,19 @@
 //! Draws a story where its layout has it.
-ghost use Rattle.std.specs.Prelude.{◌≡◌, ◌<◌, ◌^◌, OnOk, IfOk, IfErr};
+ghost use Rattle.std.specs.Prelude.{◌≡◌, ◌<◌, ◌^◌, OnOk, IfOk, IfErr, string_bytes};
 ghost use Rattle.sync_play.specs.Fault.{IsFaultOf};
 ghost use Rattle.sync_play.specs.Text.{output_of};
+ghost use Rattle.markup.specs.Group.{titles_of};
 ghost use Rattle.sync_draw.specs.Story.{HasOutput};
-ghost use Rattle.sync_draw.specs.Picture.{IsPicture};
+ghost use Rattle.sync_draw.specs.Picture.{step_titles, IsPicture, IsPictureOf};
 
-use crate::label::{
-    Mark, Reach, Tone, label_of, mark_of, numbers_of, outcome_of, reach_of, tone_of,
-};
+use crate::label::{Mark, Reach, Tone, label_of, mark_of, outcome_of, reach_of, tone_of};
 use crate::layout::{Band, Colour, Hold, Lane, Layout, SCHEDULE, Segment, Span, term_of, top_of};
 use crate::legend::{LEGEND_HEIGHT, cross, draw_legend};
 use crate::shape::{circle, line, put, rect, text, titled};
 use crate::story::{Line, MOST_STEPS, Step, Story, play};
 use crate::style::draw_style;
 use crate::terms::name_of;
+use markup::group::Group;
 use markup::markup::Markup;
 use markup::name::{Key, Tag};
 use markup::opening::Opening;
@@ -301,8 +301,8 @@ fn draw_head(
     put(picture, &words)
 }
 
-/// Draws a step.
-fn draw_step(
+/// Draws a step in the lane of its party: the head of a call, or the way to a word, a mark and words.
+fn draw_in_lane(
     alloc: Global,
     picture: &mut Markup,
     story: &Story,
@@ -318,29 +318,45 @@ fn draw_step(
     if let Some(reach) = reach_of(&step.event.act) {
         draw_reach(alloc, picture, layout, reach, x, y)?;
     }
-    let title = numbers_of(alloc, step)?;
-    let mut inside = Opening::new(alloc, Tag::Title)?.saying(title.as_str())?;
     let mark = draw_mark(alloc, mark_of(&step.event.act), x, y)?;
-    inside.add(&mark)?;
-    let group = Opening::new(alloc, Tag::Group)?.around(&inside)?;
-    put(picture, &group)?;
+    put(picture, &mark)?;
     draw_words(alloc, picture, story, lane, step)
 }
 
-/// Draws the steps of a party.
-fn draw_steps(
+/// Draws a step, with the row of the trace as its title.
+fn draw_step<'s>(
     alloc: Global,
-    picture: &mut Markup,
     story: &Story,
     layout: &Layout,
-    lane: &Lane,
-) -> Result<(), AllocError> {
-    for step in &story.steps {
-        if step.event.party == lane.party {
-            draw_step(alloc, picture, story, layout, lane, step)?;
-        }
+    step: &'s Step,
+) -> Result<Group<'s>, AllocError>
+    ensures { IfOk result (λ group. group.title.now ≡ string_bytes step.now.title) }
+{
+    let mut inside = Markup::new(alloc);
+    inside.say("\n")?;
+    if let Some(lane) = layout.lane_of(step.event.party) {
+        draw_in_lane(alloc, &mut inside, story, layout, lane, step)?;
     }
-    Ok(())
+    Ok(Group {
+        title: step.title.as_str(),
+        inside,
+    })
+}
+
+/// Draws the steps.
+fn draw_steps<'s>(
+    alloc: Global,
+    story: &'s Story,
+    layout: &Layout,
+) -> Result<Vec<Group<'s>>, AllocError>
+    ensures { IfOk result (λ groups. titles_of groups.items ≡ step_titles story.now.steps.items) }
+{
+    let mut groups = Vec::new(alloc);
+    for step in &story.steps {
+        let group = draw_step(alloc, story, layout, step)?;
+        groups.push(group)?;
+    }
+    Ok(groups)
 }
 
 /// Draws the party's name, and the line that its calls stand on.
@@ -396,7 +412,7 @@ fn left_out(alloc: Global, story: &Story, layout: &Layout) -> Result<String, All
     if idle > 0 {
         write!(
             note,
-            "Without a lane: {idle} of the parties, which make no step. "
+            "Without a step, and so without a lane: {idle} of the parties. "
         )?;
     }
     if story.left_out > 0 {
@@ -433,16 +449,13 @@ fn draw_notes(
     put(picture, &words)
 }
 
-/// Draws all that has a place.
-fn draw_all(
-    alloc: Global,
-    picture: &mut Markup,
-    story: &Story,
-    layout: &Layout,
-) -> Result<(), AllocError> {
+/// Draws what the steps stand on.
+fn draw_ground(alloc: Global, story: &Story, layout: &Layout) -> Result<Markup, AllocError> {
+    let mut picture = Markup::new(alloc);
+    picture.say("\n")?;
     let name = Opening::new(alloc, Tag::Title)?.saying(story.title.as_str())?;
-    put(picture, &name)?;
-    draw_style(alloc, picture)?;
+    put(&mut picture, &name)?;
+    draw_style(alloc, &mut picture)?;
     let paper = rect(
         alloc,
         "paper",
@@ -452,24 +465,28 @@ fn draw_all(
         height_of(layout),
     )?
     .empty()?;
-    put(picture, &paper)?;
+    put(&mut picture, &paper)?;
     let title = text(alloc, "head", 12, 22, story.title.as_str())?;
-    put(picture, &title)?;
-    draw_schedule(alloc, picture, story, layout)?;
+    put(&mut picture, &title)?;
+    draw_schedule(alloc, &mut picture, story, layout)?;
     for lane in &layout.lanes {
-        draw_lane(alloc, picture, layout, lane)?;
+        draw_lane(alloc, &mut picture, layout, lane)?;
     }
     for lane in &layout.lanes {
-        draw_spans(alloc, picture, layout, lane)?;
+        draw_spans(alloc, &mut picture, layout, lane)?;
     }
     for band in &layout.bands {
-        draw_band(alloc, picture, story, layout, band)?;
+        draw_band(alloc, &mut picture, story, layout, band)?;
     }
-    for lane in &layout.lanes {
-        draw_steps(alloc, picture, story, layout, lane)?;
-    }
-    draw_notes(alloc, picture, story, layout)?;
-    draw_legend(alloc, picture, layout.bottom() + NOTES_HEIGHT)
+    Ok(picture)
+}
+
+/// Draws what stands below the steps.
+fn draw_foot(alloc: Global, story: &Story, layout: &Layout) -> Result<Markup, AllocError> {
+    let mut picture = Markup::new(alloc);
+    draw_notes(alloc, &mut picture, story, layout)?;
+    draw_legend(alloc, &mut picture, layout.bottom() + NOTES_HEIGHT)?;
+    Ok(picture)
 }
 
 /// How high a picture is.
@@ -479,39 +496,51 @@ fn height_of(layout: &Layout) -> u64
     layout.bottom() + NOTES_HEIGHT + LEGEND_HEIGHT + 4
 }
 
-/// The picture of a story.
-pub fn draw(alloc: Global, story: &Story) -> Result<Vec<u8>, AllocError>
-    ensures { IfOk result (λ bytes. IsPicture bytes.items) }
+/// The element of a picture.
+fn frame(alloc: Global, layout: &Layout) -> Result<Opening, AllocError>
+    ensures { IfOk result (λ opening. opening.tag ≡ Tag.Svg) }
 {
-    let layout = Layout::of(alloc, story)?;
-    let mut inside = Markup::new(alloc);
-    inside.say("\n")?;
-    draw_all(alloc, &mut inside, story, &layout)?;
     let width = u64::from(layout.width);
-    let height = height_of(&layout);
+    let height = height_of(layout);
     let view = format!(in alloc; "0 0 {width} {height}")?;
-    let picture = Opening::new(alloc, Tag::Svg)?
+    Opening::new(alloc, Tag::Svg)?
         .with(Key::Namespace, "http://www.w3.org/2000/svg")?
         .with(Key::ViewBox, view.as_str())?
         .at(Key::Width, width)?
         .at(Key::Height, height)?
-        .with(Key::Role, "img")?;
-    document(picture, &inside)
+        .with(Key::Role, "img")
+}
+
+/// The picture of a story.
+pub fn draw(alloc: Global, story: &Story) -> Result<Vec<u8>, AllocError>
+    ensures { IfOk result (λ bytes. IsPicture (step_titles story.now.steps.items) bytes.items) }
+{
+    let layout = Layout::of(alloc, story)?;
+    let ground = draw_ground(alloc, story, &layout)?;
+    let steps = draw_steps(alloc, story, &layout)?;
+    let foot = draw_foot(alloc, story, &layout)?;
+    let picture = frame(alloc, &layout)?;
+    document(picture, &ground, &steps, &foot)
 }
 
 /// The bytes of a whole picture.
-fn document(picture: Opening, inside: &Markup) -> Result<Vec<u8>, AllocError>
+fn document(
+    picture: Opening,
+    ground: &Markup,
+    steps: &[Group<'_>],
+    foot: &Markup,
+) -> Result<Vec<u8>, AllocError>
     requires { picture.tag ≡ Tag.Svg }
-    ensures { IfOk result (λ bytes. IsPicture bytes.items) }
+    ensures { IfOk result (λ bytes. IsPicture (titles_of steps.now) bytes.items) }
 {
-    let mut bytes = picture.whole(inside)?;
+    let mut bytes = picture.whole_with(ground, steps, foot)?;
     bytes.push_str("\n")?;
     Ok(bytes.into_bytes())
 }
 
 /// The picture of a text, or the fault of its first faulty line.
 pub fn draw_text(alloc: Global, text: &[u8]) -> Result<Vec<u8>, TextFault>
-    ensures drawn { IfOk result (λ bytes. IsPicture bytes.items) }
+    ensures drawn { IfOk result (λ bytes. IsPictureOf text.now bytes.items) }
     ensures played { OnOk result (HasOutput (output_of text.now)) }
     ensures fault { IfErr result (λ e. IsFaultOf e (output_of text.now)) }
 {

@@ -88,6 +88,47 @@ fn a_picture_tells_what_happened(rt: HostRuntime) -> Result<(), Fail> {
         )?
     );
     assert!(rt; has(rt, b"semaphore 1 2\n1 post 3\n1 run\n", ">post 3</text>")?);
+    assert!(rt;
+        has(
+            rt,
+            b"condvar 1\n1 notify_one\n1 run\n",
+            ">sees waiters 0</text>"
+        )?
+    );
+    assert!(rt;
+        has(
+            rt,
+            b"mutex 3\n2 lock\n",
+            ">Without a step, and so without a lane: 2 of the parties. </text>"
+        )?
+    );
+    Ok(())
+}
+
+#[test]
+fn a_group_for_each_row_has_the_row_as_its_title(rt: HostRuntime) -> Result<(), Fail> {
+    let picture = draw_text(rt.alloc(), ABORT).ok().ok_or("it has no fault")?;
+    let picture = str::from_utf8(&picture).ok().ok_or("it is text")?;
+    let mut titles = String::new(rt.alloc());
+    for line in picture.lines() {
+        if let Some(title) = line.strip_prefix("<g><title>")
+            && let Some((title, _)) = title.split_once("</title>")
+        {
+            writeln!(titles, "{title}")?;
+        }
+    }
+    assert_eq!(rt;
+        titles.as_str(),
+        "\
+step 1, line 2, party 1: try_lock; word 0, holds -, call begins
+step 2, line 3, party 1: exchange 0 for 1, found 0, done; word 1, holds 1, call success
+step 3, line 4, party 2: lock; word 1, holds 1, call begins
+step 4-10003, 10000 times, line 5, party 2: exchange 0 for 1, found 1, failed; word 1, holds 1, call goes on
+step 10004, line 5, party 2: exchange 0 for 1, found 1, failed; word 1, holds 1, call waits 1
+step 10005, line 6, party 2: its closure answers Abort; word 1, holds 1, call goes on
+step 10006, line 7, party 2: exchange 0 for 1, found 1, failed; word 1, holds 1, call interrupted
+"
+    );
     Ok(())
 }
 

@@ -11,6 +11,7 @@ use crate::{SPIN_REPETITIONS, WaitAction};
 use linked_list_allocator::LocalHeap;
 use std::alloc::{AllocError, Allocator, Global};
 use std::test::Fail;
+use steps_events::hold::HoldKind;
 
 #[test]
 fn word_functions_at_their_paths(rt: HostRuntime) {
@@ -249,6 +250,33 @@ fn events_that_find_no_memory(rt: HostRuntime) -> Result<(), Fail> {
         assert_eq!(rt; machine.word(), 0);
         assert_eq!(rt; machine.step(0, Input::Go), Err(StepFault::Idle));
     }
+    Ok(())
+}
+
+#[test]
+fn a_hold_is_told_of_the_party_that_has_it(rt: HostRuntime) -> Result<(), Fail> {
+    let mut machine = Machine::<u64>::new(rt.alloc(), Object::ReaderLock, 3)?;
+    assert_eq!(rt; machine.hold(1), None);
+    let schedule = [
+        (1, Input::Begin(Call::ReadLock)),
+        (1, Input::Go),
+        (1, Input::Go),
+    ];
+    play(rt.alloc(), &mut machine, &schedule).map_err(|_| "refused")?;
+    assert_eq!(rt; machine.hold(0), None);
+    assert_eq!(rt; machine.hold(1), Some(HoldKind::Read));
+    // There is no fourth party.
+    assert_eq!(rt; machine.hold(3), None);
+    let schedule = [
+        (1, Input::Begin(Call::Unlock)),
+        (1, Input::Go),
+        (1, Input::Go),
+        (2, Input::Begin(Call::TryWriteLock)),
+        (2, Input::Go),
+    ];
+    play(rt.alloc(), &mut machine, &schedule).map_err(|_| "refused")?;
+    assert_eq!(rt; machine.hold(1), None);
+    assert_eq!(rt; machine.hold(2), Some(HoldKind::Write));
     Ok(())
 }
 
