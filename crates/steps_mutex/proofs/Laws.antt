@@ -170,7 +170,7 @@ abbrev pub IsAskedSo : {T : Type 0} → PendingCall T → Act T → ℕ → Type
 IsAskedSo c act told = (lock_spins c.call c.own ≡ 10000) × (sight_of words.State act ≡ Some told) × (keeps_asking c.own ≡ true)
 
 -- a word that is not free is 1
-held_at_one : (w : ℕ) (holds : List Hold) → IsFreeOrHeld w holds → w ≢ 0 → w ≡ 1
+pub held_at_one : (w : ℕ) (holds : List Hold) → IsFreeOrHeld w holds → w ≢ 0 → w ≡ 1
 held_at_one w holds (inl free) other = absurd (other free.0)
 held_at_one w holds (inr held) other = held.1
 
