@@ -441,7 +441,15 @@ keeps_barrier z n parties (e ∷ past) fits run =
       told = tells_memory z (barrier_table n) parties (e ∷ past) run;
       unheld = no_holds (barrier_table n) (λ call from to. refl) (e ∷ past);
       cause = event.cause;
-      law = record { counts = barrier_counts z n parties fits (e ∷ past) run; nobody = nobody_arrives z n parties (e ∷ past) run; once = event.once; passes = event.passes; leaves = event.leaves; wakes = event.wakes; alone = event.alone; exact = event.exact; 
+      law = record {
+        counts = barrier_counts z n parties fits (e ∷ past) run;
+        nobody = nobody_arrives z n parties (e ∷ past) run;
+        once = event.once;
+        passes = event.passes;
+        leaves = event.leaves;
+        wakes = event.wakes;
+        alone = event.alone;
+        exact = event.exact;
         asks = asked_maps IsAskedSo (λ c act told. looks_on c.call c.own ≡ 10000) (λ c act told so. so.0) (call_of e.party past) e.act e.then event.asks;
         spins = spins_no_more z (barrier_table n) parties (AtBarrier n) steps_on (barrier_kept n) (spins_bounded n) (e ∷ past) run;
         tells = asked_maps IsAskedSo (λ c act told. sight_at words.State c.call c.own act ≡ Some told) (λ c act told so. so.1) (call_of e.party past) e.act e.then event.asks;

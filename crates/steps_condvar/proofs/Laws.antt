@@ -22,16 +22,18 @@ use Rattle.steps_events.specs.declared.row.After.{After}
 use Rattle.steps_events.specs.declared.row.After.TheVariants as afters
 use Rattle.steps_events.specs.Arithmetic.{Arithmetic}
 use Rattle.steps_events.specs.Rows.{carried_out, value_told, outcome_of, within}
-use Rattle.steps_events.specs.Past.{same_word, PendingCall, call_of, call_after, call_going_on, holds_of, hold_of, hold_taken, hold_after, word_in, word_after, event, is_release, is_failure}
+use Rattle.steps_events.specs.Past.{same_word, PendingCall, call_of, call_after, call_going_on, holds_of, hold_of, hold_taken, hold_after, word_in, word_after, event, is_release}
 use Rattle.steps_events.specs.Moves.{Move, step_at, fault_at, begin_fault}
 use Rattle.steps_events.specs.Runs.{IsPast}
-use Rattle.steps_events.specs.Sights.{sight_of, is_sight, spins_in, stands_at_wait}
+use Rattle.steps_events.specs.Sights.{sight_of, is_sight, keeps_asking}
+use Rattle.steps_events.specs.Asks.{WhereAsked}
 use Rattle.steps_events.specs.Waits.{is_wake}
 use Rattle.steps_events.specs.Laws.{IsTold, Lacks, is_refusal}
 use Rattle.steps_events.proofs.Holds.{eqb_same, hold_of_same}
 use Rattle.steps_events.proofs.Steps.{carried_goes_on, by_move, tells_memory}
 use Rattle.steps_events.proofs.LastSights.{sight_is_told, at_last_sight}
 use Rattle.steps_events.proofs.Parties.{at_place, fault_at_none}
+use Rattle.steps_events.proofs.Asks.{asked_of, asked_maps, spins_no_more}
 use Rattle.steps_events.proofs.Locks.{IsLock, IsLockIntent, IsFreeOrHeld, lock_word, lock_exclusive, locked_at}
 use Rattle.steps_mutex.specs.declared.MutexPlace.{MutexPlace}
 use Rattle.steps_mutex.specs.declared.MutexPlace.TheVariants as locks
@@ -40,7 +42,7 @@ use Rattle.steps_mutex.specs.Law as mutex_law
 use Rattle.steps_mutex.specs.Law.{LockCause, answer_of}
 use Rattle.steps_mutex.proofs.LockSteps.{LockLeads, lock_leads}
 use Rattle.steps_mutex.proofs.Laws as mutex
-use Rattle.steps_mutex.proofs.Laws.{AtMutex, lock_takes_none, another, unseen_takes_none, mutex_lacks}
+use Rattle.steps_mutex.proofs.Laws.{AtMutex, lock_takes_none, another, held_at_one, unseen_takes_none, mutex_lacks}
 use Rattle.steps_semaphore.specs.declared.SemaphorePlace.{SemaphorePlace}
 use Rattle.steps_semaphore.specs.declared.SemaphorePlace.TheVariants as permits
 use Rattle.steps_semaphore.specs.Permits.{permits_given, permits_taken, is_take, number_answered}
@@ -51,9 +53,9 @@ use Rattle.steps_condvar.specs.declared.CondvarPlace.{CondvarPlace}
 use Rattle.steps_condvar.specs.declared.CondvarPlace.TheVariants as places
 use Rattle.steps_condvar.specs.Table.{condvar_table, condvar_grant, permitted, relocked}
 use Rattle.steps_condvar.specs.Waiters.{is_count, counts_in, since_count, is_wait, is_counted, CountsWaiters}
-use Rattle.steps_condvar.specs.Law.{wake_for, count_read, amount_for, condvar_gives, condvar_value, takes_in, HasAbortedSince, FoundNoPermit, FoundMutexHeld, IsSignalled, CondvarCause, IsWaitAnswer, WaitStep, is_read, is_post, PutsSum, NotifyStep, LockStep, CallStep, spins_of, gives_up, HasTried, KeepsCondvar}
+use Rattle.steps_condvar.specs.Law.{wake_for, count_read, amount_for, condvar_gives, condvar_value, takes_in, HasAbortedSince, FoundNoPermit, FoundMutexHeld, IsSignalled, CondvarCause, IsWaitAnswer, WaitStep, is_read, is_post, PutsSum, NotifyStep, LockStep, CallStep, spins_of, gives_up, HasTried, KeepsCondvar, spins_on, refused_by, wait_of}
 use Rattle.steps_condvar.proofs.Counts.{CountEffect, none_wait, counts_after}
-use Rattle.steps_condvar.proofs.Places.{notify, amount_is, Progress, SawNone, SignalIs, took, AtCondvar, outcome_within, condvar_kept}
+use Rattle.steps_condvar.proofs.Places.{notify, amount_is, Progress, SawNone, SignalIs, took, AtCondvar, outcome_within, condvar_kept, spins_bounded}
 
 -- A condition variable has a lock for one: its mutex.
 
@@ -139,6 +141,13 @@ no_permit {T} z parties past party c run called saw =
 
 -- What one more event tells.
 
+-- what is so of a call where it asks its wait closure
+abbrev IsAskedBy : {T : Type 0} → Call T → List (Event T) → Act T → ℕ → Type 0
+IsAskedBy call own act told = (spins_of call own ≡ 10000) × (refused_by call own act ≡ Some told) × (keeps_asking (wait_of call own) ≡ true)
+
+abbrev pub IsAskedSo : {T : Type 0} → PendingCall T → Act T → ℕ → Type 0
+IsAskedSo c act told = IsAskedBy c.call c.own act told
+
 pub record EventLaw {T : Type 0} (party : ℕ) (past : List (Event T)) (n : ℕ) (hold : Option HoldKind) (pending : Option (PendingCall T)) (m : Move T) : Type 0 where
   pub count : CountEffect n (word_after words.Waiters m.act n) (is_count m.act) (is_counted pending) (is_counted (call_after m.outcome (event party m.act m.outcome) pending))
   pub number : number_answered m.outcome ≡ None
@@ -148,7 +157,7 @@ pub record EventLaw {T : Type 0} (party : ℕ) (past : List (Event T)) (n : ℕ)
       MatchOption pending (Unit {0})
       (λ c. c.call ≡ calls.TryLock → is_sight words.State m.act ≡ true → ((m.outcome ≡ thens.Answers answers.Success) ↔ (holds_of condvar_table past ≡ [])))
   pub ends : MatchOption (answer_of m.outcome) (hold_taken condvar_table m.act pending ≡ None) (λ answer. Unit {0})
-  pub asks : MatchBool (stands_at_wait m.outcome) (MatchOption pending ⊥ (λ c. spins_of c.call c.own ≡ 10000)) (Unit {0})
+  pub asks : WhereAsked IsAskedSo pending m.act m.outcome
   pub tries : MatchBool (gives_up m.outcome) (MatchOption pending ⊥ (λ c. HasTried c.call (event party m.act m.outcome ∷ c.own))) (Unit {0})
 
 -- Whether a call is counted.
@@ -166,7 +175,7 @@ uncounted c other = rw other refl
 going_law :
     {T : Type 0} (party : ℕ) (past : List (Event T)) (n : ℕ) (hold : Option HoldKind) (c : PendingCall T) (act : Act T) (outcome : Then T) → c.call ≡ calls.Wait → answer_of outcome ≡ None → hold_taken condvar_table act (Some c) ≡ None →
     CountEffect n (word_after words.Waiters act n) (is_count act) (is_counted (Some c)) (is_counted (call_going_on act (event party act outcome) (Some c))) →
-    WaitStep c.own (event party act outcome) (hold_after condvar_table act (Some c) hold) → MatchBool (stands_at_wait outcome) (spins_of calls.Wait c.own ≡ 10000) (Unit {0}) →
+    WaitStep c.own (event party act outcome) (hold_after condvar_table act (Some c) hold) → WhereAsked (λ k act told. IsAskedBy calls.Wait k.own act told) (Some c) act outcome →
     EventLaw party past n hold (Some c) (record { act = act; outcome = outcome })
 going_law {T} party past n hold c act thens.GoesOn wait goes takes count step asks =
     record {
@@ -185,7 +194,7 @@ going_law {T} party past n hold c act (thens.Waits seen) wait goes takes count s
       number = refl;
       cause = tt;
       tries = tt;
-      asks = subst (λ (k : Call T). spins_of k c.own ≡ 10000) (sym wait) asks;
+      asks = subst (λ (k : Call T). IsAskedBy k c.own act seen) (sym wait) asks;
       steps = subst (λ (k : Call T). CallStep k c.own (event party act (thens.Waits seen)) (hold_after condvar_table act (Some c) hold)) (sym wait) step;
       ends = takes;
       exact = another calls.Wait c.call _ (sym wait) (λ same. absurd cc);
@@ -236,7 +245,7 @@ permit_law party past n hold c act (afters.At next) wait so quiet frees apart wa
     going_law party past n hold c act thens.GoesOn wait refl (unseen_takes_none condvar_table act (Some c) apart) (still_counted n 1 c act (event party act thens.GoesOn) wait so.counted quiet quiet keeps (goes (event party act thens.GoesOn))) (looking party c act thens.GoesOn _ so frees apart wake refl) tt
 permit_law party past n hold c act (afters.Waits next seen) wait so quiet frees apart wake keeps goes leads =
     going_law party past n hold c act (thens.Waits seen) wait refl (unseen_takes_none condvar_table act (Some c) apart) (still_counted n 1 c act (event party act (thens.Waits seen)) wait so.counted quiet quiet keeps (goes (event party act (thens.Waits seen))))
-    (looking party c act (thens.Waits seen) _ so frees apart wake refl) (rw so.counted leads.2)
+    (looking party c act (thens.Waits seen) _ so frees apart wake refl) (rw so.counted leads.2, rw so.counted leads.4, leads.3)
 permit_law party past n hold c act (afters.Ends answer) wait so quiet frees apart wake keeps goes leads =
     going_law party past n hold c act thens.GoesOn wait refl (unseen_takes_none condvar_table act (Some c) apart) (still_counted n 1 c act (event party act thens.GoesOn) wait so.counted quiet quiet keeps (goes (event party act thens.GoesOn))) (looking party c act thens.GoesOn _ so frees apart wake refl) tt
 permit_law party past n hold c act (afters.Chooses next old) wait so quiet frees apart wake keeps goes leads = absurd leads
@@ -274,7 +283,8 @@ relock_law {T} party past n hold signalled c w done (afters.At next) called wait
     going_law party past n hold c act thens.GoesOn wait refl (lock_takes_none condvar_table (Some c) (since_count c.own) party w done (afters.At next) next found leads refl) (still_counted n 2 c act (event party act thens.GoesOn) wait so.counted refl refl refl refl) (locking party w (took signalled) c done thens.GoesOn _ so tt) tt
 relock_law {T} party past n hold signalled c w done (afters.Waits next seen) called wait free so none law found leads =
     let act : Act T = acts.Exchange words.State 0 1 w done in
-    going_law party past n hold c act (thens.Waits seen) wait refl (lock_takes_none condvar_table (Some c) (since_count c.own) party w done (afters.Waits next seen) next found leads refl) (still_counted n 2 c act (event party act (thens.Waits seen)) wait so.counted refl refl refl refl) (locking party w (took signalled) c done (thens.Waits seen) _ so tt) (rw so.counted leads.2)
+    going_law party past n hold c act (thens.Waits seen) wait refl (lock_takes_none condvar_table (Some c) (since_count c.own) party w done (afters.Waits next seen) next found leads refl) (still_counted n 2 c act (event party act (thens.Waits seen)) wait so.counted refl refl refl refl) (locking party w (took signalled) c done (thens.Waits seen) _ so tt)
+    (rw so.counted leads.2, rw so.counted (ap (λ v. Some v) (held_at_one w (holds_of condvar_table past) law leads.1 ∙ sym leads.4)), leads.3)
 relock_law {T} party past n hold true c w true (afters.Ends answers.Success) called wait free so none law found leads =
     let act : Act T = acts.Exchange words.State 0 1 w true in
     let granted : condvar_grant c.call 0 1 ≡ Some kinds.Write = ap (λ (k : Call T). condvar_grant k 0 1) wait in
@@ -435,9 +445,9 @@ same_cause : {T : Type 0} (call : Call T) (party : ℕ) (events : List (Event T)
 same_cause calls.Wait party events other cause = absurd cc
 same_cause call party events other cause = cause
 
-same_spins : {T : Type 0} (call : Call T) (own : List (Event T)) → is_wait call ≡ false → spins_in is_failure own ≡ 10000 → spins_of call own ≡ 10000
-same_spins calls.Wait own other spun = absurd cc
-same_spins call own other spun = spun
+same_asks : {T : Type 0} (call : Call T) (own : List (Event T)) (act : Act T) (told : ℕ) → is_wait call ≡ false → mutex.IsAskedSo (record { call = call; own = own }) act told → IsAskedBy call own act told
+same_asks calls.Wait own act told other so = absurd cc
+same_asks call own act told other so = so
 
 same_tries : {T : Type 0} (call : Call T) (own : List (Event T)) → is_wait call ≡ false → mutex_law.HasTried call own → HasTried call own
 same_tries calls.Wait own other tried = absurd cc
@@ -465,7 +475,7 @@ mutex_law_here {T} party past n hold c act outcome other quiet keeps goes number
       steps = step;
       exact = law.exact;
       ends = law.ends;
-      asks = where_true (stands_at_wait outcome) _ _ (same_spins c.call c.own other) law.asks;
+      asks = asked_of mutex.IsAskedSo IsAskedSo c act (λ told. same_asks c.call c.own act told other) outcome law.asks;
       tries = where_gives_up outcome _ _ (same_tries c.call (e ∷ c.own) other) law.tries;
     }
 
@@ -635,7 +645,7 @@ keeps_condvar z parties [] run =
       told = tt;
       exclusive = lock_exclusive 0 [] (lock_word z condvar_table parties (condvar_is_lock z parties) [] run);
       cause = tt;
-      law = record { waiters = none_wait; permits = record { at_most = omega arith; told = tt; lowers = tt }; steps = tt; exact = tt; ends = tt; asks = tt; tries = tt };
+      law = record { waiters = none_wait; permits = record { at_most = omega arith; told = tt; lowers = tt }; steps = tt; exact = tt; ends = tt; asks = tt; spins = λ party. tt; tells = tt; stops = tt; tries = tt };
     }
 keeps_condvar {T} z parties (e ∷ past) run =
     let before = condvar_tallies z parties past run.1 in
@@ -657,7 +667,10 @@ keeps_condvar {T} z parties (e ∷ past) run =
         steps = subst (λ h. MatchOption (call_of e.party past) (Unit {0}) (λ c. CallStep c.call c.own e h)) (sym (hold_of_same condvar_table e.party e.act e.then past)) event.steps;
         exact = event.exact;
         ends = event.ends;
-        asks = event.asks;
+        asks = asked_maps IsAskedSo (λ c act told. spins_of c.call c.own ≡ 10000) (λ c act told so. so.0) (call_of e.party past) e.act e.then event.asks;
+        spins = spins_no_more z condvar_table parties AtCondvar spins_on condvar_kept spins_bounded (e ∷ past) run;
+        tells = asked_maps IsAskedSo (λ c act told. refused_by c.call c.own act ≡ Some told) (λ c act told so. so.1) (call_of e.party past) e.act e.then event.asks;
+        stops = asked_maps IsAskedSo (λ c act told. keeps_asking (wait_of c.call c.own) ≡ true) (λ c act told so. so.2) (call_of e.party past) e.act e.then event.asks;
         tries = event.tries;
       };
     }

@@ -1,5 +1,5 @@
 -- What is kept of a call at each place of a condition variable: at the mutex's and the semaphore's rows what these keep.
-use Rattle.std.proofs.Common.{◌≡◌, ◌∙◌, ℕ, ◌+◌, ◌%◌, ◌^◌, ◌==◌, refl, sym, ap, subst, Bool, true, false, cond, is_some, List, [], ◌∷◌, Option, Some, None, arith}
+use Rattle.std.proofs.Common.{◌≡◌, ◌∙◌, ℕ, ◌+◌, ◌%◌, ◌^◌, ◌==◌, refl, sym, ap, subst, Bool, true, false, cond, is_some, List, [], ◌∷◌, Option, Some, None, arith, ◌-◌, ◌≤◌, ◌&&◌}
 use Rattle.std.proofs.lemmas.Bool.{eqb-true}
 use Rattle.steps_events.specs.declared.WaitAction.{WaitAction}
 use Rattle.steps_events.specs.declared.event.Word.{Word}
@@ -18,11 +18,13 @@ use Rattle.steps_events.specs.declared.hold.HoldKind.{HoldKind}
 use Rattle.steps_events.specs.declared.row.After.{After}
 use Rattle.steps_events.specs.declared.row.After.TheVariants as afters
 use Rattle.steps_events.specs.Rows.{carried_out, value_told, outcome_of, place_after, within}
-use Rattle.steps_events.specs.Past.{PendingCall, latest_outcome, event, is_release, hold_after}
+use Rattle.steps_events.specs.Past.{same_word, PendingCall, latest_outcome, event, is_release, hold_after}
 use Rattle.steps_events.specs.Moves.{step_at, hold_fault, answer_fault, choose_fault}
-use Rattle.steps_events.specs.Sights.{is_sight, keeps_asking, acts_in}
+use Rattle.steps_events.specs.Sights.{is_sight, is_abort, keeps_asking, goes_on, spins_in, acts_in}
+use Rattle.steps_events.specs.Asks.{but_last_try}
 use Rattle.steps_events.proofs.LastSights.{LastSaw}
 use Rattle.steps_events.proofs.Parties.{IsKept}
+use Rattle.steps_events.proofs.Asks.{last_try_bounded}
 use Rattle.steps_events.proofs.Spins.{HasSpun, begun_spun, passed_on}
 use Rattle.steps_mutex.specs.declared.MutexPlace.{MutexPlace}
 use Rattle.steps_mutex.specs.declared.MutexPlace.TheVariants as locks
@@ -40,7 +42,7 @@ use Rattle.steps_condvar.specs.declared.CondvarPlace.{CondvarPlace}
 use Rattle.steps_condvar.specs.declared.CondvarPlace.TheVariants as places
 use Rattle.steps_condvar.specs.Table.{permits_for, condvar_begins, condvar_after, condvar_answered, condvar_table, permitted, relocked}
 use Rattle.steps_condvar.specs.Waiters.{is_count, counts_in, since_count}
-use Rattle.steps_condvar.specs.Law.{count_read, amount_for, takes_in, is_wake_one, is_read, is_post}
+use Rattle.steps_condvar.specs.Law.{count_read, amount_for, takes_in, is_wake_one, is_read, is_post, spins_on}
 
 -- the call of a notify that wakes so
 abbrev pub notify : {T : Type 0} → Wake → Call T
@@ -67,6 +69,10 @@ abbrev pub SignalIs : {T : Type 0} → Bool → List (Event T) → Type 0
 SignalIs true own = Unit {0}
 SignalIs false own = SawNone own
 
+-- a call that waited for a permit and does so no more: its last try may have been in vain too
+abbrev pub HasWaited : {T : Type 0} → List (Event T) → Type 0
+HasWaited own = but_last_try own (spins_in is_empty_look own) ≤ 10000
+
 abbrev pub took : Bool → ℕ
 took signalled = cond signalled 1 0
 
@@ -91,10 +97,10 @@ AtCondvar {T} (places.Post wake amount) c hold =
     (c.call ≡ notify wake) × (latest_outcome c.own ≡ thens.GoesOn) × (acts_in is_read c.own ≡ 1) × (acts_in is_post c.own ≡ 0) × (amount ≡ permits_for wake (count_read c.own)) × (acts_of c.own ≡ has_read (count_read c.own))
 AtCondvar {T} (places.Wake wake) c hold =
     (c.call ≡ notify wake) × (latest_outcome c.own ≡ thens.GoesOn) × (acts_in is_post c.own ≡ 1) × (value : ℕ) × (acts_of c.own ≡ acts.Add words.Value value ((value + amount_for (Some wake) (count_read c.own)) % 2 ^ 64) ∷ has_read (count_read c.own))
-AtCondvar places.CountIn c hold = (c.call ≡ calls.Wait) × (latest_outcome c.own ≡ thens.GoesOn) × Progress c.own 0 0 0 0 × (is_some hold ≡ true)
+AtCondvar places.CountIn c hold = (c.call ≡ calls.Wait) × (latest_outcome c.own ≡ thens.GoesOn) × Progress c.own 0 0 0 0 × (is_some hold ≡ true) × (spins_in is_empty_look (since_count c.own) ≡ 0)
 AtCondvar (places.Release place) c hold = (c.call ≡ calls.Wait) × (latest_outcome c.own ≡ thens.GoesOn) × AtRelease place c.own hold
 AtCondvar (places.Permit place) c hold = (c.call ≡ calls.Wait) × (hold ≡ None) × Progress c.own 1 1 1 0 × AtWait place (since_count c.own)
-AtCondvar (places.CountOut signalled) c hold = (c.call ≡ calls.Wait) × (latest_outcome c.own ≡ thens.GoesOn) × (hold ≡ None) × Progress c.own 1 1 1 (took signalled) × SignalIs signalled c.own
+AtCondvar (places.CountOut signalled) c hold = (c.call ≡ calls.Wait) × (latest_outcome c.own ≡ thens.GoesOn) × (hold ≡ None) × Progress c.own 1 1 1 (took signalled) × SignalIs signalled c.own × HasWaited (since_count c.own)
 AtCondvar (places.Relock signalled place) c hold = (c.call ≡ calls.Wait) × (hold ≡ None) × Progress c.own 2 1 1 (took signalled) × SignalIs signalled c.own × AtLock place (since_count c.own)
 
 -- One more event of a `Wait`.
@@ -145,7 +151,7 @@ begins_at {T} calls.NotifyAll place hold is allowed =
 begins_at {T} calls.Wait place None is allowed = absurd cc
 begins_at {T} calls.Wait place (Some kind) is allowed =
     let made : places.CountIn ≡ place = cc in
-    subst (λ p. AtCondvar {T = T} p (record { call = calls.Wait; own = [] }) (Some kind)) made (refl, refl, record { counted = refl; released = refl; woke = refl; taken = refl; latest = refl }, refl)
+    subst (λ p. AtCondvar {T = T} p (record { call = calls.Wait; own = [] }) (Some kind)) made (refl, refl, record { counted = refl; released = refl; woke = refl; taken = refl; latest = refl }, refl, refl)
 begins_at {T} calls.TryLock place (Some kind) is allowed = absurd cc
 begins_at {T} calls.TryLock place None is allowed =
     let made : places.Mutex locks.TryLock ≡ place = cc in
@@ -189,28 +195,57 @@ mutex_steps {T} place c hold memory number next at is =
     subst (λ (o : Then T). AtMutex on.0 (record { call = c.call; own = event number (carried_out (mutex_intent words.State place) memory) o ∷ c.own }) left) same inner in
     subst (λ p. AtCondvar {T = T} p (record { call = c.call; own = event number (carried_out (mutex_intent words.State place) memory) (outcome_of (within places.Mutex a)) ∷ c.own }) left) on.2 here
 
+-- a wait for a permit that ends
+
+-- an act that took a permit was no look in vain
+taken_not_empty : {T : Type 0} (word : Word) (act : Act T) → is_take word act ≡ true → is_empty_look act ≡ false
+taken_not_empty word (acts.Exchange w from to found true) takes = refl
+taken_not_empty word (acts.Exchange w from to found false) takes = by_word (same_word w word) takes
+  where
+    by_word : (same : Bool) → (same && false) ≡ true → (found == 0) ≡ false
+    by_word true takes = absurd cc
+    by_word false takes = absurd cc
+taken_not_empty word other takes = absurd cc
+
+waited_and_took : {T : Type 0} (own : List (Event T)) (e : Event T) → spins_in is_empty_look own ≤ 10000 → is_empty_look e.act ≡ false → HasWaited (e ∷ own)
+waited_and_took own e bounded full = last_try_bounded (e ∷ own) _ (rw full (omega (arith, bounded)))
+
+still_aborted : {T : Type 0} (own : List (Event T)) (e : Event T) → keeps_asking own ≡ false → keeps_asking (e ∷ own) ≡ false
+still_aborted own e aborted = by_test (is_abort e.act)
+  where
+    by_test : (b : Bool) → cond b false (keeps_asking own) ≡ false
+    by_test true = refl
+    by_test false = aborted
+
+one_more : (b : Bool) (n : ℕ) → n ≤ 10000 → (cond b 1 0 + n) - 1 ≤ 10000
+one_more true n bounded = omega (arith, bounded)
+one_more false n bounded = omega (arith, bounded)
+
+waited_in_vain : {T : Type 0} (own : List (Event T)) (e : Event T) → spins_in is_empty_look own ≤ 10000 → keeps_asking own ≡ false → HasWaited (e ∷ own)
+waited_in_vain own e bounded aborted = rw (still_aborted own e aborted) (one_more (is_empty_look e.act && goes_on e.then) (spins_in is_empty_look own) bounded)
+
 -- a step for a permit, by how it goes on
 permit_leads :
     {T : Type 0} (c : PendingCall T) (hold : Option HoldKind) (number : ℕ) (act : Act T) (a : After T SemaphorePlace) (next : CondvarPlace) → c.call ≡ calls.Wait → hold ≡ None → Progress c.own 1 1 1 0 →
-    is_count act ≡ false → is_release act ≡ false → is_wake_one act ≡ false → WaitLeads words.Value (since_count c.own) number act a → place_after (permitted a) ≡ Some next →
+    is_count act ≡ false → is_release act ≡ false → is_wake_one act ≡ false → spins_in is_empty_look (since_count c.own) ≤ 10000 → WaitLeads words.Value (since_count c.own) number act a → place_after (permitted a) ≡ Some next →
     AtCondvar next (record { call = c.call; own = event number act (outcome_of (permitted a)) ∷ c.own }) hold
-permit_leads {T} c hold number act (afters.At place) next wait free so quiet frees wake leads is =
+permit_leads {T} c hold number act (afters.At place) next wait free so quiet frees wake bounded leads is =
     let made : places.Permit place ≡ next = cc in
     subst (λ p. AtCondvar {T = T} p (record { call = c.call; own = event number act thens.GoesOn ∷ c.own }) hold) made
     (wait, free, no_progress c.own number act thens.GoesOn 1 1 1 0 so quiet frees wake leads.1, rw quiet leads.0)
-permit_leads {T} c hold number act (afters.Waits place seen) next wait free so quiet frees wake leads is =
+permit_leads {T} c hold number act (afters.Waits place seen) next wait free so quiet frees wake bounded leads is =
     let made : places.Permit place ≡ next = cc in
     subst (λ p. AtCondvar {T = T} p (record { call = c.call; own = event number act (thens.Waits seen) ∷ c.own }) hold) made
     (wait, free, no_progress c.own number act (thens.Waits seen) 1 1 1 0 so quiet frees wake leads.1, rw quiet leads.0)
-permit_leads {T} c hold number act (afters.Ends answers.Success) next wait free so quiet frees wake leads is =
+permit_leads {T} c hold number act (afters.Ends answers.Success) next wait free so quiet frees wake bounded leads is =
     let made : places.CountOut true ≡ next = cc in
     subst (λ p. AtCondvar {T = T} p (record { call = c.call; own = event number act thens.GoesOn ∷ c.own }) hold) made
-    (wait, refl, free, progress c.own number act thens.GoesOn 1 1 1 0 false false true so quiet frees wake leads, tt)
-permit_leads {T} c hold number act (afters.Ends answers.Interrupted) next wait free so quiet frees wake leads is =
+    (wait, refl, free, progress c.own number act thens.GoesOn 1 1 1 0 false false true so quiet frees wake leads, tt, rw quiet (waited_and_took (since_count c.own) (event number act thens.GoesOn) bounded (taken_not_empty words.Value act leads)))
+permit_leads {T} c hold number act (afters.Ends answers.Interrupted) next wait free so quiet frees wake bounded leads is =
     let made : places.CountOut false ≡ next = cc in
     subst (λ p. AtCondvar {T = T} p (record { call = c.call; own = event number act thens.GoesOn ∷ c.own }) hold) made
-    (wait, refl, free, no_progress c.own number act thens.GoesOn 1 1 1 0 so quiet frees wake leads.1, record { before = c.own; saw = rw leads.0 (refl, refl); aborted = leads.2 })
-permit_leads c hold number act other next wait free so quiet frees wake leads is = absurd leads
+    (wait, refl, free, no_progress c.own number act thens.GoesOn 1 1 1 0 so quiet frees wake leads.1, record { before = c.own; saw = rw leads.0 (refl, refl); aborted = leads.2 }, rw quiet (waited_in_vain (since_count c.own) (event number act thens.GoesOn) bounded leads.2))
+permit_leads c hold number act other next wait free so quiet frees wake bounded leads is = absurd leads
 
 -- an exchange for the mutex, by how it goes on
 relock_leads :
@@ -265,9 +300,9 @@ steps_at {T} (places.Release locks.Wake) c hold memory number next at is =
     (at.0, at.2.2, progress c.own number (acts.Woke wakes.One) thens.GoesOn 1 1 0 0 false true false at.2.0 refl refl refl refl, passed_on is_empty_look _ (since_count c.own) number (acts.Woke wakes.One) thens.GoesOn at.2.1 refl refl)
 steps_at (places.Release other) c hold memory number next at is = absurd at.2
 steps_at (places.Permit (permits.Look patience)) c hold memory number next at is =
-    permit_leads c hold number _ _ next at.0 at.1 at.2 refl refl refl (wait_leads words.Value (permits.Look patience) (since_count c.own) number memory at.3) is
+    permit_leads c hold number _ _ next at.0 at.1 at.2 refl refl refl (omega (arith, at.3.spun, at.3.within_limit)) (wait_leads words.Value (permits.Look patience) (since_count c.own) number memory at.3) is
 steps_at (places.Permit (permits.Take seen to patience)) c hold memory number next at is =
-    permit_leads c hold number _ _ next at.0 at.1 at.2 refl refl refl (wait_leads words.Value (permits.Take seen to patience) (since_count c.own) number memory at.3) is
+    permit_leads c hold number _ _ next at.0 at.1 at.2 refl refl refl (omega (arith, at.3.0.spun, at.3.0.within_limit)) (wait_leads words.Value (permits.Take seen to patience) (since_count c.own) number memory at.3) is
 steps_at (places.Permit other) c hold memory number next at is = absurd at.3
 steps_at {T} (places.CountOut signalled) c hold memory number next at is =
     let made : places.Relock signalled (locks.Lock (record { spins = 0; keep = true })) ≡ next = cc in
@@ -321,3 +356,34 @@ condvar_kept =
       answers = answers_at;
       chooses = chooses_at;
     }
+
+-- No call goes on by itself more than 10000 times in one wait.
+
+mutex_bounded : {T : Type 0} (place : MutexPlace) (c : PendingCall T) (hold : Option HoldKind) → AtMutex place c hold → spins_on c.call c.own ≤ 10000
+mutex_bounded {T} locks.TryLock c hold at = subst (λ (k : Call T). spins_on k c.own ≤ 10000) (sym at.0) (mutex.spins_bounded locks.TryLock c hold at)
+mutex_bounded {T} (locks.Lock patience) c hold at = subst (λ (k : Call T). spins_on k c.own ≤ 10000) (sym at.0) (mutex.spins_bounded (locks.Lock patience) c hold at)
+mutex_bounded {T} locks.Release c hold at = subst (λ (k : Call T). spins_on k c.own ≤ 10000) (sym at.0) (mutex.spins_bounded locks.Release c hold at)
+mutex_bounded {T} locks.Wake c hold at = subst (λ (k : Call T). spins_on k c.own ≤ 10000) (sym at.0) (mutex.spins_bounded locks.Wake c hold at)
+
+notify_bounded : {T : Type 0} (wake : Wake) (c : PendingCall T) → c.call ≡ notify wake → spins_on c.call c.own ≤ 10000
+notify_bounded {T} wakes.One c is = subst (λ (k : Call T). spins_on k c.own ≤ 10000) (sym is) (omega arith)
+notify_bounded {T} wakes.All c is = subst (λ (k : Call T). spins_on k c.own ≤ 10000) (sym is) (omega arith)
+
+wait_bounded : {T : Type 0} (c : PendingCall T) → c.call ≡ calls.Wait → spins_on calls.Wait c.own ≤ 10000 → spins_on c.call c.own ≤ 10000
+wait_bounded {T} c is bounded = subst (λ (k : Call T). spins_on k c.own ≤ 10000) (sym is) bounded
+
+pub spins_bounded : {T : Type 0} (place : CondvarPlace) (c : PendingCall T) (hold : Option HoldKind) → AtCondvar place c hold → spins_on c.call c.own ≤ 10000
+spins_bounded (places.Mutex place) c hold at = mutex_bounded place c hold at
+spins_bounded (places.Read wake) c hold at = notify_bounded wake c at.0
+spins_bounded (places.Post wake amount) c hold at = notify_bounded wake c at.0
+spins_bounded (places.Wake wake) c hold at = notify_bounded wake c at.0
+spins_bounded places.CountIn c hold at = wait_bounded c at.0 (rw at.2.counted (last_try_bounded (since_count c.own) _ (omega (arith, at.4))))
+spins_bounded (places.Release locks.Release) c hold at = wait_bounded c at.0 (rw at.2.0.counted (last_try_bounded (since_count c.own) _ (omega (arith, at.2.1.spun))))
+spins_bounded (places.Release locks.Wake) c hold at = wait_bounded c at.0 (rw at.2.0.counted (last_try_bounded (since_count c.own) _ (omega (arith, at.2.1.spun))))
+spins_bounded (places.Release other) c hold at = absurd at.2
+spins_bounded (places.Permit (permits.Look patience)) c hold at = wait_bounded c at.0 (rw at.2.counted (last_try_bounded (since_count c.own) _ (omega (arith, at.3.spun, at.3.within_limit))))
+spins_bounded (places.Permit (permits.Take seen to patience)) c hold at = wait_bounded c at.0 (rw at.2.counted (last_try_bounded (since_count c.own) _ (omega (arith, at.3.0.spun, at.3.0.within_limit))))
+spins_bounded (places.Permit other) c hold at = absurd at.3
+spins_bounded (places.CountOut signalled) c hold at = wait_bounded c at.0 (rw at.3.counted at.5)
+spins_bounded (places.Relock signalled (locks.Lock patience)) c hold at = wait_bounded c at.0 (rw at.2.counted (omega (arith, at.4.goes_on, at.4.so.within_limit)))
+spins_bounded (places.Relock signalled other) c hold at = absurd at.4

@@ -16,7 +16,9 @@ use Rattle.steps_events.specs.declared.event.Event.{Event}
 use Rattle.steps_events.specs.declared.hold.HoldKind.{HoldKind}
 use Rattle.steps_events.specs.declared.hold.HoldKind.TheVariants as kinds
 use Rattle.steps_events.specs.Past.{PendingCall, call_of, holds_of, hold_of, is_release, is_failure}
-use Rattle.steps_events.specs.Sights.{sight_of, is_sight, AtLastSight, keeps_asking, spins_in, stands_at_wait, acts_in}
+use Rattle.steps_events.specs.Moves.{is_step}
+use Rattle.steps_events.specs.Sights.{sight_of, is_sight, AtLastSight, keeps_asking, spins_in, acts_in}
+use Rattle.steps_events.specs.Asks.{SpinCount, but_last_try, AsksAfterSpinning, SpinsNoMore, Refusing, TellsRefusal, WaitEvents, AsksUntilAbort}
 use Rattle.steps_events.specs.Waits.{is_wake}
 use Rattle.steps_events.specs.Laws.{TellsMemory, IsExclusive, IsLocked, HasCause}
 use Rattle.steps_mutex.specs.Law as mutex
@@ -171,16 +173,32 @@ StepsInOrder (e ∷ past) = MatchOption (call_of e.party past) (Unit {0}) (λ c.
 
 -- How often a call tries.
 
--- How often it has spun. `Wait`: looks that saw no permit, while it is counted; exchanges that failed, since it has counted itself out. A call of the
--- mutex: exchanges that failed.
-abbrev pub spins_of : {T : Type 0} → Call T → List (Event T) → ℕ
+-- How often it has spun. `Wait`: looks that saw no permit, while it is counted; exchanges that failed, since it has counted itself out. `Lock`:
+-- exchanges that failed. No other call asks.
+abbrev pub spins_of : {T : Type 0} → SpinCount T
 spins_of calls.Wait own = if counts_in own == 2 then spins_in is_failure (since_count own) else spins_in is_empty_look (since_count own)
-spins_of call own = spins_in is_failure own
+spins_of call own = mutex.lock_spins call own
 
--- a wait closure is asked only after exactly 10000 spins
-abbrev pub AsksAfterAllSpins : {T : Type 0} → List (Event T) → Type 0
-AsksAfterAllSpins [] = Unit {0}
-AsksAfterAllSpins (e ∷ past) = MatchBool (stands_at_wait e.then) (MatchOption (call_of e.party past) ⊥ (λ c. spins_of c.call c.own ≡ 10000)) (Unit {0})
+-- What it does in vain and then goes on by itself. `Wait`: looks that saw no permit, but the last of one that gives up, after which it counts itself
+-- out; since then each step. A call of the mutex: each step. A notify waits for nothing.
+abbrev pub spins_on : {T : Type 0} → SpinCount T
+spins_on calls.Wait own =
+    if counts_in own == 2
+    then spins_in is_step (since_count own)
+    else but_last_try (since_count own) (spins_in is_empty_look (since_count own))
+spins_on calls.NotifyOne own = 0
+spins_on calls.NotifyAll own = 0
+spins_on call own = mutex.steps_on call own
+
+-- what refused it: of a `Wait` that is counted the permits that its act saw, else what it saw of the mutex
+abbrev pub refused_by : {T : Type 0} → Refusing T
+refused_by calls.Wait own act = if counts_in own == 2 then sight_of words.State act else sight_of words.Value act
+refused_by call own act = sight_of words.State act
+
+-- a `Wait` waits for a permit, and once it has counted itself out it waits anew, for the mutex
+abbrev pub wait_of : {T : Type 0} → WaitEvents T
+wait_of calls.Wait own = since_count own
+wait_of call own = own
 
 -- a call that ends without the mutex
 abbrev pub gives_up : {T : Type 0} → Then T → Bool
@@ -209,7 +227,13 @@ pub record CondvarLaw {T : Type 0} (past : List (Event T)) : Type 0 where
   -- a call that is granted the mutex answers at once
   pub ends : AnswersWhereGranted condvar_table past
   -- a wait closure is asked after 10000 spins
-  pub asks : AsksAfterAllSpins past
+  pub asks : AsksAfterSpinning spins_of past
+  -- no call goes on by itself more often
+  pub spins : SpinsNoMore spins_on past
+  -- the closure is told the permits or the mutex's word, whichever refused the call last
+  pub tells : TellsRefusal refused_by past
+  -- and in the same wait asked no more once it has answered Abort
+  pub stops : AsksUntilAbort wait_of past
   -- and each call that ends without the mutex has tried so often
   pub tries : GivesUpAfterTrying past
 

@@ -1,5 +1,5 @@
 -- When a wait closure is asked, from the step at each place.
-use Rattle.std.proofs.Common.{◌≡◌, ◌≤◌, ℕ, ◌+◌, ◌-◌, refl, ◌∙◌, Bool, true, false, cond, List, [], ◌∷◌, Option, Some, None, arith}
+use Rattle.std.proofs.Common.{◌≡◌, ◌≤◌, ℕ, ◌+◌, ◌-◌, refl, ◌∙◌, Bool, true, false, cond, List, Option, Some, None, arith}
 use Rattle.std.specs.Prelude.{nat_lt, MatchOption}
 use Rattle.steps_events.specs.declared.event.Act.{Act}
 use Rattle.steps_events.specs.declared.event.Event.{Event}
@@ -19,15 +19,23 @@ use Rattle.steps_events.specs.Asks.{WhereAsked, SpinCount, SpinsNoMore, but_last
 use Rattle.steps_events.proofs.Spins.{HasSpun, spins_spent}
 use Rattle.steps_events.proofs.Parties.{IsKept, IsAtPlace, each_call}
 
--- what is so of each call that asks may be told in other words
+-- what is so of a call that asks may be told in other words
+pub asked_of :
+    {T : Type 0} (P Q : PendingCall T → Act T → ℕ → Type 0) (c : PendingCall T) (act : Act T) → ((told : ℕ) → P c act told → Q c act told) → (outcome : Then T) → WhereAsked P (Some c) act outcome → WhereAsked Q (Some c) act outcome
+asked_of P Q c act maps (thens.Waits told) asked = maps told asked
+asked_of P Q c act maps thens.GoesOn asked = tt
+asked_of P Q c act maps (thens.Chooses old) asked = tt
+asked_of P Q c act maps (thens.Answers answer) asked = tt
+
+-- and so of each call
 pub asked_maps :
     {T : Type 0} (P Q : PendingCall T → Act T → ℕ → Type 0) → ((c : PendingCall T) (act : Act T) (told : ℕ) → P c act told → Q c act told) →
     (pending : Option (PendingCall T)) (act : Act T) (outcome : Then T) → WhereAsked P pending act outcome → WhereAsked Q pending act outcome
+asked_maps P Q maps (Some c) act outcome asked = asked_of P Q c act (maps c act) outcome asked
 asked_maps P Q maps None act (thens.Waits told) asked = absurd asked
-asked_maps P Q maps (Some c) act (thens.Waits told) asked = maps c act told asked
-asked_maps P Q maps pending act thens.GoesOn asked = tt
-asked_maps P Q maps pending act (thens.Chooses old) asked = tt
-asked_maps P Q maps pending act (thens.Answers answer) asked = tt
+asked_maps P Q maps None act thens.GoesOn asked = tt
+asked_maps P Q maps None act (thens.Chooses old) asked = tt
+asked_maps P Q maps None act (thens.Answers answer) asked = tt
 
 -- a refused call asks only after all its spins, and while it keeps on asking
 pub refused_asks :

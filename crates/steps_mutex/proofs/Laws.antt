@@ -21,7 +21,7 @@ use Rattle.steps_events.specs.declared.row.After.TheVariants as afters
 use Rattle.steps_events.specs.Arithmetic.{Arithmetic}
 use Rattle.steps_events.specs.Tables.{Table}
 use Rattle.steps_events.specs.Rows.{carried_out, value_told, outcome_of, place_after}
-use Rattle.steps_events.specs.Past.{Hold, same_word, PendingCall, call_of, holds_of, hold_of, hold_taken, hold_after, word_in, latest_outcome, event, is_failure}
+use Rattle.steps_events.specs.Past.{Hold, same_word, PendingCall, call_of, holds_of, hold_of, hold_taken, hold_after, word_in, latest_outcome, event}
 use Rattle.steps_events.specs.Moves.{Move, step_at, hold_fault, answer_fault, choose_fault, is_step}
 use Rattle.steps_events.specs.Runs.{IsPast}
 use Rattle.steps_events.specs.Sights.{sight_of, is_sight, keeps_asking, HasAborted, spins_in}
@@ -170,7 +170,7 @@ abbrev pub IsAskedSo : {T : Type 0} → PendingCall T → Act T → ℕ → Type
 IsAskedSo c act told = (lock_spins c.call c.own ≡ 10000) × (sight_of words.State act ≡ Some told) × (keeps_asking c.own ≡ true)
 
 -- a word that is not free is 1
-held_at_one : (w : ℕ) (holds : List Hold) → IsFreeOrHeld w holds → w ≢ 0 → w ≡ 1
+pub held_at_one : (w : ℕ) (holds : List Hold) → IsFreeOrHeld w holds → w ≢ 0 → w ≡ 1
 held_at_one w holds (inl free) other = absurd (other free.0)
 held_at_one w holds (inr held) other = held.1
 
@@ -317,7 +317,10 @@ keeps_mutex {T} z parties (e ∷ past) run =
       told = tells_memory z mutex_table parties (e ∷ past) run;
       exclusive = lock_exclusive _ (holds_of mutex_table (e ∷ past)) (lock_word z mutex_table parties (mutex_is_lock z parties) (e ∷ past) run);
       cause = event.cause;
-      law = record { exact = event.exact; answers = answered; ends = event.ends; 
+      law = record {
+        exact = event.exact;
+        answers = answered;
+        ends = event.ends;
         asks = asked_maps IsAskedSo (λ c act told. lock_spins c.call c.own ≡ 10000) (λ c act told so. so.0) (call_of e.party past) e.act e.then event.asks;
         spins = spins_no_more z mutex_table parties AtMutex steps_on mutex_kept spins_bounded (e ∷ past) run;
         tells = asked_maps IsAskedSo (λ c act told. sight_at words.State c.call c.own act ≡ Some told) (λ c act told so. so.1) (call_of e.party past) e.act e.then event.asks;

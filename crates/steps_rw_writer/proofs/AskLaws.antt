@@ -1,5 +1,5 @@
 -- No call of a writer-preferring lock spins more than 10000 times, and a writer whose last look is in vain stands.
-use Rattle.std.proofs.Common.{◌≡◌, ◌≢◌, ℕ, ◌+◌, ◌*◌, ◌-◌, ◌%◌, ◌^◌, ◌<◌, ◌≤◌, ◌==◌, refl, sym, ◌∙◌, ap, subst, Bool, true, false, cond, ◌&&◌, ◌||◌, List, [], ◌∷◌, Option, Some, None, inl, inr, arith}
+use Rattle.std.proofs.Common.{◌≡◌, ◌≢◌, ℕ, ◌-◌, ◌^◌, ◌≤◌, ◌==◌, refl, sym, ◌∙◌, subst, Bool, true, false, cond, ◌&&◌, ◌||◌, List, [], ◌∷◌, Option, Some, None, inl, inr, arith}
 use Rattle.std.specs.Prelude.{MatchOption, nat_lt, not}
 use Rattle.std.proofs.lemmas.Bool.Decides.{nat_tests}
 use Rattle.steps_events.specs.declared.event.Word.{Word}
@@ -12,7 +12,6 @@ use Rattle.steps_events.specs.declared.event.Then.TheVariants as thens
 use Rattle.steps_events.specs.declared.event.Event.{Event}
 use Rattle.steps_events.specs.declared.hold.HoldKind.{HoldKind}
 use Rattle.steps_events.specs.declared.patience.Patience.{Patience}
-use Rattle.steps_events.specs.declared.row.After.{After}
 use Rattle.steps_events.specs.declared.row.After.TheVariants as afters
 use Rattle.steps_events.specs.Arithmetic.{Arithmetic}
 use Rattle.steps_events.specs.Rows.{outcome_of}
@@ -20,18 +19,18 @@ use Rattle.steps_events.specs.Past.{Hold, PendingCall, call_of, holds_of, hold_o
 use Rattle.steps_events.specs.Moves.{Move, step_at}
 use Rattle.steps_events.specs.Runs.{IsPast}
 use Rattle.steps_events.specs.Sights.{stands_at_wait}
-use Rattle.steps_events.specs.Asks.{but_last_try, SpinsNoMore}
+use Rattle.steps_events.specs.Asks.{SpinsNoMore}
 use Rattle.steps_events.proofs.Holds.{eqb_other}
 use Rattle.steps_events.proofs.Steps.{by_move}
-use Rattle.steps_events.proofs.Parties.{IsKept, at_place}
+use Rattle.steps_events.proofs.Parties.{at_place}
 use Rattle.steps_events.proofs.Asks.{spins_no_more, last_try_bounded, both_kept}
 use Rattle.steps_rw_writer.specs.declared.Leaver.{Leaver}
 use Rattle.steps_rw_writer.specs.declared.Leaver.TheVariants as leavers
 use Rattle.steps_rw_writer.specs.declared.RwWriterPlace.{RwWriterPlace}
 use Rattle.steps_rw_writer.specs.declared.RwWriterPlace.TheVariants as places
-use Rattle.steps_rw_writer.specs.Table.{is_odd, lets_writer_in, lets_mark, is_blocked, last_look, write_look, rw_writer_table}
+use Rattle.steps_rw_writer.specs.Table.{is_odd, lets_writer_in, is_blocked, write_look, rw_writer_table}
 use Rattle.steps_rw_writer.specs.Marks.{is_marked_after}
-use Rattle.steps_rw_writer.specs.Law.{CountsHolds, leaves_no_move, is_write_in_vain, write_spins_in, spins_on, is_last_look, has_just_loaded, StandsAfterLastLook}
+use Rattle.steps_rw_writer.specs.Law.{CountsHolds, leaves_no_move, is_write_in_vain, write_spins_in, spins_on, is_last_look, StandsAfterLastLook}
 use Rattle.steps_rw_writer.proofs.PlaceLaws.{AtRwWriter, IsLeaver, rw_writer_kept}
 use Rattle.steps_rw_writer.proofs.SpinLaws.{GivesUp, Leaves, HasSpunAt, spun_kept}
 use Rattle.steps_rw_writer.proofs.Laws.{writer_lock_word}

@@ -487,7 +487,12 @@ keeps_rw_writer z parties (e ∷ past) run =
       told = tells_memory z rw_writer_table parties (e ∷ past) run;
       exclusive = writer_lock_exclusive _ (holds_of rw_writer_table (e ∷ past)) (is_marked_after (e ∷ past)) word.kept.counts;
       cause = event_cause z parties past e run;
-      law = record { counts = word.kept.counts; mark = setter_is_under_way z parties (e ∷ past) run; keeps_out = word.keeps_out; exact = event_exact z parties past e run; answers = answers_at_every_front z parties (e ∷ past) run; 
+      law = record {
+        counts = word.kept.counts;
+        mark = setter_is_under_way z parties (e ∷ past) run;
+        keeps_out = word.keeps_out;
+        exact = event_exact z parties past e run;
+        answers = answers_at_every_front z parties (e ∷ past) run;
         asks = asked_maps IsAskedSo (λ c act told. spins_of c.call c.own ≡ 10000) (λ c act told so. so.0) (call_of e.party past) e.act e.then asks;
         spins = spins_at_most z parties (e ∷ past) run;
         waits = stands_after_last_look z parties (e ∷ past) run;
@@ -495,5 +500,7 @@ keeps_rw_writer z parties (e ∷ past) run =
         stops = asked_maps IsAskedSo (λ c act told. keeps_asking (whole_call c.call c.own) ≡ true) (λ c act told so. so.2) (call_of e.party past) e.act e.then asks;
         marks = event_marks z parties past e run;
         stands = event_stands z parties past e run;
-        counted = no_wake_is_lost z parties (e ∷ past) run; woken = readers_are_woken z parties (e ∷ past) run };
+        counted = no_wake_is_lost z parties (e ∷ past) run;
+        woken = readers_are_woken z parties (e ∷ past) run;
+      };
     }

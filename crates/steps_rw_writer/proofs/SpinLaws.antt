@@ -1,6 +1,6 @@
 -- How often a call of a writer-preferring lock has spun, at each of its places.
 use Rattle.std.proofs.Common.{◌≡◌, ℕ, ◌+◌, ◌-◌, ◌^◌, ◌<◌, ◌≤◌, ◌==◌, refl, sym, ◌∙◌, ap, subst, Bool, true, false, cond, ◌||◌, List, [], ◌∷◌, Option, Some, None, arith}
-use Rattle.std.specs.Prelude.{MatchBool, MatchOption, nat_lt, not}
+use Rattle.std.specs.Prelude.{nat_lt, not}
 use Rattle.steps_events.specs.declared.WaitAction.{WaitAction}
 use Rattle.steps_events.specs.declared.event.Word.{Word}
 use Rattle.steps_events.specs.declared.event.Word.TheVariants as words
@@ -232,15 +232,14 @@ last_look_spun {T} c hold number count v patience call spun loaded = by_test (is
     so = (spun.0 ∙ sym spun.1, omega (arith, spun.1), spun.3 ∙ sym spun.4)
 
     by_test : (b : Bool) → SpunAfter {T = T} c hold number (acts.Load words.State v) (cond b (afters.Waits (places.WriteLook patience) count) (write_look patience v))
-    by_test true =
-        (
-          (call, (omega (arith, so.0), so.1, so.2), refl),
-          (
-            subst (λ (k : Call T). spins_of k c.own ≡ 10000) (sym call) spun.0,
-            subst (λ (k : Call T). told_by k c.own (acts.Load words.State v) ≡ Some count) (sym call) (ap count_told loaded),
-            spun.3,
-          ),
-        )
+    by_test true = (
+      (call, (omega (arith, so.0), so.1, so.2), refl),
+      (
+        subst (λ (k : Call T). spins_of k c.own ≡ 10000) (sym call) spun.0,
+        subst (λ (k : Call T). told_by k c.own (acts.Load words.State v) ≡ Some count) (sym call) (ap count_told loaded),
+        spun.3,
+      ),
+    )
     by_test false = write_look_spun c hold number (acts.Load words.State v) patience v call so (refl, refl) refl
 
 write_enters_spun :
