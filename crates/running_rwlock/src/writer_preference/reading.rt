@@ -38,48 +38,18 @@ impl<A: Allocator> RwLockWriterPreference<A> {
         ensures entered { IfOk result (λ _. HasEnteredToRead pass.old pass.new) }
         ensures refused { IfErr result (λ seen. WasRefusedAt IsShut seen 1 pass.old pass.new) }
         ensures once { IfErr result (λ _. IsOnly (part_of pass.old) (tally_of pass.old) → (sights_of pass.new).count ≡ (sights_of pass.old).count + 1) }
-    {
-        match self.read_at_once(pass) {
-            Ok(()) => Ok(()),
-            Err(seen) => self.read_from(rt, pass, seen),
-        }
-    }
-
-    /// Looks, and turns a read hold on where a reader enters, unless another party writes in between. `Err` with the value seen last.
-    #[inline(always)]
-    fn read_at_once(&self, pass: &mut Pass<MarkedHolds>) -> Result<(), u64>
-        requires own { IsPassOf self.now.words pass.old }
-        ensures entered { IfOk result (λ _. HasEnteredToRead pass.old pass.new) }
-        ensures saw { IfErr result (λ seen. WasRefused (λ last. last ≡ seen) 1 pass.old pass.new) }
-        ensures once { IfErr result (λ seen. IsOnly (part_of pass.old) (tally_of pass.old) → IsShut seen × ((sights_of pass.new).count ≡ (sights_of pass.old).count + 1)) }
         ensures exact { IsAloneWithin pass.old → is_ok result ≡ true }
     {
-        let seen = self.look(pass);
-        let Some(more) = reader_enters(seen) else {
-            return Err(seen);
-        };
-        let found = self.come_to_read(pass, seen, more);
-        if found == seen { Ok(()) } else { Err(found) }
-    }
-
-    /// From the value seen last turns a read hold on while a reader enters. `Err` with a value at which none did.
-    fn read_from<R: Wait>(&self, rt: &R, pass: &mut Pass<MarkedHolds>, seen: u64) -> Result<(), u64>
-        requires own { IsPassOf self.now.words pass.old }
-        requires seen { (sights_of pass.old).last ≡ seen }
-        ensures entered { IfOk result (λ _. HasEnteredToRead pass.old pass.new) }
-        ensures refused { IfErr result (λ last. WasRefusedAt IsShut last 0 pass.old pass.new) }
-        ensures shut { IsShut seen → (sights_of pass.new).count ≡ (sights_of pass.old).count }
-    {
-        let mut last = seen;
+        let mut seen = self.look(pass);
         for _ in rt.forever() {
-            let Some(more) = reader_enters(last) else {
-                return Err(last);
+            let Some(more) = reader_enters(seen) else {
+                return Err(seen);
             };
-            let found = self.come_to_read(pass, last, more);
-            if found == last {
+            let found = self.come_to_read(pass, seen, more);
+            if found == seen {
                 return Ok(());
             }
-            last = found;
+            seen = found;
         }
         unreachable!()
     }
@@ -99,32 +69,11 @@ impl<A: Allocator> RwLockWriterPreference<A> {
         ensures aborted { result ≡ false → MayAnswerAbort W.Fn wait.now IsShut }
         ensures asked { IsOnly (part_of pass.old) (tally_of pass.old) → result ≡ false → HasAsked W.Fn wait.now IsShut 10001 pass.old pass.new }
     {
-        match self.read_at_once(pass) {
+        match self.read_unless_shut(rt, pass) {
             Ok(()) => true,
-            Err(seen) => self.wait_from(pass, rt, wait, seen),
-        }
-    }
-
-    /// So from the value seen last.
-    fn wait_from<R: Wait, W: Fn(&WaitWord, &u64) -> WaitAction>(
-        &self,
-        pass: &mut Pass<MarkedHolds>,
-        rt: &R,
-        wait: &W,
-        seen: u64,
-    ) -> bool
-        requires own { IsPassOf self.now.words pass.old }
-        requires may { W.IsAlwaysCallable wait.now }
-        requires seen { (sights_of pass.old).last ≡ seen }
-        ensures entered { MatchBool result (HasEnteredToRead pass.old pass.new) (WasRefused IsShut 10001 pass.old pass.new) }
-        ensures aborted { result ≡ false → MayAnswerAbort W.Fn wait.now IsShut }
-        ensures asked { IsOnly (part_of pass.old) (tally_of pass.old) → IsShut seen → result ≡ false → HasAsked W.Fn wait.now IsShut 10000 pass.old pass.new }
-    {
-        match self.read_from(rt, pass, seen) {
-            Ok(()) => true,
-            Err(last) => {
+            Err(seen) => {
                 let reader = Reader { lock: self };
-                try_again(rt, &reader, pass, &self.word(), last, wait)
+                try_again(rt, &reader, pass, &self.word(), seen, wait)
             }
         }
     }
