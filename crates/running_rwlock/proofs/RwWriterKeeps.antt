@@ -2,7 +2,6 @@
 use Rattle.std.proofs.Common.{◌≡◌, ◌≢◌, ℕ, ◌+◌, ◌-◌, ◌*◌, ◌%◌, ◌^◌, ◌<◌, ◌≤◌, eqb, List, [], ◌∷◌, get_or, set, refl, sym, ap, ◌∙◌, subst, arith, length-set, get_or-set_same}
 use Rattle.std.proofs.lemmas.List.{get_or-set_other}
 use mathlib.Core.Logic.{dite}
-use mathlib.Core.Option as maybe
 use native.Mathlib.Decide.{ℕ_discrete}
 use prog.Atomic.{either}
 use Rattle.passes.specs.declared.part.Sights.{Sights}
@@ -12,14 +11,13 @@ use Rattle.passes.specs.Sights.{seen, seen_instead}
 use Rattle.passes.specs.Views.{view_of, looked, missed, wrote, sum_of, Updates}
 use Rattle.passes.proofs.Sums.{sum_of_two}
 use Rattle.passes.proofs.Updates.{by_look, by_exchange}
-use Rattle.tallies.specs.declared.held.Held.TheVariants.{Free, Reading, Writing, Torn}
 use Rattle.tallies.specs.declared.rw_writer.MarkedHolds.{MarkedHolds}
 use Rattle.tallies.specs.Held.{read_holds, write_holds, Knows, Locks}
 use Rattle.tallies.specs.HeldTally.{same_nothing, tells_same_nothing}
 use Rattle.tallies.specs.RwReaderRule.{Holds, no_holds, both_holds}
-use Rattle.tallies.specs.RwWriterRule.{marked, nothing_marked, both_marked, IsMarkedOrHeld, RwWriterAgrees}
+use Rattle.tallies.specs.RwWriterRule.{nothing_marked, both_marked, IsMarkedOrHeld, RwWriterAgrees}
 use Rattle.tallies.specs.RwWriterTally.{marked_add_up}
-use Rattle.running_rwlock.specs.RwWriterSteps.{NoHoldBesideTheWriter, NoMarkWithoutAFlag, IsMarked, word_of, read, no_more_read, written, no_more_written, flagged, SaysAlone, Loaded, IsSeenByWriter, LoadedToWrite, Missed, ReaderIn, ReaderOut, WriterIn, WriterOut, SetsMark, TakesMark, Unchanged}
+use Rattle.running_rwlock.specs.RwWriterSteps.{NoHoldBesideTheWriter, NoMarkWithoutAFlag, IsMarked, word_of, read, no_more_read, written, no_more_written, flagged, SaysAlone, Loaded, IsSeenByWriter, LoadedToWrite, ReaderIn, ReaderOut, WriterIn, WriterOut, SetsMark, TakesMark, Unchanged}
 use Rattle.running_rwlock.proofs.HeldKeeps.{comes_in, goes_out, takes_over, steps_down, parts, only_writes, only_reads}
 
 -- how many holds stand, as the word of a lock without a mark would say it

@@ -13,7 +13,7 @@ use Rattle.tallies.specs.declared.held.Held.TheVariants.{Writing}
 use Rattle.tallies.specs.declared.rw_writer.MarkedHolds.{MarkedHolds}
 use Rattle.tallies.specs.Held.{read_holds, write_holds, reader_in, reader_out}
 use Rattle.tallies.specs.HeldTally.{same_nothing}
-use Rattle.tallies.specs.RwReaderRule.{Holds, no_holds}
+use Rattle.tallies.specs.RwReaderRule.{no_holds}
 use Rattle.tallies.specs.RwWriterRule.{marked, nothing_marked, both_marked, RwWriterAgrees}
 
 -- whenever the rule holds, no pass has a hold where another has a write hold
