@@ -273,29 +273,46 @@ fn wait_twice<R: Wait>(
 ) -> Option<(bool, bool)>
     requires own { IsCondPass cond.now pass.old × IsMutexPass mutex.now mtx_pass.old }
 {
-    let first = wait_once(rt, cond, pass, mutex, mtx_pass, |_, _| {
-        asked.give();
-        if done.awaited() {
-            WaitAction::Abort
-        } else {
-            WaitAction::Continue
-        }
-    })?;
-    let second = wait_once(rt, cond, pass, mutex, mtx_pass, |_, _| WaitAction::Abort)?;
+    let first = wait_once(
+        rt,
+        cond,
+        pass,
+        mutex,
+        mtx_pass,
+        |_| (),
+        |_, _| {
+            asked.give();
+            if done.awaited() {
+                WaitAction::Abort
+            } else {
+                WaitAction::Continue
+            }
+        },
+    )?;
+    let second = wait_once(
+        rt,
+        cond,
+        pass,
+        mutex,
+        mtx_pass,
+        |_| (),
+        |_, _| WaitAction::Abort,
+    )?;
     Some((first, second))
 }
 
-/// Locks, waits with this closure, and unlocks. Whether the wait took a permit, where it has the mutex.
-fn wait_once<R: Wait, W: Fn(&WaitWord, &u64) -> WaitAction>(
+/// Locks, waits with these closures, and unlocks. Whether the wait took a permit, where it has the mutex.
+fn wait_once<R: Wait, K: Fn(&WaitWord), W: Fn(&WaitWord, &u64) -> WaitAction>(
     rt: &R,
     cond: &ConditionVariable,
     pass: &mut CondPass,
     mutex: &Mutex,
     mtx_pass: &mut MutexPass,
+    mtx_wake_one: K,
     wait: W,
 ) -> Option<bool>
     requires own { IsCondPass cond.now pass.old × IsMutexPass mutex.now mtx_pass.old }
-    requires may { W.IsAlwaysCallable wait }
+    requires may { K.IsAlwaysCallable mtx_wake_one × W.IsAlwaysCallable wait }
     ensures stayed { HasStayed pass.old pass.new }
     ensures same { IsSamePass mtx_pass.old mtx_pass.new }
 {
@@ -308,7 +325,7 @@ fn wait_once<R: Wait, W: Fn(&WaitWord, &u64) -> WaitAction>(
         rt,
         pass,
         mutex,
-        |_| (),
+        mtx_wake_one,
         wait,
         |_, _| WaitAction::Abort,
     );
@@ -367,47 +384,109 @@ fn a_sleeper_is_counted_and_the_mutex_is_free(rt: HostRuntime) -> Result<(), Fai
     Ok(())
 }
 
-/// Locks the mutex once the other thread sleeps, and holds it until that one's wait is over.
-fn lock_out_the_sleeper(
-    mutex: &Mutex,
-    pass: &mut MutexPass,
-    asked: &Signal,
-    locked: &Signal,
-    over: &Signal,
+/// Notifies as soon as the other thread has unlocked, and tells it.
+fn notify_the_unlocker(
+    cond: &ConditionVariable,
+    pass: &mut CondPass,
+    unlocked: &Signal,
+    notified: &Signal,
 ) -> bool
-    requires own { IsMutexPass mutex.now pass.old }
+    requires own { IsCondPass cond.now pass.old }
 {
-    let was_asked = asked.awaited();
-    match Mutex::try_lock(pass, mutex) {
+    let was_unlocked = unlocked.awaited();
+    cond.notify_one(pass, |_| ());
+    notified.give();
+    was_unlocked
+}
+
+/// A notify by whoever has the mutex next is not lost: the waiter was counted before it unlocked. So it takes a permit, although its
+/// closure answers `Abort`.
+#[test]
+fn a_waiter_is_counted_before_it_unlocks(rt: HostRuntime) -> Result<(), Fail> {
+    let (mutex, mut mtx_pass) = Mutex::new(rt.alloc())?;
+    let (cond, pass) = ConditionVariable::new(rt.alloc())?;
+    let Ok((mut one, mut two)) = pass.split(&cond) else {
+        unreachable!()
+    };
+    let (unlocked, notified) = (Signal::new(), Signal::new());
+    let (was_unlocked, took) = thread::join(
+        &rt,
+        || notify_the_unlocker(&cond, &mut one, &unlocked, &notified),
+        || {
+            wait_once(
+                &rt,
+                &cond,
+                &mut two,
+                &mutex,
+                &mut mtx_pass,
+                |_| {
+                    unlocked.give();
+                    let _ = notified.awaited();
+                },
+                |_, _| WaitAction::Abort,
+            )
+        },
+    );
+    assert!(rt; was_unlocked);
+    assert_eq!(rt; took, Some(true));
+    Ok(())
+}
+
+/// How far a sleeper and the thread that locks it out have come.
+#[derive(Drop)]
+struct LockOut {
+    asked: Signal,
+    locked: Signal,
+    locking: Signal,
+    notified: Signal,
+    over: Signal,
+    freed: Signal,
+}
+
+/// Locks the mutex once the other thread sleeps, notifies once that one locks, and holds the mutex until its wait is over.
+fn lock_out_the_sleeper(
+    cond: &ConditionVariable,
+    pass: &mut CondPass,
+    mutex: &Mutex,
+    mtx_pass: &mut MutexPass,
+    steps: &LockOut,
+) -> bool
+    requires own { IsCondPass cond.now pass.old × IsMutexPass mutex.now mtx_pass.old }
+{
+    let was_asked = steps.asked.awaited();
+    match Mutex::try_lock(mtx_pass, mutex) {
         WaitResult::Success(hold) => {
-            locked.give();
-            let was_over = over.awaited();
+            steps.locked.give();
+            let was_locking = steps.locking.awaited();
+            cond.notify_one(pass, |_| ());
+            steps.notified.give();
+            let was_over = steps.over.awaited();
             mutex.unlock(hold, |_| ());
-            was_asked && was_over
+            steps.freed.give();
+            was_asked && was_locking && was_over
         }
         WaitResult::Interrupted => false,
     }
 }
 
-/// Waits with closures that answer `Abort`, that of the wait once the other thread has locked the mutex. Whether the wait gave up without
-/// the mutex, and how often that of the mutex was called.
+/// Waits with closures that answer `Abort`, that of the wait once the other thread has locked the mutex, that of the mutex once it has
+/// notified. Then waits again, once the mutex is free. Where the first wait gave up without the mutex: how often it called the closure of the
+/// mutex, and whether the second took a permit.
 fn wait_locked_out<R: Wait>(
     rt: &R,
     cond: &ConditionVariable,
     pass: &mut CondPass,
     mutex: &Mutex,
     mtx_pass: &mut MutexPass,
-    asked: &Signal,
-    locked: &Signal,
-    over: &Signal,
-) -> Option<u64>
+    steps: &LockOut,
+) -> Option<(u64, bool)>
     requires own { IsCondPass cond.now pass.old × IsMutexPass mutex.now mtx_pass.old }
 {
     let calls = AtomicU64::new(0);
     let WaitResult::Success(hold) = Mutex::try_lock(mtx_pass, mutex) else {
         return None;
     };
-    let answer = ConditionVariable::wait(
+    let answer = ConditionVariable::wait_held(
         hold,
         cond,
         rt,
@@ -415,8 +494,8 @@ fn wait_locked_out<R: Wait>(
         mutex,
         |_| (),
         |_, _| {
-            asked.give();
-            if locked.awaited() {
+            steps.asked.give();
+            if steps.locked.awaited() {
                 WaitAction::Abort
             } else {
                 WaitAction::Continue
@@ -424,44 +503,58 @@ fn wait_locked_out<R: Wait>(
         },
         |_, _| {
             calls.fetch_add(1, Ordering::SeqCst);
+            steps.locking.give();
+            let _ = steps.notified.awaited();
             WaitAction::Abort
         },
     );
-    over.give();
+    steps.over.give();
     match answer {
-        CondResult::Success(hold) | CondResult::Interrupted(Some(hold)) => {
+        WaitResult::Success(Woken::Signalled(hold) | Woken::Unsignalled(hold)) => {
             mutex.unlock(hold, |_| ());
             None
         }
-        CondResult::Interrupted(None) => Some(calls.load(Ordering::SeqCst)),
+        WaitResult::Interrupted => {
+            let _ = steps.freed.awaited();
+            let took = wait_once(
+                rt,
+                cond,
+                pass,
+                mutex,
+                mtx_pass,
+                |_| (),
+                |_, _| WaitAction::Abort,
+            )?;
+            Some((calls.load(Ordering::SeqCst), took))
+        }
     }
 }
 
+/// It is counted no more once it locks, so the notify that comes then gives no permit, and its next wait takes none.
 #[test]
 fn gives_up_without_the_mutex(rt: HostRuntime) -> Result<(), Fail> {
     let (mutex, pass) = Mutex::new(rt.alloc())?;
     let Ok((mut mtx_one, mut mtx_two)) = pass.split(&mutex) else {
         unreachable!()
     };
-    let (cond, mut pass) = ConditionVariable::new(rt.alloc())?;
-    let (asked, locked, over) = (Signal::new(), Signal::new(), Signal::new());
+    let (cond, pass) = ConditionVariable::new(rt.alloc())?;
+    let Ok((mut one, mut two)) = pass.split(&cond) else {
+        unreachable!()
+    };
+    let steps = LockOut {
+        asked: Signal::new(),
+        locked: Signal::new(),
+        locking: Signal::new(),
+        notified: Signal::new(),
+        over: Signal::new(),
+        freed: Signal::new(),
+    };
     let (was_over, asked_again) = thread::join(
         &rt,
-        || lock_out_the_sleeper(&mutex, &mut mtx_one, &asked, &locked, &over),
-        || {
-            wait_locked_out(
-                &rt,
-                &cond,
-                &mut pass,
-                &mutex,
-                &mut mtx_two,
-                &asked,
-                &locked,
-                &over,
-            )
-        },
+        || lock_out_the_sleeper(&cond, &mut one, &mutex, &mut mtx_one, &steps),
+        || wait_locked_out(&rt, &cond, &mut two, &mutex, &mut mtx_two, &steps),
     );
     assert!(rt; was_over);
-    assert_eq!(rt; asked_again, Some(1));
+    assert_eq!(rt; asked_again, Some((1, false)));
     Ok(())
 }
