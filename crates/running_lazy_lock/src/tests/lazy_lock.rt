@@ -58,12 +58,35 @@ fn the_closure_is_taken_once(rt: HostRuntime) -> Result<(), Fail> {
     Ok(())
 }
 
+/// Waits until both threads are here, and forces.
+fn meet_and_force<F: FnOnce() -> u64 + Drop, R: Wait>(
+    rt: &R,
+    lazy: &LazyLock<u64, F>,
+    pass: &mut LazyPass,
+    here: &AtomicU64,
+) -> u64
+    requires own { IsLazyPass lazy.now pass.old }
+    requires may { (f : F) → F.IsAlwaysCallable f }
+{
+    here.fetch_add(1, Ordering::SeqCst);
+    for _ in 0..1_000_000u64 {
+        if here.load(Ordering::SeqCst) == 2 {
+            break;
+        }
+        thread::yield_now();
+    }
+    *LazyLock::force(lazy, rt, pass)
+}
+
 #[test]
 fn two_threads_force_one_value(rt: HostRuntime) -> Result<(), Fail> {
     let calls = AtomicU64::new(0);
+    let here = AtomicU64::new(0);
     let made = LazyLock::new(rt.alloc(), || -> u64 {
         calls.fetch_add(1, Ordering::SeqCst);
-        thread::yield_now();
+        for _ in 0..100u64 {
+            thread::yield_now();
+        }
         42
     });
     let Ok((lazy, pass)) = made else {
@@ -74,8 +97,8 @@ fn two_threads_force_one_value(rt: HostRuntime) -> Result<(), Fail> {
     };
     let (first, second) = thread::join(
         &rt,
-        || *LazyLock::force(&lazy, &rt, &mut one),
-        || *LazyLock::force(&lazy, &rt, &mut two),
+        || meet_and_force(&rt, &lazy, &mut one, &here),
+        || meet_and_force(&rt, &lazy, &mut two, &here),
     );
     assert_eq!(rt; (first, second), (42, 42));
     assert_eq!(rt; calls.load(Ordering::SeqCst), 1);
