@@ -477,6 +477,23 @@ fn write_and_wake(lock: &RwLockWriterPreference, pass: &mut RwWriterPass, calls:
     }
 }
 
+/// A writer that waits is told the count: the first 0, and one that comes after that has given up 1.
+#[test]
+fn a_waiting_writer_is_told_the_count(rt: HostRuntime) -> Result<(), Fail> {
+    let (lock, pass) = RwLockWriterPreference::new(rt.alloc())?;
+    let Ok((mut one, mut two)) = pass.split(&lock) else {
+        unreachable!()
+    };
+    let (first, second) = (Calls::new(), Calls::new());
+    let answers = give_up_beside_a_reader(&rt, &lock, &mut one, &mut two, &first);
+    assert_eq!(rt; answers, Some((true, false)));
+    assert_eq!(rt; first.recorded(), (123, 0, 1, 2));
+    let answers = give_up_beside_a_reader(&rt, &lock, &mut one, &mut two, &second);
+    assert_eq!(rt; answers, Some((true, false)));
+    assert_eq!(rt; second.recorded(), (123, 1, 2, 2));
+    Ok(())
+}
+
 /// A reader wakes nobody where no mark is set. A writer wakes one, and then all, after its store and its count.
 #[test]
 fn a_writer_that_leaves_wakes(rt: HostRuntime) -> Result<(), Fail> {
