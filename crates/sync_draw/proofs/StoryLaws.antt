@@ -1,5 +1,5 @@
 -- A story has the first rows of a text's trace, and the last line of its output.
-use Rattle.std.proofs.Common.{◌≡◌, ℕ, ◌+◌, ◌<◌, ◌≤◌, min, List, [], ◌∷◌, ◌++◌, length, get_or, map, take, Option, Some, None, Ok, Err, refl, sym, ap, subst, ◌∙◌, arith}
+use Rattle.std.proofs.Common.{◌≡◌, ℕ, ◌+◌, ◌-◌, ◌<◌, ◌≤◌, min, List, [], ◌∷◌, ◌++◌, length, get_or, map, take, Option, Some, None, Ok, Err, refl, sym, ap, subst, ◌∙◌, arith}
 use Rattle.std.proofs.lemmas.List.{take_more, map-append, length-take}
 use Rattle.std.proofs.lemmas.Simd.{map-map}
 use Rattle.std.specs.List.{take-map}
@@ -22,7 +22,7 @@ use Rattle.sync_trace.specs.Rows.{Entry, entry_of, entries}
 use Rattle.sync_trace.specs.Trace.{HasAdded, HasPlayed, RowsAndFault, rows_of}
 use Rattle.sync_trace.proofs.TraceLaws.{rows_read}
 use Rattle.sync_draw.specs.declared.story.Step.{Step}
-use Rattle.sync_draw.specs.Story.{Shown, shown_of, shown_at, HasOutput}
+use Rattle.sync_draw.specs.Story.{Shown, shown_of, shown_at, number_at_end, left_out, HasOutput}
 use Rattle.sync_draw.specs.Title.{title_words}
 
 abbrev Ev : Type 0
@@ -39,6 +39,23 @@ one_more {A} {B} {C} f g made made' from i a b below is was push same =
 
 pub kept_fits : (rows kept : List Row) → kept ≡ take 2000 rows → length kept ≤ 2000
 kept_fits rows kept is = let most : length kept ≡ min 2000 (length rows) = ap length is ∙ length-take 2000 rows in omega (arith, most)
+
+at_end : (rows : List Entry) (row : Entry) → number_at_end (rows ++ row ∷ []) ≡ row.last
+at_end [] row = refl
+at_end (r ∷ []) row = refl
+at_end (r ∷ next ∷ rows) row = at_end (next ∷ rows) row
+
+pub ends_at : (rows rest : List Row) (row : Row) → rows ≡ rest ++ row ∷ [] → row.last ≡ number_at_end (entries rows)
+ends_at rows rest row is = sym (ap (λ (l : List Row). number_at_end (entries l)) is ∙ ap number_at_end (map-append entry_of rest (row ∷ [])) ∙ at_end (entries rest) (entry_of row))
+
+pub ends_nowhere : (rows : List Row) → length rows ≡ 0 → 0 ≡ number_at_end (entries rows)
+ends_nowhere [] none = refl
+ends_nowhere (row ∷ rows) none = absurd (omega (arith, none))
+
+pub leaves_out : (rows kept : List Row) (all some : ℕ) → kept ≡ take 2000 rows → all ≡ number_at_end (entries rows) → some ≡ number_at_end (entries kept) → all - some ≡ left_out (entries rows)
+leaves_out rows kept all some cut e f =
+    let same : entries kept ≡ take 2000 (entries rows) = ap entries cut ∙ sym (take-map entry_of 2000 rows) in
+    rw (e, f, same) refl
 
 -- A text is walked from its first line on.
 
@@ -70,6 +87,12 @@ ends_output text header rest old new machine none last is line left told absent 
       text_walk text header rest is line left ∙ ap (λ (f : Option FaultyLine). output_unless f (front ++ last_line header.object (after (events_in walk.steps) []))) (sym added.1 ∙ absent)
           ∙ ap (λ (l : List ℕ). Ok (front ++ l)) (sym line_is),
     )
+
+-- the rows that were read are the text's
+pub rows_are : (text : List ℕ) (header : Header) (rest : Rest) (none rows all : List Row) → opened (lines_of text) ≡ Ok (header, lines_of rest.lines.now) → rest.line ≡ 1 → rest.left ≡ nothing → none ≡ [] →
+    (told : Option FaultyLine) → HasAdded header [] (rest_walk header.object header.parties [] rest) none rows told → all ≡ rows → entries all ≡ (rows_of text).rows
+rows_are text header rest none rows all is line left empty told added same =
+    ap entries same ∙ ap (λ (r : RowsAndFault). r.rows) (rows_read text header rest none rows told is line left empty added)
 
 -- the steps that are drawn
 pub tells : (text : List ℕ) (header : Header) (rest : Rest) (none rows all kept : List Row) (steps : List Step) → opened (lines_of text) ≡ Ok (header, lines_of rest.lines.now) → rest.line ≡ 1 → rest.left ≡ nothing → none ≡ [] →

@@ -1,11 +1,13 @@
 -- What a picture keeps of a text: the first rows of its trace.
-use Rattle.std.specs.Prelude.{◌≡◌, ℕ, ◌-◌, List, ◌++◌, map, take, Option, Result, Ok, string_bytes}
+use Rattle.std.specs.Prelude.{◌≡◌, ℕ, ◌-◌, List, [], ◌∷◌, ◌++◌, map, take, Option, Result, Ok, string_bytes}
 use Rattle.steps_events.specs.declared.event.Event.{Event}
 use Rattle.steps_events.specs.declared.hold.HoldKind.{HoldKind}
 use Rattle.sync_play.specs.Fault.{FaultAt}
+use Rattle.sync_play.specs.Lexer.{lines_of}
 use Rattle.sync_play.specs.Text.{output_of}
 use Rattle.sync_trace.specs.Rows.{Entry, number_after}
 use Rattle.sync_trace.specs.Trace.{rows_of}
+use Rattle.sync_walk.specs.Walk.{opened}
 use Rattle.sync_draw.specs.declared.story.Step.{Step}
 use Rattle.sync_draw.specs.declared.story.Story.{Story}
 use Rattle.sync_draw.specs.Title.{title_words}
@@ -30,6 +32,20 @@ kept rows = take 2000 rows
 -- the steps are the rows of the text's trace, as far as they have room
 abbrev pub HasTold : List ℕ → Story → Type 0
 HasTold text story = map shown_of story.steps.items ≡ map shown_at (kept (rows_of text).rows)
+
+-- the number of the last step of these rows; 0 where there is none
+abbrev pub number_at_end : List Entry → ℕ
+number_at_end [] = 0
+number_at_end (row ∷ []) = row.last
+number_at_end (row ∷ next ∷ rows) = number_at_end (next ∷ rows)
+
+-- how many steps come after those of the rows that are kept
+abbrev pub left_out : List Entry → ℕ
+left_out rows = number_at_end rows - number_at_end (kept rows)
+
+-- the object and the parties are those that the first line of the text names
+abbrev pub IsOpenedBy : List ℕ → Story → Type 0
+IsOpenedBy text story = (lines : List (List ℕ)) × (opened (lines_of text) ≡ Ok (record { object = story.object; parties = story.parties }, lines))
 
 -- the text has an output, and so no fault
 abbrev pub HasOutput : Result (List ℕ) FaultAt → Type 0
