@@ -119,8 +119,10 @@ group_more titles title inside b0 b1 b2 b3 b4 b5 h k same e1 e2 e3 e4 e5 =
   where
     six' : (a b c d e f : List ℕ) → ((((a ++ b) ++ c) ++ d) ++ e) ++ f ≡ a ++ (b ++ (c ++ (d ++ (e ++ f))))
     six' a b c d e f = simp append_assoc
+
     end : codes "</g>\n" ≡ codes "</g>" ++ shown 10
     end = ap (λ (l : List ℕ). codes "</g>" ++ l) (sym (encode_ascii 10 (omega arith)))
+
     whole : b5 ≡ b0 ++ group_line (chars title) inside
     whole = rw (e5, e4, e3, e2, e1) (six' b0 (codes "<g><title>") (flat_map shown (chars title)) (codes "</title>") inside (codes "</g>\n") ∙ ap (λ (l : List ℕ). b0 ++ (codes "<g><title>" ++ (flat_map shown (chars title) ++ (codes "</title>" ++ (inside ++ l))))) end)
 

@@ -36,7 +36,16 @@ fn groups_stand_between_other_markup(rt: HostRuntime) -> Result<(), Fail> {
     let mut before = Markup::new(rt.alloc());
     before.say("<")?;
     let inside = Opening::new(rt.alloc(), Tag::Circle)?.empty()?;
-    let groups = vec![in rt.alloc(); Group { title: "1 & 2", inside }, Group { title: "", inside: Markup::new(rt.alloc()) }]?;
+    let groups = vec![in rt.alloc();
+        Group {
+            title: "1 & 2",
+            inside
+        },
+        Group {
+            title: "",
+            inside: Markup::new(rt.alloc())
+        },
+    ]?;
     let mut after = Markup::new(rt.alloc());
     after.say("→")?;
     let picture = Opening::new(rt.alloc(), Tag::Svg)?.whole_with(&before, &groups, &after)?;
