@@ -1,8 +1,3 @@
-use Rattle.std.proofs.Common.{ap, subst, ℕ, ◌++◌, List, take}
-use Rattle.std.proofs.lemmas.List.{take_all}
-use Rattle.std.specs.Prelude.{string_bytes}
-use Rattle.markup.specs.Group.{titles_of}
-use Rattle.markup.specs.Tree.{IsMarkup}
 use Rattle.markup.proofs.Trees.{groups_begin, groups_more, groups_all}
 use Rattle.markup.proofs.group.push_groups.Goals as goal
 
