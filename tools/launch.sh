@@ -1,7 +1,11 @@
-# Runs a program of this repository. It is built first where it is missing, or where its sources are not those it was built of.
+# Runs a program of this repository, or proves and builds it.
 #
-# Sourced by a script at the top that bears the program's name and sets `top`, the repository's folder, and `crate`, the program's.
-# Status: the program's own, or 3 where it could not be built or started.
+# Sourced, with the call's arguments, by a script at the top that bears the program's name and sets `top`, the repository's folder,
+# `crate`, the program's, and `does`, what it does, in a few words.
+#
+# A program that stands is run, and one whose sources are no longer those that it was built of is built again first. Where none has been
+# built, the sources are run as they are, unproved, by `rt try`: that takes a minute, and a build many.
+# Status: the program's own, or 3 where it could not be built or started, 4 where the arguments are none that are known.
 set -euo pipefail
 shopt -s execfail lastpipe globstar nullglob
 
@@ -20,28 +24,40 @@ fail() {
     exit 3
 }
 
-# Sets `sources`: crates.txt, and all that is in the folders of the crate and of each crate of this repository that it stands on.
+# Sets `crates`: this program's and each of this repository that it stands on, each after those that it stands on itself; `lines`, what
+# crates.txt says of them; and `sources`, all that is in their folders.
 find_sources() {
-    local -A below=()
-    local line dep part at
+    local -A below=() seen=()
+    local line dep part
     while IFS= read -r line; do
         line=${line%%#*}
         if [[ $line == *:* ]]; then
             below[${line%%[:[:space:]]*}]=${line#*:}
+            line_of[${line%%[:[:space:]]*}]=$line
         fi
     done <crates.txt
-    local crates=("$crate")
-    sources=(crates.txt)
-    for ((at = 0; at < ${#crates[@]}; at++)); do
-        for dep in ${below[${crates[at]}]-}; do
-            if [[ -v below[$dep] && " ${crates[*]} " != *" $dep "* ]]; then
-                crates+=("$dep")
-            fi
-        done
+    crates=()
+    add_crate "$crate"
+    lines=()
+    sources=()
+    for dep in "${crates[@]}"; do
+        lines+=("${line_of[$dep]}")
         for part in src specs proofs; do
-            sources+=("crates/${crates[at]}/$part"/**)
+            sources+=("crates/$dep/$part"/**)
         done
     done
+}
+
+# Adds a crate to `crates`, after all that it stands on: add_crate CRATE.
+add_crate() {
+    local dep
+    seen[$1]=seen
+    for dep in ${below[$1]-}; do
+        if [[ -v below[$dep] && ! -v seen[$dep] ]]; then
+            add_crate "$dep"
+        fi
+    done
+    crates+=("$1")
 }
 
 sum_of_sources() {
@@ -51,7 +67,7 @@ sum_of_sources() {
             files+=("$source")
         fi
     done
-    sha256sum -- "${files[@]}" | LC_ALL=C sort | sha256sum
+    { printf '%s\n' "${lines[@]}" && sha256sum -- "${files[@]}"; } | LC_ALL=C sort | sha256sum
 }
 
 sum_of_program() {
@@ -60,13 +76,11 @@ sum_of_program() {
 
 is_current() {
     local source
-    if [[ ! -x $program ]]; then
-        return 1
-    elif [[ -r $built_of ]]; then
-        [[ $(<"$built_of") == "$1"$'\n'"$(sum_of_program)" ]]
+    if [[ -r $built_of ]]; then
+        [[ $(<"$built_of") == "$sum"$'\n'"$(sum_of_program)" ]]
     else
         # `rt ci` or `rt run` has built it.
-        for source in "${sources[@]}"; do
+        for source in crates.txt "${sources[@]}"; do
             if [[ $source -nt $program ]]; then
                 return 1
             fi
@@ -74,14 +88,14 @@ is_current() {
     fi
 }
 
-# Reads what rt says into `said`. Tells of a wait for another rt, and that it builds (`building`) once that takes `patience` seconds.
+# Reads what rt says into `said`. Tells of a wait for another rt, and says `working` once that takes `patience` seconds.
 listen() {
-    local line part= waits= took= status
+    local line part= took= status
     SECONDS=0
     while true; do
         if [[ -z $took ]] && ((SECONDS >= patience)); then
             took=told
-            say "$building"
+            say "$working"
         fi
         status=0
         IFS= read -r -t 1 line || status=$?
@@ -102,34 +116,102 @@ listen() {
     fi
 }
 
-build() {
+need_rt() {
     command -v rt >/dev/null || fail "the program has to be built first, and the kit's command rt is not on PATH"
+}
+
+# Proves and builds each crate that the program stands on, lowest first, and then the program. Says which, where that takes seconds.
+build() {
+    need_rt
     mkdir -p -- "$folder/out" 2>/dev/null && [[ -w $folder/out ]] ||
         fail "the program has to be built first, and $folder/out cannot be written"
-    local said=() patience=0
-    local building="building the program; the first time this proves everything it stands on, which takes some minutes"
+    local at said waits= patience working
     if [[ -x $program ]]; then
-        patience=20
-        building="building the program again, since a source has changed"
+        patience=5
+    else
+        patience=2
+        say "building the program; the first time this proves everything it stands on, which takes some minutes"
     fi
-    # rt runs what it has built: here on the crate's stored run, so that the caller's input is left alone.
-    if ! { cd -- "$folder" && rt run <stdin 2>&1; } | listen; then
-        printf '%s\n' "${said[@]}" | tail -n 20 >&2 || true
-        if { printf '%s\n' "${said[@]}" >"$folder/out/build.log"; } 2>/dev/null; then
-            fail "the program was not built; all that rt said is in $folder/out/build.log"
-        fi
-        fail "the program was not built"
-    fi
+    for ((at = 0; at < ${#crates[@]}; at++)); do
+        working="building: $((at + 1)) of ${#crates[@]}: ${crates[at]}"
+        build_crate "${crates[at]}"
+    done
     [[ -x $program ]] || fail "rt run ended well, but left no $program"
     # The sum was taken before the build, so what was edited meanwhile is built at the next call.
-    { printf '%s\n' "$1" "$(sum_of_program)" >"$built_of"; } 2>/dev/null || true
+    { printf '%s\n' "$sum" "$(sum_of_program)" >"$built_of"; } 2>/dev/null || true
+}
+
+# build_crate CRATE
+build_crate() {
+    local command=lib
+    if [[ $1 == "$crate" ]]; then
+        # rt runs what it has built: here on the crate's stored run, so that the caller's input is left alone.
+        command=run
+    fi
+    said=()
+    if { cd -- "crates/$1" && rt "$command" <"$folder/stdin" 2>&1; } | listen; then
+        return
+    fi
+    printf '%s\n' "${said[@]}" | tail -n 20 >&2 || true
+    if { printf '%s\n' "${said[@]}" >"$folder/out/build.log"; } 2>/dev/null; then
+        fail "the program was not built; all that rt said of $1 is in $folder/out/build.log"
+    fi
+    fail "the program was not built: $1"
+}
+
+# Runs the sources as they are, with the caller's streams. rt tells on standard error how the run ended, behind what the program writes there.
+play_unproved() {
+    local said=() line
+    need_rt
+    say "not built yet: this is a run of the sources, unproved; ./$name --build proves and builds the program, once"
+    { { cd -- "$folder" && rt try; } 2>&1 >&3 3>&- | readarray -t said; } 3>&1 || true
+    if ((${#said[@]} == 0)) || [[ ! ${said[-1]} =~ ^run=ended\ status=([0-9]+) ]]; then
+        printf '%s\n' "${said[@]}" | { grep -v '^|' || true; } | tail -n 5 >&2 || true
+        fail "that gave no answer within its limits (a minute, 1 MiB of output): build the program first, by ./$name --build"
+    fi
+    for line in "${said[@]}"; do
+        if [[ $line != interpreter:* && $line != checked:* && $line != run=* ]]; then
+            printf '%s\n' "$line" >&2 || true
+        fi
+    done
+    exit "${BASH_REMATCH[1]}"
+}
+
+tell_usage() {
+    printf '%s\n' "$name: $does" "    ./$name < FILE      does so with a schedule text, read from standard input" \
+        "    ./$name --build     proves and builds the program, where it is not built of these sources" ""
+    cat -- tools/texts.txt
 }
 
 cd -- "$top" || fail "$top cannot be entered"
+case "$#${1-}" in
+    0 | 1--build) ;;
+    1-h | 1--help)
+        tell_usage
+        exit 0
+        ;;
+    *)
+        say "it reads a schedule text from standard input: ./$name < FILE; ./$name --help says more"
+        exit 4
+        ;;
+esac
+declare -A line_of=()
 find_sources
 sum=$(sum_of_sources) || fail "the sources below $top cannot be read"
-if ! is_current "$sum"; then
-    build "$sum"
+if [[ ${1-} == --build ]]; then
+    if [[ ! -x $program ]] || ! is_current; then
+        build
+    fi
+    say "it is built and proved"
+    exit 0
+fi
+if [[ -t 0 ]]; then
+    say "reading a schedule text from the terminal, up to its end (Ctrl-D); ./$name --help says what that is"
+fi
+if [[ ! -x $program ]]; then
+    play_unproved
+elif ! is_current; then
+    build
 fi
 exec "$program"
 fail "$program cannot be started"

@@ -6,46 +6,57 @@ test_launch() {
     out=$top/crates/$crate/out
     mkdir -p -- "$room/bin" "$top/tools" "$top/crates/$crate/src" "$top/crates/$low/specs" "$top/crates/other/src"
     cp -- sync-play "$top"
-    cp -- tools/launch.sh "$top/tools"
-    printf '%s\n' "# The crates." "$crate may_wait=1: $low std # and a library of the kit" "$low:" "other: $low" >"$top/crates.txt"
+    cp -- tools/launch.sh tools/texts.txt "$top/tools"
+    printf '%s\n' "# The crates." "$crate may_wait=1: $low std # and a library of the kit" "other: $low" "$low:" >"$top/crates.txt"
     echo first | tee -- "$top/crates/$crate/"{stdin,src/main.rt} "$top/crates/$low/specs/Lib.antt" "$top/crates/other/src/lib.rt" >/dev/null
     pretend
     local PATH=$room/bin:$PATH
 
-    launches "the first call builds, says so, and plays" 1 "building the program; the first time"
-    launches "a later call starts at once" 0
+    tells_usage
+    plays_unproved
+    launches "the first build, lowest crate first" "lib run" "building the program; the first time" --build
+    launches "a later call starts at once" ""
+    tells_a_terminal
+    launches "a second build does nothing" "" "it is built" --build
     echo second >"$top/crates/$low/specs/Lib.antt"
-    launches "an edit below is built, in silence where it takes seconds" 1
+    launches "an edit below is built, in silence where it takes seconds" "lib run"
     echo second >"$top/crates/other/src/lib.rt"
-    launches "an edit of a crate that the program does not stand on is not" 0
+    launches "an edit of a crate that the program does not stand on is not" ""
+    echo "client: $low" >>"$top/crates.txt"
+    launches "nor is a line of crates.txt about another crate" ""
+    sed -i -- "s/may_wait=1/may_wait=2/" "$top/crates.txt"
+    launches "a line of crates.txt about the program is" "lib run"
     touch -d "+1 day" -- "$top/crates/$crate/src/main.rt"
-    launches "a source from the future is not built again" 0
+    launches "a source from the future is not built again" ""
     echo second >"$top/crates/$crate/src/main.rt"
     touch -d "+1 day" -- "$top/crates/$crate/src/main.rt"
-    launches "an edit from the future is built" 1
-    launches "an edit from the future is built once" 0
+    launches "an edit from the future is built" "lib run"
+    launches "an edit from the future is built once" ""
     touch -- "$top/crates/$crate/src/main.rt"
     rm -- "$out/built_of"
     echo '#!/bin/sh
 echo played' >"$out/$crate"
-    launches "what rt ci has built is taken" 0
+    launches "what rt ci has built is taken" ""
     rm -- "$top/crates/$low/specs/Lib.antt"
-    launches "a source that is gone is built" 1
+    launches "a source that is gone is built" "lib run"
     export PRETENDS=waits
     echo third >"$top/crates/$crate/src/main.rt"
-    launches "a wait for another rt is told" 1 "waiting for another rt"
-    export PRETENDS=hangs
+    launches "a wait for another rt is told" "lib run" "waiting for another rt"
+    export PRETENDS=slow
     echo fourth >"$top/crates/$crate/src/main.rt"
+    launches "a crate that takes seconds is named" "lib run" "building: 1 of 2: $low"
+    export PRETENDS=hangs
+    echo fifth >"$top/crates/$crate/src/main.rt"
     is_interrupted
     export PRETENDS=fails
     attempt "$top/sync-play" </dev/null
     judge_line "a failed build" 3 "" "rt: it cannot be proved
-sync-play: the program was not built; all that rt said is in $out/build.log"
+sync-play: the program was not built; all that rt said of $low is in $out/build.log"
     unset PRETENDS
-    launches "after a failed build the next call builds" 1
+    launches "after a failed build the next call builds" "lib run"
     rm -r -- "$out"
     touch -- "$out"
-    attempt "$top/sync-play" </dev/null
+    attempt "$top/sync-play" --build </dev/null
     judge_line "a folder that cannot be written" 3 "" "sync-play: the program has to be built first, and $out cannot be written"
     rm -- "$out" "$room/bin/rt"
     for tool in bash basename dirname env mkdir readlink sha256sum sort timeout; do
@@ -67,33 +78,48 @@ crate_of() {
     done <"$1"
 }
 
-# An rt for test_launch.
+# An rt for test_launch. It plays a text by writing the text's first line to standard output and its second to standard error; its third
+# is the status.
 pretend() {
     cat >"$room/bin/rt" <<'RT'
 #!/usr/bin/env bash
-echo called >>"$(dirname -- "$0")/calls"
+echo "$1" >>"$(dirname -- "$0")/calls"
+if [[ $1 == try ]]; then
+    read -r out && read -r err && read -r status
+    echo "$out"
+    printf '%s\n' "$err" "interpreter: ended status=$status" "checked: ended status=$status" >&2
+    [[ $status == endless ]] && echo "run=no-answer proved=no" >&2 && exit 6
+    echo "run=ended status=$status runners=2 proved=no" >&2
+    exit "$status"
+fi
 case ${PRETENDS-} in
     waits) echo "rt: waiting for another rt to finish in $PWD" >&2 ;;
-    hangs) touch out/hangs && exec sleep 60 ;;
+    hangs) touch "$(dirname -- "$0")/hangs" && exec sleep 60 ;;
+    slow) [[ $1 == lib ]] && sleep 6 ;;
     fails) echo "rt: it cannot be proved" && exit 1 ;;
 esac
-mkdir -p out
-printf '%s\n' '#!/bin/sh' 'echo played' >"out/$(basename -- "$PWD")"
-chmod +x out/*
+if [[ $1 == run ]]; then
+    mkdir -p out
+    printf '%s\n' '#!/bin/sh' 'echo played' >"out/$(basename -- "$PWD")"
+    chmod +x out/*
+fi
 RT
     chmod +x -- "$room/bin/rt"
 }
 
-# One call of the launcher: how often it builds, and a part of what it says, or nothing: launches LABEL BUILDS [WORDS].
+# One call of the launcher: which commands it gives rt, and a part of what it says, or nothing: launches LABEL COMMANDS [WORDS [ARGUMENT]].
 launches() {
-    local builds
+    local wanted=played commands
     : >"$room/bin/calls"
-    attempt "$top/sync-play" </dev/null
-    builds=$(wc -l <"$room/bin/calls")
-    if [[ $status != 0 || $(<"$room/out") != played ]]; then
+    if (($# == 4)); then
+        wanted=
+    fi
+    attempt "$top/sync-play" "${@:4}" </dev/null
+    commands=$(paste -sd ' ' -- "$room/bin/calls")
+    if [[ $status != 0 || $(<"$room/out") != "$wanted" ]]; then
         fail "$1" "it ended with status $status, and wrote: $(<"$room/out") $(<"$room/err")"
-    elif ((builds != $2)); then
-        fail "$1" "it called rt $builds times, and not $2"
+    elif [[ $commands != "$2" ]]; then
+        fail "$1" "it called rt for '$commands', and not for '$2'"
     elif [[ -n ${3-} && $(<"$room/err") != *"$3"* || -z ${3-} && -s $room/err ]]; then
         fail "$1" "it said: $(<"$room/err")"
     else
@@ -101,12 +127,58 @@ launches() {
     fi
 }
 
+# Where nothing is built the sources are run: the text's output, what the program says, and its status come through.
+plays_unproved() {
+    local says="sync-play: not built yet: this is a run of the sources, unproved; ./sync-play --build proves and builds the program, once"
+    attempt "$top/sync-play" <<<$'1 success\nline 6: waiting\n2'
+    judge_line "a text that is played unproved" 2 "1 success" "$says
+line 6: waiting"
+    attempt "$top/sync-play" <<<$'1 success\n| 1 success\nendless'
+    judge_line "a text that is played unproved, and to which rt has no answer" 3 "1 success" "$says
+interpreter: ended status=endless
+checked: ended status=endless
+run=no-answer proved=no
+sync-play: that gave no answer within its limits (a minute, 1 MiB of output): build the program first, by ./sync-play --build"
+    if [[ -e $out ]]; then
+        fail "a text that is played unproved" "it left $out"
+    fi
+}
+
+# `--help` names each object and each call of the examples; other arguments are refused.
+tells_usage() {
+    local label="--help" text word
+    attempt "$top/sync-play" --help </dev/null
+    for word in $(sed -E '1s/ .*//; 1!s/^[^ ]* ([^ ]*).*/\1/' -s -- examples/*.txt | sort -u); do
+        if ! grep -qwe "$word" -- "$room/out"; then
+            fail "$label" "it does not name $word"
+            return
+        fi
+    done
+    if [[ $status != 0 || -s $room/err ]]; then
+        fail "$label" "it ended with status $status"
+    else
+        succeed
+    fi
+    attempt "$top/sync-play" examples/mutex-abort.txt </dev/null
+    judge_line "an argument" 4 "" "sync-play: it reads a schedule text from standard input: ./sync-play < FILE; ./sync-play --help says more"
+}
+
+# On a terminal it says what it waits for.
+tells_a_terminal() {
+    attempt python3 -c 'import os, subprocess, sys
+typed, stdin = os.openpty()
+os.write(typed, b"\x04")
+sys.exit(subprocess.call(sys.argv[1], stdin=stdin))' "$top/sync-play"
+    judge_line "a terminal" 0 played \
+        "sync-play: reading a schedule text from the terminal, up to its end (Ctrl-D); ./sync-play --help says what that is"
+}
+
 # A build that is interrupted, as by Ctrl-C, ends at once, and leaves nothing behind.
 is_interrupted() {
-    local label="an interrupted build" launcher turns=0 left=0
+    local label="an interrupted build" launcher turns=0 left=0 hangs=$room/bin/hangs
     setsid env --default-signal=INT "$top/sync-play" </dev/null >/dev/null 2>&1 &
     launcher=$!
-    until [[ -e $out/hangs ]] || ((turns++ > 100)); do
+    until [[ -e $hangs ]] || ((turns++ > 100)); do
         sleep 0.1
     done
     kill -INT -- "-$launcher"
@@ -114,7 +186,7 @@ is_interrupted() {
     while kill -0 -- "-$launcher" 2>/dev/null && ((left++ < 50)); do
         sleep 0.1
     done
-    rm -f -- "$out/hangs"
+    rm -f -- "$hangs"
     if ((turns > 100)); then
         fail "$label" "it did not begin"
     elif kill -KILL -- "-$launcher" 2>/dev/null; then

@@ -10,13 +10,13 @@ use Rattle.passes.specs.Sights.{stale, HasOnlyRead, HasWritten}
 use Rattle.passes.specs.Passes.{part_of, tally_of, sights_of, HasOnlySeen, HasMoved}
 use Rattle.passes.specs.Answers.{MayAnswer, MayAnswerContinue, HasAsked}
 
-read_twice : (a b c : Sights) → HasOnlyRead a b → HasOnlyRead b c → HasOnlyRead a c
+pub read_twice : (a b c : Sights) → HasOnlyRead a b → HasOnlyRead b c → HasOnlyRead a c
 read_twice a b c first second = record {
   more = omega (arith, first.more, second.more);
   still = λ same. second.still (omega (arith, first.more, second.more)) ∙ first.still (omega (arith, first.more, second.more));
 }
 
-read_and_written : (a b c : Sights) → HasOnlyRead a b → HasWritten b c → HasWritten a c
+pub read_and_written : (a b c : Sights) → HasOnlyRead a b → HasWritten b c → HasWritten a c
 read_and_written a b c first second = record {
   more = omega (arith, first.more, second.more);
   not_fresh = second.not_fresh;

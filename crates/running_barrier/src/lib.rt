@@ -10,9 +10,6 @@ ghost use Rattle.passes.specs.Objects.{count_of as words_of, key_of};
 ghost use Rattle.running_barrier.specs.BarrierSteps.{OpenRoundsAreFull};
 ghost use Rattle.steps_barrier.specs.Rounds.{epoch_of, count_of};
 
-#[cfg(test)]
-mod tests;
-
 use passes::{Deed, Origin, Pass, Words, wake};
 use std::alloc::{AllocError, Allocator, Global};
 use std::hint::spin_loop;

@@ -8,8 +8,6 @@ mod gives;
 mod init;
 mod lazy_lock;
 mod pass;
-#[cfg(test)]
-mod tests;
 
 pub use gives::Gives;
 pub use lazy_lock::LazyLock;

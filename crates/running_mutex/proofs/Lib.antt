@@ -1,2 +1,3 @@
 pub mod MutexKeeps
+pub mod MutexPlays
 pub mod CondKeeps

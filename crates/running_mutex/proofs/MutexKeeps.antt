@@ -9,8 +9,9 @@ use Rattle.passes.proofs.Sums.{sum_of_two}
 use Rattle.passes.proofs.Updates.{by_exchange}
 use Rattle.tallies.specs.declared.mutex.Holds.{Holds}
 use Rattle.tallies.specs.MutexRule.{no_holds, both_holds, IsHeld, MutexAgrees}
-use Rattle.running_mutex.specs.MutexSteps.{granted, released, locked, unlocked, saw_locked, Exchanged, Stored, OneHolder}
+use Rattle.running_mutex.specs.MutexSteps.{granted, released, locked, unlocked, saw_locked, Exchanged, Stored, PlayedMutex, OneHolder}
 use Rattle.tallies.specs.MutexTally.{holds_add_up}
+use Rattle.playing.specs.Passes.{none_played, both_played, core_played, played_add_up}
 
 -- the word is written, and is the number of holds again
 held_again : (words : List ℕ) (n : ℕ) (t u : Holds) → IsHeld words t → n ≡ u.holds → n ≤ 1 → IsHeld (set words 0 n) u
@@ -44,5 +45,5 @@ stores v on = record {
 -- two holds would be more than one
 pub one_holder : OneHolder
 one_holder s r i j v w here there on also = dite (ℕ_discrete i j) (λ same. same)
-    (λ apart. let two = sum_of_two no_holds both_holds (λ _. no_holds) holds_add_up s.views i j v w here there apart in
-    let sum = ap (λ (t : Holds). t.holds) two.1 in let one = r.agree.one in absurd (omega arith))
+    (λ apart. let two = sum_of_two (none_played no_holds) (both_played both_holds) (core_played (λ _. no_holds)) (played_add_up no_holds both_holds (λ _. no_holds) holds_add_up) s.views i j v w here there apart in
+    let sum = ap (λ (t : PlayedMutex). t.counts.holds) two.1 in let one = r.agree.1.one in absurd (omega arith))

@@ -7,11 +7,13 @@ use Rattle.passes.specs.declared.part.Part.{Part}
 use Rattle.passes.specs.declared.pass.Pass.{Pass}
 use Rattle.passes.specs.Parts.{IsWhole}
 use Rattle.passes.specs.Sights.{HasLooked}
-use Rattle.passes.specs.Passes.{IsSamePass, part_of, sights_of, tally_of, HasSeen, HasDone, HasMoved, WasRefused}
+use Rattle.passes.specs.Passes.{IsSamePass, part_of, sights_of, HasSeen, HasDone, WasRefused}
 use Rattle.passes.specs.Answers.{MayAnswerAbort, HasAsked}
 use Rattle.passes.specs.declared.wait.WaitResult.{WaitResult}
 use Rattle.passes.specs.declared.wait.WaitResult.TheVariants.{Success, Interrupted}
 use Rattle.passes.specs.Objects.{IsPassOf}
+use Rattle.playing.specs.Passes.{counts_of}
+use Rattle.playing.specs.Counts.{HasMoved}
 use Rattle.tallies.specs.declared.mutex.Holds.{Holds}
 use Rattle.tallies.specs.declared.semaphore.Permits.{Permits}
 use Rattle.running_semaphore.specs.SemaphoreShown.{IsSemPass, IsEmpty}
@@ -24,7 +26,7 @@ use Rattle.running_mutex.specs.declared.condition_variable.CondResult.TheVariant
 use Rattle.running_mutex.specs.declared.condition_variable.Woken.{Woken}
 use Rattle.running_mutex.specs.declared.condition_variable.Woken.TheVariants.{Signalled, Unsignalled}
 use Rattle.running_mutex.specs.MutexSteps.{granted, released}
-use Rattle.running_mutex.specs.MutexShown.{IsLocked, holds_of}
+use Rattle.running_mutex.specs.MutexShown.{MutexPass, IsLocked, holds_of}
 use Rattle.running_mutex.specs.CondRule.{one_more}
 
 -- the two passes inside: that of the count, and that of the permits
@@ -95,14 +97,14 @@ pub record Regains (part : Part) (t u : Holds) (last : ℕ) : Type 0 where
   pub again : u ≡ granted (released t)
 
 -- so, and nothing else changed but what was seen on the way
-abbrev pub HasRegained : Pass Holds → Pass Holds → Type 0
+abbrev pub HasRegained : MutexPass → MutexPass → Type 0
 HasRegained = HasMoved Regains
 
 -- The hold, which was on, is off. The mutex was seen locked at last, after 10001 looks and those that the call made once it had asked.
-pub record HasLeft {F W : Type 0} (g : Shared F (Bor W × (Bor ℕ × Unit {0})) WaitAction) (wait : F) (p q : Pass Holds) : Type 0 where
+pub record HasLeft {F W : Type 0} (g : Shared F (Bor W × (Bor ℕ × Unit {0})) WaitAction) (wait : F) (p q : MutexPass) : Type 0 where
   pub same : IsSamePass p q
   pub on : holds_of p ≡ 1
-  pub off : tally_of q ≡ released (tally_of p)
+  pub off : counts_of q ≡ released (counts_of p)
   pub part : part_of q ≡ part_of p
   pub looked : HasLooked IsLocked 10002 (sights_of p) (sights_of q)
   pub asked : HasAsked g wait IsLocked 10001 p q

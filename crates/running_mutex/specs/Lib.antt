@@ -1,3 +1,4 @@
+pub mod MutexParties
 pub mod MutexSteps
 pub mod MutexShown
 pub mod CondRule

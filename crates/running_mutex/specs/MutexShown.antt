@@ -1,29 +1,49 @@
 -- What contracts see of a mutex, its pass and its hold, and what a call changes in a pass.
-use Rattle.std.specs.Prelude.{◌≡◌, ℕ, ◌+◌, ◌≤◌}
+use Rattle.std.specs.Prelude.{◌≡◌, ◌≢◌, ℕ, ◌+◌, ◌≤◌, Bool, List, Option, Some, None, MatchBool}
 use Rattle.std.specs.Borrow.{GName}
+use Rattle.steps_events.specs.declared.event.Call.{Call}
+use Rattle.steps_events.specs.declared.event.Call.TheVariants as calls
+use Rattle.steps_events.specs.declared.event.Answer.{Answer}
+use Rattle.steps_events.specs.declared.event.Answer.TheVariants as answers
+use Rattle.steps_events.specs.declared.hold.HoldKind.{HoldKind}
+use Rattle.steps_events.specs.declared.hold.HoldKind.TheVariants as kinds
+use Rattle.steps_mutex.specs.declared.MutexPlace.{MutexPlace}
+use Rattle.steps_mutex.specs.Table.{mutex_table}
+use Rattle.steps_mutex.specs.Law.{KeepsMutex}
 use Rattle.passes.specs.declared.part.Part.{Part}
 use Rattle.passes.specs.declared.pass.Pass.{Pass}
 use Rattle.passes.specs.Parts.{IsWhole}
-use Rattle.passes.specs.Passes.{IsSamePass, view, part_of, sights_of, tally_of, HasMoved}
-use Rattle.passes.specs.Objects.{IsPassOf}
+use Rattle.passes.specs.Passes.{IsSamePass, part_of, sights_of}
+use Rattle.playing.specs.declared.played.Played.{Played}
+use Rattle.playing.specs.Slots.{Parties}
+use Rattle.playing.specs.Plays.{Coming, HasCalled, Went}
+use Rattle.playing.specs.Passes.{parties_of, counts_of, counted}
+use Rattle.playing.specs.Counts.{HasMoved}
+use Rattle.playing.specs.Stages.{IsPassOf}
 use Rattle.tallies.specs.declared.mutex.Holds.{Holds}
+use Rattle.tallies.specs.declared.mutex.MutexScript.{MutexScript}
 use Rattle.running_mutex.specs.declared.MutexHold.{MutexHold}
 use Rattle.running_mutex.specs.declared.Mutex.{Mutex}
+use Rattle.running_mutex.specs.MutexParties.{Unlocks}
 use Rattle.running_mutex.specs.MutexSteps.{locked, unlocked, saw_locked}
 
-abbrev pub IsMutexPass : {A : Type 0} → Mutex A → Pass Holds → Type 0
-IsMutexPass m p = IsPassOf m.words p
+-- the pass of a mutex
+abbrev pub MutexPass : Type 0
+MutexPass = Pass (Played MutexScript MutexPlace Holds)
+
+abbrev pub IsMutexPass : {A : Type 0} → Mutex A → MutexPass → Type 0
+IsMutexPass m p = IsPassOf m.stage p
 
 -- how many of the pass's holds stand: 0 or 1
-abbrev pub holds_of : Pass Holds → ℕ
-holds_of p = (tally_of p).holds
+abbrev pub holds_of : MutexPass → ℕ
+holds_of p = (counts_of p).holds
 
 -- how often a lock was granted to it
-abbrev pub grants_of : Pass Holds → ℕ
-grants_of p = (tally_of p).grants
+abbrev pub grants_of : MutexPass → ℕ
+grants_of p = (counts_of p).grants
 
 -- the pass that a hold borrows, and which borrow of it that is
-abbrev pub pass_of : MutexHold → Pass Holds
+abbrev pub pass_of : MutexHold → MutexPass
 pass_of h = h.pass.now
 
 abbrev pub borrow_of : MutexHold → GName
@@ -34,19 +54,19 @@ abbrev pub IsLocked : ℕ → Type 0
 IsLocked word = word ≡ 1
 
 -- the hold, which was off, is on by one more grant, and nothing else changed
-abbrev pub HasLocked : Pass Holds → Pass Holds → Type 0
-HasLocked p q = IsSamePass p q × (holds_of p ≡ 0) × (view q ≡ locked (view p))
+abbrev pub HasLocked : MutexPass → MutexPass → Type 0
+HasLocked p q = IsSamePass p q × (holds_of p ≡ 0) × (counted q ≡ locked (counted p))
 
 -- the mutex was seen locked once, and nothing else changed
-abbrev pub HasSeenLocked : Pass Holds → Pass Holds → Type 0
-HasSeenLocked p q = IsSamePass p q × (view q ≡ saw_locked (view p))
+abbrev pub HasSeenLocked : MutexPass → MutexPass → Type 0
+HasSeenLocked p q = IsSamePass p q × (counted q ≡ saw_locked (counted p))
 
 -- the hold, which was on, is off, and nothing else changed
-abbrev pub HasUnlocked : Pass Holds → Pass Holds → Type 0
-HasUnlocked p q = IsSamePass p q × (holds_of p ≡ 1) × (view q ≡ unlocked (view p))
+abbrev pub HasUnlocked : MutexPass → MutexPass → Type 0
+HasUnlocked p q = IsSamePass p q × (holds_of p ≡ 1) × (counted q ≡ unlocked (counted p))
 
 -- the pass is whole, so that no other is left, and its hold is off
-abbrev pub IsAlone : Pass Holds → Type 0
+abbrev pub IsAlone : MutexPass → Type 0
 IsAlone p = IsWhole (part_of p) × (holds_of p ≡ 0)
 
 -- the hold, which was off, is on by one more grant
@@ -56,13 +76,32 @@ pub record Enters (part : Part) (t u : Holds) (last : ℕ) : Type 0 where
   pub grants : u.grants ≡ t.grants + 1
 
 -- the hold was off and is on, and nothing else changed but what was seen on the way
-abbrev pub HasEntered : Pass Holds → Pass Holds → Type 0
+abbrev pub HasEntered : MutexPass → MutexPass → Type 0
 HasEntered = HasMoved Enters
 
 -- The hold is as it was. On the way the pass may have been granted and unlocked, and have seen the mutex.
-pub record HasStayed (p q : Pass Holds) : Type 0 where
+pub record HasStayed (p q : MutexPass) : Type 0 where
   pub same : IsSamePass p q
   pub holds : holds_of q ≡ holds_of p
   pub part : part_of q ≡ part_of p
   pub grants : grants_of p ≤ grants_of q
   pub saw : (sights_of p).count ≤ (sights_of q).count
+
+-- The pass as a party of the model.
+
+-- There is a run of the model, which keeps the mutex's law, in which a party of the pass has just been answered so by this call. It is
+-- the one call that the pass has made since, as a party that is new; and it has this hold now.
+abbrev pub HasPlayed : Call ℕ → Answer ℕ → Option HoldKind → MutexPass → MutexPass → Type 0
+HasPlayed call answer hold p q = HasCalled mutex_table KeepsMutex call answer hold (parties_of p) (parties_of q)
+
+-- so has the pass
+abbrev pub HasPlayedUnlock : MutexPass → MutexPass → Type 0
+HasPlayedUnlock p q = Unlocks (parties_of p) (parties_of q)
+
+-- it has made a `Lock` that was granted, and then, as that party, an `Unlock`
+abbrev pub HasPlayedBoth : MutexPass → MutexPass → Type 0
+HasPlayedBoth p q = (held : Parties) × HasCalled mutex_table KeepsMutex calls.Lock answers.Success (Some kinds.Write) (parties_of p) held × Unlocks held (parties_of q)
+
+-- an exchange of 0 for 1 that the table has, to which the pass came so, found the mutex free, or not
+abbrev pub HasTried : Coming → Bool → MutexPass → MutexPass → Type 0
+HasTried coming free p q = (found : ℕ) × MatchBool free (found ≡ 0) (found ≢ 0) × Went mutex_table KeepsMutex coming (parties_of p) found (parties_of q)

@@ -1,18 +1,29 @@
 -- What holds whenever the rule of a mutex does, and what a step changes in a pass.
-use Rattle.std.specs.Prelude.{◌≡◌, ◌≢◌, ℕ, ◌+◌}
+use Rattle.std.specs.Prelude.{◌≡◌, ◌≢◌, ℕ, ◌+◌, [], ◌∷◌}
 use mathlib.Core.Option.{some}
 use lib.ListN.{get_elem?}
 use Rattle.atomic_table.specs.Table.{State}
 use Rattle.passes.specs.declared.view.View.{View}
 use Rattle.passes.specs.Parts.{IsWhole}
 use Rattle.passes.specs.Views.{missed, wrote, IsCounted}
+use Rattle.steps_events.specs.declared.event.Word.TheVariants as words
+use Rattle.steps_mutex.specs.declared.MutexPlace.{MutexPlace}
+use Rattle.steps_mutex.specs.Table.{mutex_table}
+use Rattle.steps_mutex.specs.Law.{KeepsMutex}
+use Rattle.playing.specs.declared.played.Played.{Played}
+use Rattle.playing.specs.Passes.{none_played, both_played, PlaysAndCounts}
 use Rattle.tallies.specs.declared.mutex.Holds.{Holds}
+use Rattle.tallies.specs.declared.mutex.MutexScript.{MutexScript}
 use Rattle.tallies.specs.MutexRule.{MutexAgrees, both_holds, holds, no_holds}
+
+-- what a pass of a mutex is in its model, and counts beside
+abbrev pub PlayedMutex : Type 0
+PlayedMutex = Played MutexScript MutexPlace Holds
 
 -- whenever the rule holds, no two passes have a hold
 abbrev pub OneHolder : Type 0
-OneHolder = (s : State (Unit {0}) (View Holds)) → IsCounted no_holds both_holds MutexAgrees s → (i j : ℕ) (v w : View Holds) → get_elem? s.views i ≡ some v → get_elem? s.views j ≡ some w
-    → v.tally.holds ≡ 1 → w.tally.holds ≡ 1 → i ≡ j
+OneHolder = (s : State (Unit {0}) (View PlayedMutex)) → IsCounted (none_played no_holds) (both_played both_holds) (PlaysAndCounts mutex_table KeepsMutex (words.State ∷ []) MutexAgrees) s →
+    (i j : ℕ) (v w : View PlayedMutex) → get_elem? s.views i ≡ some v → get_elem? s.views j ≡ some w → v.tally.counts.holds ≡ 1 → w.tally.counts.holds ≡ 1 → i ≡ j
 
 -- the hold is turned on, by a grant
 abbrev pub granted : Holds → Holds

@@ -5,10 +5,13 @@
 //! handed, and nobody else is to reach it there. No closure sees the count of those that wait; so its tally stands here.
 
 ghost use Rattle.std.specs.Prelude.{◌≡◌, true, false, MatchBool, IfOk};
-ghost use Rattle.passes.specs.Answers.{MayAnswerAbort, HasGivenUp};
+ghost use Rattle.passes.specs.Answers.{MayAnswerAbort};
+ghost use Rattle.playing.specs.Counts.{HasGivenUp};
+ghost use Rattle.playing.specs.Passes.{parties_of};
 ghost use Rattle.passes.specs.Objects.{count_of};
 ghost use Rattle.passes.specs.Passes.{tally_of};
 ghost use Rattle.running_mutex.specs.MutexShown.{IsMutexPass, IsAlone, IsLocked, HasEntered};
+ghost use Rattle.running_mutex.specs.MutexParties.{HasMutex};
 ghost use Rattle.running_mutex.specs.CondRule.{CountIsInside};
 
 use crate::{Mutex, MutexHold, MutexPass};
@@ -157,6 +160,9 @@ impl<A: Allocator> ConditionVariable<A> {
     ghost use Rattle.passes.specs.Answers.{IfSuccess, IfInterrupted, IsSuccess, RestsIfInterrupted, HasWoken};
     ghost use Rattle.passes.specs.contracts.pass.Pass.{the_row};
     ghost use Rattle.tallies.specs.contracts.mutex.Holds as holds_row;
+    ghost use Rattle.tallies.specs.contracts.mutex.MutexScript as script_row;
+    ghost use Rattle.steps_mutex.specs.contracts.MutexPlace as place_row;
+    ghost use Rattle.playing.specs.contracts.played.Played as played_row;
     ghost use Rattle.passes.specs.Parts.{IsWhole};
     ghost use Rattle.passes.specs.Objects.{IsPassOf};
     ghost use Rattle.passes.specs.Passes.{view, part_of, IsSamePass, HasDone};
@@ -235,7 +241,7 @@ impl<A: Allocator> ConditionVariable<A> {
     ) -> WaitResult<Woken<MutexHold<'p>>>
         requires own { IsCondPass this.now pass.old × IsMutexPass mtx.now (pass_of hold) }
         requires may { K.IsAlwaysCallable mtx_wake_one × W.IsAlwaysCallable wait × M.IsAlwaysCallable mtx_wait }
-        ensures* left { sem 𝓛 (RestsIfInterrupted (the_row holds_row.the_row) hold.entry.pass (λ woken. borrow_of (held_by woken)) result (HasLeft M.Fn mtx_wait (pass_of hold.entry))) }
+        ensures* left { sem 𝓛 (RestsIfInterrupted (the_row (played_row.the_row script_row.the_row place_row.the_row holds_row.the_row)) hold.entry.pass (λ woken. borrow_of (held_by woken)) result (HasLeft M.Fn mtx_wait (pass_of hold.entry))) }
         ensures same_borrow { IfSuccess result (λ woken. borrow_of (held_by woken) ≡ borrow_of hold.entry) }
         ensures regained { IfSuccess result (λ woken. HasRegained (pass_of hold.entry) (pass_of (held_by woken))) }
         ensures counted { HasWaited pass.old pass.new }
@@ -315,6 +321,7 @@ impl<A: Allocator> ConditionVariable<A> {
     ) -> bool
         requires own { IsCondPass self.now pass.old × IsMutexPass mtx.now mtx_pass.old }
         requires on { holds_of mtx_pass.old ≡ 1 }
+        requires has { HasMutex (parties_of mtx_pass.old) }
         requires may { K.IsAlwaysCallable mtx_wake_one × W.IsAlwaysCallable wait }
         ensures unlocked { HasUnlocked mtx_pass.old mtx_pass.new }
         ensures counted { HasWaited pass.old pass.new }
@@ -377,6 +384,7 @@ fn lock_again<A: Allocator, R: Wait, M: Fn(&WaitWord, &u64) -> WaitAction>(
     requires own { IsMutexPass mtx.now pass.old }
     requires may { M.IsAlwaysCallable mtx_wait }
     ensures locked { MatchBool result (HasEntered pass.old pass.new) (HasGivenUp M.Fn mtx_wait IsLocked pass.old pass.new) }
+    ensures has { result ≡ true → HasMutex (parties_of pass.new) }
     ensures exact { IsAlone pass.old → result ≡ true }
     ensures aborted { result ≡ false → MayAnswerAbort M.Fn mtx_wait IsLocked }
 {

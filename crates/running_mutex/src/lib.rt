@@ -5,52 +5,53 @@
 //! has one, and nothing of what other threads do.
 #![tactic(auto)]
 
-ghost use Rattle.std.specs.Prelude.{◌≡◌, IfOk};
-ghost use Rattle.passes.specs.Objects.{count_of};
-ghost use Rattle.passes.specs.Passes.{tally_of};
+ghost use Rattle.std.specs.Prelude.{◌≡◌, ℕ, IfOk};
+ghost use Rattle.playing.specs.Passes.{parties_of, counts_of};
+ghost use Rattle.playing.specs.Stages.{count_of};
+ghost use Rattle.running_mutex.specs.MutexParties.{HasMutex};
 ghost use Rattle.running_mutex.specs.MutexSteps.{OneHolder};
 
 pub mod condition_variable;
-#[cfg(test)]
-mod tests;
 
-use passes::{Attempt, Deed, Origin, Pass, WaitResult, Words, try_again, wake};
+use passes::{Deed, Origin, Pass, WaitResult};
+use playing::{Attempt, Entry, Stage, try_again};
 use std::alloc::{AllocError, Allocator, Global};
 use std::ops::Deref;
 use std::sync::Wait;
 use steps_events::WaitAction;
-use steps_mutex::granted;
-use tallies::{Holds, WaitWord};
+use steps_mutex::{MutexPlace, granted};
+use tallies::{Holds, MutexScript, PlayedMutex, WaitWord};
 
 /// A lock with one holder at most.
 #[derive(Drop)]
 pub struct Mutex<A: Allocator = Global> {
-    words: Words<(), Holds, A>,
-    ghost one_word: { count_of words ≡ 1 },
+    stage: Stage<(), MutexScript, MutexPlace, Holds, A>,
+    ghost one_word: { count_of stage ≡ 1 },
 }
 
 /// What the passes of a mutex come from, at which they are split and joined.
 impl<A: Allocator> Deref for Mutex<A> {
-    ghost use Rattle.passes.specs.Objects.{origin};
+    ghost use Rattle.playing.specs.Stages.{origin};
 
-    type Target = Origin<(), Holds, A>;
+    type Target = Origin<(), PlayedMutex, A>;
 
     #[inline(always)]
-    fn deref(&self) -> &Origin<(), Holds, A>
-        ensures { result.now ≡ origin self.now.words }
+    fn deref(&self) -> &Origin<(), PlayedMutex, A>
+        ensures { result.now ≡ origin self.now.stage }
     {
-        &self.words
+        &self.stage
     }
 }
 
 /// The right to call a mutex, and what its owner did and saw there.
-pub type MutexPass = Pass<Holds>;
+pub type MutexPass = Pass<PlayedMutex>;
 
 /// The mutex is locked by this pass, which is lent to the hold. A hold must be spent, by `Mutex::unlock` at the mutex that it came
 /// from.
 pub struct MutexHold<'p> {
     pass: &'p mut MutexPass,
-    ghost on: { (tally_of pass.now).holds ≡ 1 },
+    ghost on: { (counts_of pass.now).holds ≡ 1 },
+    ghost has: { HasMutex (parties_of pass.now) },
 }
 
 /// An exchange of 0 for 1.
@@ -71,24 +72,70 @@ impl Deed<(), Holds> for Release {
     ghost tells = { λ _ _ _ before _ after. Stored before after };
 }
 
+/// A `TryLock` begins.
+struct TryLockBegins;
+
+impl Entry for TryLockBegins {
+    ghost use Rattle.steps_events.specs.declared.event.Call.TheVariants as calls;
+    ghost use Rattle.playing.specs.Plays.{Beginning};
+
+    ghost coming = { Beginning calls.TryLock };
+}
+
+/// A `Lock` begins.
+struct LockBegins;
+
+impl Entry for LockBegins {
+    ghost use Rattle.steps_events.specs.declared.event.Call.TheVariants as calls;
+    ghost use Rattle.playing.specs.Plays.{Beginning};
+
+    ghost coming = { Beginning calls.Lock };
+}
+
+/// An `Unlock` begins, by the party that has the hold.
+struct UnlockBegins;
+
+impl Entry for UnlockBegins {
+    ghost use Rattle.steps_events.specs.declared.event.Call.TheVariants as calls;
+    ghost use Rattle.playing.specs.Plays.{Continuing};
+
+    ghost coming = { Continuing calls.Unlock };
+}
+
 impl<A: Allocator> Mutex<A> {
     ghost use Rattle.std.specs.Borrow.{sem};
-    ghost use Rattle.std.specs.Prelude.{true, false, ◌+◌, MatchBool};
-    ghost use Rattle.passes.specs.Answers.{IfSuccess, IfInterrupted, IsSuccess, RestsIfInterrupted, MayAnswerAbort, HasGivenUp, HasWoken};
+    ghost use Rattle.std.specs.Prelude.{true, false, ◌+◌, [], ◌∷◌, Some, None, MatchBool};
+    ghost use Rattle.steps_events.specs.declared.event.Word.TheVariants as words;
+    ghost use Rattle.steps_events.specs.declared.event.Call.TheVariants as calls;
+    ghost use Rattle.steps_events.specs.declared.event.Answer.TheVariants as answers;
+    ghost use Rattle.steps_events.specs.declared.hold.HoldKind.TheVariants as kinds;
+    ghost use Rattle.steps_events.specs.declared.row.Intent.TheVariants as intents;
+    ghost use Rattle.steps_mutex.specs.Table.{mutex_table};
+    ghost use Rattle.steps_mutex.specs.Law.{KeepsMutex};
+    ghost use Rattle.steps_mutex.specs.contracts.MutexPlace as place_row;
+    ghost use Rattle.passes.specs.Answers.{IfSuccess, IfInterrupted, IsSuccess, RestsIfInterrupted, MayAnswerAbort, HasWoken};
     ghost use Rattle.passes.specs.Passes.{view};
     ghost use Rattle.passes.specs.Views.{first_view};
     ghost use Rattle.passes.specs.contracts.pass.Pass.{the_row};
+    ghost use Rattle.playing.specs.contracts.played.Played as played_row;
+    ghost use Rattle.playing.specs.Slots.{no_parties};
+    ghost use Rattle.playing.specs.Plays.{MayStep};
+    ghost use Rattle.playing.specs.Passes.{played};
+    ghost use Rattle.playing.specs.Counts.{HasGivenUp};
+    ghost use Rattle.playing.specs.Stages.{id_of};
     ghost use Rattle.tallies.specs.contracts.mutex.Holds as holds_row;
+    ghost use Rattle.tallies.specs.contracts.mutex.MutexScript as script_row;
     ghost use Rattle.tallies.specs.MutexRule.{no_holds};
-    ghost use Rattle.running_mutex.specs.MutexShown.{IsMutexPass, IsAlone, IsLocked, holds_of, grants_of, pass_of, borrow_of, HasLocked, HasSeenLocked, HasUnlocked, HasEntered, HasStayed};
+    ghost use Rattle.tallies.specs.Shown.{object_shown, index_shown};
+    ghost use Rattle.running_mutex.specs.MutexShown.{IsMutexPass, IsAlone, IsLocked, holds_of, grants_of, pass_of, borrow_of, HasLocked, HasSeenLocked, HasUnlocked, HasEntered, HasStayed, HasTried, HasPlayed, HasPlayedUnlock, HasPlayedBoth};
 
     /// A mutex that is free, and the pass that is whole. `Err` where there was no memory; then nothing was made.
     pub fn new(alloc: A) -> Result<(Mutex<A>, MutexPass), AllocError>
         ensures own { IfOk result (λ made. IsMutexPass made.0 made.1) }
-        ensures first { IfOk result (λ made. view made.1 ≡ first_view no_holds) }
+        ensures first { IfOk result (λ made. view made.1 ≡ first_view (played no_parties no_holds)) }
     {
-        let (words, pass) = Words::new(alloc, &[0], &())?;
-        Ok((Mutex { words }, pass))
+        let (stage, pass) = Stage::new(alloc, &[0], &())?;
+        Ok((Mutex { stage }, pass))
     }
 
     /// Locks the mutex: one exchange of 0 for 1, up to 10000 more, and then the wait closure before each further one. `Interrupted`
@@ -102,9 +149,10 @@ impl<A: Allocator> Mutex<A> {
     ) -> WaitResult<MutexHold<'p>>
         requires own { IsMutexPass this.now pass.old }
         requires may { W.IsAlwaysCallable wait }
-        ensures* refused { sem 𝓛 (RestsIfInterrupted (the_row holds_row.the_row) pass.entry borrow_of result (HasGivenUp W.Fn wait IsLocked pass.old)) }
+        ensures* refused { sem 𝓛 (RestsIfInterrupted (the_row (played_row.the_row script_row.the_row place_row.the_row holds_row.the_row)) pass.entry borrow_of result (λ q. HasGivenUp W.Fn wait IsLocked pass.old q × HasPlayed calls.Lock answers.Interrupted None pass.old q)) }
         ensures same_borrow { IfSuccess result (λ hold. borrow_of hold ≡ pass.entry.ghost_name) }
         ensures granted { IfSuccess result (λ hold. HasEntered pass.old (pass_of hold)) }
+        ensures played { IfSuccess result (λ hold. HasPlayed calls.Lock answers.Success (Some kinds.Write) pass.old (pass_of hold)) }
         ensures exact { IsAlone pass.old → IsSuccess result }
         ensures aborted { IfInterrupted result (MayAnswerAbort W.Fn wait IsLocked) }
     {
@@ -126,6 +174,7 @@ impl<A: Allocator> Mutex<A> {
         requires may { W.IsAlwaysCallable wake_one }
         ensures same_borrow { result.ghost_name ≡ borrow_of hold.entry }
         ensures released { HasUnlocked (pass_of hold.entry) result.now }
+        ensures played { HasPlayedUnlock (pass_of hold.entry) result.now }
         ensures woke { HasWoken W.Fn wake_one }
     {
         let MutexHold { pass } = hold;
@@ -138,12 +187,13 @@ impl<A: Allocator> Mutex<A> {
     #[inline(always)]
     pub fn try_lock<'p>(pass: &'p mut MutexPass, this: &Self) -> WaitResult<MutexHold<'p>>
         requires own { IsMutexPass this.now pass.old }
-        ensures* refused { sem 𝓛 (RestsIfInterrupted (the_row holds_row.the_row) pass.entry borrow_of result (HasSeenLocked pass.old)) }
+        ensures* refused { sem 𝓛 (RestsIfInterrupted (the_row (played_row.the_row script_row.the_row place_row.the_row holds_row.the_row)) pass.entry borrow_of result (λ q. HasSeenLocked pass.old q × HasPlayed calls.TryLock answers.Interrupted None pass.old q)) }
         ensures same_borrow { IfSuccess result (λ hold. borrow_of hold ≡ pass.entry.ghost_name) }
         ensures granted { IfSuccess result (λ hold. HasLocked pass.old (pass_of hold)) }
+        ensures played { IfSuccess result (λ hold. HasPlayed calls.TryLock answers.Success (Some kinds.Write) pass.old (pass_of hold)) }
         ensures exact { IsAlone pass.old → IsSuccess result }
     {
-        if this.exchange(pass) {
+        if this.try_enter(pass) {
             WaitResult::Success(MutexHold { pass })
         } else {
             WaitResult::Interrupted
@@ -165,6 +215,8 @@ impl<A: Allocator> Mutex<A> {
         ensures stayed { HasStayed pass.old pass.new }
         ensures granted { IfSuccess result (λ _. grants_of pass.new ≡ grants_of pass.old + 1) }
         ensures refused { IfInterrupted result (HasGivenUp W.Fn wait IsLocked pass.old pass.new) }
+        ensures played { IfSuccess result (λ _. HasPlayedBoth pass.old pass.new) }
+        ensures gave_up { IfInterrupted result (HasPlayed calls.Lock answers.Interrupted None pass.old pass.new) }
         ensures exact { IsAlone pass.old → IsSuccess result }
         ensures acted { IfSuccess result (λ x. F.post act x) }
         ensures aborted { IfInterrupted result (MayAnswerAbort W.Fn wait IsLocked) }
@@ -189,10 +241,24 @@ impl<A: Allocator> Mutex<A> {
         requires own { IsMutexPass self.now pass.old }
         requires may { W.IsAlwaysCallable wait.now }
         ensures entered { MatchBool result (HasEntered pass.old pass.new) (HasGivenUp W.Fn wait.now IsLocked pass.old pass.new) }
+        ensures played { MatchBool result (HasPlayed calls.Lock answers.Success (Some kinds.Write) pass.old pass.new) (HasPlayed calls.Lock answers.Interrupted None pass.old pass.new) }
+        ensures has { result ≡ true → HasMutex (parties_of pass.new) }
         ensures exact { IsAlone pass.old → result ≡ true }
         ensures aborted { result ≡ false → MayAnswerAbort W.Fn wait.now IsLocked }
     {
-        self.exchange(pass) || try_again(rt, self, pass, &self.word(), locked(), wait)
+        self.exchange::<LockBegins>(pass) || try_again(rt, self, pass, &self.word(), locked(), wait)
+    }
+
+    /// What `try_lock` does, and whether the hold is on.
+    #[inline(always)]
+    fn try_enter(&self, pass: &mut MutexPass) -> bool
+        requires own { IsMutexPass self.now pass.old }
+        ensures locked { MatchBool result (HasLocked pass.old pass.new) (HasSeenLocked pass.old pass.new) }
+        ensures played { MatchBool result (HasPlayed calls.TryLock answers.Success (Some kinds.Write) pass.old pass.new) (HasPlayed calls.TryLock answers.Interrupted None pass.old pass.new) }
+        ensures has { result ≡ true → HasMutex (parties_of pass.new) }
+        ensures exact { IsAlone pass.old → result ≡ true }
+    {
+        self.exchange::<TryLockBegins>(pass)
     }
 
     /// What `unlock` does, by the pass that has the hold.
@@ -200,51 +266,69 @@ impl<A: Allocator> Mutex<A> {
     fn leave<W: Fn(&WaitWord)>(&self, pass: &mut MutexPass, wake_one: &W)
         requires own { IsMutexPass self.now pass.old }
         requires on { holds_of pass.old ≡ 1 }
+        requires has { HasMutex (parties_of pass.old) }
         requires may { W.IsAlwaysCallable wake_one.now }
         ensures released { HasUnlocked pass.old pass.new }
+        ensures played { HasPlayedUnlock pass.old pass.new }
         ensures woke { HasWoken W.Fn wake_one.now }
     {
         self.release(pass);
-        wake(wake_one, &self.word());
+        self.stage.wake(pass, &self.word(), wake_one);
     }
 
     /// One exchange of 0 for 1, and whether it was done.
-    #[tactic(auto, using(crate::proofs::MutexKeeps::exchanges))]
     #[inline(always)]
-    fn exchange(&self, pass: &mut MutexPass) -> bool
+    fn exchange<E: Entry>(&self, pass: &mut MutexPass) -> bool
         requires own { IsMutexPass self.now pass.old }
+        requires may { (put : ℕ) → put ≡ 1 → MayStep mutex_table KeepsMutex (words.State ∷ []) E.coming 0 (λ w. intents.Exchange w 0 put) (parties_of pass.old) }
         ensures locked { MatchBool result (HasLocked pass.old pass.new) (HasSeenLocked pass.old pass.new) }
+        ensures tried { HasTried E.coming result pass.old pass.new }
         ensures exact { IsAlone pass.old → result ≡ true }
     {
-        self.words
-            .compare_exchange::<Exchange>(pass, 0, 0, locked())
-            == 0
+        self.stage.exchange::<E, Exchange>(pass, 0, 0, locked()) == 0
     }
 
     /// A store of 0, by the pass that has the hold.
-    #[tactic(auto, using(crate::proofs::MutexKeeps::stores))]
     #[inline(always)]
     fn release(&self, pass: &mut MutexPass)
         requires own { IsMutexPass self.now pass.old }
         requires on { holds_of pass.old ≡ 1 }
+        requires has { HasMutex (parties_of pass.old) }
         ensures released { HasUnlocked pass.old pass.new }
+        ensures played { HasPlayedUnlock pass.old pass.new }
     {
-        self.words.store::<Release>(pass, 0, 0);
+        self.stage.store::<UnlockBegins, Release>(pass, 0, 0);
     }
 
     /// The mutex's word, as closures see it.
     #[inline(always)]
-    fn word(&self) -> WaitWord<'_> {
-        WaitWord::from(self.words.word(0))
+    fn word(&self) -> WaitWord<'_>
+        ensures object { object_shown result ≡ id_of self.now.stage }
+        ensures index { index_shown result ≡ 0 }
+    {
+        WaitWord::from(self.stage.word(0))
     }
 }
 
 /// An exchange of `lock`.
-impl<A: Allocator> Attempt<Holds> for Mutex<A> {
-    ghost use Rattle.passes.specs.Objects.{id_of};
+impl<A: Allocator> Attempt<(), MutexScript, MutexPlace, Holds> for Mutex<A> {
+    ghost use Rattle.std.specs.Prelude.{Some};
+    ghost use Rattle.std.proofs.Common.{refl};
+    ghost use Rattle.steps_events.specs.declared.event.Call.TheVariants as calls;
+    ghost use Rattle.steps_events.specs.declared.hold.HoldKind.TheVariants as kinds;
+    ghost use Rattle.steps_mutex.specs.declared.MutexPlace.TheVariants as places;
+    ghost use Rattle.playing.specs.Stages.{id_of};
     ghost use Rattle.running_mutex.specs.MutexShown.{IsLocked, Enters};
 
-    ghost object = { λ m. id_of m.words };
+    ghost object = { λ m. id_of m.stage };
+
+    ghost key = { λ _. tt };
+
+    ghost call = { calls.Lock };
+
+    ghost place = { places.Lock };
+
+    ghost takes = { Some kinds.Write };
 
     ghost moves = { Enters };
 
@@ -252,9 +336,11 @@ impl<A: Allocator> Attempt<Holds> for Mutex<A> {
 
     ghost looks_once = { λ _ _. Unit {0} };
 
+    ghost answers = { λ _ _ _. refl };
+
     #[inline(always)]
-    fn attempt<R: Wait>(&self, _rt: &R, pass: &mut MutexPass) -> Result<(), u64> {
-        if self.exchange(pass) {
+    fn attempt<E: Entry>(&self, pass: &mut MutexPass) -> Result<(), u64> {
+        if self.exchange::<E>(pass) {
             Ok(())
         } else {
             Err(locked())

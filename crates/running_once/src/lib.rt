@@ -8,9 +8,6 @@ ghost use Rattle.passes.specs.Objects.{count_of};
 ghost use Rattle.passes.specs.Passes.{tally_of};
 ghost use Rattle.running_once.specs.OnceRule.{OneClosure, KnownHasEnded};
 
-#[cfg(test)]
-mod tests;
-
 use passes::{Deed, Pass, Rule, Tally, Words};
 use std::alloc::{AllocError, Allocator, Global};
 use std::hint::spin_loop;

@@ -7,8 +7,6 @@
 
 mod hold;
 mod reader_preference;
-#[cfg(test)]
-mod tests;
 mod writer_preference;
 
 pub use hold::{ReadHold, RwHold, RwPass, WriteHold};

@@ -6,9 +6,6 @@
 ghost use Rattle.std.specs.Prelude.{◌≡◌, ◌<◌, ◌≤◌, IfOk};
 ghost use Rattle.passes.specs.Objects.{count_of};
 
-#[cfg(test)]
-mod tests;
-
 use passes::{Attempt, Deed, Origin, Pass, WaitResult, Words, success_if, try_again, wake};
 use std::alloc::{AllocError, Allocator, Global};
 use std::ops::Deref;

@@ -10,8 +10,6 @@ mod hold;
 mod pass;
 mod poison;
 mod spin_lock;
-#[cfg(test)]
-mod tests;
 
 pub use guard::SpinLockGuard;
 pub use hold::SpinHolds;

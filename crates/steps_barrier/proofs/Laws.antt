@@ -27,7 +27,7 @@ use Rattle.steps_events.specs.Runs.{IsPast}
 use Rattle.steps_events.specs.Sights.{sight_of, is_sight, AtLast, spins_in, last_of}
 use Rattle.steps_events.specs.Asks.{WhereAsked, sight_at}
 use Rattle.steps_events.specs.Laws.{Lacks, is_refusal}
-use Rattle.steps_events.proofs.Holds.{eqb_other, no_holds}
+use Rattle.steps_events.proofs.Holds.{eqb_other, no_holds, exclusive_unheld}
 use Rattle.steps_events.proofs.Steps.{by_move, tells_memory}
 use Rattle.steps_events.proofs.Spins.{spins_left, spins_spent}
 use Rattle.steps_events.proofs.Parties.{IsKept, at_place}
@@ -434,14 +434,16 @@ event_law {T} z n parties fits past e run =
     run.0.1.moved
 
 pub keeps_barrier : {T : Type 0} (z : Arithmetic T) (n parties : ℕ) (past : List (Event T)) → n < 2 ^ 32 → IsPast z (barrier_table n) parties past → KeepsBarrier n past
-keeps_barrier z n parties [] fits run = record { told = tt; unheld = refl; cause = tt; law = record { counts = barrier_counts z n parties fits [] run; nobody = nobody_arrives z n parties [] run; once = tt; passes = tt; wakes = tt; alone = tt; leaves = tt; exact = tt; asks = tt; spins = λ party. tt; tells = tt; answers = tt } }
+keeps_barrier z n parties [] fits run = record { told = tt; exclusive = exclusive_unheld [] refl; cause = tt; law = record { unheld = refl; counts = barrier_counts z n parties fits [] run; nobody = nobody_arrives z n parties [] run; once = tt; passes = tt; wakes = tt; alone = tt; leaves = tt; exact = tt; asks = tt; spins = λ party. tt; tells = tt; answers = tt } }
 keeps_barrier z n parties (e ∷ past) fits run =
     let event = event_law z n parties fits past e run in
+    let unheld = no_holds (barrier_table n) (λ call from to. refl) (e ∷ past) in
     record {
       told = tells_memory z (barrier_table n) parties (e ∷ past) run;
-      unheld = no_holds (barrier_table n) (λ call from to. refl) (e ∷ past);
+      exclusive = exclusive_unheld _ unheld;
       cause = event.cause;
       law = record {
+        unheld = unheld;
         counts = barrier_counts z n parties fits (e ∷ past) run;
         nobody = nobody_arrives z n parties (e ∷ past) run;
         once = event.once;

@@ -14,7 +14,7 @@ use Rattle.steps_events.specs.Past.{call_of, holds_of, word_in}
 use Rattle.steps_events.specs.Moves.{is_step}
 use Rattle.steps_events.specs.Sights.{is_sight, AtLast, spins_in}
 use Rattle.steps_events.specs.Asks.{SpinCount, AsksAfterSpinning, SpinsNoMore, sight_at, TellsRefusal}
-use Rattle.steps_events.specs.Laws.{TellsMemory, HasCause}
+use Rattle.steps_events.specs.Laws.{Keeps}
 use Rattle.steps_barrier.specs.Rounds.{is_arrival, arrivals_in, round_of, full_rounds, IsFull, CountsArrivals}
 use Rattle.steps_barrier.specs.Table.{barrier_table}
 
@@ -113,6 +113,8 @@ steps_on call own = once_arrived (spins_in is_step) call own
 
 -- What a barrier keeps beside what every object does.
 pub record BarrierLaw {T : Type 0} (n : ℕ) (past : List (Event T)) : Type 0 where
+  -- nobody holds a barrier
+  pub unheld : holds_of (barrier_table n) past ≡ []
   -- the word tells the rounds that are full, modulo 2 ^ 32, and the arrivals of the next one
   pub counts : CountsArrivals n (arrivals_in past) (word_in (barrier_table n) past words.State)
   -- nobody arrives at a barrier of 0, and its word stays 0
@@ -138,11 +140,5 @@ pub record BarrierLaw {T : Type 0} (n : ℕ) (past : List (Event T)) : Type 0 wh
   -- a call comes back with `Ok` or `Full` alone
   pub answers : AnswersOkOrFull past
 
-pub record KeepsBarrier {T : Type 0} (n : ℕ) (past : List (Event T)) : Type 0 where
-  -- each act that tells a word's value tells what the memory holds there
-  pub told : TellsMemory (barrier_table n) past
-  -- nobody holds a barrier
-  pub unheld : holds_of (barrier_table n) past ≡ []
-  -- each refusal has its cause
-  pub cause : HasCause (BarrierCause n) past
-  pub law : BarrierLaw n past
+abbrev pub KeepsBarrier : {T : Type 0} → ℕ → List (Event T) → Type 0
+KeepsBarrier n past = Keeps (barrier_table n) (BarrierCause n) (BarrierLaw n) past

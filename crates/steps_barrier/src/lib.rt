@@ -15,9 +15,6 @@ use steps_events::event::{Answer, Call, Wake, Word};
 use steps_events::patience::Patience;
 use steps_events::row::{After, Intent};
 
-#[cfg(test)]
-mod tests;
-
 /// The word after an arrival, where fewer than so many have arrived; `None` where there is no place for one more, as at a
 /// barrier of 0. The arrival that fills the round opens the next one.
 #[inline(always)]
@@ -62,7 +59,7 @@ pub fn count_of(word: u64) -> u64
 }
 
 /// Where a party is in its call at a barrier; each place is named for its next step.
-#[derive(Clone, Copy, Debug, PartialEq, Eq)]
+#[derive(Clone, Copy)]
 pub enum BarrierPlace {
     /// The load of a call that has not arrived.
     Look {

@@ -15,12 +15,12 @@ use Rattle.steps_events.specs.declared.event.Then.TheVariants as thens
 use Rattle.steps_events.specs.declared.event.Event.{Event}
 use Rattle.steps_events.specs.declared.hold.HoldKind.{HoldKind}
 use Rattle.steps_events.specs.declared.hold.HoldKind.TheVariants as kinds
-use Rattle.steps_events.specs.Past.{PendingCall, call_of, holds_of, hold_of, is_release, is_failure}
+use Rattle.steps_events.specs.Past.{PendingCall, call_of, hold_of, is_release, is_failure}
 use Rattle.steps_events.specs.Moves.{is_step}
 use Rattle.steps_events.specs.Sights.{sight_of, is_sight, AtLastSight, keeps_asking, spins_in, acts_in}
 use Rattle.steps_events.specs.Asks.{SpinCount, but_last_try, AsksAfterSpinning, SpinsNoMore, Refusing, TellsRefusal, WaitEvents, AsksUntilAbort}
 use Rattle.steps_events.specs.Waits.{is_wake}
-use Rattle.steps_events.specs.Laws.{TellsMemory, IsExclusive, IsLocked, HasCause}
+use Rattle.steps_events.specs.Laws.{IsLocked, Keeps}
 use Rattle.steps_mutex.specs.Law as mutex
 use Rattle.steps_mutex.specs.Law.{LockCause, HasTriedAll, answer_of, acts_of, IsLockAnswer, AnswersWhereGranted, IsExactGrant}
 use Rattle.steps_semaphore.specs.Permits.{permits, permits_taken, is_take, KeepsPermits}
@@ -237,11 +237,5 @@ pub record CondvarLaw {T : Type 0} (past : List (Event T)) : Type 0 where
   -- and each call that ends without the mutex has tried so often
   pub tries : GivesUpAfterTrying past
 
-pub record KeepsCondvar {T : Type 0} (past : List (Event T)) : Type 0 where
-  -- each act that tells a word's value tells what the memory holds there
-  pub told : TellsMemory condvar_table past
-  -- one holder at most
-  pub exclusive : IsExclusive (holds_of condvar_table past)
-  -- each refusal has its cause
-  pub cause : HasCause CondvarCause past
-  pub law : CondvarLaw past
+abbrev pub KeepsCondvar : {T : Type 0} → List (Event T) → Type 0
+KeepsCondvar past = Keeps condvar_table CondvarCause CondvarLaw past

@@ -17,9 +17,6 @@ use steps_events::row::{After, Intent};
 use steps_mutex::MutexPlace;
 use steps_semaphore::SemaphorePlace;
 
-#[cfg(test)]
-mod tests;
-
 /// How many permits a notify gives that wakes so, where so many wait: at most one to wake one, and one for each to wake all.
 #[inline(always)]
 pub fn permits_for(wake: Wake, waiters: u64) -> u64
@@ -33,7 +30,7 @@ pub fn permits_for(wake: Wake, waiters: u64) -> u64
 }
 
 /// Where a party is in a call at a condition variable; each place is named for its next step.
-#[derive(Clone, Copy, Debug, PartialEq, Eq)]
+#[derive(Clone, Copy)]
 pub enum CondvarPlace {
     /// A step of the mutex, in `Lock`, `TryLock` or `Unlock`.
     Mutex(MutexPlace),

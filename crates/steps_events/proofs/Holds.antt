@@ -12,6 +12,7 @@ use Rattle.steps_events.specs.declared.hold.HoldKind.{HoldKind}
 use Rattle.steps_events.specs.Tables.{Table}
 use Rattle.steps_events.specs.Past.{Hold, PendingCall, call_of, call_after, holds_of, hold_among, hold_or, hold_after, without, with_hold, is_release, hold_taken}
 use Rattle.steps_events.specs.Past.{event}
+use Rattle.steps_events.specs.Laws.{IsExclusive}
 
 pub eqb_same : (p : ℕ) → (p == p) ≡ true
 eqb_same p = eq-eqb p p refl
@@ -102,3 +103,6 @@ no_holds {T} t ungranted (e ∷ past) = by_test (is_release e.act) (no_holds t u
         ◌≡◌ {A = List Hold} (cond b (without e.party (holds_of t past)) (with_hold e.party (hold_taken t e.act (call_of e.party past)) (holds_of t past))) []
     by_test true free = rw free refl
     by_test false free = rw (takes_none t ungranted e.act (call_of e.party past), free) refl
+
+pub exclusive_unheld : (holds : List Hold) → holds ≡ [] → IsExclusive holds
+exclusive_unheld holds none = rw none (λ party among. absurd (omega (arith, among.1)))

@@ -7,6 +7,7 @@ use Rattle.steps_events.specs.declared.event.Word.{Word}
 use Rattle.steps_events.specs.declared.event.Call.{Call}
 use Rattle.steps_events.specs.declared.event.Act.{Act}
 use Rattle.steps_events.specs.declared.event.Act.TheVariants as acts
+use Rattle.steps_events.specs.declared.event.Answer.{Answer}
 use Rattle.steps_events.specs.declared.event.Event.{Event}
 use Rattle.steps_events.specs.declared.event.Input.{Input}
 use Rattle.steps_events.specs.declared.event.Input.TheVariants as inputs
@@ -20,7 +21,7 @@ use Rattle.steps_events.specs.Arithmetic.{Arithmetic}
 use Rattle.steps_events.specs.Rows.{carried_out, value_told, outcome_of, place_after}
 use Rattle.steps_events.specs.Tables.{Table}
 use Rattle.steps_events.specs.Past.{PendingCall, call_of, call_after, call_going_on, hold_of, hold_after, word_in, latest_outcome, event}
-use Rattle.steps_events.specs.Moves.{Move, stage_of, next_stage, step_at, step_of, move_of, fault_at, fault_of, hold_fault, begin_fault, go_fault, answer_fault, choose_fault, IsNext}
+use Rattle.steps_events.specs.Moves.{Move, stage_of, next_stage, step_at, step_of, move_of, fault_at, fault_of, hold_fault, begin_fault, go_fault, answer_fault, choose_fault, CallValues, InputValues, IsNext}
 use Rattle.steps_events.specs.Runs.{IsPast}
 use Rattle.steps_events.proofs.Holds.{some_same, call_of_same, call_of_other, hold_of_same, hold_of_other}
 use Rattle.steps_events.proofs.Steps.{by_move, carried_goes_on, carried_stage}
@@ -68,128 +69,182 @@ each_party z t parties R none step (e ∷ past) run party =
     let before = each_party z t parties R none step past run.1 in
     one_more t R past e before (step past run.0.0 e run.0.1 (before e.party)) party
 
--- What is kept of the call at each place: it holds where a call begins, and each event of the call keeps it.
+-- What is kept of the call at each place, whatever a party does: each step of the call keeps it,
+abbrev pub IsKeptBySteps : {T P : Type 0} → Table T P → (P → PendingCall T → Option HoldKind → Type 0) → Type 0
+IsKeptBySteps {T} {P} t At =
+    (place : P) (c : PendingCall T) (hold : Option HoldKind) (memory : Word → ℕ) (number : ℕ) (next : P) → At place c hold → go_fault (latest_outcome c.own) ≡ None →
+    place_after (t.after place (value_told (carried_out (t.intent place hold) memory))) ≡ Some next →
+    At next (record { call = c.call; own = event number (step_at t place hold memory).act (step_at t place hold memory).outcome ∷ c.own }) (hold_after t (step_at t place hold memory).act (Some c) hold)
+
+-- and so does each answer of its wait closure.
+abbrev pub IsKeptByAnswers : {T P : Type 0} → Table T P → (P → PendingCall T → Option HoldKind → Type 0) → Type 0
+IsKeptByAnswers {T} {P} t At =
+    (place : P) (c : PendingCall T) (hold : Option HoldKind) (action : WaitAction) (number : ℕ) → At place c hold → answer_fault (latest_outcome c.own) ≡ None →
+    At (t.answered place action) (record { call = c.call; own = event number (acts.Answered action) thens.GoesOn ∷ c.own }) hold
+
+-- It holds where a call begins, and each event of the call keeps it.
 pub record IsKept {T P : Type 0} (t : Table T P) (At : P → PendingCall T → Option HoldKind → Type 0) : Type 0 where
   pub begins : (call : Call T) (place : P) (hold : Option HoldKind) → t.begins call ≡ Some place → hold_fault t call hold ≡ None → At place (record { call = call; own = [] }) hold
-  pub steps :
-      (place : P) (c : PendingCall T) (hold : Option HoldKind) (memory : Word → ℕ) (number : ℕ) (next : P) → At place c hold → go_fault (latest_outcome c.own) ≡ None →
-      place_after (t.after place (value_told (carried_out (t.intent place hold) memory))) ≡ Some next →
-      At next (record { call = c.call; own = event number (step_at t place hold memory).act (step_at t place hold memory).outcome ∷ c.own }) (hold_after t (step_at t place hold memory).act (Some c) hold)
-  pub answers :
-      (place : P) (c : PendingCall T) (hold : Option HoldKind) (action : WaitAction) (number : ℕ) → At place c hold → answer_fault (latest_outcome c.own) ≡ None →
-      At (t.answered place action) (record { call = c.call; own = event number (acts.Answered action) thens.GoesOn ∷ c.own }) hold
+  pub steps : IsKeptBySteps t At
+  pub answers : IsKeptByAnswers t At
   pub chooses :
       (place : P) (c : PendingCall T) (hold : Option HoldKind) (choice : Option T) (number : ℕ) → At place c hold → choose_fault (latest_outcome c.own) ≡ None →
       At (t.chosen place choice) (record { call = c.call; own = event number (acts.Chosen choice) thens.GoesOn ∷ c.own }) hold
 
--- a party's call under way is at a place, of which this is kept
+-- The same where it rests on the values that inputs bring, and on what hold a party has that has no call: it rests with such a hold before a call, and a call
+-- that ends leaves it so.
+pub record IsKeptFromRest {T P : Type 0} (z : Arithmetic T) (t : Table T P) (Rest : Option HoldKind → Type 0) (At : P → PendingCall T → Option HoldKind → Type 0) : Type 0 where
+  pub begins :
+      (call : Call T) (place : P) (hold : Option HoldKind) → t.begins call ≡ Some place → hold_fault t call hold ≡ None → CallValues z call → Rest hold →
+      At place (record { call = call; own = [] }) hold
+  pub steps : IsKeptBySteps t At
+  pub answers : IsKeptByAnswers t At
+  pub chooses :
+      (place : P) (c : PendingCall T) (hold : Option HoldKind) (choice : Option T) (number : ℕ) → At place c hold → choose_fault (latest_outcome c.own) ≡ None → InputValues z (inputs.Choose choice) →
+      At (t.chosen place choice) (record { call = c.call; own = event number (acts.Chosen choice) thens.GoesOn ∷ c.own }) hold
+  pub ends :
+      (place : P) (c : PendingCall T) (hold : Option HoldKind) (memory : Word → ℕ) (answer : Answer T) → At place c hold →
+      t.after place (value_told (carried_out (t.intent place hold) memory)) ≡ afters.Ends answer → Rest (hold_after t (step_at t place hold memory).act (Some c) hold)
+
+-- whatever hold a party has
+abbrev pub Whatever : Option HoldKind → Type 0
+Whatever hold = Unit {0}
+
+whatever_rests : {T P : Type 0} (z : Arithmetic T) (t : Table T P) (At : P → PendingCall T → Option HoldKind → Type 0) → IsKept t At → IsKeptFromRest z t Whatever At
+whatever_rests z t At kept =
+    record {
+      begins = λ call place hold is allowed values rest. kept.begins call place hold is allowed;
+      steps = kept.steps;
+      answers = kept.answers;
+      chooses = λ place c hold choice number at stands values. kept.chooses place c hold choice number at stands;
+      ends = λ place c hold memory answer at is. tt;
+    }
+
+-- a party's call under way is at a place, of which this is kept; without a call it rests
+abbrev pub IsAtPlaceOrRests : {T P : Type 0} → Table T P → (Option HoldKind → Type 0) → (P → PendingCall T → Option HoldKind → Type 0) → Option (PendingCall T) → Option HoldKind → Type 0
+IsAtPlaceOrRests t Rest At None hold = Rest hold
+IsAtPlaceOrRests {T} {P} t Rest At (Some c) hold = (place : P) × (stage_of t c ≡ Some place) × At place c hold
+
 abbrev pub IsAtPlace : {T P : Type 0} → Table T P → (P → PendingCall T → Option HoldKind → Type 0) → Option (PendingCall T) → Option HoldKind → Type 0
-IsAtPlace t At None hold = Unit {0}
-IsAtPlace {T} {P} t At (Some c) hold = (place : P) × (stage_of t c ≡ Some place) × At place c hold
+IsAtPlace t At pending hold = IsAtPlaceOrRests t Whatever At pending hold
 
-begun_at :
-    {T P : Type 0} (t : Table T P) (At : P → PendingCall T → Option HoldKind → Type 0) → IsKept t At → (pending : Option (PendingCall T)) (hold : Option HoldKind) (call : Call T) →
-    begin_fault t pending hold call ≡ None → (place : P) × (t.begins call ≡ Some place) × At place (record { call = call; own = [] }) hold
-begun_at t At kept (Some c) hold call allowed = absurd cc
-begun_at {T} {P} t At kept None hold call allowed = by_place (t.begins call) refl allowed
-  where
-    by_place : (place : Option P) → t.begins call ≡ place → cond (is_some place) (hold_fault t call hold) (Some faults.OtherObject) ≡ None →
-        (place : P) × (t.begins call ≡ Some place) × At place (record { call = call; own = [] }) hold
-    by_place None is none = absurd cc
-    by_place (Some place) is none = (place, is, kept.begins call place hold is none)
+module _ {T P : Type 0} (z : Arithmetic T) (t : Table T P) (Rest : Option HoldKind → Type 0) (At : P → PendingCall T → Option HoldKind → Type 0) (kept : IsKeptFromRest z t Rest At) where
+  -- a party with this call and this hold
+  abbrev IsHere : Option (PendingCall T) → Option HoldKind → Type 0
+  IsHere pending hold = IsAtPlaceOrRests t Rest At pending hold
 
-stepped_on :
-    {T P : Type 0} (t : Table T P) (At : P → PendingCall T → Option HoldKind → Type 0) → IsKept t At → (place : P) (c : PendingCall T) (hold : Option HoldKind) (memory : Word → ℕ) (number : ℕ) (next : P) →
-    stage_of t c ≡ Some place → At place c hold → go_fault (latest_outcome c.own) ≡ None → place_after (t.after place (value_told (carried_out (t.intent place hold) memory))) ≡ Some next →
-    IsAtPlace t At (call_going_on (step_at t place hold memory).act (event number (step_at t place hold memory).act (step_at t place hold memory).outcome) (Some c)) (hold_after t (step_at t place hold memory).act (Some c) hold)
-stepped_on {T} {P} t At kept place c hold memory number next stage at goes is =
-    let act = (step_at t place hold memory).act in
-    let e = event number act (step_at t place hold memory).outcome in
-    let K : Option (PendingCall T) → Type 0 = λ k. IsAtPlace t At k (hold_after t act (Some c) hold) in
-    let to : next_stage t act (stage_of t c) ≡ Some next = ap (next_stage t act) stage ∙ carried_stage t place (t.intent place hold) memory ∙ is in
-    subst K (sym (carried_goes_on (t.intent place hold) memory e c)) (next, to, kept.steps place c hold memory number next at goes is)
+  begun_at :
+      (pending : Option (PendingCall T)) (hold : Option HoldKind) (call : Call T) → CallValues z call → IsHere pending hold →
+      begin_fault t pending hold call ≡ None → (place : P) × (t.begins call ≡ Some place) × At place (record { call = call; own = [] }) hold
+  begun_at (Some c) hold call values here allowed = absurd cc
+  begun_at None hold call values here allowed = by_place (t.begins call) refl allowed
+    where
+      by_place : (place : Option P) → t.begins call ≡ place → cond (is_some place) (hold_fault t call hold) (Some faults.OtherObject) ≡ None →
+          (place : P) × (t.begins call ≡ Some place) × At place (record { call = call; own = [] }) hold
+      by_place None is none = absurd cc
+      by_place (Some place) is none = (place, is, kept.begins call place hold is none values here)
 
-stepped_at :
-    {T P : Type 0} (t : Table T P) (At : P → PendingCall T → Option HoldKind → Type 0) → IsKept t At → (place : P) (c : PendingCall T) (hold : Option HoldKind) (memory : Word → ℕ) (number : ℕ) →
-    stage_of t c ≡ Some place → At place c hold → go_fault (latest_outcome c.own) ≡ None →
-    IsAtPlace t At (call_after (step_at t place hold memory).outcome (event number (step_at t place hold memory).act (step_at t place hold memory).outcome) (Some c)) (hold_after t (step_at t place hold memory).act (Some c) hold)
-stepped_at {T} {P} t At kept place c hold memory number stage at goes = by_after (t.after place (value_told act)) refl
-  where
-    act : Act T
-    act = (step_at t place hold memory).act
+  stepped_on :
+      (place : P) (c : PendingCall T) (hold : Option HoldKind) (memory : Word → ℕ) (number : ℕ) (next : P) →
+      stage_of t c ≡ Some place → At place c hold → go_fault (latest_outcome c.own) ≡ None → place_after (t.after place (value_told (carried_out (t.intent place hold) memory))) ≡ Some next →
+      IsHere (call_going_on (step_at t place hold memory).act (event number (step_at t place hold memory).act (step_at t place hold memory).outcome) (Some c)) (hold_after t (step_at t place hold memory).act (Some c) hold)
+  stepped_on place c hold memory number next stage at goes is =
+      let act = (step_at t place hold memory).act in
+      let e = event number act (step_at t place hold memory).outcome in
+      let K : Option (PendingCall T) → Type 0 = λ k. IsHere k (hold_after t act (Some c) hold) in
+      let to : next_stage t act (stage_of t c) ≡ Some next = ap (next_stage t act) stage ∙ carried_stage t place (t.intent place hold) memory ∙ is in
+      subst K (sym (carried_goes_on (t.intent place hold) memory e c)) (next, to, kept.steps place c hold memory number next at goes is)
 
-    GoesOn : After T P → Type 0
-    GoesOn a = IsAtPlace t At (call_going_on act (event number act (outcome_of a)) (Some c)) (hold_after t act (Some c) hold)
+  stepped_at :
+      (place : P) (c : PendingCall T) (hold : Option HoldKind) (memory : Word → ℕ) (number : ℕ) → stage_of t c ≡ Some place → At place c hold → go_fault (latest_outcome c.own) ≡ None →
+      IsHere (call_after (step_at t place hold memory).outcome (event number (step_at t place hold memory).act (step_at t place hold memory).outcome) (Some c)) (hold_after t (step_at t place hold memory).act (Some c) hold)
+  stepped_at place c hold memory number stage at goes = by_after (t.after place (value_told act)) refl
+    where
+      act : Act T
+      act = (step_at t place hold memory).act
 
-    on : (a : After T P) (next : P) → t.after place (value_told act) ≡ a → place_after a ≡ Some next → GoesOn a
-    on a next is to = subst GoesOn is (stepped_on t At kept place c hold memory number next stage at goes (ap place_after is ∙ to))
+      GoesOn : After T P → Type 0
+      GoesOn a = IsHere (call_going_on act (event number act (outcome_of a)) (Some c)) (hold_after t act (Some c) hold)
 
-    by_after : (a : After T P) → t.after place (value_told act) ≡ a → IsAtPlace t At (call_after (outcome_of a) (event number act (outcome_of a)) (Some c)) (hold_after t act (Some c) hold)
-    by_after (afters.At next) is = on (afters.At next) next is refl
-    by_after (afters.Waits next seen) is = on (afters.Waits next seen) next is refl
-    by_after (afters.Chooses next old) is = on (afters.Chooses next old) next is refl
-    by_after (afters.Ends answer) is = tt
+      on : (a : After T P) (next : P) → t.after place (value_told act) ≡ a → place_after a ≡ Some next → GoesOn a
+      on a next is to = subst GoesOn is (stepped_on place c hold memory number next stage at goes (ap place_after is ∙ to))
 
--- a call that stands at a closure goes on from where its answer leads
-answered_at :
-    {T P : Type 0} (t : Table T P) (At : P → PendingCall T → Option HoldKind → Type 0) → IsKept t At → (pending : Option (PendingCall T)) (hold : Option HoldKind) (action : WaitAction) (number : ℕ) →
-    fault_at t pending hold (inputs.Answer action) ≡ None → IsAtPlace t At pending hold → IsAtPlace t At (call_going_on (acts.Answered action) (event number (acts.Answered action) thens.GoesOn) pending) hold
-answered_at t At kept None hold action number allowed at = tt
-answered_at t At kept (Some c) hold action number allowed at =
-    (t.answered at.0 action, ap (next_stage t (acts.Answered action)) at.1, kept.answers at.0 c hold action number at.2 allowed)
+      by_after : (a : After T P) → t.after place (value_told act) ≡ a → IsHere (call_after (outcome_of a) (event number act (outcome_of a)) (Some c)) (hold_after t act (Some c) hold)
+      by_after (afters.At next) is = on (afters.At next) next is refl
+      by_after (afters.Waits next seen) is = on (afters.Waits next seen) next is refl
+      by_after (afters.Chooses next old) is = on (afters.Chooses next old) next is refl
+      by_after (afters.Ends answer) is = kept.ends place c hold memory answer at is
 
-chosen_at :
-    {T P : Type 0} (t : Table T P) (At : P → PendingCall T → Option HoldKind → Type 0) → IsKept t At → (pending : Option (PendingCall T)) (hold : Option HoldKind) (choice : Option T) (number : ℕ) →
-    fault_at t pending hold (inputs.Choose choice) ≡ None → IsAtPlace t At pending hold → IsAtPlace t At (call_going_on (acts.Chosen choice) (event number (acts.Chosen choice) thens.GoesOn) pending) hold
-chosen_at t At kept None hold choice number allowed at = tt
-chosen_at t At kept (Some c) hold choice number allowed at =
-    (t.chosen at.0 choice, ap (next_stage t (acts.Chosen choice)) at.1, kept.chooses at.0 c hold choice number at.2 allowed)
+  -- a call that stands at a closure goes on from where its answer leads
+  answered_at :
+      (pending : Option (PendingCall T)) (hold : Option HoldKind) (action : WaitAction) (number : ℕ) → fault_at t pending hold (inputs.Answer action) ≡ None → IsHere pending hold →
+      IsHere (call_going_on (acts.Answered action) (event number (acts.Answered action) thens.GoesOn) pending) hold
+  answered_at None hold action number allowed here = here
+  answered_at (Some c) hold action number allowed here =
+      (t.answered here.0 action, ap (next_stage t (acts.Answered action)) here.1, kept.answers here.0 c hold action number here.2 allowed)
 
--- whatever the input
-moved_at :
-    {T P : Type 0} (t : Table T P) (At : P → PendingCall T → Option HoldKind → Type 0) → IsKept t At → (pending : Option (PendingCall T)) (hold : Option HoldKind) (memory : Word → ℕ) (input : Input T) (number : ℕ) (m : Move T) →
-    fault_at t pending hold input ≡ None → move_of t pending hold memory input ≡ Some m → IsAtPlace t At pending hold →
-    IsAtPlace t At (call_after m.outcome (event number m.act m.outcome) pending) (hold_after t m.act pending hold)
-moved_at {T} {P} t At kept pending hold memory input number m allowed moved at =
-    by_move t pending hold memory Leads input m
-    (λ call is before. begun_at t At kept pending hold call (subst (λ i. fault_at t pending hold i ≡ None) is allowed))
-    (λ action is before. answered_at t At kept pending hold action number (subst (λ i. fault_at t pending hold i ≡ None) is allowed) before)
-    (λ choice is before. chosen_at t At kept pending hold choice number (subst (λ i. fault_at t pending hold i ≡ None) is allowed) before)
-    (λ c place is same stage before. stepped_here c place stage before (goes c is same))
-    moved at
-  where
-    Leads : Option (PendingCall T) → Move T → Type 0
-    Leads k x = IsAtPlace t At k hold → IsAtPlace t At (call_after x.outcome (event number x.act x.outcome) k) (hold_after t x.act k hold)
+  chosen_at :
+      (pending : Option (PendingCall T)) (hold : Option HoldKind) (choice : Option T) (number : ℕ) → InputValues z (inputs.Choose choice) → fault_at t pending hold (inputs.Choose choice) ≡ None → IsHere pending hold →
+      IsHere (call_going_on (acts.Chosen choice) (event number (acts.Chosen choice) thens.GoesOn) pending) hold
+  chosen_at None hold choice number values allowed here = here
+  chosen_at (Some c) hold choice number values allowed here =
+      (t.chosen here.0 choice, ap (next_stage t (acts.Chosen choice)) here.1, kept.chooses here.0 c hold choice number here.2 allowed values)
 
-    goes : (c : PendingCall T) → input ≡ inputs.Go → pending ≡ Some c → go_fault (latest_outcome c.own) ≡ None
-    goes c is same =
-        let free : fault_at t pending hold inputs.Go ≡ None = subst (λ i. fault_at t pending hold i ≡ None) is allowed in
-        subst (λ (k : Option (PendingCall T)). fault_at t k hold inputs.Go ≡ None) same free
+  -- whatever the input
+  moved_at :
+      (pending : Option (PendingCall T)) (hold : Option HoldKind) (memory : Word → ℕ) (input : Input T) (number : ℕ) (m : Move T) →
+      InputValues z input → fault_at t pending hold input ≡ None → move_of t pending hold memory input ≡ Some m → IsHere pending hold →
+      IsHere (call_after m.outcome (event number m.act m.outcome) pending) (hold_after t m.act pending hold)
+  moved_at pending hold memory input number m values allowed moved here =
+      by_move t pending hold memory Leads input m
+      (λ call is before. begun_at pending hold call (subst (InputValues z) is values) before (subst (λ i. fault_at t pending hold i ≡ None) is allowed))
+      (λ action is before. answered_at pending hold action number (subst (λ i. fault_at t pending hold i ≡ None) is allowed) before)
+      (λ choice is before. chosen_at pending hold choice number (subst (InputValues z) is values) (subst (λ i. fault_at t pending hold i ≡ None) is allowed) before)
+      (λ c place is same stage before. stepped_here c place stage before (goes c is same))
+      moved here
+    where
+      Leads : Option (PendingCall T) → Move T → Type 0
+      Leads k x = IsHere k hold → IsHere (call_after x.outcome (event number x.act x.outcome) k) (hold_after t x.act k hold)
 
-    stepped_here : (c : PendingCall T) (place : P) → stage_of t c ≡ Some place → IsAtPlace t At (Some c) hold → go_fault (latest_outcome c.own) ≡ None →
-        IsAtPlace t At (call_after (step_at t place hold memory).outcome (event number (step_at t place hold memory).act (step_at t place hold memory).outcome) (Some c)) (hold_after t (step_at t place hold memory).act (Some c) hold)
-    stepped_here c place stage before free =
-        let same : before.0 ≡ place = some_same before.0 place (sym before.1 ∙ stage) in
-        let here : At place c hold = subst (λ p. At p c hold) same before.2 in
-        stepped_at t At kept place c hold memory number stage here free
+      goes : (c : PendingCall T) → input ≡ inputs.Go → pending ≡ Some c → go_fault (latest_outcome c.own) ≡ None
+      goes c is same =
+          let free : fault_at t pending hold inputs.Go ≡ None = subst (λ i. fault_at t pending hold i ≡ None) is allowed in
+          subst (λ (k : Option (PendingCall T)). fault_at t k hold inputs.Go ≡ None) same free
 
--- each call under way is at a place of which this is kept
+      stepped_here : (c : PendingCall T) (place : P) → stage_of t c ≡ Some place → IsHere (Some c) hold → go_fault (latest_outcome c.own) ≡ None →
+          IsHere (call_after (step_at t place hold memory).outcome (event number (step_at t place hold memory).act (step_at t place hold memory).outcome) (Some c)) (hold_after t (step_at t place hold memory).act (Some c) hold)
+      stepped_here c place stage before free =
+          let same : before.0 ≡ place = some_same before.0 place (sym before.1 ∙ stage) in
+          let here : At place c hold = subst (λ p. At p c hold) same before.2 in
+          stepped_at place c hold memory number stage here free
+
+  -- each call under way is at a place of which this is kept, and each party without one rests
+  pub each_rests : (parties : ℕ) → Rest None → (past : List (Event T)) → IsPast z t parties past → (party : ℕ) → IsHere (call_of party past) (hold_of t party past)
+  each_rests parties none past run party =
+      each_party z t parties IsHere none
+      (λ before input e next here.
+      moved_at (call_of e.party before) (hold_of t e.party before) (word_in t before) input e.party _ next.values (fault_at_none t parties before e.party input next.allowed) next.moved here)
+      past run party
+
+  -- of the call that a party has under way, at its place
+  pub at_place_from_rest :
+      (parties : ℕ) → Rest None → (past : List (Event T)) → IsPast z t parties past → (party : ℕ) (c : PendingCall T) (place : P) → call_of party past ≡ Some c → stage_of t c ≡ Some place →
+      At place c (hold_of t party past)
+  at_place_from_rest parties none past run party c place called stage =
+      let here : IsHere (Some c) (hold_of t party past) = subst (λ (k : Option (PendingCall T)). IsHere k (hold_of t party past)) called (each_rests parties none past run party) in
+      subst (λ p. At p c (hold_of t party past)) (some_same here.0 place (sym here.1 ∙ stage)) here.2
+
+-- Both where neither values nor rest matter.
+
 pub each_call :
     {T P : Type 0} (z : Arithmetic T) (t : Table T P) (parties : ℕ) (At : P → PendingCall T → Option HoldKind → Type 0) → IsKept t At →
     (past : List (Event T)) → IsPast z t parties past → (party : ℕ) → IsAtPlace t At (call_of party past) (hold_of t party past)
-each_call z t parties At kept past run party =
-    each_party z t parties (IsAtPlace t At) tt
-    (λ before input e next at.
-    moved_at t At kept (call_of e.party before) (hold_of t e.party before) (word_in t before) input e.party _ (fault_at_none t parties before e.party input next.allowed) next.moved at)
-    past run party
+each_call z t parties At kept past run party = each_rests z t Whatever At (whatever_rests z t At kept) parties tt past run party
 
--- of the call that a party has under way, at its place
 pub at_place :
     {T P : Type 0} (z : Arithmetic T) (t : Table T P) (parties : ℕ) (At : P → PendingCall T → Option HoldKind → Type 0) → IsKept t At →
     (past : List (Event T)) → IsPast z t parties past → (party : ℕ) (c : PendingCall T) (place : P) → call_of party past ≡ Some c → stage_of t c ≡ Some place → At place c (hold_of t party past)
-at_place {T} z t parties At kept past run party c place called stage =
-    let here : IsAtPlace t At (Some c) (hold_of t party past) = subst (λ (k : Option (PendingCall T)). IsAtPlace t At k (hold_of t party past)) called (each_call z t parties At kept past run party) in
-    subst (λ p. At p c (hold_of t party past)) (some_same here.0 place (sym here.1 ∙ stage)) here.2
+at_place z t parties At kept past run party c place called stage = at_place_from_rest z t Whatever At (whatever_rests z t At kept) parties tt past run party c place called stage
 
 -- Of a run, whatever is kept: each call under way is at a place, so an input that is not refused gives an event.
 
@@ -215,7 +270,7 @@ pub next_has_places :
 next_has_places z t parties past party input e have next =
     let own = subst (λ p. IsNext z t parties past p input e) (sym next.party_is) next in
     one_more t (IsAtPlace t Anywhere) past e have
-    (moved_at t Anywhere (anywhere_kept t) (call_of e.party past) (hold_of t e.party past) (word_in t past) input e.party _ (fault_at_none t parties past e.party input own.allowed) own.moved (have e.party))
+    (moved_at z t Whatever Anywhere (whatever_rests z t Anywhere (anywhere_kept t)) (call_of e.party past) (hold_of t e.party past) (word_in t past) input e.party _ own.values (fault_at_none t parties past e.party input own.allowed) own.moved (have e.party))
 
 pub gives_event :
     {T P : Type 0} (t : Table T P) (parties : ℕ) (past : List (Event T)) (party : ℕ) (input : Input T) → HavePlaces t past → fault_of t parties past party input ≡ None →

@@ -29,3 +29,14 @@ IsValue z v = z.of_words (z.low v) (z.high v) ≡ v
 -- an operation leads from values to values
 abbrev pub KeepsValues : {T : Type 0} → Arithmetic T → (T → T → T) → Type 0
 KeepsValues {T} z f = (x y : T) → IsValue z x → IsValue z y → IsValue z (f x y)
+
+-- so do all operators
+pub record IsClosed {T : Type 0} (z : Arithmetic T) : Type 0 where
+  pub add : KeepsValues z z.add
+  pub subtract : KeepsValues z z.subtract
+  pub and : KeepsValues z z.and
+  pub or : KeepsValues z z.or
+  pub xor : KeepsValues z z.xor
+  pub inverse : (x : T) → IsValue z x → IsValue z (z.inverse x)
+  pub greater : KeepsValues z z.greater
+  pub lesser : KeepsValues z z.lesser

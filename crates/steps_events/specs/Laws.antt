@@ -50,6 +50,16 @@ HasCause Cause (e ∷ past) =
     (MatchOption (call_of e.party past) ⊥ (λ c. Cause c.call e.party (e ∷ past)))
     (Unit {0})
 
+-- What an object keeps at every front of every run: of every object the same three facts, and a law of its own.
+pub record Keeps {T P : Type 0} (t : Table T P) (Cause : Call T → ℕ → List (Event T) → Type 0) (Law : List (Event T) → Type 0) (past : List (Event T)) : Type 0 where
+  -- each act that tells a word's value tells what the memory holds there
+  pub told : TellsMemory t past
+  -- a lock has one writer or only readers
+  pub exclusive : IsExclusive (holds_of t past)
+  -- each refusal has its cause
+  pub cause : HasCause Cause past
+  pub law : Law past
+
 -- a step that neither tells nor changes the word
 abbrev pub is_apart : {T : Type 0} → Word → Intent T → Bool
 is_apart word (intents.Load w) = not (same_word w word)

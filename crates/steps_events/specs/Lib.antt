@@ -11,5 +11,6 @@ pub mod Moves
 pub mod Runs
 pub mod Sights
 pub mod Asks
+pub mod NextStep
 pub mod Waits
 pub mod Laws

@@ -18,7 +18,7 @@ pub enum Word {
 }
 
 /// A call of a wake closure.
-#[derive(Clone, Copy, Debug, PartialEq, Eq)]
+#[derive(Clone, Copy)]
 pub enum Wake {
     /// It wakes one that waits.
     One,
@@ -29,7 +29,7 @@ pub enum Wake {
 /// A call of a party at the object, named as in the Rust crate.
 ///
 /// Each object has some of them. The values that the calls of an `Atomic` bring are of its integer type `T`.
-#[derive(Clone, Copy, Debug, PartialEq, Eq)]
+#[derive(Clone, Copy)]
 pub enum Call<T> {
     /// Takes the lock; waits while it is held.
     Lock,
@@ -96,7 +96,7 @@ pub enum Call<T> {
 }
 
 /// What an event did.
-#[derive(Clone, Copy, Debug, PartialEq, Eq)]
+#[derive(Clone, Copy)]
 pub enum Act<T> {
     /// A call began.
     Begun(Call<T>),
@@ -143,7 +143,7 @@ pub enum Act<T> {
 }
 
 /// What a call answers.
-#[derive(Clone, Copy, Debug, PartialEq, Eq)]
+#[derive(Clone, Copy)]
 pub enum Answer<T> {
     /// The hold or the permit is taken.
     Success,
@@ -170,7 +170,7 @@ pub enum Answer<T> {
 }
 
 /// How a call stands after an event.
-#[derive(Clone, Copy, Debug, PartialEq, Eq)]
+#[derive(Clone, Copy)]
 pub enum Then<T> {
     /// It goes on by itself.
     GoesOn,
@@ -184,7 +184,7 @@ pub enum Then<T> {
 
 /// One event: one atomic step, one call of a wake closure, one answer of a wait or choice closure, the end of a
 /// once's closure, one read of a lazy value, or the beginning of a call.
-#[derive(Clone, Copy, Debug, PartialEq, Eq)]
+#[derive(Clone, Copy)]
 pub struct Event<T> {
     /// The party, counted from 0.
     pub party: usize,
@@ -195,7 +195,7 @@ pub struct Event<T> {
 }
 
 /// What a schedule asks of a party.
-#[derive(Clone, Copy, Debug, PartialEq, Eq)]
+#[derive(Clone, Copy)]
 pub enum Input<T> {
     /// It begins this call.
     Begin(Call<T>),
@@ -208,7 +208,7 @@ pub enum Input<T> {
 }
 
 /// A primitive, with what it is opened with.
-#[derive(Clone, Copy, Debug, PartialEq, Eq)]
+#[derive(Clone, Copy)]
 pub enum Object<T> {
     /// A lock for one; free at first.
     Mutex,

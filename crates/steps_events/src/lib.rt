@@ -7,8 +7,6 @@ pub mod event;
 pub mod hold;
 pub mod patience;
 pub mod row;
-#[cfg(test)]
-mod tests;
 pub mod words;
 
 /// What a wait closure answers: whether the call goes on or may give up.

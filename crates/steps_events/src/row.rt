@@ -5,7 +5,7 @@ ghost use Rattle.steps_events.specs.Rows.{value_told, outcome_of, IsWithin};
 use crate::event::{Act, Answer, Then, Wake, Word};
 
 /// What a step is to do, before any word is read.
-#[derive(Clone, Copy, Debug, PartialEq, Eq)]
+#[derive(Clone, Copy)]
 pub enum Intent<T> {
     /// A load.
     Load(Word),
@@ -28,7 +28,7 @@ pub enum Intent<T> {
 }
 
 /// How a call goes on after a step.
-#[derive(Clone, Copy, Debug, PartialEq, Eq)]
+#[derive(Clone, Copy)]
 pub enum After<T, P> {
     /// By itself, from this place.
     At(P),

@@ -8,7 +8,7 @@ use crate::event::{Act, Word};
 use crate::row::Intent;
 
 /// The words of an object; those that it does not have stay 0.
-#[derive(Clone, Copy, Debug, PartialEq, Eq)]
+#[derive(Clone, Copy)]
 pub struct Words {
     pub state: u64,
     pub counter: u64,

@@ -21,7 +21,7 @@ use Rattle.steps_events.specs.Runs.{IsPast}
 use Rattle.steps_events.specs.Sights.{AtLast, last_of}
 use Rattle.steps_events.specs.Waits.{stands, is_wake}
 use Rattle.steps_events.specs.Laws.{IsTold, Lacks, is_refusal}
-use Rattle.steps_events.proofs.Holds.{some_same, no_holds}
+use Rattle.steps_events.proofs.Holds.{some_same, no_holds, exclusive_unheld}
 use Rattle.steps_events.proofs.Steps.{by_move, tells_memory}
 use Rattle.steps_events.proofs.Parties.{IsKept, IsAtPlace, at_place, each_call}
 use Rattle.steps_events.proofs.Own.{IsCallAfter, call_was}
@@ -285,17 +285,19 @@ only_forces {T} z v parties past e run = by_call (call_of e.party past) (each_ca
 pub keeps_lazy : {T : Type 0} (z : Arithmetic T) (v : T) (parties : ℕ) (past : List (Event T)) → IsPast z (lazy_table v) parties past → KeepsLazy v past
 keeps_lazy z v parties [] run =
     let front = closure_front z (lazy_table v) parties (runs_one z v parties) [] run in
-    record { told = tt; unheld = refl; cause = tt; law = record { one = omega arith; ends = omega arith; own = tt; runs = tt; waits = tt; answers = tt; calls = tt; stays = tt; spins = tt; state = tells_state (lazy_table v) [] front.state } }
+    record { told = tt; exclusive = exclusive_unheld [] refl; cause = tt; law = record { unheld = refl; one = omega arith; ends = omega arith; own = tt; runs = tt; waits = tt; answers = tt; calls = tt; stays = tt; spins = tt; state = tells_state (lazy_table v) [] front.state } }
 keeps_lazy z v parties (e ∷ past) run =
     let event = event_law z v parties past e run in
     let front = closure_front z (lazy_table v) parties (runs_one z v parties) (e ∷ past) run in
     let most = at_most_one _ _ _ front.state in
+    let unheld = no_holds (lazy_table v) (λ call from to. refl) (e ∷ past) in
     record {
       told = tells_memory z (lazy_table v) parties (e ∷ past) run;
-      unheld = no_holds (lazy_table v) (λ call from to. refl) (e ∷ past);
+      exclusive = exclusive_unheld _ unheld;
       cause = event.cause;
       law =
           record {
+            unheld = unheld;
             one = most.0;
             ends = most.2;
             own = event.own;

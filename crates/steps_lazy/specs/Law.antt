@@ -12,7 +12,7 @@ use Rattle.steps_events.specs.Past.{call_of, holds_of, word_in}
 use Rattle.steps_events.specs.Moves.{is_step}
 use Rattle.steps_events.specs.Sights.{last_of}
 use Rattle.steps_events.specs.Waits.{OnlySpins}
-use Rattle.steps_events.specs.Laws.{TellsMemory, HasCause}
+use Rattle.steps_events.specs.Laws.{Keeps}
 use Rattle.steps_once.specs.Closures.{is_begin, is_end, is_load, begins_in, ends_in, EndsItsOwn, WaitsForAnother, StaysTwo, TellsState}
 use Rattle.steps_lazy.specs.Table.{lazy_table}
 
@@ -62,6 +62,8 @@ RunsInOrder (e ∷ past) =
 
 -- What a lazy value keeps beside what every object does.
 pub record LazyLaw {T : Type 0} (v : T) (past : List (Event T)) : Type 0 where
+  -- nobody holds a lazy value
+  pub unheld : holds_of (lazy_table v) past ≡ []
   -- one closure begins at most
   pub one : begins_in past ≤ 1
   -- no more end than began
@@ -82,11 +84,5 @@ pub record LazyLaw {T : Type 0} (v : T) (past : List (Event T)) : Type 0 where
   pub spins : OnlySpins past
   pub state : TellsState (lazy_table v) past
 
-pub record KeepsLazy {T : Type 0} (v : T) (past : List (Event T)) : Type 0 where
-  -- each act that tells a word's value tells what the memory holds there
-  pub told : TellsMemory (lazy_table v) past
-  -- nobody holds a lazy value
-  pub unheld : holds_of (lazy_table v) past ≡ []
-  -- no call is refused
-  pub cause : HasCause LazyCause past
-  pub law : LazyLaw v past
+abbrev pub KeepsLazy : {T : Type 0} → T → List (Event T) → Type 0
+KeepsLazy v past = Keeps (lazy_table v) LazyCause (LazyLaw v) past

@@ -13,11 +13,8 @@ use steps_events::event::{Answer, Call, Word};
 use steps_events::row::{After, Intent};
 use steps_once::OncePlace;
 
-#[cfg(test)]
-mod tests;
-
 /// Where a party is in a call at a lazy value; each place is named for its next step.
-#[derive(Clone, Copy, Debug, PartialEq, Eq)]
+#[derive(Clone, Copy)]
 pub enum LazyPlace {
     /// A step of the once inside.
     Once(OncePlace),

@@ -1,6 +1,6 @@
 -- A mutex keeps its law at every front of every run.
 use Rattle.std.proofs.Common.{◌≡◌, ◌≢◌, ◌≤◌, ℕ, zero, ◌==◌, refl, sym, ◌∙◌, ap, subst, Bool, true, false, cond, is_some, List, [], ◌∷◌, Option, Some, None, ◌↔◌, inl, inr, arith}
-use Rattle.std.specs.Prelude.{MatchBool, MatchOption, not}
+use Rattle.std.specs.Prelude.{MatchBool, MatchOption, not, nat_lt}
 use Rattle.std.proofs.lemmas.Bool.{eqb-true, eqb-false}
 use Rattle.steps_events.specs.declared.WaitAction.{WaitAction}
 use Rattle.steps_events.specs.declared.event.Word.{Word}
@@ -35,8 +35,9 @@ use Rattle.steps_events.proofs.Locks.{IsLock, IsLockIntent, IsFreeOrHeld, lock_w
 use Rattle.steps_mutex.specs.declared.MutexPlace.{MutexPlace}
 use Rattle.steps_mutex.specs.declared.MutexPlace.TheVariants as places
 use Rattle.steps_mutex.specs.Table.{mutex_table, mutex_begins, mutex_intent, mutex_after, mutex_answered}
-use Rattle.steps_mutex.specs.Law.{LockCause, HasTried, answer_of, acts_of, IsLockAnswer, lock_spins, steps_on, KeepsMutex}
-use Rattle.steps_mutex.proofs.LockSteps.{HasTriedSo, AtLock, lock_begins, LockLeads, lock_leads, lock_goes_on, lock_answered, lock_chosen}
+use Rattle.steps_mutex.specs.Law.{LockCause, HasTried, answer_of, acts_of, IsLockAnswer, lock_spins, steps_on, IsLeftBy, MutexStep, KeepsMutex}
+use Rattle.steps_events.specs.declared.patience.Patience.{Patience}
+use Rattle.steps_mutex.proofs.LockSteps.{HasTriedSo, AtLock, lock_begins, LockLeads, lock_after, lock_leads, lock_goes_on, lock_answered, lock_chosen}
 
 -- What is kept of a call at its place.
 
@@ -186,6 +187,7 @@ pub record EventLaw {T P : Type 0} (t : Table T P) (party : ℕ) (past : List (E
   pub ends : MatchOption (answer_of m.outcome) (hold_taken t m.act pending ≡ None) (λ answer. Unit {0})
   pub asks : WhereAsked IsAskedSo pending m.act m.outcome
   pub tries : MatchBool (is_refusal m.outcome) (MatchOption pending ⊥ (λ c. HasTried c.call (event party m.act m.outcome ∷ c.own))) (Unit {0})
+  pub steps : MatchBool (is_step m.act) (MatchOption pending ⊥ (λ c. MutexStep c.call c.own m.act m.outcome)) (Unit {0})
 
 pub another : {T : Type 0} (one other : Call T) (A : Type 0) → one ≡ other → (one ≡ calls.TryLock → ⊥) → other ≡ calls.TryLock → A
 another one other A is not_try try = absurd (not_try (is ∙ try))
@@ -195,10 +197,21 @@ pub record GrantsWrite {T P : Type 0} (t : Table T P) : Type 0 where
   pub locks : t.grant calls.Lock 0 1 ≡ Some kinds.Write
   pub tries : t.grant calls.TryLock 0 1 ≡ Some kinds.Write
 
+as_call : {T : Type 0} (k call : Call T) (own : List (Event T)) (act : Act T) (outcome : Then T) → call ≡ k → MutexStep k own act outcome → MutexStep call own act outcome
+as_call k call own act outcome is step = subst (λ (x : Call _). MutexStep x own act outcome) (sym is) step
+
+lock_left :
+    {T : Type 0} (patience : Patience) (own : List (Event T)) (w : ℕ) (free keep left : Bool) → HasTriedSo patience own → patience.keep ≡ keep → nat_lt patience.spins 10000 ≡ left →
+    IsLeftBy calls.Lock own (acts.Exchange words.State 0 1 w free) (outcome_of {T = T} (lock_after patience free keep left))
+lock_left patience own w true keep left tried keeps spins = refl
+lock_left patience own w false true true tried keeps spins = rw (tried.so.keeps, keeps, tried.so.spun, spins) refl
+lock_left patience own w false true false tried keeps spins = rw (tried.so.keeps, keeps, tried.so.spun, spins) refl
+lock_left patience own w false false left tried keeps spins = rw (tried.so.keeps, keeps) refl
+
 try_lock_law :
-    {T P : Type 0} (t : Table T P) (party : ℕ) (past : List (Event T)) (hold : Option HoldKind) (c : PendingCall T) (w : ℕ) (b : Bool) → GrantsWrite t → c.call ≡ calls.TryLock → hold ≡ None → (w == 0) ≡ b → IsFreeOrHeld w (holds_of t past) →
+    {T P : Type 0} (t : Table T P) (party : ℕ) (past : List (Event T)) (hold : Option HoldKind) (c : PendingCall T) (w : ℕ) (b : Bool) → GrantsWrite t → c.call ≡ calls.TryLock → c.own ≡ [] → hold ≡ None → (w == 0) ≡ b → IsFreeOrHeld w (holds_of t past) →
     EventLaw t party past hold (Some c) (record { act = acts.Exchange words.State 0 1 w b; outcome = outcome_of {T = T} {P = MutexPlace} (cond b (afters.Ends answers.Success) (afters.Ends answers.Interrupted)) })
-try_lock_law {T} t party past hold c w true grants is free e law =
+try_lock_law {T} t party past hold c w true grants is first free e law =
     let act : Act T = acts.Exchange words.State 0 1 w true in
     let granted : t.grant c.call 0 1 ≡ Some kinds.Write = ap (λ (k : Call T). t.grant k 0 1) is ∙ grants.tries in
     record {
@@ -208,8 +221,9 @@ try_lock_law {T} t party past hold c w true grants is free e law =
       ends = tt;
       asks = tt;
       tries = tt;
+      steps = as_call calls.TryLock c.call c.own _ _ is (first, refl, refl);
     }
-try_lock_law {T} t party past hold c w false grants is free e law =
+try_lock_law {T} t party past hold c w false grants is first free e law =
     let act : Act T = acts.Exchange words.State 0 1 w false in
     let refuses : Event T = event party act (thens.Answers answers.Interrupted) in
     record {
@@ -219,17 +233,18 @@ try_lock_law {T} t party past hold c w false grants is free e law =
       ends = tt;
       asks = tt;
       tries = subst (λ (k : Call T). HasTried k (refuses ∷ c.own)) (sym is) tt;
+      steps = as_call calls.TryLock c.call c.own _ _ is (first, refl, refl);
     }
 
 lock_law :
     {T P : Type 0} (t : Table T P) (party : ℕ) (past : List (Event T)) (hold : Option HoldKind) (c : PendingCall T) (w : ℕ) (done : Bool) (a : After T MutexPlace) → GrantsWrite t → call_of party past ≡ Some c → c.call ≡ calls.Lock → hold ≡ None →
-    (w == 0) ≡ done → IsFreeOrHeld w (holds_of t past) → LockLeads c.own party w (acts.Exchange words.State 0 1 w done) a →
+    (w == 0) ≡ done → IsFreeOrHeld w (holds_of t past) → LockLeads c.own party w (acts.Exchange words.State 0 1 w done) a → MutexStep c.call c.own (acts.Exchange words.State 0 1 w done) (outcome_of {T = T} a) →
     EventLaw t party past hold (Some c) (record { act = acts.Exchange words.State 0 1 w done; outcome = outcome_of {T = T} a })
-lock_law t party past hold c w done (afters.At next) grants called is free e law leads =
-    record { cause = tt; exact = another calls.Lock c.call _ (sym is) (λ same. absurd cc); answers = tt; ends = lock_takes_none t (Some c) c.own party w done (afters.At next) next e leads refl; asks = tt; tries = tt }
-lock_law {T} t party past hold c w done (afters.Waits next seen) grants called is free e law leads =
-    record { cause = tt; exact = another calls.Lock c.call _ (sym is) (λ same. absurd cc); answers = tt; ends = lock_takes_none t (Some c) c.own party w done (afters.Waits next seen) next e leads refl; asks = (subst (λ (k : Call T). lock_spins k c.own ≡ 10000) (sym is) leads.2, ap (λ v. Some v) (held_at_one w (holds_of t past) law leads.1 ∙ sym leads.4), leads.3); tries = tt }
-lock_law {T} t party past hold c w true (afters.Ends answers.Success) grants called is free e law leads =
+lock_law t party past hold c w done (afters.At next) grants called is free e law leads steps =
+    record { cause = tt; exact = another calls.Lock c.call _ (sym is) (λ same. absurd cc); answers = tt; ends = lock_takes_none t (Some c) c.own party w done (afters.At next) next e leads refl; asks = tt; tries = tt; steps = steps }
+lock_law {T} t party past hold c w done (afters.Waits next seen) grants called is free e law leads steps =
+    record { cause = tt; exact = another calls.Lock c.call _ (sym is) (λ same. absurd cc); answers = tt; ends = lock_takes_none t (Some c) c.own party w done (afters.Waits next seen) next e leads refl; asks = (subst (λ (k : Call T). lock_spins k c.own ≡ 10000) (sym is) leads.2, ap (λ v. Some v) (held_at_one w (holds_of t past) law leads.1 ∙ sym leads.4), leads.3); tries = tt; steps = steps }
+lock_law {T} t party past hold c w true (afters.Ends answers.Success) grants called is free e law leads steps =
     let act : Act T = acts.Exchange words.State 0 1 w true in
     let granted : t.grant c.call 0 1 ≡ Some kinds.Write = ap (λ (k : Call T). t.grant k 0 1) is ∙ grants.locks in
     record {
@@ -239,10 +254,11 @@ lock_law {T} t party past hold c w true (afters.Ends answers.Success) grants cal
       ends = tt;
       asks = tt;
       tries = tt;
+      steps = steps;
     }
-lock_law t party past hold c w false (afters.Ends answers.Success) grants called is free e law leads = absurd (eqb-false w 0 e leads)
-lock_law t party past hold c w true (afters.Ends answers.Interrupted) grants called is free e law leads = absurd (leads.0 (eqb-true w 0 e))
-lock_law {T} t party past hold c w false (afters.Ends answers.Interrupted) grants called is free e law leads =
+lock_law t party past hold c w false (afters.Ends answers.Success) grants called is free e law leads steps = absurd (eqb-false w 0 e leads)
+lock_law t party past hold c w true (afters.Ends answers.Interrupted) grants called is free e law leads steps = absurd (leads.0 (eqb-true w 0 e))
+lock_law {T} t party past hold c w false (afters.Ends answers.Interrupted) grants called is free e law leads steps =
     let act : Act T = acts.Exchange words.State 0 1 w false in
     let refuses : Event T = event party act (thens.Answers answers.Interrupted) in
     let aborted : HasAborted party past = rw called leads.1 in
@@ -253,18 +269,19 @@ lock_law {T} t party past hold c w false (afters.Ends answers.Interrupted) grant
       ends = tt;
       asks = tt;
       tries = subst (λ (k : Call T). HasTried k (refuses ∷ c.own)) (sym is) leads.2;
+      steps = steps;
     }
-lock_law t party past hold c w done other grants called is free e law leads = absurd leads
+lock_law t party past hold c w done other grants called is free e law leads steps = absurd leads
 
 pub step_law :
     {T P : Type 0} (t : Table T P) (party : ℕ) (past : List (Event T)) (c : PendingCall T) (place : MutexPlace) (hold : Option HoldKind) (memory : Word → ℕ) → GrantsWrite t → call_of party past ≡ Some c → AtMutex place c hold →
     IsFreeOrHeld (memory words.State) (holds_of t past) → EventLaw t party past hold (Some c) (step_at mutex_table place hold memory)
-step_law t party past c places.TryLock hold memory grants called at law = try_lock_law t party past hold c (memory words.State) (memory words.State == 0) grants at.0 at.1 refl law
+step_law t party past c places.TryLock hold memory grants called at law = try_lock_law t party past hold c (memory words.State) (memory words.State == 0) grants at.0 at.2 at.1 refl law
 step_law t party past c (places.Lock patience) hold memory grants called at law =
     let w = memory words.State in
-    lock_law t party past hold c w (w == 0) (mutex_after (places.Lock patience) (Some w)) grants called at.0 at.2 refl law (lock_leads words.State patience c.own party w at.1)
+    lock_law t party past hold c w (w == 0) (mutex_after (places.Lock patience) (Some w)) grants called at.0 at.2 refl law (lock_leads words.State patience c.own party w at.1) (as_call calls.Lock c.call c.own _ _ at.0 (refl, lock_left patience c.own w (w == 0) patience.keep (nat_lt patience.spins 10000) at.1 refl refl))
 step_law t party past c places.Release hold memory grants called at law =
-    record { cause = tt; exact = another calls.Unlock c.call _ (sym at.0) (λ same. absurd cc); answers = tt; ends = refl; asks = tt; tries = tt }
+    record { cause = tt; exact = another calls.Unlock c.call _ (sym at.0) (λ same. absurd cc); answers = tt; ends = refl; asks = tt; tries = tt; steps = as_call calls.Unlock c.call c.own _ _ at.0 (rw at.2 (refl, refl)) }
 step_law {T} t party past c places.Wake hold memory grants called at law =
     record {
       cause = tt;
@@ -273,6 +290,7 @@ step_law {T} t party past c places.Wake hold memory grants called at law =
       ends = tt;
       asks = tt;
       tries = tt;
+      steps = as_call calls.Unlock c.call c.own _ _ at.0 (rw at.1 (refl, refl));
     }
 
 -- an act that does not see the word takes no hold
@@ -281,10 +299,10 @@ unseen_takes_none t (acts.Exchange words.State from to found true) (Some c) quie
 unseen_takes_none t (acts.Swap words.State zero put) (Some c) quiet = absurd cc
 unseen_takes_none t act pending quiet = refl
 
-silent : {T P : Type 0} (t : Table T P) (party : ℕ) (past : List (Event T)) (hold : Option HoldKind) (pending : Option (PendingCall T)) (act : Act T) → is_sight words.State act ≡ false → EventLaw t party past hold pending (record { act = act; outcome = thens.GoesOn })
-silent t party past hold None act quiet = record { cause = tt; exact = tt; answers = tt; ends = unseen_takes_none t act None quiet; asks = tt; tries = tt }
-silent t party past hold (Some c) act quiet =
-    record { cause = tt; exact = λ try sees. let no : true ≡ false = sym sees ∙ quiet in absurd cc; answers = tt; ends = unseen_takes_none t act (Some c) quiet; asks = tt; tries = tt }
+silent : {T P : Type 0} (t : Table T P) (party : ℕ) (past : List (Event T)) (hold : Option HoldKind) (pending : Option (PendingCall T)) (act : Act T) → is_sight words.State act ≡ false → is_step act ≡ false → EventLaw t party past hold pending (record { act = act; outcome = thens.GoesOn })
+silent t party past hold None act quiet still = record { cause = tt; exact = tt; answers = tt; ends = unseen_takes_none t act None quiet; asks = tt; tries = tt; steps = rw still tt }
+silent t party past hold (Some c) act quiet still =
+    record { cause = tt; exact = λ try sees. let no : true ≡ false = sym sees ∙ quiet in absurd cc; answers = tt; ends = unseen_takes_none t act (Some c) quiet; asks = tt; tries = tt; steps = rw still tt }
 
 event_law :
     {T : Type 0} (z : Arithmetic T) (parties : ℕ) (past : List (Event T)) (e : Event T) → IsPast z mutex_table parties (e ∷ past) →
@@ -294,7 +312,7 @@ event_law {T} z parties past e run =
     let pending = call_of e.party past in
     by_move mutex_table pending hold (word_in mutex_table past) (λ (k : Option (PendingCall T)) (m : Move T). EventLaw mutex_table e.party past hold k m)
     run.0.0 (record { act = e.act; outcome = e.then })
-    (λ call _. silent mutex_table e.party past hold pending (acts.Begun call) refl) (λ action _. silent mutex_table e.party past hold pending (acts.Answered action) refl) (λ choice _. silent mutex_table e.party past hold pending (acts.Chosen choice) refl)
+    (λ call _. silent mutex_table e.party past hold pending (acts.Begun call) refl refl) (λ action _. silent mutex_table e.party past hold pending (acts.Answered action) refl refl) (λ choice _. silent mutex_table e.party past hold pending (acts.Chosen choice) refl refl)
     (λ c place _ called stage.
     step_law mutex_table e.party past c place hold (word_in mutex_table past) (record { locks = refl; tries = refl }) called (at_place z mutex_table parties AtMutex mutex_kept past run.1 e.party c place called stage)
     (lock_word z mutex_table parties (mutex_is_lock z parties) past run.1))
@@ -306,7 +324,7 @@ keeps_mutex z parties [] run =
       told = tt;
       exclusive = lock_exclusive 0 [] (lock_word z mutex_table parties (mutex_is_lock z parties) [] run);
       cause = tt;
-      law = record { exact = tt; answers = tt; ends = tt; asks = tt; spins = λ party. tt; tells = tt; stops = tt; tries = tt };
+      law = record { exact = tt; answers = tt; ends = tt; asks = tt; spins = λ party. tt; tells = tt; stops = tt; tries = tt; steps = tt };
     }
 keeps_mutex {T} z parties (e ∷ past) run =
     let event = event_law z parties past e run in
@@ -326,6 +344,7 @@ keeps_mutex {T} z parties (e ∷ past) run =
         tells = asked_maps IsAskedSo (λ c act told. sight_at words.State c.call c.own act ≡ Some told) (λ c act told so. so.1) (call_of e.party past) e.act e.then event.asks;
         stops = asked_maps IsAskedSo (λ c act told. keeps_asking (whole_call c.call c.own) ≡ true) (λ c act told so. so.2) (call_of e.party past) e.act e.then event.asks;
         tries = event.tries;
+        steps = event.steps;
       };
     }
 

@@ -52,7 +52,7 @@ LockLeads own number w act (afters.Ends answers.Interrupted) =
 LockLeads own number w act other = ⊥
 
 -- by three tests: the mutex was free, the call keeps on asking, it has spins left
-abbrev lock_after : {T : Type 0} → Patience → Bool → Bool → Bool → After T MutexPlace
+abbrev pub lock_after : {T : Type 0} → Patience → Bool → Bool → Bool → After T MutexPlace
 lock_after patience free keep left =
     cond free (afters.Ends answers.Success)
     (within places.Lock (cond keep (cond left (afters.At (record { spins = patience.spins + 1; keep = patience.keep })) (afters.Waits patience 1)) (afters.Ends answers.Interrupted)))

@@ -1,6 +1,6 @@
 -- What a mutex keeps at every front of every run: one holder, what each answer means, a cause for each refusal, how often a call tries, and when it
 -- asks its wait closure.
-use Rattle.std.specs.Prelude.{◌≡◌, ℕ, ◌+◌, ◌↔◌, true, List, [], ◌∷◌, Option, Some, None, MatchBool, MatchOption}
+use Rattle.std.specs.Prelude.{◌≡◌, ℕ, ◌+◌, ◌==◌, ◌&&◌, ◌↔◌, Bool, true, false, List, [], ◌∷◌, Option, Some, None, MatchBool, MatchOption}
 use Rattle.steps_events.specs.declared.event.Word.TheVariants as words
 use Rattle.steps_events.specs.declared.event.Wake.TheVariants as wakes
 use Rattle.steps_events.specs.declared.event.Call.{Call}
@@ -18,8 +18,9 @@ use Rattle.steps_events.specs.Tables.{Table}
 use Rattle.steps_events.specs.Past.{call_of, holds_of, hold_of, hold_taken, is_failure, failures_in}
 use Rattle.steps_events.specs.Moves.{is_step}
 use Rattle.steps_events.specs.Sights.{is_sight, AtLastSight, HasAborted, spins_in, stands_in, exchanges_in}
+use Rattle.steps_events.specs.NextStep.{StepsAs, refused_waiting}
 use Rattle.steps_events.specs.Asks.{SpinCount, AsksAfterSpinning, SpinsNoMore, sight_at, TellsRefusal, whole_call, AsksUntilAbort}
-use Rattle.steps_events.specs.Laws.{TellsMemory, IsExclusive, IsLocked, is_refusal, HasCause}
+use Rattle.steps_events.specs.Laws.{IsLocked, is_refusal, Keeps}
 use Rattle.steps_mutex.specs.Table.{mutex_table}
 
 -- `TryLock`: a hold stood at its last sight. `Lock`: its own closure had answered Abort before its last sight, and a hold stood at it.
@@ -94,6 +95,34 @@ lock_spins other own = 0
 abbrev pub steps_on : {T : Type 0} → SpinCount T
 steps_on call own = spins_in is_step own
 
+-- What a call does next, by its own steps so far, and how it is left by what that tells.
+
+-- the exchange that takes the mutex
+abbrev pub is_lock_try : {T : Type 0} → Act T → Bool
+is_lock_try (acts.Exchange words.State from to found done) = (from == 0) && (to == 1)
+is_lock_try act = false
+
+-- how a call is left whose exchange failed: a `TryLock` gives up
+abbrev pub refused_as : {T : Type 0} → Call T → List (Event T) → Then T
+refused_as calls.Lock own = refused_waiting own (spins_in is_failure own) 1
+refused_as other own = thens.Answers answers.Interrupted
+
+-- how an exchange leaves its call
+abbrev pub IsLeftBy : {T : Type 0} → Call T → List (Event T) → Act T → Then T → Type 0
+IsLeftBy call own act outcome = MatchBool (is_failure act) (outcome ≡ refused_as call own) (outcome ≡ thens.Answers answers.Success)
+
+-- an `Unlock` stores 0, then wakes one and is done
+abbrev pub IsUnlockStep : {T : Type 0} → List (Act T) → Act T → Then T → Type 0
+IsUnlockStep [] act outcome = (act ≡ acts.Store words.State 0) × (outcome ≡ thens.GoesOn)
+IsUnlockStep (before ∷ others) act outcome = (act ≡ acts.Woke wakes.One) × (outcome ≡ thens.Answers answers.Done)
+
+-- the next step of each call; no other has one
+abbrev pub MutexStep : {T : Type 0} → Call T → List (Event T) → Act T → Then T → Type 0
+MutexStep calls.Unlock own act outcome = IsUnlockStep (acts_of own) act outcome
+MutexStep calls.TryLock own act outcome = (own ≡ []) × (is_lock_try act ≡ true) × IsLeftBy calls.TryLock own act outcome
+MutexStep calls.Lock own act outcome = (is_lock_try act ≡ true) × IsLeftBy calls.Lock own act outcome
+MutexStep other own act outcome = ⊥
+
 -- What a mutex keeps beside what every object does.
 pub record MutexLaw {T : Type 0} (past : List (Event T)) : Type 0 where
   -- `TryLock` is granted exactly where nobody holds the mutex
@@ -112,12 +141,8 @@ pub record MutexLaw {T : Type 0} (past : List (Event T)) : Type 0 where
   pub stops : AsksUntilAbort whole_call past
   -- and each `Lock` that gives up has tried so often
   pub tries : GivesUpAfterTrying past
+  -- each step is the one that follows its call's own, and leaves it by what it tells
+  pub steps : StepsAs MutexStep past
 
-pub record KeepsMutex {T : Type 0} (past : List (Event T)) : Type 0 where
-  -- each act that tells a word's value tells what the memory holds there
-  pub told : TellsMemory mutex_table past
-  -- one holder at most
-  pub exclusive : IsExclusive (holds_of mutex_table past)
-  -- each refusal has its cause
-  pub cause : HasCause MutexCause past
-  pub law : MutexLaw past
+abbrev pub KeepsMutex : {T : Type 0} → List (Event T) → Type 0
+KeepsMutex past = Keeps mutex_table MutexCause MutexLaw past

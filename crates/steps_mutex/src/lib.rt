@@ -14,9 +14,6 @@ use steps_events::hold::HoldKind;
 use steps_events::patience::Patience;
 use steps_events::row::{After, Intent};
 
-#[cfg(test)]
-mod tests;
-
 /// The word after a lock, where the mutex is free.
 #[inline(always)]
 pub fn granted(word: u64) -> Option<u64>
@@ -27,7 +24,7 @@ pub fn granted(word: u64) -> Option<u64>
 }
 
 /// Where a party is in a call at a mutex; each place is named for its next step.
-#[derive(Clone, Copy, Debug, PartialEq, Eq)]
+#[derive(Clone, Copy)]
 pub enum MutexPlace {
     /// The one exchange of `TryLock`.
     TryLock,

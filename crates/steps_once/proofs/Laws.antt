@@ -25,7 +25,7 @@ use Rattle.steps_events.specs.Runs.{IsPast}
 use Rattle.steps_events.specs.Sights.{AtLast, acts_in, last_of}
 use Rattle.steps_events.specs.Waits.{stands, is_wake}
 use Rattle.steps_events.specs.Laws.{Lacks, is_refusal}
-use Rattle.steps_events.proofs.Holds.{some_same, eqb_other, no_holds}
+use Rattle.steps_events.proofs.Holds.{some_same, eqb_other, no_holds, exclusive_unheld}
 use Rattle.steps_events.proofs.Steps.{by_move, carried_is_step, tells_memory}
 use Rattle.steps_events.proofs.Parties.{IsKept, at_place}
 use Rattle.steps_events.proofs.Own.{own_among}
@@ -376,16 +376,17 @@ event_law {T} z parties past e run =
 
 pub keeps_once : {T : Type 0} (z : Arithmetic T) (parties : ℕ) (past : List (Event T)) → IsPast z once_table parties past → KeepsOnce past
 keeps_once z parties [] run =
-    record { told = tt; unheld = refl; cause = tt; law = record { one = omega arith; ends = omega arith; own = tt; runs = tt; waits = tt; suits = tt; answers = tt; tells = tt; leaves = tt; done = tt; stays = tt; spins = tt; state = tells_state once_table [] (closure_front z once_table parties (runs_one z parties) [] run).state } }
+    record { told = tt; exclusive = exclusive_unheld [] refl; cause = tt; law = record { unheld = refl; one = omega arith; ends = omega arith; own = tt; runs = tt; waits = tt; suits = tt; answers = tt; tells = tt; leaves = tt; done = tt; stays = tt; spins = tt; state = tells_state once_table [] (closure_front z once_table parties (runs_one z parties) [] run).state } }
 keeps_once z parties (e ∷ past) run =
     let event = event_law z parties past e run in
     let front = closure_front z once_table parties (runs_one z parties) (e ∷ past) run in
     let most = at_most_one _ _ _ front.state in
+    let unheld = no_holds once_table (λ call from to. refl) (e ∷ past) in
     record {
       told = tells_memory z once_table parties (e ∷ past) run;
-      unheld = no_holds once_table (λ call from to. refl) (e ∷ past);
+      exclusive = exclusive_unheld _ unheld;
       cause = event.cause;
-      law = record { one = most.0; ends = most.2; own = event.own; runs = runs_in_order z parties (e ∷ past) run; waits = event.waits; suits = event.suits; answers = event.answers; tells = event.tells; leaves = event.leaves; done = event.done; stays = stays_complete z once_table parties (runs_one z parties) past e run; spins = event.spins; state = tells_state once_table (e ∷ past) front.state };
+      law = record { unheld = unheld; one = most.0; ends = most.2; own = event.own; runs = runs_in_order z parties (e ∷ past) run; waits = event.waits; suits = event.suits; answers = event.answers; tells = event.tells; leaves = event.leaves; done = event.done; stays = stays_complete z once_table parties (runs_one z parties) past e run; spins = event.spins; state = tells_state once_table (e ∷ past) front.state };
     }
 
 -- a once has no other word

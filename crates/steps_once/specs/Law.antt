@@ -14,7 +14,7 @@ use Rattle.steps_events.specs.Past.{call_of, holds_of, word_in}
 use Rattle.steps_events.specs.Moves.{is_step}
 use Rattle.steps_events.specs.Sights.{acts_in, last_of}
 use Rattle.steps_events.specs.Waits.{OnlySpins}
-use Rattle.steps_events.specs.Laws.{TellsMemory, HasCause}
+use Rattle.steps_events.specs.Laws.{Keeps}
 use Rattle.steps_once.specs.Closures.{is_begin, is_end, begins_in, ends_in, EndsItsOwn, WaitsForAnother, StaysTwo, TellsState}
 use Rattle.steps_once.specs.Table.{once_table}
 
@@ -113,6 +113,8 @@ DoneAtTwo (e ∷ past) = MatchBool (is_done e.then) (word_in once_table (e ∷ p
 
 -- What a once keeps beside what every object does.
 pub record OnceLaw {T : Type 0} (past : List (Event T)) : Type 0 where
+  -- nobody holds a once
+  pub unheld : holds_of once_table past ≡ []
   -- one closure begins at most
   pub one : begins_in past ≤ 1
   -- no more end than began
@@ -140,11 +142,5 @@ pub record OnceLaw {T : Type 0} (past : List (Event T)) : Type 0 where
   pub spins : OnlySpins past
   pub state : TellsState once_table past
 
-pub record KeepsOnce {T : Type 0} (past : List (Event T)) : Type 0 where
-  -- each act that tells a word's value tells what the memory holds there
-  pub told : TellsMemory once_table past
-  -- nobody holds a once
-  pub unheld : holds_of once_table past ≡ []
-  -- no call is refused
-  pub cause : HasCause OnceCause past
-  pub law : OnceLaw past
+abbrev pub KeepsOnce : {T : Type 0} → List (Event T) → Type 0
+KeepsOnce past = Keeps once_table OnceCause OnceLaw past

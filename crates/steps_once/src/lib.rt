@@ -12,9 +12,6 @@ use steps_events::WaitAction;
 use steps_events::event::{Answer, Call, Word};
 use steps_events::row::{After, Intent};
 
-#[cfg(test)]
-mod tests;
-
 /// The word after a closure has begun, where none has.
 #[inline(always)]
 pub fn begun(word: u64) -> Option<u64>
@@ -25,7 +22,7 @@ pub fn begun(word: u64) -> Option<u64>
 }
 
 /// Where a party is in a call at a once; each place is named for its next step.
-#[derive(Clone, Copy, Debug, PartialEq, Eq)]
+#[derive(Clone, Copy)]
 pub enum OncePlace {
     /// The load of `IsCompleted`.
     IsCompleted,

@@ -17,7 +17,7 @@ use Rattle.steps_events.specs.RwAnswers.{AnswersByHold}
 use Rattle.steps_events.specs.Moves.{is_step}
 use Rattle.steps_events.specs.Sights.{is_sight, AtLastSight, HasAborted, HasMissed, spins_in}
 use Rattle.steps_events.specs.Asks.{SpinCount, AsksAfterSpinning, SpinsNoMore, sight_at, TellsRefusal, whole_call, AsksUntilAbort}
-use Rattle.steps_events.specs.Laws.{TellsMemory, IsExclusive, IsLocked, HasCause}
+use Rattle.steps_events.specs.Laws.{IsLocked, Keeps}
 use Rattle.steps_rw_reader.specs.Table.{lets_readers_in, rw_reader_table}
 
 -- The word and the holds.
@@ -99,11 +99,5 @@ pub record RwReaderLaw {T : Type 0} (past : List (Event T)) : Type 0 where
   -- and asked no more once it has answered Abort
   pub stops : AsksUntilAbort whole_call past
 
-pub record KeepsRwReader {T : Type 0} (past : List (Event T)) : Type 0 where
-  -- each act that tells a word's value tells what the memory holds there
-  pub told : TellsMemory rw_reader_table past
-  -- one writer, or only readers
-  pub exclusive : IsExclusive (holds_of rw_reader_table past)
-  -- each refusal has its cause
-  pub cause : HasCause RwReaderCause past
-  pub law : RwReaderLaw past
+abbrev pub KeepsRwReader : {T : Type 0} → List (Event T) → Type 0
+KeepsRwReader past = Keeps rw_reader_table RwReaderCause RwReaderLaw past

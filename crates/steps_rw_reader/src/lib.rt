@@ -14,9 +14,6 @@ use steps_events::hold::HoldKind;
 use steps_events::patience::Patience;
 use steps_events::row::{After, Intent};
 
-#[cfg(test)]
-mod tests;
-
 /// The word with a write hold.
 const WRITE_LOCKED: u64 = u64::MAX;
 
@@ -57,7 +54,7 @@ pub fn writer_enters(word: u64) -> Option<u64>
 }
 
 /// Where a party is in a call at a reader-preferring lock; each place is named for its next step.
-#[derive(Clone, Copy, Debug, PartialEq, Eq)]
+#[derive(Clone, Copy)]
 pub enum RwReaderPlace {
     /// The load of `TryReadLock`.
     TryReadLook,

@@ -25,7 +25,7 @@ use Rattle.steps_events.specs.Rows.{carried_out, value_told, outcome_of, place_a
 use Rattle.steps_events.specs.Past.{PendingCall, call_of, call_after, call_going_on, Hold, holds_of, hold_of, word_in, word_after, event, latest_outcome}
 use Rattle.steps_events.specs.HoldCounts.{reads_in, writes_in}
 use Rattle.steps_events.specs.Sights.{is_beginning}
-use Rattle.steps_events.specs.Moves.{Move, step_at, stage_of, next_stage}
+use Rattle.steps_events.specs.Moves.{is_step, Move, step_at, stage_of, next_stage}
 use Rattle.steps_events.specs.Runs.{IsPast}
 use Rattle.steps_events.proofs.Holds.{call_of_same, call_of_other}
 use Rattle.steps_events.proofs.Steps.{by_move, carried_goes_on, carried_stage}
@@ -38,7 +38,7 @@ use Rattle.steps_rw_writer.specs.declared.RwWriterPlace.TheVariants as places
 use Rattle.steps_rw_writer.specs.Table.{is_odd, lets_writer_in, lets_mark, is_marked, is_blocked, spins, marks_or_spins, unmarks_or_leaves, write_refused, write_look, last_look, rw_writer_table, rw_writer_begins, rw_writer_answered}
 use Rattle.steps_rw_writer.specs.Marks.{is_marked_after}
 use Rattle.steps_rw_writer.specs.Law.{CountsHolds}
-use Rattle.steps_rw_writer.specs.Debts.{blocks, is_blocked_after, is_answer, adds_count, owes_count, loads_count, counts_since_load, StandsWith, NoWakeIsLost}
+use Rattle.steps_rw_writer.specs.Debts.{blocks, is_blocked_after, is_answer, adds_count, owes_count, loads_count, counts_since_load, StandsWith, NoWakeIsLost, PaysNext}
 use Rattle.steps_rw_writer.proofs.BoolLaws.{clash, neither, none_below}
 use Rattle.steps_rw_writer.proofs.PlaceLaws.{AtRwWriter, here}
 use Rattle.steps_rw_writer.proofs.StageLaws.{same_call, same_place, unlike, IsAt, fact_here, begins_none, answered_at, chosen_at, stepped_at}
@@ -709,6 +709,15 @@ owing_adds {T} z parties past e run owes =
     run.0.0 (record { act = e.act; outcome = e.then }) (λ call _ so. inr refl) (λ action _ so. inr refl) (λ choice _ so. inr refl)
     (λ c place _ called stage so. inl (owed_adds c place (hold_of rw_writer_table e.party past) (word_in rw_writer_table past) stage so))
     run.0.1.moved owes
+
+pub pays_next : {T : Type 0} (z : Arithmetic T) (parties : ℕ) (past : List (Event T)) → IsPast z rw_writer_table parties past → PaysNext past
+pays_next z parties [] run = tt
+pays_next {T} z parties (e ∷ past) run = λ owes goes.
+    by_move rw_writer_table (call_of e.party past) (hold_of rw_writer_table e.party past) (word_in rw_writer_table past)
+    (λ (k : Option (PendingCall T)) (x : Move T). OwesAt k → is_step x.act ≡ true → adds_count x.act ≡ true)
+    run.0.0 (record { act = e.act; outcome = e.then }) (λ call _ so go. absurd cc) (λ action _ so go. absurd cc) (λ choice _ so go. absurd cc)
+    (λ c place _ called stage so go. owed_adds c place (hold_of rw_writer_table e.party past) (word_in rw_writer_table past) stage so)
+    run.0.1.moved (owes_at z parties past run.1 e.party owes) goes
 
 still_heard :
     {T : Type 0} (z : Arithmetic T) (parties party : ℕ) (past : List (Event T)) (e : Event T) → IsPast z rw_writer_table parties (e ∷ past) → (e.party == party) ≡ false → IsHeard party past → IsHeard party (e ∷ past)

@@ -10,6 +10,7 @@ use Rattle.steps_events.specs.declared.event.Event.{Event}
 use Rattle.steps_events.specs.declared.event.Wake.TheVariants as wakes
 use Rattle.steps_events.specs.Past.{Hold, PendingCall, call_of, holds_of, word_in, latest_outcome}
 use Rattle.steps_events.specs.HoldCounts.{reads_in, writes_in}
+use Rattle.steps_events.specs.Moves.{is_step}
 use Rattle.steps_rw_writer.specs.Table.{is_odd, rw_writer_table}
 use Rattle.steps_rw_writer.specs.Marks.{is_marked_after}
 
@@ -61,6 +62,11 @@ abbrev pub NoWakeIsLost : {T : Type 0} → List (Event T) → Type 0
 NoWakeIsLost past =
     (party count : ℕ) → StandsWith party count past → counts_since_load party past < 2 ^ 64 → word_in rw_writer_table past words.Counter ≡ count → is_blocked_after past ≡ false →
     (q : ℕ) × (owes_count q past ≡ true)
+
+-- A debt is paid at once: the next step of a party that owes a counter step is its add. So no party stands, ends or goes round that owes one.
+abbrev pub PaysNext : {T : Type 0} → List (Event T) → Type 0
+PaysNext [] = Unit {0}
+PaysNext (e ∷ past) = owes_count e.party past ≡ true → is_step e.act ≡ true → adds_count e.act ≡ true
 
 -- The readers' wakes.
 

@@ -16,10 +16,10 @@ use Rattle.steps_events.specs.HoldCounts.{reads_in, writes_in}
 use Rattle.steps_events.specs.RwAnswers.{AnswersByHold}
 use Rattle.steps_events.specs.Sights.{is_sight, is_beginning, AtLastSight, HasAborted, HasMissed, OtherWroteSinceSight, sight_of, goes_on, stands_at_wait, spins_in, last_of}
 use Rattle.steps_events.specs.Asks.{SpinCount, but_last_try, AsksAfterSpinning, SpinsNoMore, Refusing, TellsRefusal, whole_call, AsksUntilAbort}
-use Rattle.steps_events.specs.Laws.{TellsMemory, IsExclusive, IsLocked, HasCause}
+use Rattle.steps_events.specs.Laws.{IsLocked, Keeps}
 use Rattle.steps_rw_writer.specs.Table.{lets_readers_in, lets_writer_in, lets_mark, is_mark, rw_writer_table}
 use Rattle.steps_rw_writer.specs.Marks.{setter_of, is_marked_after, has_marked}
-use Rattle.steps_rw_writer.specs.Debts.{loads_count, is_blocked_after, NoWakeIsLost, ReadersAreWoken}
+use Rattle.steps_rw_writer.specs.Debts.{loads_count, is_blocked_after, NoWakeIsLost, PaysNext, ReadersAreWoken}
 
 -- The word, the holds and the mark.
 
@@ -241,14 +241,10 @@ pub record RwWriterLaw {T : Type 0} (past : List (Event T)) : Type 0 where
   pub stands : StandsWhereBlocked past
   -- while a writer stands, whoever frees the lock owes a counter step until it has made it
   pub counted : NoWakeIsLost past
+  -- and makes it in its next step
+  pub pays : PaysNext past
   -- while a reader stands that saw an odd word, whoever makes the word even owes a wake of all until it has made it
   pub woken : ReadersAreWoken past
 
-pub record KeepsRwWriter {T : Type 0} (past : List (Event T)) : Type 0 where
-  -- each act that tells a word's value tells what the memory holds there
-  pub told : TellsMemory rw_writer_table past
-  -- one writer, or only readers
-  pub exclusive : IsExclusive (holds_of rw_writer_table past)
-  -- each refusal has its cause
-  pub cause : HasCause RwWriterCause past
-  pub law : RwWriterLaw past
+abbrev pub KeepsRwWriter : {T : Type 0} → List (Event T) → Type 0
+KeepsRwWriter past = Keeps rw_writer_table RwWriterCause RwWriterLaw past

@@ -15,9 +15,6 @@ use steps_events::patience::Patience;
 use steps_events::row::{After, Intent};
 use steps_events::{SPIN_REPETITIONS, WaitAction};
 
-#[cfg(test)]
-mod tests;
-
 /// The word with a write hold.
 const WRITE_LOCKED: u64 = u64::MAX;
 
@@ -89,7 +86,7 @@ pub fn unmarks(word: u64) -> Option<u64>
 }
 
 /// Who leaves the lock and wakes those that wait.
-#[derive(Clone, Copy, Debug, PartialEq, Eq)]
+#[derive(Clone, Copy)]
 pub enum Leaver {
     /// The last reader, while the mark is set.
     Reader,
@@ -100,7 +97,7 @@ pub enum Leaver {
 }
 
 /// Where a party is in a call at a writer-preferring lock; each place is named for its next step.
-#[derive(Clone, Copy, Debug, PartialEq, Eq)]
+#[derive(Clone, Copy)]
 pub enum RwWriterPlace {
     /// The load of `TryReadLock`.
     TryReadLook,

@@ -1,15 +1,21 @@
 -- What a semaphore keeps at every front of every run: its permits, a cause for each refusal, and when a call asks its wait closure.
-use Rattle.std.specs.Prelude.{◌≡◌, ℕ, ◌==◌, Bool, false, List, [], Option, Some, None}
+use Rattle.std.specs.Prelude.{◌≡◌, ℕ, ◌+◌, ◌-◌, ◌%◌, ◌^◌, ◌==◌, ◌&&◌, nat_lt, Bool, true, false, if◌then◌else◌, List, [], ◌∷◌, Option, Some, None, unwrap_or, MatchBool, MatchOption}
 use Rattle.steps_events.specs.declared.event.Word.TheVariants as words
 use Rattle.steps_events.specs.declared.event.Call.{Call}
 use Rattle.steps_events.specs.declared.event.Call.TheVariants as calls
 use Rattle.steps_events.specs.declared.event.Act.{Act}
 use Rattle.steps_events.specs.declared.event.Act.TheVariants as acts
 use Rattle.steps_events.specs.declared.event.Event.{Event}
-use Rattle.steps_events.specs.Past.{PendingCall, holds_of}
-use Rattle.steps_events.specs.Sights.{AtLastSight, HasAborted, spins_in}
+use Rattle.steps_events.specs.declared.event.Wake.TheVariants as wakes
+use Rattle.steps_events.specs.declared.event.Answer.TheVariants as answers
+use Rattle.steps_events.specs.declared.event.Then.{Then}
+use Rattle.steps_events.specs.declared.event.Then.TheVariants as thens
+use Rattle.steps_events.specs.Past.{PendingCall, call_of, holds_of}
+use Rattle.steps_events.specs.Moves.{is_step}
+use Rattle.steps_events.specs.Sights.{AtLastSight, HasAborted, spins_in, keeps_asking, last_of}
+use Rattle.steps_events.specs.NextStep.{StepsAs, refused_waiting}
 use Rattle.steps_events.specs.Asks.{SpinCount, AsksAfterSpinning, SpinsNoMore, sight_at, TellsRefusal, whole_call, AsksUntilAbort}
-use Rattle.steps_events.specs.Laws.{TellsMemory, HasCause}
+use Rattle.steps_events.specs.Laws.{Keeps}
 use Rattle.steps_semaphore.specs.Table.{semaphore_table}
 use Rattle.steps_semaphore.specs.Permits.{permits, KeepsPermits}
 
@@ -50,8 +56,72 @@ abbrev pub wait_spins : {T : Type 0} → SpinCount T
 wait_spins calls.Wait own = spins_in is_empty_look own
 wait_spins other own = 0
 
+-- What a call does next, by its own steps so far, and how it is left by what that tells.
+
+-- what an act saw
+abbrev pub seen_by : {T : Type 0} → Option (Act T) → Option ℕ
+seen_by None = None
+seen_by (Some act) = look_of act
+
+-- what the call's latest step saw; 0 before the first
+abbrev pub permits_seen : {T : Type 0} → List (Event T) → ℕ
+permits_seen own = unwrap_or (seen_by (last_of is_step own)) 0
+
+-- a load of the permits
+abbrev pub is_load : {T : Type 0} → Act T → Bool
+is_load (acts.Load words.State seen) = true
+is_load act = false
+
+-- an exchange of this value for one permit less
+abbrev pub is_take_from : {T : Type 0} → ℕ → Act T → Bool
+is_take_from v (acts.Exchange words.State from to found done) = (from == v) && (to == v - 1)
+is_take_from v act = false
+
+-- a load where the latest step saw no permit, else an exchange that takes one from the value seen
+abbrev pub is_look_or_take : {T : Type 0} → ℕ → Act T → Bool
+is_look_or_take v act = if v == 0 then is_load act else is_take_from v act
+
+-- how a call that saw 0 is left
+abbrev pub refused_as : {T : Type 0} → Call T → List (Event T) → Then T
+refused_as calls.Wait own = refused_waiting own (spins_in is_empty_look own) 0
+refused_as other own = thens.Answers answers.Interrupted
+
+-- how a call is left by what its step saw: nothing, where it took a permit
+abbrev pub IsLeftBy : {T : Type 0} → Call T → List (Event T) → Option ℕ → Then T → Type 0
+IsLeftBy call own None outcome = outcome ≡ thens.Answers answers.Success
+IsLeftBy call own (Some v) outcome = MatchBool (v == 0) (outcome ≡ refused_as call own) (outcome ≡ thens.GoesOn)
+
+-- a load whose value is the answer
+abbrev pub ReadsValue : {T : Type 0} → Act T → Then T → Type 0
+ReadsValue (acts.Load words.State v) outcome = outcome ≡ thens.Answers (answers.Number v)
+ReadsValue act outcome = ⊥
+
+-- an add of so many permits, after which the call goes on
+abbrev pub AddsPermits : {T : Type 0} → ℕ → Act T → Then T → Type 0
+AddsPermits n (acts.Add words.State old put) outcome = (put ≡ (old + n) % 2 ^ 64) × (outcome ≡ thens.GoesOn)
+AddsPermits n act outcome = ⊥
+
+-- a `Post` adds, then wakes one and is done
+abbrev pub IsPostStep : {T : Type 0} → ℕ → Option (Act T) → Act T → Then T → Type 0
+IsPostStep n None act outcome = AddsPermits n act outcome
+IsPostStep n (Some before) act outcome = (act ≡ acts.Woke wakes.One) × (outcome ≡ thens.Answers answers.Done)
+
+-- a call that wants a permit looks where it saw none last, and else takes one from what it saw
+abbrev pub WantsPermit : {T : Type 0} → Call T → List (Event T) → Act T → Then T → Type 0
+WantsPermit call own act outcome = (is_look_or_take (permits_seen own) act ≡ true) × IsLeftBy call own (look_of act) outcome
+
+-- the next step of each call; no other has one
+abbrev pub SemaphoreStep : {T : Type 0} → Call T → List (Event T) → Act T → Then T → Type 0
+SemaphoreStep calls.Value own act outcome = (last_of is_step own ≡ None) × ReadsValue act outcome
+SemaphoreStep (calls.Post n) own act outcome = IsPostStep n (last_of is_step own) act outcome
+SemaphoreStep calls.TryWait own act outcome = WantsPermit calls.TryWait own act outcome
+SemaphoreStep calls.Wait own act outcome = WantsPermit calls.Wait own act outcome
+SemaphoreStep other own act outcome = ⊥
+
 -- What a semaphore keeps beside what every object does.
 pub record SemaphoreLaw {T : Type 0} (initial : ℕ) (past : List (Event T)) : Type 0 where
+  -- nobody holds a semaphore
+  pub unheld : holds_of (semaphore_table initial) past ≡ []
   -- no more permits are taken than given, and each value that is told is what was given less what was taken
   pub permits : KeepsPermits words.State semaphore_gives initial past
   -- a wait closure is asked after 10000 spins, which are looks of a `Wait` that saw no permit
@@ -62,12 +132,8 @@ pub record SemaphoreLaw {T : Type 0} (initial : ℕ) (past : List (Event T)) : T
   pub tells : TellsRefusal (sight_at words.State) past
   -- and asked no more once it has answered Abort
   pub stops : AsksUntilAbort whole_call past
+  -- each step is the one that follows what its call saw last, and leaves it by what it tells
+  pub steps : StepsAs SemaphoreStep past
 
-pub record KeepsSemaphore {T : Type 0} (initial : ℕ) (past : List (Event T)) : Type 0 where
-  -- each act that tells a word's value tells what the memory holds there
-  pub told : TellsMemory (semaphore_table initial) past
-  -- nobody holds a semaphore
-  pub unheld : holds_of (semaphore_table initial) past ≡ []
-  -- each refusal has its cause
-  pub cause : HasCause (SemaphoreCause initial) past
-  pub law : SemaphoreLaw initial past
+abbrev pub KeepsSemaphore : {T : Type 0} → ℕ → List (Event T) → Type 0
+KeepsSemaphore initial past = Keeps (semaphore_table initial) (SemaphoreCause initial) (SemaphoreLaw initial) past

@@ -13,9 +13,6 @@ use steps_events::event::{Answer, Call, Wake, Word};
 use steps_events::patience::Patience;
 use steps_events::row::{After, Intent};
 
-#[cfg(test)]
-mod tests;
-
 /// The word after `n` permits were posted; it wraps.
 #[inline(always)]
 pub fn posted(word: u64, n: u64) -> u64
@@ -34,7 +31,7 @@ pub fn taken(word: u64) -> Option<u64>
 }
 
 /// Where a party is in a call at a semaphore; each place is named for its next step.
-#[derive(Clone, Copy, Debug, PartialEq, Eq)]
+#[derive(Clone, Copy)]
 pub enum SemaphorePlace {
     /// The load of `Value`.
     Value,

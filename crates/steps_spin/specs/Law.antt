@@ -14,7 +14,7 @@ use Rattle.steps_events.specs.Past.{Hold, call_of, holds_of, word_in, failures_i
 use Rattle.steps_events.specs.Moves.{is_step}
 use Rattle.steps_events.specs.Sights.{AtLastSight}
 use Rattle.steps_events.specs.Waits.{OnlySpins}
-use Rattle.steps_events.specs.Laws.{TellsMemory, IsExclusive, IsLocked, HasCause}
+use Rattle.steps_events.specs.Laws.{IsLocked, Keeps}
 use Rattle.steps_spin.specs.Table.{spin_table}
 
 -- `TryLock`: a hold stood at its last sight, which is its swap. No other call is refused.
@@ -84,11 +84,5 @@ pub record SpinLaw {T : Type 0} (past : List (Event T)) : Type 0 where
   -- a swap does not count as a failed exchange
   pub failed : failures_in past ≡ 0
 
-pub record KeepsSpin {T : Type 0} (past : List (Event T)) : Type 0 where
-  -- each act that tells a word's value tells what the memory holds there
-  pub told : TellsMemory spin_table past
-  -- one holder at most
-  pub exclusive : IsExclusive (holds_of spin_table past)
-  -- each refusal has its cause
-  pub cause : HasCause SpinCause past
-  pub law : SpinLaw past
+abbrev pub KeepsSpin : {T : Type 0} → List (Event T) → Type 0
+KeepsSpin past = Keeps spin_table SpinCause SpinLaw past

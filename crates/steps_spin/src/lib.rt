@@ -13,11 +13,8 @@ use steps_events::event::{Answer, Call, Word};
 use steps_events::hold::HoldKind;
 use steps_events::row::{After, Intent};
 
-#[cfg(test)]
-mod tests;
-
 /// Where a party is in a call at a spin lock; each place is named for its next step.
-#[derive(Clone, Copy, Debug, PartialEq, Eq)]
+#[derive(Clone, Copy)]
 pub enum SpinPlace {
     /// The one swap of `TryLock`.
     TryLock,

@@ -9,6 +9,7 @@ mod condvar;
 mod lazy_lock;
 mod mutex;
 mod once;
+mod queue;
 mod rwreader;
 mod rwwriter;
 mod semaphore;
@@ -52,10 +53,12 @@ pub enum Line {
     BareLoadAdd,
     StdCondvarNotifyOne,
     CondvarNotifyOne,
+    ChannelSendReceive,
+    JobQueuePutTake,
 }
 
 /// Every line, in the order of the table.
-pub const LINES: [Line; 28] = [
+pub const LINES: [Line; 30] = [
     Line::BareExchangeStore,
     Line::StdMutexLockUnlock,
     Line::MutexLockUnlock,
@@ -84,6 +87,8 @@ pub const LINES: [Line; 28] = [
     Line::BareLoadAdd,
     Line::StdCondvarNotifyOne,
     Line::CondvarNotifyOne,
+    Line::ChannelSendReceive,
+    Line::JobQueuePutTake,
 ];
 
 impl Line {
@@ -122,6 +127,8 @@ impl Line {
             Line::BareLoadAdd => "bare load add",
             Line::StdCondvarNotifyOne => "std condvar notify_one",
             Line::CondvarNotifyOne => "condvar notify_one",
+            Line::ChannelSendReceive => "crossbeam_channel send receive",
+            Line::JobQueuePutTake => "job_queue put take",
         }
     }
 
@@ -159,6 +166,8 @@ impl Line {
             Line::BareLoadAdd => Ok(yardsticks::bare_load_add()),
             Line::StdCondvarNotifyOne => Ok(yardsticks::std_condvar_notify_one()),
             Line::CondvarNotifyOne => condvar::notify_one(alloc),
+            Line::ChannelSendReceive => yardsticks::channel_send_receive(rt, alloc),
+            Line::JobQueuePutTake => queue::put_take(rt, alloc),
         }
     }
 }

@@ -5,6 +5,7 @@ use Rattle.std.proofs.lemmas.Simd.{map-map}
 use Rattle.std.specs.List.{take-map}
 use Rattle.std.specs.Prelude.{string_bytes}
 use Rattle.steps_events.specs.declared.event.Event.{Event}
+use Rattle.steps_events.specs.declared.event.Object.{Object}
 use Rattle.steps_events.specs.Integers.{u64_arithmetic}
 use Rattle.steps_events.specs.Runs.{after}
 use Rattle.sync_steps.specs.Machine.{Configuration, StandsAt}
@@ -12,11 +13,11 @@ use Rattle.sync_play.specs.declared.header.Header.{Header}
 use Rattle.sync_play.specs.Lexer.{lines_of}
 use Rattle.sync_play.specs.Print.{printed, last_line}
 use Rattle.sync_play.specs.Text.{output_of}
-use Rattle.sync_walk.specs.declared.walk.FaultyLine.{FaultyLine}
-use Rattle.sync_walk.specs.declared.walk.Rest.{Rest}
-use Rattle.sync_walk.specs.Law.{events_in, output_unless, output_in, output_opened}
-use Rattle.sync_walk.specs.Walk.{nothing, go_walk, lines_walk, opened, rest_walk}
-use Rattle.sync_walk.proofs.OutputLaws.{walks_print}
+use Rattle.sync_play.specs.declared.fault.FaultyLine.{FaultyLine}
+use Rattle.sync_play.specs.declared.walk.Rest.{Rest}
+use Rattle.sync_play.specs.WalkOutput.{events_in, output_unless}
+use Rattle.sync_play.specs.Walk.{nothing, opened, rest_walk}
+use Rattle.sync_play.proofs.PlayLaws.{text_walk}
 use Rattle.sync_trace.specs.declared.rows.Row.{Row}
 use Rattle.sync_trace.specs.Rows.{Entry, entry_of, entries}
 use Rattle.sync_trace.specs.Trace.{HasAdded, HasPlayed, RowsAndFault, rows_of}
@@ -57,19 +58,10 @@ leaves_out rows kept all some cut e f =
     let same : entries kept ≡ take 2000 (entries rows) = ap entries cut ∙ sym (take-map entry_of 2000 rows) in
     rw (e, f, same) refl
 
--- A text is walked from its first line on.
-
-text_walk : (text : List ℕ) (header : Header) (rest : Rest) → opened (lines_of text) ≡ Ok (header, lines_of rest.lines.now) → rest.line ≡ 1 → rest.left ≡ nothing → output_of text ≡ output_in header.object [] (rest_walk header.object header.parties [] rest)
-unfolding go_walk
-text_walk text header rest is line left =
-    let same : rest_walk header.object header.parties [] rest ≡ lines_walk header.object header.parties 2 (lines_of rest.lines.now) [] = rw (line, left) refl in
-    walks_print text ∙ ap output_opened is ∙ ap (output_in header.object []) (sym same)
-
-pub opens_none : (text : List ℕ) (fault : FaultyLine) → opened (lines_of text) ≡ Err fault → output_of text ≡ Err (record { line = fault.line; fault = fault.fault })
-opens_none text fault is = walks_print text ∙ ap output_opened is
+-- What was told of a text.
 
 pub stops : (text : List ℕ) (header : Header) (rest : Rest) (old new : List Row) (fault : FaultyLine) → opened (lines_of text) ≡ Ok (header, lines_of rest.lines.now) → rest.line ≡ 1 → rest.left ≡ nothing →
-    (told : Option FaultyLine) → told ≡ Some fault → HasAdded header [] (rest_walk header.object header.parties [] rest) old new told → output_of text ≡ Err (record { line = fault.line; fault = fault.fault })
+    (told : Option FaultyLine) → told ≡ Some fault → HasAdded header [] (rest_walk header.object header.parties [] rest) old new told → output_of text ≡ Err fault
 stops text header rest old new fault is line left told some added =
     let bytes = printed (events_in (rest_walk header.object header.parties [] rest).steps) ++ last_line header.object (after (events_in (rest_walk header.object header.parties [] rest).steps) []) in
     text_walk text header rest is line left ∙ ap (λ (f : Option FaultyLine). output_unless f bytes) (sym added.1 ∙ some)
@@ -77,12 +69,12 @@ stops text header rest old new fault is line left told some added =
 -- the last line of the output
 pub ends_output : (text : List ℕ) (header : Header) (rest : Rest) (old new : List Row) (machine : Configuration ℕ) (none last : List ℕ) → opened (lines_of text) ≡ Ok (header, lines_of rest.lines.now) → rest.line ≡ 1 → rest.left ≡ nothing →
     (told : Option FaultyLine) → told ≡ None → HasAdded header [] (rest_walk header.object header.parties [] rest) old new told → HasPlayed header [] (rest_walk header.object header.parties [] rest) machine told → none ≡ [] →
-    ((parties : ℕ) (past : List Ev) → StandsAt u64_arithmetic header.object parties past machine → last ≡ none ++ last_line header.object past) → (front : List ℕ) × (output_of text ≡ Ok (front ++ last))
+    ((o : Object ℕ) (parties : ℕ) (past : List Ev) → StandsAt u64_arithmetic o parties past machine → last ≡ none ++ last_line o past) → (front : List ℕ) × (output_of text ≡ Ok (front ++ last))
 ends_output text header rest old new machine none last is line left told absent added plays empty prints =
     let walk = rest_walk header.object header.parties [] rest in
     let front = printed (events_in walk.steps) in
     let played = subst (λ (f : Option FaultyLine). HasPlayed header [] walk machine f) absent plays in
-    let line_is : last ≡ last_line header.object (after (events_in walk.steps) []) = prints header.parties _ played ∙ ap (λ (l : List ℕ). l ++ last_line header.object (after (events_in walk.steps) [])) empty in (
+    let line_is : last ≡ last_line header.object (after (events_in walk.steps) []) = prints header.object header.parties _ played ∙ ap (λ (l : List ℕ). l ++ last_line header.object (after (events_in walk.steps) [])) empty in (
       front,
       text_walk text header rest is line left ∙ ap (λ (f : Option FaultyLine). output_unless f (front ++ last_line header.object (after (events_in walk.steps) []))) (sym added.1 ∙ absent)
           ∙ ap (λ (l : List ℕ). Ok (front ++ l)) (sym line_is),

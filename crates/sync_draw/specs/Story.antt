@@ -2,12 +2,12 @@
 use Rattle.std.specs.Prelude.{◌≡◌, ℕ, ◌-◌, List, [], ◌∷◌, ◌++◌, map, take, Option, Result, Ok, string_bytes}
 use Rattle.steps_events.specs.declared.event.Event.{Event}
 use Rattle.steps_events.specs.declared.hold.HoldKind.{HoldKind}
-use Rattle.sync_play.specs.Fault.{FaultAt}
+use Rattle.sync_play.specs.declared.fault.FaultyLine.{FaultyLine}
 use Rattle.sync_play.specs.Lexer.{lines_of}
 use Rattle.sync_play.specs.Text.{output_of}
 use Rattle.sync_trace.specs.Rows.{Entry, number_after}
 use Rattle.sync_trace.specs.Trace.{rows_of}
-use Rattle.sync_walk.specs.Walk.{opened}
+use Rattle.sync_play.specs.Walk.{opened}
 use Rattle.sync_draw.specs.declared.story.Step.{Step}
 use Rattle.sync_draw.specs.declared.story.Story.{Story}
 use Rattle.sync_draw.specs.Title.{title_words}
@@ -48,7 +48,7 @@ abbrev pub IsOpenedBy : List ℕ → Story → Type 0
 IsOpenedBy text story = (lines : List (List ℕ)) × (opened (lines_of text) ≡ Ok (record { object = story.object; parties = story.parties }, lines))
 
 -- the text has an output, and so no fault
-abbrev pub HasOutput : Result (List ℕ) FaultAt → Type 0
+abbrev pub HasOutput : Result (List ℕ) FaultyLine → Type 0
 HasOutput output = (bytes : List ℕ) × (output ≡ Ok bytes)
 
 -- the text has an output, and this is the last line of it

@@ -12,6 +12,7 @@ use Rattle.steps_events.specs.Moves.{InputValues}
 use Rattle.sync_steps.specs.Runs.{fault_of, move_of, IsNext}
 use Rattle.steps_events.specs.Runs.{after}
 use Rattle.sync_steps.specs.Runs.{IsRun}
+use Rattle.sync_play.specs.declared.fault.FaultyLine.{FaultyLine}
 use Rattle.sync_play.specs.declared.fault.LineFault.{LineFault}
 use Rattle.sync_play.specs.declared.fault.LineFault.TheVariants as faults
 use Rattle.sync_play.specs.declared.header.Header.{Header}
@@ -20,7 +21,7 @@ use Rattle.sync_play.specs.declared.command.Task.{Task}
 use Rattle.sync_play.specs.declared.command.Task.TheVariants as tasks
 use Rattle.sync_play.specs.Command.{command_of}
 use Rattle.sync_play.specs.Player.{event_by, unless_refused, event_of, events_of, run_of, steps_of, task_events}
-use Rattle.sync_play.specs.Fault.{◌>>=◌, FaultAt, at_line, line_fault_of}
+use Rattle.sync_play.specs.Fault.{◌>>=◌, at_line, line_fault_of}
 use Rattle.sync_play.specs.Lexer.{lines_of, words_of}
 use Rattle.sync_play.specs.Header.{header_of}
 use Rattle.sync_play.specs.Text.{events_asked, line_events, output_after, output_of_lines, output_of}
@@ -164,12 +165,12 @@ pub record FirstRefused (o : Object ℕ) (parties : ℕ) (past : List Ev) (numbe
   pub run : IsRun u64_arithmetic o parties past schedule events
   pub refused : LineRefused o parties (after events past) (words_of line) fault
 
-at_fails : {A : Type 0} (n : ℕ) (r : Result A LineFault) (fault : FaultAt) → at_line n r ≡ Err fault → (r ≡ Err fault.fault) × (fault.line ≡ n)
+at_fails : {A : Type 0} (n : ℕ) (r : Result A LineFault) (fault : FaultyLine) → at_line n r ≡ Err fault → (r ≡ Err fault.fault) × (fault.line ≡ n)
 at_fails n (Ok x) fault e = absurd cc
 at_fails {A} n (Err f) fault e =
-    let made : FaultAt = record { line = n; fault = f } in
+    let made : FaultyLine = record { line = n; fault = f } in
     let same : made ≡ fault = cc in
-    (ap (λ (d : FaultAt). Err d.fault) same, ap (λ (d : FaultAt). d.line) (sym same))
+    (ap (λ (d : FaultyLine). Err d.fault) same, ap (λ (d : FaultyLine). d.line) (sym same))
 
 refused_here : (o : Object ℕ) (parties : ℕ) (past : List Ev) (number : ℕ) (line : List ℕ) (lines : List (List ℕ)) (told : ℕ) (fault : LineFault) → told ≡ number → LineRefused o parties past (words_of line) fault
     → FirstRefused o parties past number (line ∷ lines) told fault
@@ -193,7 +194,7 @@ refused_below o parties past number line lines told fault front is r =
       refused = rw (after_both front r.events past) r.refused;
     }
 
-lines_refused : (o : Object ℕ) (parties number : ℕ) (lines : List (List ℕ)) (past : List Ev) (fault : FaultAt) → HavePlacesAt o past → output_after o parties number lines past ≡ Err fault
+lines_refused : (o : Object ℕ) (parties number : ℕ) (lines : List (List ℕ)) (past : List Ev) (fault : FaultyLine) → HavePlacesAt o past → output_after o parties number lines past ≡ Err fault
     → FirstRefused o parties past number lines fault.line fault.fault
 unfolding output_after
 lines_refused o parties number [] past fault had h = absurd cc
@@ -212,17 +213,17 @@ lines_refused o parties number (line ∷ lines) past fault had h =
 
 -- The text.
 
-opened_refused : (first : List ℕ) (lines : List (List ℕ)) (header : Header) (fault : FaultAt) → Ok header ≡ header_of (words_of first) → FirstRefused header.object header.parties [] 2 lines fault.line fault.fault
+opened_refused : (first : List ℕ) (lines : List (List ℕ)) (header : Header) (fault : FaultyLine) → Ok header ≡ header_of (words_of first) → FirstRefused header.object header.parties [] 2 lines fault.line fault.fault
     → LaterLineRefused first lines fault.line fault.fault
 opened_refused first lines header fault names r =
     record { header = header; names = sym names; before = r.before; line = r.line; others = r.others; lines_are = r.lines_are; number_is = r.number_is; schedule = r.schedule; events = r.events; asks = r.asks; run = r.run; refused = r.refused }
 
-text_refused : (lines : List (List ℕ)) (fault : FaultAt) → output_of_lines lines ≡ Err fault → IsRefusedLine lines fault.line fault.fault
+text_refused : (lines : List (List ℕ)) (fault : FaultyLine) → output_of_lines lines ≡ Err fault → IsRefusedLine lines fault.line fault.fault
 unfolding output_of_lines
 text_refused [] fault h =
-    let made : FaultAt = record { line = 1; fault = faults.NoObject } in
+    let made : FaultyLine = record { line = 1; fault = faults.NoObject } in
     let same : made ≡ fault = cc in
-    (ap (λ (d : FaultAt). d.line) (sym same), ap (λ (d : FaultAt). d.fault) (sym same))
+    (ap (λ (d : FaultyLine). d.line) (sym same), ap (λ (d : FaultyLine). d.fault) (sym same))
 text_refused (first ∷ lines) fault h =
     elim (fails (at_line 1 (header_of (words_of first))) (λ header. output_after header.object header.parties 2 lines []) fault h) [
       | inl at ↦ let here = at_fails 1 (header_of (words_of first)) fault at in inl (here.1, here.0)

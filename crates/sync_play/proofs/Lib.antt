@@ -9,3 +9,6 @@ pub mod RunsAreOutputs
 pub mod Moves
 pub mod FaultsAreRefusals
 pub mod OwnLine
+pub mod WalkLaws
+pub mod WalksAreOutputs
+pub mod PlayLaws

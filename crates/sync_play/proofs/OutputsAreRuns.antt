@@ -22,11 +22,12 @@ use Rattle.sync_steps.specs.Runs.{IsRun}
 use Rattle.std.specs.Str.{bytes_eq}
 use Rattle.sync_play.specs.declared.command.Form.{Form}
 use Rattle.sync_play.specs.declared.command.Form.TheVariants as forms
+use Rattle.sync_play.specs.declared.fault.FaultyLine.{FaultyLine}
 use Rattle.sync_play.specs.declared.fault.LineFault.{LineFault}
 use Rattle.sync_play.specs.declared.command.Task.{Task}
 use Rattle.sync_play.specs.declared.command.Task.TheVariants as tasks
 use Rattle.sync_play.specs.declared.command.Command.{Command}
-use Rattle.sync_play.specs.Fault.{◌>>=◌, FaultAt, at_line}
+use Rattle.sync_play.specs.Fault.{◌>>=◌, at_line}
 use Rattle.sync_play.specs.Command.{find, verbs, calls_of, steps_asked, task_by, task_if, task_of, party_of, command_of}
 use Rattle.sync_play.specs.Lexer.{lines_of, words_of, in_range, number_of, number_within, nothing, only_number}
 use Rattle.sync_play.specs.Header.{header_of}
@@ -53,7 +54,7 @@ bind_in (Ok x) f y e = (x, refl, e)
 bind_in (Err d) f y e = absurd cc
 
 pub ok_at_line : {A : Type 0} (n : ℕ) (r : Result A LineFault) (x : A) → at_line n r ≡ Ok x → r ≡ Ok x
-ok_at_line {A} n (Ok y) x e = let same : y ≡ x = same_ok {E = FaultAt} y x e in ap (λ (z : A). Ok z) same
+ok_at_line {A} n (Ok y) x e = let same : y ≡ x = same_ok {E = FaultyLine} y x e in ap (λ (z : A). Ok z) same
 ok_at_line n (Err fault) x e = absurd cc
 
 -- The event of an input is the next.
@@ -296,7 +297,7 @@ record LinesRun (o : Object ℕ) (parties : ℕ) (lines : List (List ℕ)) (past
 lines_run : (o : Object ℕ) (parties number : ℕ) (lines : List (List ℕ)) (past : List Ev) (bytes : List ℕ) → output_after o parties number lines past ≡ Ok bytes → LinesRun o parties lines past bytes
 unfolding output_after
 lines_run o parties number [] past bytes h =
-    record { schedule = []; events = []; asks = refl; run = tt; bytes_are = sym (same_ok {E = FaultAt} (last_line o past) bytes h) }
+    record { schedule = []; events = []; asks = refl; run = tt; bytes_are = sym (same_ok {E = FaultyLine} (last_line o past) bytes h) }
 lines_run o parties number (line ∷ lines) past bytes h =
     let a = bind_in (at_line number (line_events o parties past (words_of line))) (λ events. output_after o parties (number + 1) lines (after events past) >>= λ rest. Ok (printed events ++ rest)) bytes h in
     let b = bind_in (output_after o parties (number + 1) lines (after a.0 past)) (λ rest. Ok (printed a.0 ++ rest)) bytes a.2 in
@@ -308,7 +309,7 @@ lines_run o parties number (line ∷ lines) past bytes h =
       events = a.0 ++ back.events;
       asks = (front.schedule, back.schedule, a.0, back.events, refl, refl, sym (run_length o parties past front.schedule a.0 front.run), front.asks, back.asks);
       run = run_of_both o parties past front.schedule back.schedule a.0 back.events front.run back.run;
-      bytes_are = sym (same_ok {E = FaultAt} (printed a.0 ++ b.0) bytes b.2) ∙ ap (λ (l : List ℕ). printed a.0 ++ l) back.bytes_are
+      bytes_are = sym (same_ok {E = FaultyLine} (printed a.0 ++ b.0) bytes b.2) ∙ ap (λ (l : List ℕ). printed a.0 ++ l) back.bytes_are
           ∙ sym (append_assoc (printed a.0) (printed back.events) (last_line o (after back.events (after a.0 past))))
           ∙ ap (λ (l : List ℕ). l ++ last_line o (after back.events (after a.0 past))) (sym (flat_map-append event_lines a.0 back.events))
           ∙ ap (λ (p : List Ev). printed (a.0 ++ back.events) ++ last_line o p) (sym there);

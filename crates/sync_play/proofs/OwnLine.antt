@@ -16,9 +16,9 @@ use Rattle.steps_events.specs.declared.event.Wake.TheVariants as wakes
 use Rattle.steps_events.specs.declared.event.Word.TheVariants as words
 use Rattle.steps_events.specs.Integers.{u64_arithmetic}
 use Rattle.sync_steps.specs.Runs.{IsRun}
+use Rattle.sync_play.specs.declared.fault.FaultyLine.{FaultyLine}
 use Rattle.sync_play.specs.declared.command.Task.TheVariants as tasks
 use Rattle.sync_play.specs.Player.{steps_of}
-use Rattle.sync_play.specs.Fault.{FaultAt}
 use Rattle.sync_play.specs.Header.{header_of}
 use Rattle.sync_play.specs.Command.{command_of, task_of}
 use Rattle.sync_play.specs.Print.{last_line}
@@ -165,11 +165,11 @@ unfolding header_of last_line
 is_run_of_text =
     record { first = codes "mutex 2"; lines = lines; text_is = refl; header = record { object = objects.Mutex; parties = 2 }; names = refl; schedule = inputs_0; events = events_0; asks = asks; run = is_run; bytes_are = rw (decimal_digit 0 (omega arith), decimal_digit 1 (omega arith), decimal_digit 2 (omega arith)) refl }
 
-abbrev output_length : Result (List ℕ) FaultAt → ℕ
+abbrev output_length : Result (List ℕ) FaultyLine → ℕ
 output_length (Ok bytes) = length bytes
 output_length (Err fault) = 0
 
-differ : ◌≡◌ {A = Result (List ℕ) FaultAt} (Ok output) (Ok (codes "1 success\n2 success\nword 1 failed 0\n")) → ⊥
+differ : ◌≡◌ {A = Result (List ℕ) FaultyLine} (Ok output) (Ok (codes "1 success\n2 success\nword 1 failed 0\n")) → ⊥
 differ e = let same : output_length (Ok output) ≡ output_length (Ok (codes "1 success\n2 success\nword 1 failed 0\n")) = ap output_length e in absurd (omega arith)
 
 pub ends_in_its_line : EndsInItsLine

@@ -3,6 +3,7 @@ use Rattle.std.specs.Prelude.{◌≡◌, ℕ, List, ◌++◌, Result, Ok, Err, c
 use Rattle.std.specs.Fmt.{decimal}
 use Rattle.steps_events.specs.declared.event.StepFault.{StepFault}
 use Rattle.steps_events.specs.declared.event.StepFault.TheVariants as steps
+use Rattle.sync_play.specs.declared.fault.FaultyLine.{FaultyLine}
 use Rattle.sync_play.specs.declared.fault.LineFault.{LineFault}
 use Rattle.sync_play.specs.declared.fault.LineFault.TheVariants as faults
 use Rattle.sync_play.specs.declared.fault.RunFault.{RunFault}
@@ -16,12 +17,8 @@ abbrev pub ◌>>=◌ : {A B E : Type 0} → Result A E → (A → Result B E) �
 (Ok x) >>= f = f x
 (Err e) >>= f = Err e
 
--- a fault, and the number of the line that has it
-pub record FaultAt : Type 0 where
-  pub line : ℕ
-  pub fault : LineFault
-
-abbrev pub at_line : {A : Type 0} → ℕ → Result A LineFault → Result A FaultAt
+-- a fault, with the number of the line that has it
+abbrev pub at_line : {A : Type 0} → ℕ → Result A LineFault → Result A FaultyLine
 at_line line (Ok x) = Ok x
 at_line line (Err fault) = Err (record { line = line; fault = fault })
 
@@ -50,7 +47,7 @@ fault_words faults.NotWaiting = codes "not waiting"
 fault_words faults.StepLimit = codes "step limit"
 
 -- a text's fault is the one that its meaning has; want of memory says nothing of the text
-abbrev pub IsFaultOf : {A : Type 0} → TextFault → Result A FaultAt → Type 0
+abbrev pub IsFaultOf : {A : Type 0} → TextFault → Result A FaultyLine → Type 0
 IsFaultOf (texts.Line line fault) meant = meant ≡ Err (record { line = line; fault = fault })
 IsFaultOf texts.Memory meant = Unit {0}
 

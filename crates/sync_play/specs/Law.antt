@@ -9,6 +9,7 @@ use Rattle.steps_events.specs.Sights.{goes_on}
 use Rattle.sync_steps.specs.Runs.{fault_of}
 use Rattle.steps_events.specs.Runs.{after}
 use Rattle.sync_steps.specs.Runs.{IsRun}
+use Rattle.sync_play.specs.declared.fault.FaultyLine.{FaultyLine}
 use Rattle.sync_play.specs.declared.fault.LineFault.{LineFault}
 use Rattle.sync_play.specs.declared.fault.LineFault.TheVariants as faults
 use Rattle.sync_play.specs.declared.command.Command.{Command}
@@ -16,7 +17,7 @@ use Rattle.sync_play.specs.declared.command.Task.{Task}
 use Rattle.sync_play.specs.declared.command.Task.TheVariants as tasks
 use Rattle.sync_play.specs.declared.header.Header.{Header}
 use Rattle.sync_play.specs.Command.{command_of}
-use Rattle.sync_play.specs.Fault.{FaultAt, line_fault_of}
+use Rattle.sync_play.specs.Fault.{line_fault_of}
 use Rattle.sync_play.specs.Header.{header_of}
 use Rattle.sync_play.specs.Lexer.{lines_of, words_of}
 use Rattle.sync_play.specs.Player.{steps_of}
@@ -133,10 +134,10 @@ RunsAreOutputs = (text bytes : List ℕ) → IsRunOfText text bytes → output_o
 
 -- a text has this fault where its line is refused so, and nowhere else
 abbrev pub FaultsAreRefusals : Type 0
-FaultsAreRefusals = (text : List ℕ) (fault : FaultAt) → output_of text ≡ Err fault → IsRefusedLine (lines_of text) fault.line fault.fault
+FaultsAreRefusals = (text : List ℕ) (fault : FaultyLine) → output_of text ≡ Err fault → IsRefusedLine (lines_of text) fault.line fault.fault
 
 abbrev pub RefusalsAreFaults : Type 0
-RefusalsAreFaults = (text : List ℕ) (fault : FaultAt) → IsRefusedLine (lines_of text) fault.line fault.fault → output_of text ≡ Err fault
+RefusalsAreFaults = (text : List ℕ) (fault : FaultyLine) → IsRefusedLine (lines_of text) fault.line fault.fault → output_of text ≡ Err fault
 
 -- a `run` ends in its own line: it borrows no end from a later one
 abbrev pub EndsInItsLine : Type 0

@@ -5,5 +5,7 @@ pub mod Command
 pub mod Player
 pub mod Print
 pub mod Text
+pub mod Walk
+pub mod WalkOutput
 pub mod Run
 pub mod Law

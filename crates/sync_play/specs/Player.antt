@@ -1,5 +1,5 @@
 -- The events that a command gives after the events so far, or the first fault.
-use Rattle.std.specs.Prelude.{◌≡◌, ℕ, zero, suc, ◌-◌, Bool, if◌then◌else◌, List, [], ◌∷◌, Option, Some, None, Result, Ok, Err}
+use Rattle.std.specs.Prelude.{ℕ, zero, suc, if◌then◌else◌, List, [], ◌∷◌, Option, Some, None, Result, Ok, Err}
 use Rattle.steps_events.specs.declared.event.Event.{Event}
 use Rattle.steps_events.specs.declared.event.Input.{Input}
 use Rattle.steps_events.specs.declared.event.Input.TheVariants as inputs
@@ -9,7 +9,6 @@ use Rattle.steps_events.specs.Integers.{u64_arithmetic}
 use Rattle.steps_events.specs.Moves.{Move}
 use Rattle.steps_events.specs.Sights.{goes_on}
 use Rattle.sync_steps.specs.Runs.{fault_of, move_of}
-use Rattle.sync_steps.specs.Machine.{Configuration, StandsAt}
 use Rattle.sync_play.specs.declared.command.Command.{Command}
 use Rattle.sync_play.specs.declared.command.Task.{Task}
 use Rattle.sync_play.specs.declared.command.Task.TheVariants as tasks
@@ -67,39 +66,3 @@ abbrev pub steps_left : Task → ℕ
 steps_left (tasks.Give input) = 1
 steps_left (tasks.Go n) = n
 steps_left (tasks.Run limit) = limit
-
--- the next input of a task; there is none once all is done
-abbrev pub next_input : Task → Result (Option (Input ℕ)) LineFault
-next_input (tasks.Give input) = Ok (Some input)
-next_input (tasks.Go zero) = Ok None
-next_input (tasks.Go (suc n)) = Ok (Some inputs.Go)
-next_input (tasks.Run zero) = Err faults.StepLimit
-next_input (tasks.Run (suc limit)) = Ok (Some inputs.Go)
-
--- what is left after the next input, whose call goes on or does not
-abbrev pub left_after : Bool → Task → Task
-left_after going (tasks.Give input) = tasks.Go 0
-left_after going (tasks.Go n) = tasks.Go (n - 1)
-left_after going (tasks.Run limit) = if going then tasks.Run (limit - 1) else tasks.Go 0
-
-abbrev pub event_if : Object ℕ → ℕ → List (Event ℕ) → ℕ → Option (Input ℕ) → Result (Option (Event ℕ)) LineFault
-event_if o parties past party None = Ok None
-event_if o parties past party (Some input) = event_of o parties past party input >>= λ e. Ok (Some e)
-
--- the event that a command gives first, or why it gives none; there is none once all of it is done
-abbrev pub first_event : Object ℕ → ℕ → List (Event ℕ) → Command → Result (Option (Event ℕ)) LineFault
-first_event o parties past command = next_input command.task >>= λ input. event_if o parties past command.party input
-
--- the event is the one that the next input of the command gives, what is left gives the others, and the run with it stands at the machine
-pub record MakesTurn (o : Object ℕ) (parties : ℕ) (past : List (Event ℕ)) (old new : Command) (machine : Configuration ℕ) (e : Event ℕ) : Type 0 where
-  pub input : Input ℕ
-  pub asked : next_input old.task ≡ Ok (Some input)
-  pub event : event_of o parties past old.party input ≡ Ok e
-  pub others : command_events o parties past old ≡ (command_events o parties (e ∷ past) new >>= λ events. Ok (e ∷ events))
-  pub stands : StandsAt u64_arithmetic o parties (e ∷ past) machine
-
--- What the player tells of a command after the past, and what it leaves of it: all was done, or the next event, or the fault of the command.
-abbrev pub IsTurn : Object ℕ → ℕ → List (Event ℕ) → Command → Command → Configuration ℕ → Result (Option (Event ℕ)) LineFault → Type 0
-IsTurn o parties past old new machine (Ok None) = (command_events o parties past old ≡ Ok []) × StandsAt u64_arithmetic o parties past machine
-IsTurn o parties past old new machine (Ok (Some e)) = MakesTurn o parties past old new machine e
-IsTurn o parties past old new machine (Err fault) = command_events o parties past old ≡ Err fault

@@ -1,9 +1,9 @@
 -- What became of a run of the program.
 use Rattle.std.specs.Prelude.{◌≡◌, ℕ, List, take, Option, Ok, Err}
 use Rattle.std.specs.Io.KnownBytes.{Appends, Consumes, IsAtEnd}
+use Rattle.sync_play.specs.declared.fault.FaultyLine.{FaultyLine}
 use Rattle.sync_play.specs.declared.fault.RunFault.{RunFault}
 use Rattle.sync_play.specs.declared.fault.RunFault.TheVariants as runs
-use Rattle.sync_play.specs.Fault.{FaultAt}
 use Rattle.sync_play.specs.Text.{output_of}
 
 -- the text was read to its end
@@ -29,7 +29,7 @@ pub record HasBegun (left left' written written' : Option (List ℕ)) : Type 0 w
   pub wrote : Appends written written' (take count bytes)
 
 -- all that was read is a text with this fault
-pub record HasFault (left left' : Option (List ℕ)) (fault : FaultAt) : Type 0 where
+pub record HasFault (left left' : Option (List ℕ)) (fault : FaultyLine) : Type 0 where
   pub text : List ℕ
   pub read : HasRead left left' text
   pub output : output_of text ≡ Err fault

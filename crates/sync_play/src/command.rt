@@ -12,7 +12,7 @@ use sync_steps::steps::{Call, Input, Object};
 pub const STEP_LIMIT: u64 = 100000;
 
 /// What is asked of a party, or what is left of it.
-#[derive(Clone, Copy, Debug, PartialEq, Eq)]
+#[derive(Clone, Copy)]
 pub enum Task {
     /// One input.
     Give(Input<u64>),
@@ -23,14 +23,14 @@ pub enum Task {
 }
 
 /// A party, counted from 0, and what is asked of it.
-#[derive(Clone, Copy, Debug, PartialEq, Eq)]
+#[derive(Clone, Copy)]
 pub struct Command {
     pub party: usize,
     pub task: Task,
 }
 
 /// What a verb asks, and the numbers that follow it.
-#[derive(Clone, Copy, Debug, PartialEq, Eq)]
+#[derive(Clone, Copy)]
 enum Form {
     /// This task; no number follows.
     Alone(Task),

@@ -75,6 +75,13 @@ impl From<StepFault> for LineFault {
     }
 }
 
+/// A line with a fault, counted from 1.
+#[derive(Clone, Copy, Debug, PartialEq, Eq)]
+pub struct FaultyLine {
+    pub line: u64,
+    pub fault: LineFault,
+}
+
 /// Why a text was not played.
 #[derive(Clone, Copy, Debug, PartialEq, Eq)]
 pub enum TextFault {
@@ -82,6 +89,17 @@ pub enum TextFault {
     Line { line: u64, fault: LineFault },
     /// Memory ran out.
     Memory,
+}
+
+impl From<FaultyLine> for TextFault {
+    ghost from_gives = { λ found e. e ≡ texts.Line found.line found.fault };
+
+    fn from(found: FaultyLine) -> TextFault {
+        TextFault::Line {
+            line: found.line,
+            fault: found.fault,
+        }
+    }
 }
 
 impl From<AllocError> for TextFault {

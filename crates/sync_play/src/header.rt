@@ -1,6 +1,5 @@
 //! What the first line names.
 ghost use Rattle.std.specs.Prelude.{◌≡◌, ◌≤◌, true, List, IfOk};
-ghost use Rattle.sync_steps.specs.Objects.{is_served};
 ghost use Rattle.sync_play.specs.Lexer.{words_of};
 ghost use Rattle.sync_play.specs.Header as meaning;
 
@@ -12,7 +11,7 @@ use sync_steps::steps::Object;
 pub const MOST_PARTIES: u64 = 64;
 
 /// An object, and how many parties use it.
-#[derive(Clone, Copy, Debug, PartialEq, Eq)]
+#[derive(Clone, Copy)]
 pub struct Header {
     pub object: Object<u64>,
     pub parties: usize,
@@ -55,7 +54,6 @@ impl Header {
     #[tactic(auto, unfolding(crate::specs::Header::header_of))]
     pub fn parse(line: &[u8]) -> Result<Header, LineFault>
         ensures value { result ≡ meaning.header_of (words_of line.now) }
-        ensures served { IfOk result (λ header. is_served header.object ≡ true) }
     {
         let Some((name, rest)) = next_word(line) else {
             return Err(LineFault::NoObject);

@@ -1,5 +1,11 @@
 //! Laws of the definitions of a text. Each function says one of them, and does nothing.
 ghost use Rattle.sync_play.specs.Law.{OutputsAreRuns, RunsAreOutputs, FaultsAreRefusals, RefusalsAreFaults, EndsInItsLine};
+ghost use Rattle.sync_play.specs.WalkOutput.{WalksAreOutputs};
+
+/// The walk of a text is what is played of it: its output is what the events of the walk's steps print, and its fault is the walk's.
+pub fn walks_are_outputs()
+    ensures { WalksAreOutputs }
+{}
 
 /// A text has this output where it is what the events of a run of all the text's inputs print, and then the last line, and
 /// nowhere else.

@@ -4,7 +4,10 @@
 //! already there. The program of the crate beside this one is the first of them over standard input and output.
 //!
 //! A text is walked once: from bytes to lines and words ([`lexer`]), to what the first line opens ([`header`]) and each other asks
-//! ([`command`]), to its events ([`player`]), and to what they print ([`print`]).
+//! ([`command`]), to its events ([`player`]), and to what they print ([`print`]). [`walk::open`] reads the first line, and
+//! [`walk::next_stride`] then plays one stride after the other at a machine of that object. It plays no more than it tells, so whoever walks
+//! can ask the machine after each for its words and for who holds what, and keeps of the steps what it likes: a program that shows
+//! a run stands on it, as [`text`] does.
 #![tactic(auto)]
 
 pub mod command;
@@ -18,3 +21,4 @@ pub mod run;
 #[cfg(test)]
 mod tests;
 pub mod text;
+pub mod walk;

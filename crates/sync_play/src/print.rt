@@ -2,6 +2,7 @@
 ghost use Rattle.std.specs.Prelude.{◌≡◌, ◌++◌, ℕ, List, OnOk, string_bytes};
 ghost use Rattle.steps_events.specs.declared.event.Act.TheVariants as acts;
 ghost use Rattle.steps_events.specs.declared.event.Event.{Event as AnEvent};
+ghost use Rattle.steps_events.specs.declared.event.Object.{Object as AnObject};
 ghost use Rattle.steps_events.specs.Integers.{u64_arithmetic};
 ghost use Rattle.sync_steps.specs.Machine.{StandsAt};
 ghost use Rattle.sync_steps.specs.Runs.{word_in};
@@ -78,15 +79,11 @@ pub fn print_event(out: &mut String, event: &Event<u64>) -> Result<(), AllocErro
 }
 
 /// Prints the words that the last line tells after the first.
-pub fn print_further_words(
-    out: &mut String,
-    object: Object<u64>,
-    machine: &Machine<u64>,
-) -> Result<(), AllocError>
-    ensures { (parties : ℕ) (past : List (AnEvent ℕ)) → StandsAt u64_arithmetic object parties past machine.now →
-        OnOk result (string_bytes out.new ≡ string_bytes out.old ++ named_words (word_in u64_arithmetic object past) (further_words object)) }
+pub fn print_further_words(out: &mut String, machine: &Machine<u64>) -> Result<(), AllocError>
+    ensures { (o : AnObject ℕ) (parties : ℕ) (past : List (AnEvent ℕ)) → StandsAt u64_arithmetic o parties past machine.now →
+        OnOk result (string_bytes out.new ≡ string_bytes out.old ++ named_words (word_in u64_arithmetic o past) (further_words o)) }
 {
-    match object {
+    match machine.object() {
         Object::WriterLock => {
             let counter = machine.counter();
             write!(out, " counter {counter}")
@@ -108,17 +105,13 @@ pub fn print_further_words(
 }
 
 /// Prints the last line: the words of the object, and how many exchanges failed.
-pub fn print_last(
-    out: &mut String,
-    object: Object<u64>,
-    machine: &Machine<u64>,
-) -> Result<(), AllocError>
-    ensures { (parties : ℕ) (past : List (AnEvent ℕ)) → StandsAt u64_arithmetic object parties past machine.now →
-        OnOk result (string_bytes out.new ≡ string_bytes out.old ++ last_line object past) }
+pub fn print_last(out: &mut String, machine: &Machine<u64>) -> Result<(), AllocError>
+    ensures { (o : AnObject ℕ) (parties : ℕ) (past : List (AnEvent ℕ)) → StandsAt u64_arithmetic o parties past machine.now →
+        OnOk result (string_bytes out.new ≡ string_bytes out.old ++ last_line o past) }
 {
     let word = machine.word();
     let failed = machine.failed();
     write!(out, "word {word}")?;
-    print_further_words(out, object, machine)?;
+    print_further_words(out, machine)?;
     writeln!(out, " failed {failed}")
 }

@@ -1,6 +1,5 @@
 //! Each text is played by `run`, from a slice to a vector.
 ghost use Rattle.std.specs.Prelude.{◌≡◌, true};
-ghost use Rattle.sync_steps.specs.Objects.{is_served};
 
 mod barrier;
 mod condvar;
@@ -16,9 +15,9 @@ mod rwwriter;
 mod spin;
 mod streams;
 
-use crate::command::Command;
+use crate::command::{Command, STEP_LIMIT, Task};
 use crate::fault::{LineFault, RunFault};
-use crate::player::next_event;
+use crate::player::next_events;
 use crate::run::run;
 use std::alloc::{AllocError, Global};
 use std::test::Fail;
@@ -75,29 +74,35 @@ fn run_meanwhile(
     first: &[(usize, Input<u64>)],
     steps: u64,
     last: &[(usize, Input<u64>)],
-) -> Result<Result<Option<Then<u64>>, LineFault>, Fail>
-    requires { is_served object ≡ true }
-{
+) -> Result<Result<Option<Then<u64>>, LineFault>, Fail> {
     let mut machine = Machine::<u64>::new(alloc, object, 2)?;
     for (party, input) in first {
         machine.step(*party, *input).ok().ok_or("it is allowed")?;
     }
-    let command = Command::parse(object, b"2 run");
-    let mut left = command.ok().flatten().ok_or("it asks something")?;
+    let mut before = Command {
+        party: 1,
+        task: Task::Go(steps),
+    };
     for _ in 0..steps {
-        let event = next_event(&mut machine, &mut left)
+        let Some(found) = next_events(&mut machine, &mut before)
             .ok()
-            .flatten()
-            .ok_or("it goes on")?;
-        if event.then != Then::GoesOn {
+            .ok_or("it is allowed")?
+        else {
+            break;
+        };
+        if !matches!(found.event.then, Then::GoesOn) {
             return Err("it ends before")?;
         }
     }
     for (party, input) in last {
         machine.step(*party, *input).ok().ok_or("it is allowed")?;
     }
-    match next_event(&mut machine, &mut left) {
-        Ok(Some(event)) => Ok(Ok(Some(event.then))),
+    let mut left = Command {
+        party: 1,
+        task: Task::Run(STEP_LIMIT.saturating_sub(steps)),
+    };
+    match next_events(&mut machine, &mut left) {
+        Ok(Some(found)) => Ok(Ok(Some(found.event.then))),
         Ok(None) => Ok(Ok(None)),
         Err(fault) => Ok(Err(fault)),
     }

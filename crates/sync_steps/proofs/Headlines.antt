@@ -1,21 +1,15 @@
 -- The headline holds at every front of every run, and a word that an object does not have is 0.
-use Rattle.std.proofs.Common.{◌≡◌, ◌∙◌, ℕ, false, refl, sym, subst, List, [], ◌∷◌, None, arith}
+use Rattle.std.proofs.Common.{◌≡◌, ◌∙◌, ℕ, false, refl, sym, subst, List, [], ◌∷◌}
 use Rattle.steps_events.specs.declared.event.Event.{Event}
 use Rattle.steps_events.specs.declared.event.Input.{Input}
-use Rattle.steps_events.specs.declared.event.Input.TheVariants as inputs
 use Rattle.steps_events.specs.declared.event.Object.{Object}
 use Rattle.steps_events.specs.declared.event.Object.TheVariants as objects
 use Rattle.steps_events.specs.declared.event.Word.{Word}
 use Rattle.steps_events.specs.declared.event.Word.TheVariants as words
 use Rattle.steps_events.specs.Arithmetic.{Arithmetic}
-use Rattle.steps_events.specs.Tables.{no_calls}
 use Rattle.steps_events.specs.Past.{same_word}
-use Rattle.steps_events.specs.Moves.{fault_at}
-use Rattle.steps_events.specs.Runs as runs
 use Rattle.steps_events.specs.Runs.{AtEveryFront}
-use Rattle.steps_events.specs.Laws.{IsExclusive}
 use Rattle.steps_events.proofs.Steps.{lacked_word}
-use Rattle.steps_events.proofs.Parties.{fault_at_none}
 use Rattle.steps_mutex.specs.Table.{mutex_table}
 use Rattle.steps_mutex.proofs.Laws.{keeps_mutex, mutex_lacks}
 use Rattle.steps_spin.specs.Table.{spin_table}
@@ -36,58 +30,24 @@ use Rattle.steps_once.specs.Table.{once_table}
 use Rattle.steps_once.proofs.Laws.{keeps_once, once_lacks}
 use Rattle.steps_lazy.specs.Table.{lazy_table}
 use Rattle.steps_lazy.proofs.Laws.{keeps_lazy, lazy_lacks}
+use Rattle.steps_atomic.specs.Table.{atomic_table, atomic_opening}
+use Rattle.steps_atomic.proofs.Data.{keeps_atomic}
+use Rattle.steps_atomic.proofs.Laws.{atomic_lacks}
 use Rattle.sync_steps.specs.Objects.{has_word}
 use Rattle.sync_steps.specs.Runs.{word_in, IsNext, IsPast, IsRun}
 use Rattle.sync_steps.specs.Law.{Headline}
 
-none_held : IsExclusive []
-none_held party among = absurd (omega (arith, among.1))
-
--- at an object without calls nothing happens
-
-idle_refused : {T : Type 0} (input : Input T) → fault_at {T = T} no_calls None None input ≡ None → ⊥
-idle_refused (inputs.Begin call) allowed = absurd cc
-idle_refused inputs.Go allowed = absurd cc
-idle_refused (inputs.Answer action) allowed = absurd cc
-idle_refused (inputs.Choose choice) allowed = absurd cc
-
-nothing_happens : {T : Type 0} (z : Arithmetic T) (parties : ℕ) (past : List (Event T)) (e : Event T) → runs.IsPast z no_calls parties (e ∷ past) → ⊥
-nothing_happens z parties [] e run = idle_refused run.0.0 (fault_at_none no_calls parties [] e.party run.0.0 run.0.1.allowed)
-nothing_happens z parties (d ∷ past) e run = nothing_happens z parties past d run.1
-
-no_events : {T : Type 0} (z : Arithmetic T) (parties : ℕ) (past : List (Event T)) → runs.IsPast z no_calls parties past → past ≡ []
-no_events z parties [] run = refl
-no_events z parties (e ∷ past) run = absurd (nothing_happens z parties past e run)
-
 pub headline : {T : Type 0} (z : Arithmetic T) (o : Object T) (parties : ℕ) (past : List (Event T)) → IsPast z o parties past → Headline z o past
-headline z objects.Mutex parties past run =
-    let keeps = keeps_mutex z parties past run.1 in
-    record { told = keeps.told; exclusive = keeps.exclusive; law = keeps.law; cause = keeps.cause }
-headline z (objects.Semaphore initial) parties past run =
-    let keeps = keeps_semaphore z initial parties past run.0 run.1 in
-    record { told = keeps.told; exclusive = rw keeps.unheld none_held; law = keeps.law; cause = keeps.cause }
-headline z objects.ReaderLock parties past run =
-    let keeps = keeps_rw_reader z parties past run.1 in
-    record { told = keeps.told; exclusive = keeps.exclusive; law = keeps.law; cause = keeps.cause }
-headline z objects.Spin parties past run =
-    let keeps = keeps_spin z parties past run.1 in
-    record { told = keeps.told; exclusive = keeps.exclusive; law = keeps.law; cause = keeps.cause }
-headline z (objects.Barrier n) parties past run =
-    let keeps = keeps_barrier z n parties past run.0 run.1 in
-    record { told = keeps.told; exclusive = rw keeps.unheld none_held; law = keeps.law; cause = keeps.cause }
-headline z objects.WriterLock parties past run =
-    let keeps = keeps_rw_writer z parties past run.1 in
-    record { told = keeps.told; exclusive = keeps.exclusive; law = keeps.law; cause = keeps.cause }
-headline z objects.Condvar parties past run =
-    let keeps = keeps_condvar z parties past run.1 in
-    record { told = keeps.told; exclusive = keeps.exclusive; law = keeps.law; cause = keeps.cause }
-headline z objects.Once parties past run =
-    let keeps = keeps_once z parties past run.1 in
-    record { told = keeps.told; exclusive = rw keeps.unheld none_held; law = keeps.law; cause = keeps.cause }
-headline z (objects.Lazy v) parties past run =
-    let keeps = keeps_lazy z v parties past run.1 in
-    record { told = keeps.told; exclusive = rw keeps.unheld none_held; law = keeps.law; cause = keeps.cause }
-headline {T} z (objects.Atomic v) parties past run = subst (λ (p : List (Event T)). Headline z (objects.Atomic v) p) (sym (no_events z parties past run.1)) (record { told = tt; exclusive = none_held; law = refl; cause = tt })
+headline z objects.Mutex parties past run = keeps_mutex z parties past run.1
+headline z objects.Spin parties past run = keeps_spin z parties past run.1
+headline z (objects.Semaphore initial) parties past run = keeps_semaphore z initial parties past run.0 run.1
+headline z (objects.Barrier n) parties past run = keeps_barrier z n parties past run.0 run.1
+headline z objects.ReaderLock parties past run = keeps_rw_reader z parties past run.1
+headline z objects.WriterLock parties past run = keeps_rw_writer z parties past run.1
+headline z objects.Condvar parties past run = keeps_condvar z parties past run.1
+headline z objects.Once parties past run = keeps_once z parties past run.1
+headline z (objects.Lazy v) parties past run = keeps_lazy z v parties past run.1
+headline z (objects.Atomic v) parties past run = keeps_atomic z run.0.1 v parties past run.0.0 run.1
 
 -- at every front of a run that goes on from a past
 pub fronts :
@@ -144,8 +104,29 @@ unopened initial words.Value other = refl
 unopened initial words.Low other = refl
 unopened initial words.High other = refl
 
-silent_word : {T : Type 0} (z : Arithmetic T) (o : Object T) (parties : ℕ) (past : List (Event T)) (word : Word) → runs.IsPast z no_calls parties past → word_in z o [] word ≡ 0 → word_in z o past word ≡ 0
-silent_word {T} z o parties past word run opens = subst (λ (p : List (Event T)). word_in z o p word ≡ 0) (sym (no_events z parties past run)) opens
+not_low : (T : Type 0) (v : T) (word : Word) → has_word {T = T} (objects.Atomic v) word ≡ false → same_word words.Low word ≡ false
+not_low T v words.State lacks = refl
+not_low T v words.Counter lacks = refl
+not_low T v words.Waiters lacks = refl
+not_low T v words.Value lacks = refl
+not_low T v words.Low lacks = absurd cc
+not_low T v words.High lacks = refl
+
+not_high : (T : Type 0) (v : T) (word : Word) → has_word {T = T} (objects.Atomic v) word ≡ false → same_word words.High word ≡ false
+not_high T v words.State lacks = refl
+not_high T v words.Counter lacks = refl
+not_high T v words.Waiters lacks = refl
+not_high T v words.Value lacks = refl
+not_high T v words.Low lacks = refl
+not_high T v words.High lacks = absurd cc
+
+unopened_data : {T : Type 0} (z : Arithmetic T) (v : T) (word : Word) → has_word {T = T} (objects.Atomic v) word ≡ false → atomic_opening z v word ≡ 0
+unopened_data z v words.State lacks = refl
+unopened_data z v words.Counter lacks = refl
+unopened_data z v words.Waiters lacks = refl
+unopened_data z v words.Value lacks = refl
+unopened_data z v words.Low lacks = absurd cc
+unopened_data z v words.High lacks = absurd cc
 
 pub absent_word : {T : Type 0} (z : Arithmetic T) (o : Object T) (parties : ℕ) (past : List (Event T)) (word : Word) → IsPast z o parties past → has_word o word ≡ false → word_in z o past word ≡ 0
 absent_word {T} z objects.Mutex parties past word run lacks = lacked_word z mutex_table parties word (mutex_lacks T word (not_state T objects.Mutex word lacks)) past run.1
@@ -160,4 +141,5 @@ absent_word {T} z objects.Condvar parties past word run lacks =
     lacked_word z condvar_table parties word (condvar_lacks T word (not_state T objects.Condvar word lacks) (not_waiters T word lacks) (not_value T word lacks)) past run.1
 absent_word {T} z objects.Once parties past word run lacks = lacked_word z once_table parties word (once_lacks T word (not_state T objects.Once word lacks)) past run.1
 absent_word {T} z (objects.Lazy v) parties past word run lacks = lacked_word z (lazy_table v) parties word (lazy_lacks T v word (not_state T (objects.Lazy v) word lacks)) past run.1
-absent_word z (objects.Atomic v) parties past word run lacks = silent_word z (objects.Atomic v) parties past word run.1 refl
+absent_word {T} z (objects.Atomic v) parties past word run lacks =
+    lacked_word z (atomic_table z v) parties word (atomic_lacks z v word (not_state T (objects.Atomic v) word lacks) (not_low T v word lacks) (not_high T v word lacks)) past run.1 ∙ unopened_data z v word lacks

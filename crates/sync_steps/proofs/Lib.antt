@@ -3,3 +3,5 @@ pub mod Turns
 pub mod Stands
 pub mod Headlines
 pub mod Plays
+pub mod SpinLaws
+pub mod StrideLaws

@@ -126,12 +126,12 @@ stands_after {T} z o parties past old new party input turn within values at turn
 turns_there :
     {T : Type 0} (z : Arithmetic T) (o : Object T) (parties : ℕ) (past : List (Event T)) (m : Configuration T) (party : ℕ) (found : Party T) (input : Input T) →
     party < length m.parties → slice_get m.parties party ≡ Some found → StandsAt z o parties past m →
-    TurnsOr z o (call_of party past) (hold_of (table_of z o) party past) (word_in z o past) input (turn_at m.object found (word_at m.words) input)
+    TurnsOr z o (call_of party past) (hold_of (table_of z o) party past) (word_in z o past) input (turn_at z m.object found (word_at m.words) input)
 turns_there {T} z o parties past m party found input within got at =
     let t = table_of z o in
     let own : IsParty z o found (call_of party past) (hold_of t party past) = at.each party (rw at.count at within) found got in
-    let M : (Word → ℕ) → Type 0 = λ memory. TurnsOr z o (call_of party past) (hold_of t party past) (word_in z o past) input (turn_at o found memory input) in
-    let O : Object T → Type 0 = λ object. TurnsOr z o (call_of party past) (hold_of t party past) (word_in z o past) input (turn_at object found (word_at m.words) input) in
+    let M : (Word → ℕ) → Type 0 = λ memory. TurnsOr z o (call_of party past) (hold_of t party past) (word_in z o past) input (turn_at z o found memory input) in
+    let O : Object T → Type 0 = λ object. TurnsOr z o (call_of party past) (hold_of t party past) (word_in z o past) input (turn_at z object found (word_at m.words) input) in
     let turns = turns_at z o found (word_in z o past) input (call_of party past) (hold_of t party past) own in
     let same : word_at m.words ≡ word_in z o past = fun_ext at.memory in
     subst O (sym at.object_is) (subst M (sym same) turns)
@@ -139,7 +139,7 @@ turns_there {T} z o parties past m party found input within got at =
 -- a turn of the party
 stands_after_turn :
     {T : Type 0} (z : Arithmetic T) (o : Object T) (parties : ℕ) (past : List (Event T)) (old new : Configuration T) (party : ℕ) (found : Party T) (input : Input T) (turn : Turn T) →
-    party < length old.parties → slice_get old.parties party ≡ Some found → InputValues z input → turn_at old.object found (word_at old.words) input ≡ Ok turn → Applies party turn old new → StandsAt z o parties past old →
+    party < length old.parties → slice_get old.parties party ≡ Some found → InputValues z input → turn_at z old.object found (word_at old.words) input ≡ Ok turn → Applies party turn old new → StandsAt z o parties past old →
     IsNext z o parties past party input (event party turn.act turn.outcome) × StandsAt z o parties (event party turn.act turn.outcome ∷ past) new
 stands_after_turn {T} z o parties past old new party found input turn within got values is applies at =
     let t = table_of z o in
@@ -150,7 +150,7 @@ stands_after_turn {T} z o parties past old new party found input turn within got
 -- a fault in its place
 refused_there :
     {T : Type 0} (z : Arithmetic T) (o : Object T) (parties : ℕ) (past : List (Event T)) (m : Configuration T) (party : ℕ) (found : Party T) (input : Input T) (fault : StepFault) →
-    party < length m.parties → slice_get m.parties party ≡ Some found → turn_at m.object found (word_at m.words) input ≡ Err fault → StandsAt z o parties past m → fault_of z o parties past party input ≡ Some fault
+    party < length m.parties → slice_get m.parties party ≡ Some found → turn_at z m.object found (word_at m.words) input ≡ Err fault → StandsAt z o parties past m → fault_of z o parties past party input ≡ Some fault
 refused_there {T} z o parties past m party found input fault within got is at =
     let t = table_of z o in
     let below : party < parties = rw at.count at within in
@@ -174,7 +174,7 @@ idle_at z o idle (suc parties) (suc p) doing hold party is = idle_at z o idle pa
 
 -- the empty run stands at a new machine
 pub stands_first :
-    {T : Type 0} (z : Arithmetic T) (o : Object T) (parties : ℕ) (idle : Party T) (m : Configuration T) → IsObject z o → m.object ≡ o → m.failed ≡ 0 → ((word : Word) → word_at m.words word ≡ opening_at o word) →
+    {T : Type 0} (z : Arithmetic T) (o : Object T) (parties : ℕ) (idle : Party T) (m : Configuration T) → IsObject z o → m.object ≡ o → m.failed ≡ 0 → ((word : Word) → word_at m.words word ≡ opening_at z o word) →
     idle.doing ≡ None → idle.hold ≡ None → m.parties ≡ replicate parties idle → StandsAt z o parties [] m
 stands_first {T} z o parties idle m fits object failed opens doing hold parties_are =
     record {
@@ -190,9 +190,9 @@ stands_first {T} z o parties idle m fits object failed opens doing hold parties_
 
 turned_steps :
     {T : Type 0} (z : Arithmetic T) (party : ℕ) (input known : Input T) (old new : Configuration T) (made : Event T) →
-    party < length old.parties → InputValues z input → input ≡ known → HasTurned party known old new made → Steps z old party input made new
+    party < length old.parties → InputValues z input → input ≡ known → HasTurned z party known old new made → Steps z old party input made new
 turned_steps {T} z party input known old new made within values same turned o parties past at =
-    let is : turn_at old.object turned.found (word_at old.words) input ≡ Ok turned.turn = ap (turn_at old.object turned.found (word_at old.words)) same ∙ turned.is in
+    let is : turn_at z old.object turned.found (word_at old.words) input ≡ Ok turned.turn = ap (turn_at z old.object turned.found (word_at old.words)) same ∙ turned.is in
     let both = stands_after_turn z o parties past old new party turned.found input turned.turn within turned.there values is turned.applied at in
     subst (λ (e : Event T). IsNext z o parties past party input e × StandsAt z o parties (e ∷ past) new) (sym turned.made_is) both
 
@@ -201,15 +201,15 @@ steps_headline z party input old new made steps o parties past at = headline z o
 
 refused_step :
     {T : Type 0} (z : Arithmetic T) (party : ℕ) (input known : Input T) (old : Configuration T) (fault : StepFault) →
-    party < length old.parties → input ≡ known → HasRefused party known old fault → RefusesStep z old party input fault
+    party < length old.parties → input ≡ known → HasRefused z party known old fault → RefusesStep z old party input fault
 refused_step {T} z party input known old fault within same refused o parties past at =
-    refused_there z o parties past old party refused.found input fault within refused.there (ap (turn_at old.object refused.found (word_at old.words)) same ∙ refused.is) at
+    refused_there z o parties past old party refused.found input fault within refused.there (ap (turn_at z old.object refused.found (word_at old.words)) same ∙ refused.is) at
 
 -- of what a call answers
 
 pub turns_step :
     {T : Type 0} (z : Arithmetic T) (party : ℕ) (input known : Input T) (old new : Configuration T) (result : Result (Event T) StepFault) →
-    party < length old.parties → InputValues z input → input ≡ known → IfOk result (HasTurned party known old new) → IfOk result (λ made. Steps z old party input made new)
+    party < length old.parties → InputValues z input → input ≡ known → IfOk result (HasTurned z party known old new) → IfOk result (λ made. Steps z old party input made new)
 turns_step z party input known old new (Ok made) within values same turned = turned_steps z party input known old new made within values same turned
 turns_step z party input known old new (Err fault) within values same turned = tt
 
@@ -221,7 +221,7 @@ turns_headline z party input old new (Err fault) steps = tt
 
 pub turns_fault :
     {T : Type 0} (z : Arithmetic T) (party : ℕ) (input known : Input T) (old : Configuration T) (result : Result (Event T) StepFault) →
-    party < length old.parties → input ≡ known → IfErr result (HasRefused party known old) → IfErr result (RefusesStep z old party input)
+    party < length old.parties → input ≡ known → IfErr result (HasRefused z party known old) → IfErr result (RefusesStep z old party input)
 turns_fault z party input known old (Ok made) within same refused = tt
 turns_fault z party input known old (Err fault) within same refused = refused_step z party input known old fault within same refused
 
@@ -231,11 +231,11 @@ with_party m party after = record { object = m.object; parties = slice_set m.par
 
 -- a turn for which the party was changed in place, and then what its act puts was written
 pub turned_in_place :
-    {T : Type 0} (party : ℕ) (input : Input T) (found after : Party T) (act : Act T) (outcome : Then T) (made : Event T) (old new : Configuration T) →
+    {T : Type 0} (z : Arithmetic T) (party : ℕ) (input : Input T) (found after : Party T) (act : Act T) (outcome : Then T) (made : Event T) (old new : Configuration T) →
     party < length old.parties → found ≡ get_or old.parties party found →
-    TurnsTo (turn_at old.object found (word_at old.words) input) found after (Ok (act, outcome)) →
-    made ≡ event party act outcome → HasWritten act (with_party old party after) new → HasTurned party input old new made
-turned_in_place party input found after act outcome made old new within there turned told written =
+    TurnsTo (turn_at z old.object found (word_at old.words) input) found after (Ok (act, outcome)) →
+    made ≡ event party act outcome → HasWritten act (with_party old party after) new → HasTurned z party input old new made
+turned_in_place z party input found after act outcome made old new within there turned told written =
     record {
       found = found;
       there = slice_get-get_or old.parties party found within ∙ ap Some (sym there);
@@ -247,10 +247,10 @@ turned_in_place party input found after act outcome made old new within there tu
 
 -- a fault in its place
 pub refused_in_place :
-    {T : Type 0} (party : ℕ) (input : Input T) (found after : Party T) (fault : StepFault) (old : Configuration T) →
+    {T : Type 0} (z : Arithmetic T) (party : ℕ) (input : Input T) (found after : Party T) (fault : StepFault) (old : Configuration T) →
     party < length old.parties → found ≡ get_or old.parties party found →
-    TurnsTo (turn_at old.object found (word_at old.words) input) found after (Err fault) → HasRefused party input old fault
-refused_in_place party input found after fault old within there turned =
+    TurnsTo (turn_at z old.object found (word_at old.words) input) found after (Err fault) → HasRefused z party input old fault
+refused_in_place z party input found after fault old within there turned =
     record { found = found; there = slice_get-get_or old.parties party found within ∙ ap Some (sym there); is = turned.0 }
 
 -- What the machine tells of a hold.

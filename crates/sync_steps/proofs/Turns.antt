@@ -59,7 +59,7 @@ begins_none wrap (Some p) is = absurd cc
 -- an input that may begin the call, by two tests: who holds may not lock, and who does not may not unlock
 begins_by :
     {T : Type 0} (z : Arithmetic T) (o : Object T) (call : Call T) (hold : Option HoldKind) (memory : Word → ℕ) (place : Place T) (p : place_of o) (holds lacks : Bool) → (table_of z o).begins call ≡ Some p → place_in o p ≡ place →
-    (is_locking call && is_some hold) ≡ holds → (needs_hold_at o call && is_none hold) ≡ lacks →
+    (is_locking call && is_some hold) ≡ holds → (needs_hold_at z o call && is_none hold) ≡ lacks →
     TurnsOr z o None hold memory (inputs.Begin call) (cond holds (Err faults.Holding) (cond lacks (Err faults.NoHold) (Ok (begun (record { doing = None; hold = hold }) call place))))
 begins_by z o call hold memory place p true lacks begins is locks needs = rw (begins, locks) refl
 begins_by {T} z o call hold memory place p false true begins is locks needs =
@@ -76,18 +76,18 @@ begins_by {T} z o call hold memory place p false false begins is locks needs =
 
 begin_turns :
     {T : Type 0} (z : Arithmetic T) (o : Object T) (doing : Option (Doing T)) (hold : Option HoldKind) (memory : Word → ℕ) (call : Call T) (pending : Option (PendingCall T)) → DoesCall z o doing pending →
-    TurnsOr z o pending hold memory (inputs.Begin call) (begin_turn o (record { doing = doing; hold = hold }) call)
+    TurnsOr z o pending hold memory (inputs.Begin call) (begin_turn z o (record { doing = doing; hold = hold }) call)
 begin_turns z o None hold memory call (Some c) at = absurd at
 begin_turns z o (Some doing) hold memory call None at = absurd at
 begin_turns z o (Some doing) hold memory call (Some c) at = refl
-begin_turns {T} z o None hold memory call None at = by_place (begins_at o call) (sym (begins_is z o call))
+begin_turns {T} z o None hold memory call None at = by_place (begins_at z o call) (sym (begins_is z o call))
   where
     by_place : (found : Option (Place T)) → map_place (place_in o) ((table_of z o).begins call) ≡ found →
-        TurnsOr z o None hold memory (inputs.Begin call) (begin_at o (record { doing = None; hold = hold }) call found)
+        TurnsOr z o None hold memory (inputs.Begin call) (begin_at z o (record { doing = None; hold = hold }) call found)
     by_place None is = rw (begins_none (place_in o) ((table_of z o).begins call) is) refl
     by_place (Some place) is =
         let found = begins_some (place_in o) ((table_of z o).begins call) place is in
-        begins_by z o call hold memory place found.0 (is_locking call && is_some hold) (needs_hold_at o call && is_none hold) found.1 found.2 refl refl
+        begins_by z o call hold memory place found.0 (is_locking call && is_some hold) (needs_hold_at z o call && is_none hold) found.1 found.2 refl refl
 
 -- A step.
 
@@ -131,7 +131,7 @@ leaves_by {T} z o c hold memory p number a stage is = by_after a is
 table_steps :
     {T : Type 0} (z : Arithmetic T) (o : Object T) (c : PendingCall T) (hold : Option HoldKind) (memory : Word → ℕ) (p : place_of o) → stage_of (table_of z o) c ≡ Some p → go_fault (latest_outcome c.own) ≡ None →
     Turns z o (Some c) hold memory inputs.Go
-    (turn_after o c.call hold (carried_out ((table_of z o).intent p hold) memory) (within (place_in o) ((table_of z o).after p (value_told (carried_out ((table_of z o).intent p hold) memory)))))
+    (turn_after z o c.call hold (carried_out ((table_of z o).intent p hold) memory) (within (place_in o) ((table_of z o).after p (value_told (carried_out ((table_of z o).intent p hold) memory)))))
 table_steps {T} z o c hold memory p stage free =
     let act = carried_out ((table_of z o).intent p hold) memory in
     let a = (table_of z o).after p (value_told act) in
@@ -145,14 +145,14 @@ table_steps {T} z o c hold memory p stage free =
 -- the step at the code's place
 steps_at :
     {T : Type 0} (z : Arithmetic T) (o : Object T) (doing : Doing T) (c : PendingCall T) (hold : Option HoldKind) (memory : Word → ℕ) → IsDoing z o doing c → go_fault (latest_outcome c.own) ≡ None →
-    Turns z o (Some c) hold memory inputs.Go (stepped o doing hold memory)
+    Turns z o (Some c) hold memory inputs.Go (stepped z o doing hold memory)
 steps_at {T} z o doing c hold memory at free =
     let p = at.place.0 in
     let act = carried_out ((table_of z o).intent p hold) memory in
-    let I : Intent T → Type 0 = λ i. Turns z o (Some c) hold memory inputs.Go (stepped_by o (record { call = c.call; place = place_in o p; stands = doing.stands }) hold (carried_out i memory)) in
-    let A : After T (Place T) → Type 0 = λ a. Turns z o (Some c) hold memory inputs.Go (turn_after o c.call hold act a) in
-    let D : Place T → Type 0 = λ place. Turns z o (Some c) hold memory inputs.Go (stepped o (record { call = c.call; place = place; stands = doing.stands }) hold memory) in
-    let C : Call T → Type 0 = λ call. Turns z o (Some c) hold memory inputs.Go (stepped o (record { call = call; place = doing.place; stands = doing.stands }) hold memory) in
+    let I : Intent T → Type 0 = λ i. Turns z o (Some c) hold memory inputs.Go (stepped_by z o (record { call = c.call; place = place_in o p; stands = doing.stands }) hold (carried_out i memory)) in
+    let A : After T (Place T) → Type 0 = λ a. Turns z o (Some c) hold memory inputs.Go (turn_after z o c.call hold act a) in
+    let D : Place T → Type 0 = λ place. Turns z o (Some c) hold memory inputs.Go (stepped z o (record { call = c.call; place = place; stands = doing.stands }) hold memory) in
+    let C : Call T → Type 0 = λ call. Turns z o (Some c) hold memory inputs.Go (stepped z o (record { call = call; place = doing.place; stands = doing.stands }) hold memory) in
     let by_table = subst A (sym (after_is z o p (value_told act))) (table_steps z o c hold memory p at.place.2 free) in
     subst C (sym at.call_is) (subst D at.place.1 (subst I (sym (intent_is z o p hold)) by_table))
 
@@ -165,14 +165,14 @@ goes_by (thens.Answers answer) = inr (refl, refl)
 
 go_turns :
     {T : Type 0} (z : Arithmetic T) (o : Object T) (doing : Option (Doing T)) (hold : Option HoldKind) (memory : Word → ℕ) (pending : Option (PendingCall T)) → DoesCall z o doing pending →
-    TurnsOr z o pending hold memory inputs.Go (go_at o doing hold memory)
+    TurnsOr z o pending hold memory inputs.Go (go_at z o doing hold memory)
 go_turns z o None hold memory (Some c) at = absurd at
 go_turns z o (Some doing) hold memory None at = absurd at
 go_turns z o None hold memory None at = refl
 go_turns {T} z o (Some doing) hold memory (Some c) at = by_outcome (goes_by (latest_outcome c.own))
   where
     by_outcome : ((is_some (closure_of (latest_outcome c.own)) ≡ true) × (go_fault (latest_outcome c.own) ≡ Some faults.WaitingForAnswer)) ⊎ ((is_some (closure_of (latest_outcome c.own)) ≡ false) × (go_fault (latest_outcome c.own) ≡ None)) →
-        TurnsOr z o (Some c) hold memory inputs.Go (cond (is_some doing.stands) (Err faults.WaitingForAnswer) (Ok (stepped o doing hold memory)))
+        TurnsOr z o (Some c) hold memory inputs.Go (cond (is_some doing.stands) (Err faults.WaitingForAnswer) (Ok (stepped z o doing hold memory)))
     by_outcome (inl stands) = let is : is_some doing.stands ≡ true = ap is_some at.stands_is ∙ stands.0 in rw is stands.1
     by_outcome (inr free) = let is : is_some doing.stands ≡ false = ap is_some at.stands_is ∙ free.0 in rw is (steps_at z o doing c hold memory at free.1)
 
@@ -201,23 +201,23 @@ chooses_by (thens.Answers answer) = inr (refl, refl)
 
 answer_turns :
     {T : Type 0} (z : Arithmetic T) (o : Object T) (doing : Option (Doing T)) (hold : Option HoldKind) (memory : Word → ℕ) (action : WaitAction) (pending : Option (PendingCall T)) → DoesCall z o doing pending →
-    TurnsOr z o pending hold memory (inputs.Answer action) (answer_at doing hold action)
+    TurnsOr z o pending hold memory (inputs.Answer action) (answer_at z doing hold action)
 answer_turns z o None hold memory action (Some c) at = absurd at
 answer_turns z o (Some doing) hold memory action None at = absurd at
 answer_turns z o None hold memory action None at = refl
 answer_turns {T} z o (Some doing) hold memory action (Some c) at = by_outcome (answers_by (latest_outcome c.own))
   where
     made : Turn T
-    made = told_answer (acts.Answered action) doing hold (answered_at doing.place action)
+    made = told_answer (acts.Answered action) doing hold (answered_at z doing.place action)
 
     p : place_of o
     p = at.place.0
 
-    does : (number : ℕ) → IsDoing z o (record { call = doing.call; place = answered_at doing.place action; stands = None }) (record { call = c.call; own = event number (acts.Answered action) thens.GoesOn ∷ c.own })
+    does : (number : ℕ) → IsDoing z o (record { call = doing.call; place = answered_at z doing.place action; stands = None }) (record { call = c.call; own = event number (acts.Answered action) thens.GoesOn ∷ c.own })
     does number =
-        let is = at_place_of z o doing c (λ k. answered_at k action) p ((table_of z o).answered p action) at.place.1 (answered_is z o p action) in
-        subst (λ (call : Call T). IsDoing z o (record { call = call; place = answered_at doing.place action; stands = None }) (record { call = c.call; own = event number (acts.Answered action) thens.GoesOn ∷ c.own })) (sym at.call_is)
-        (leaves_at z o c (acts.Answered action) p ((table_of z o).answered p action) (answered_at doing.place action) is at.place.2 refl number)
+        let is = at_place_of z o doing c (λ k. answered_at z k action) p ((table_of z o).answered p action) at.place.1 (answered_is z o p action) in
+        subst (λ (call : Call T). IsDoing z o (record { call = call; place = answered_at z doing.place action; stands = None }) (record { call = c.call; own = event number (acts.Answered action) thens.GoesOn ∷ c.own })) (sym at.call_is)
+        (leaves_at z o c (acts.Answered action) p ((table_of z o).answered p action) (answered_at z doing.place action) is at.place.2 refl number)
 
     by_outcome : ((is_at_wait (closure_of (latest_outcome c.own)) ≡ true) × (answer_fault (latest_outcome c.own) ≡ None)) ⊎ ((is_at_wait (closure_of (latest_outcome c.own)) ≡ false) × (answer_fault (latest_outcome c.own) ≡ Some faults.NotWaiting)) →
         TurnsOr z o (Some c) hold memory (inputs.Answer action) (cond (is_at_wait doing.stands) (Ok made) (Err faults.NotWaiting))
@@ -228,23 +228,23 @@ answer_turns {T} z o (Some doing) hold memory action (Some c) at = by_outcome (a
 
 choose_turns :
     {T : Type 0} (z : Arithmetic T) (o : Object T) (doing : Option (Doing T)) (hold : Option HoldKind) (memory : Word → ℕ) (choice : Option T) (pending : Option (PendingCall T)) → DoesCall z o doing pending →
-    TurnsOr z o pending hold memory (inputs.Choose choice) (choose_at doing hold choice)
+    TurnsOr z o pending hold memory (inputs.Choose choice) (choose_at z doing hold choice)
 choose_turns z o None hold memory choice (Some c) at = absurd at
 choose_turns z o (Some doing) hold memory choice None at = absurd at
 choose_turns z o None hold memory choice None at = refl
 choose_turns {T} z o (Some doing) hold memory choice (Some c) at = by_outcome (chooses_by (latest_outcome c.own))
   where
     made : Turn T
-    made = told_answer (acts.Chosen choice) doing hold (chosen_at doing.place choice)
+    made = told_answer (acts.Chosen choice) doing hold (chosen_at z doing.place choice)
 
     p : place_of o
     p = at.place.0
 
-    does : (number : ℕ) → IsDoing z o (record { call = doing.call; place = chosen_at doing.place choice; stands = None }) (record { call = c.call; own = event number (acts.Chosen choice) thens.GoesOn ∷ c.own })
+    does : (number : ℕ) → IsDoing z o (record { call = doing.call; place = chosen_at z doing.place choice; stands = None }) (record { call = c.call; own = event number (acts.Chosen choice) thens.GoesOn ∷ c.own })
     does number =
-        let is = at_place_of z o doing c (λ k. chosen_at k choice) p ((table_of z o).chosen p choice) at.place.1 (chosen_is z o p choice) in
-        subst (λ (call : Call T). IsDoing z o (record { call = call; place = chosen_at doing.place choice; stands = None }) (record { call = c.call; own = event number (acts.Chosen choice) thens.GoesOn ∷ c.own })) (sym at.call_is)
-        (leaves_at z o c (acts.Chosen choice) p ((table_of z o).chosen p choice) (chosen_at doing.place choice) is at.place.2 refl number)
+        let is = at_place_of z o doing c (λ k. chosen_at z k choice) p ((table_of z o).chosen p choice) at.place.1 (chosen_is z o p choice) in
+        subst (λ (call : Call T). IsDoing z o (record { call = call; place = chosen_at z doing.place choice; stands = None }) (record { call = c.call; own = event number (acts.Chosen choice) thens.GoesOn ∷ c.own })) (sym at.call_is)
+        (leaves_at z o c (acts.Chosen choice) p ((table_of z o).chosen p choice) (chosen_at z doing.place choice) is at.place.2 refl number)
 
     by_outcome : ((is_at_choice (closure_of (latest_outcome c.own)) ≡ true) × (choose_fault (latest_outcome c.own) ≡ None)) ⊎ ((is_at_choice (closure_of (latest_outcome c.own)) ≡ false) × (choose_fault (latest_outcome c.own) ≡ Some faults.NotWaiting)) →
         TurnsOr z o (Some c) hold memory (inputs.Choose choice) (cond (is_at_choice doing.stands) (Ok made) (Err faults.NotWaiting))
@@ -256,11 +256,11 @@ choose_turns {T} z o (Some doing) hold memory choice (Some c) at = by_outcome (c
 -- Whatever the input.
 pub turns_at :
     {T : Type 0} (z : Arithmetic T) (o : Object T) (party : Party T) (memory : Word → ℕ) (input : Input T) (pending : Option (PendingCall T)) (hold : Option HoldKind) → IsParty z o party pending hold →
-    TurnsOr z o pending hold memory input (turn_at o party memory input)
+    TurnsOr z o pending hold memory input (turn_at z o party memory input)
 turns_at {T} z o party memory input pending hold at =
-    subst (λ h. TurnsOr z o pending h memory input (turn_at o party memory input)) at.hold_is (by_input input)
+    subst (λ h. TurnsOr z o pending h memory input (turn_at z o party memory input)) at.hold_is (by_input input)
   where
-    by_input : (i : Input T) → TurnsOr z o pending party.hold memory i (turn_at o party memory i)
+    by_input : (i : Input T) → TurnsOr z o pending party.hold memory i (turn_at z o party memory i)
     by_input (inputs.Begin call) = begin_turns z o party.doing party.hold memory call pending at.doing
     by_input inputs.Go = go_turns z o party.doing party.hold memory pending at.doing
     by_input (inputs.Answer action) = answer_turns z o party.doing party.hold memory action pending at.doing

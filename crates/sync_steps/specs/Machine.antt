@@ -22,6 +22,8 @@ use Rattle.sync_steps.specs.Machine.Places.{IsParty}
 pub mod Places
 pub mod Turns
 pub mod Applies
+pub mod Spins
+pub mod Strides
 
 -- an object and its parties at a moment
 pub record Configuration (T : Type 0) : Type 0 where
@@ -47,6 +49,10 @@ pub record StandsAt {T : Type 0} (z : Arithmetic T) (o : Object T) (parties : �
 -- What is promised of every run that stands at a machine.
 abbrev pub ForRunAt : {T : Type 0} → Arithmetic T → Configuration T → (Object T → ℕ → List (Event T) → Type 0) → Type 0
 ForRunAt {T} z m P = (o : Object T) (parties : ℕ) (past : List (Event T)) → StandsAt z o parties past m → P o parties past
+
+-- the object is the run's
+abbrev pub TellsObject : {T : Type 0} → Arithmetic T → Configuration T → Object T → Type 0
+TellsObject z m object = ForRunAt z m (λ o parties past. object ≡ o)
 
 -- the value is what the run's memory tells of the word
 abbrev pub Tells : {T : Type 0} → Arithmetic T → Configuration T → Word → ℕ → Type 0

@@ -4,8 +4,8 @@ use Rattle.steps_events.specs.declared.event.Object.{Object}
 use Rattle.steps_events.specs.declared.event.Object.TheVariants as objects
 use Rattle.steps_events.specs.declared.event.Word.{Word}
 use Rattle.steps_events.specs.declared.event.Word.TheVariants as words
-use Rattle.steps_events.specs.Arithmetic.{Arithmetic, IsValue}
-use Rattle.steps_events.specs.Tables.{Table, no_calls}
+use Rattle.steps_events.specs.Arithmetic.{Arithmetic, IsValue, IsClosed}
+use Rattle.steps_events.specs.Tables.{Table}
 use Rattle.steps_mutex.specs.declared.MutexPlace.{MutexPlace}
 use Rattle.steps_mutex.specs.Table.{mutex_table}
 use Rattle.steps_spin.specs.declared.SpinPlace.{SpinPlace}
@@ -24,19 +24,8 @@ use Rattle.steps_once.specs.declared.OncePlace.{OncePlace}
 use Rattle.steps_once.specs.Table.{once_table}
 use Rattle.steps_lazy.specs.declared.LazyPlace.{LazyPlace}
 use Rattle.steps_lazy.specs.Table.{lazy_table}
-
--- the objects that a machine serves; the others have no places and no calls yet
-abbrev pub is_served : {T : Type 0} → Object T → Bool
-is_served objects.Mutex = true
-is_served objects.Spin = true
-is_served (objects.Semaphore initial) = true
-is_served (objects.Barrier n) = true
-is_served objects.ReaderLock = true
-is_served objects.WriterLock = true
-is_served objects.Condvar = true
-is_served objects.Once = true
-is_served (objects.Lazy v) = true
-is_served (objects.Atomic v) = false
+use Rattle.steps_atomic.specs.declared.AtomicPlace.{AtomicPlace}
+use Rattle.steps_atomic.specs.Table.{atomic_table}
 
 abbrev pub place_of : {T : Type 0} → Object T → Type 0
 place_of objects.Mutex = MutexPlace
@@ -48,7 +37,7 @@ place_of objects.WriterLock = RwWriterPlace
 place_of objects.Condvar = CondvarPlace
 place_of objects.Once = OncePlace
 place_of (objects.Lazy v) = LazyPlace
-place_of (objects.Atomic v) = ⊥
+place_of {T} (objects.Atomic v) = AtomicPlace T
 
 abbrev pub table_of : {T : Type 0} → Arithmetic T → (o : Object T) → Table T (place_of o)
 table_of z objects.Mutex = mutex_table
@@ -60,9 +49,9 @@ table_of z objects.WriterLock = rw_writer_table
 table_of z objects.Condvar = condvar_table
 table_of z objects.Once = once_table
 table_of z (objects.Lazy v) = lazy_table v
-table_of z (objects.Atomic v) = no_calls
+table_of z (objects.Atomic v) = atomic_table z v
 
--- what an object is opened with is a value of its type
+-- what an object is opened with is a value of its type; an atomic's type computes with its values, as every `AtomicInteger` does
 abbrev pub IsObject : {T : Type 0} → Arithmetic T → Object T → Type 0
 IsObject z objects.Mutex = Unit {0}
 IsObject z objects.Spin = Unit {0}
@@ -73,7 +62,7 @@ IsObject z objects.WriterLock = Unit {0}
 IsObject z objects.Condvar = Unit {0}
 IsObject z objects.Once = Unit {0}
 IsObject z (objects.Lazy v) = IsValue z v
-IsObject z (objects.Atomic v) = IsValue z v
+IsObject z (objects.Atomic v) = IsValue z v × IsClosed z
 
 -- a mutex, a spin lock, a semaphore, a barrier, a once and a lazy value have one word; the others have more, or another
 abbrev pub has_word : {T : Type 0} → Object T → Word → Bool

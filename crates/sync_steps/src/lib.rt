@@ -2,7 +2,5 @@
 #![tactic(auto)]
 
 pub mod steps;
-#[cfg(test)]
-mod tests;
 
 pub use steps_events::{SPIN_REPETITIONS, WaitAction, atomic};

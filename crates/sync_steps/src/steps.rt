@@ -12,11 +12,12 @@ mod playing;
 pub mod rw_reader;
 pub mod rw_writer;
 pub mod semaphore;
+mod spins;
 mod turn;
 
 pub use fault::PlayFault;
 pub use headline::at_every_front;
-pub use machine::Machine;
+pub use machine::{Machine, Stride};
 pub use playing::play;
 pub use steps_events::event::{
     Act, Answer, Call, Event, Input, Object, StepFault, Then, Wake, Word,

@@ -1,3 +1,4 @@
+pub mod QuietLaws
 pub mod CellLaws
 pub mod RowLaws
 pub mod TraceLaws

@@ -1,12 +1,14 @@
 -- Rows, one more at a time.
-use Rattle.std.proofs.Common.{◌≡◌, ℕ, ◌+◌, ◌<◌, true, false, refl, sym, ◌∙◌, ap, List, [], ◌∷◌, ◌++◌, length, take, get_or, append_assoc}
+use Rattle.std.proofs.Common.{◌≡◌, ℕ, zero, suc, ◌+◌, ◌-◌, ◌^◌, ◌<◌, min, Bool, true, false, refl, sym, ◌∙◌, ap, List, [], ◌∷◌, ◌++◌, length, take, get_or, append_assoc, arith}
 use Rattle.std.proofs.lemmas.List.{take_more, map-append, append-nil}
 use Rattle.std.proofs.lemmas.List.Concat.{flat_map-append}
+use Rattle.std.proofs.lemmas.Slice.Eq.{bytes_eq-Decides}
+use Rattle.std.specs.Str.{bytes_eq}
 use Rattle.sync_trace.specs.declared.rows.Row.{Row}
 use Rattle.sync_trace.specs.declared.table.Line.{Line}
 use Rattle.sync_trace.specs.declared.table.Widths.{Widths}
 use Rattle.sync_trace.specs.Cells.{Texts, texts_of}
-use Rattle.sync_trace.specs.Rows.{Entry, entry_of, entries, read_same, number_after, alone, longer, joined, added}
+use Rattle.sync_trace.specs.Rows.{Entry, entry_of, entries, read_same, number_after, alone, longer, joined, added, added_often}
 use Rattle.sync_trace.specs.Table.{cell, columns_of, head, line_text, widened, widened_by, widths_of, row_line, row_lines, table}
 
 -- The next step.
@@ -19,18 +21,64 @@ added_at_end cells (d ∷ next ∷ done) row = ap (λ (rows : List Entry). d ∷
 entries_end : (rows mid : List Row) (last : Row) → rows ≡ mid ++ last ∷ [] → entries rows ≡ entries mid ++ entry_of last ∷ []
 entries_end rows mid last is = ap entries is ∙ map-append entry_of mid (last ∷ [])
 
-pub added_to_last : (cells : Texts) (old mid new : List Row) (last row : Row) → old ≡ mid ++ last ∷ [] → true ≡ read_same (texts_of last.cells) cells → new ≡ mid ++ row ∷ [] → entry_of row ≡ longer (entry_of last) cells →
-    entries new ≡ added cells (entries old)
-added_to_last cells old mid new last row was same is made =
-    entries_end new mid row is ∙ ap (λ (x : Entry). entries mid ++ x ∷ []) made
-    ∙ sym (ap (added cells) (entries_end old mid last was) ∙ added_at_end cells (entries mid) (entry_of last) ∙ ap (λ b. entries mid ++ joined b (entry_of last) cells) (sym same))
+-- a text is itself
+same_bytes : (bytes : List ℕ) → bytes_eq bytes bytes ≡ true
+same_bytes bytes = (bytes_eq-Decides bytes bytes).1 refl
 
-pub added_alone : (cells : Texts) (old mid then_last new : List Row) (last row : Row) → old ≡ mid ++ last ∷ [] → false ≡ read_same (texts_of last.cells) cells → then_last ≡ mid ++ last ∷ [] → new ≡ then_last ++ row ∷ [] →
-    entry_of row ≡ alone (number_after last.last) cells → entries new ≡ added cells (entries old)
-added_alone cells old mid then_last new last row was same between is made =
+reads_itself : (cells : Texts) → read_same cells cells ≡ true
+reads_itself cells = rw (same_bytes cells.line, same_bytes cells.party, same_bytes cells.act, same_bytes cells.words, same_bytes cells.holds, same_bytes cells.call) refl
+
+-- a row with so many more steps
+abbrev lengthened : ℕ → Entry → Texts → Entry
+lengthened n row cells = record { first = row.first; last = min (row.last + n) (2 ^ 64 - 1); cells = cells }
+
+often_joined : (n : ℕ) (cells : Texts) (done : List Entry) (row : Entry) → read_same row.cells cells ≡ true → added_often (suc n) cells (done ++ row ∷ []) ≡ done ++ lengthened (suc n) row cells ∷ []
+often_joined zero cells done row same = added_at_end cells done row ∙ ap (λ (b : Bool). done ++ joined b row cells) same
+often_joined (suc n) cells done row same =
+    let counts : min (min (row.last + 1) (2 ^ 64 - 1) + suc n) (2 ^ 64 - 1) ≡ min (row.last + suc (suc n)) (2 ^ 64 - 1) = omega arith in
+    ap (added_often (suc n) cells) (added_at_end cells done row ∙ ap (λ (b : Bool). done ++ joined b row cells) same)
+    ∙ often_joined n cells done (longer row cells) (reads_itself cells)
+    ∙ ap (λ (last : ℕ). done ++ record { first = row.first; last = last; cells = cells } ∷ []) counts
+
+-- a row of so many steps, after this number
+abbrev apart : ℕ → ℕ → Texts → Entry
+apart n number cells = record { first = min (number + 1) (2 ^ 64 - 1); last = min (number + n) (2 ^ 64 - 1); cells = cells }
+
+often_apart : (n : ℕ) (cells : Texts) (done : List Entry) (row : Entry) → read_same row.cells cells ≡ false → added_often (suc n) cells (done ++ row ∷ []) ≡ (done ++ row ∷ []) ++ apart (suc n) row.last cells ∷ []
+often_apart zero cells done row other = added_at_end cells done row ∙ ap (λ (b : Bool). done ++ joined b row cells) other ∙ sym (append_assoc done (row ∷ []) (apart 1 row.last cells ∷ []))
+often_apart (suc n) cells done row other =
+    let counts : min (min (row.last + 1) (2 ^ 64 - 1) + suc n) (2 ^ 64 - 1) ≡ min (row.last + suc (suc n)) (2 ^ 64 - 1) = omega arith in
+    ap (added_often (suc n) cells) (added_at_end cells done row ∙ ap (λ (b : Bool). done ++ joined b row cells) other ∙ sym (append_assoc done (row ∷ []) (alone (number_after row.last) cells ∷ [])))
+    ∙ often_joined n cells (done ++ row ∷ []) (alone (number_after row.last) cells) (reads_itself cells)
+    ∙ ap (λ (last : ℕ). (done ++ row ∷ []) ++ record { first = min (row.last + 1) (2 ^ 64 - 1); last = last; cells = cells } ∷ []) counts
+
+often_alone : (n : ℕ) (cells : Texts) → suc n < 2 ^ 64 → added_often (suc n) cells [] ≡ record { first = 1; last = suc n; cells = cells } ∷ []
+often_alone zero cells small = refl
+often_alone (suc n) cells small =
+    let counts : min (1 + suc n) (2 ^ 64 - 1) ≡ suc (suc n) = omega (arith, small) in
+    often_joined n cells [] (alone 1 cells) (reads_itself cells) ∙ ap (λ (last : ℕ). record { first = 1; last = last; cells = cells } ∷ []) counts
+
+pub added_first : (times : ℕ) (cells : Texts) (old mid new : List Row) (row : Row) → 0 < times → times < 2 ^ 64 → old ≡ [] → mid ≡ [] → new ≡ mid ++ row ∷ [] → entry_of row ≡ record { first = 1; last = times; cells = cells } →
+    entries new ≡ added_often times cells (entries old)
+added_first zero cells old mid new row some small none empty is made = absurd (omega (arith, some))
+added_first (suc n) cells old mid new row some small none empty is made =
+    entries_end new mid row is ∙ ap (λ (l : List Row). entries l ++ entry_of row ∷ []) empty ∙ ap (λ (x : Entry). x ∷ []) made
+    ∙ sym (ap (λ (l : List Row). added_often (suc n) cells (entries l)) none ∙ often_alone n cells small)
+
+pub added_to_last : (times : ℕ) (cells : Texts) (old mid new : List Row) (last row : Row) → 0 < times → old ≡ mid ++ last ∷ [] → true ≡ read_same (texts_of last.cells) cells → new ≡ mid ++ row ∷ [] → entry_of row ≡ lengthened times (entry_of last) cells →
+    entries new ≡ added_often times cells (entries old)
+added_to_last zero cells old mid new last row some was same is made = absurd (omega (arith, some))
+added_to_last (suc n) cells old mid new last row some was same is made =
+    entries_end new mid row is ∙ ap (λ (x : Entry). entries mid ++ x ∷ []) made
+    ∙ sym (ap (added_often (suc n) cells) (entries_end old mid last was) ∙ often_joined n cells (entries mid) (entry_of last) (sym same))
+
+pub added_alone : (times : ℕ) (cells : Texts) (old mid then_last new : List Row) (last row : Row) → 0 < times → old ≡ mid ++ last ∷ [] → false ≡ read_same (texts_of last.cells) cells → then_last ≡ mid ++ last ∷ [] → new ≡ then_last ++ row ∷ [] →
+    entry_of row ≡ apart times last.last cells → entries new ≡ added_often times cells (entries old)
+added_alone zero cells old mid then_last new last row some was same between is made = absurd (omega (arith, some))
+added_alone (suc n) cells old mid then_last new last row some was same between is made =
     entries_end new then_last row is ∙ ap (λ (front : List Entry). front ++ entry_of row ∷ []) (entries_end then_last mid last between)
-    ∙ append_assoc (entries mid) (entry_of last ∷ []) (entry_of row ∷ []) ∙ ap (λ (x : Entry). entries mid ++ entry_of last ∷ x ∷ []) made
-    ∙ sym (ap (added cells) (entries_end old mid last was) ∙ added_at_end cells (entries mid) (entry_of last) ∙ ap (λ b. entries mid ++ joined b (entry_of last) cells) (sym same))
+    ∙ ap (λ (x : Entry). (entries mid ++ entry_of last ∷ []) ++ x ∷ []) made
+    ∙ sym (ap (added_often (suc n) cells) (entries_end old mid last was) ∙ often_apart n cells (entries mid) (entry_of last) (sym same))
 
 -- One more row of a list.
 

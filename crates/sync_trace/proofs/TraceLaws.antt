@@ -1,21 +1,28 @@
 -- The rows of a walk, one more step at a time.
-use Rattle.std.proofs.Common.{◌≡◌, ℕ, refl, sym, ◌∙◌, ap, subst, List, [], ◌∷◌, Option, Some, None, Result, Ok, Err}
+use Rattle.std.proofs.Common.{◌≡◌, ℕ, zero, suc, ◌<◌, true, IfSome, arith, ◌++◌, refl, sym, ◌∙◌, ap, subst, List, [], ◌∷◌, Option, Some, None, Result, Ok, Err}
+use Rattle.std.specs.Prelude.{replicate}
 use Rattle.steps_events.specs.declared.event.Event.{Event}
+use Rattle.steps_events.specs.declared.event.Object.{Object}
 use Rattle.steps_events.specs.Integers.{u64_arithmetic}
 use Rattle.steps_events.specs.Runs.{after}
 use Rattle.sync_steps.specs.Machine.{Configuration, StandsAt}
+use Rattle.sync_steps.specs.Machine.Strides.{is_quiet, IsQuiet}
 use Rattle.sync_play.specs.declared.header.Header.{Header}
 use Rattle.sync_play.specs.Lexer.{lines_of}
-use Rattle.sync_walk.specs.declared.walk.FaultyLine.{FaultyLine}
-use Rattle.sync_walk.specs.declared.walk.Rest.{Rest}
-use Rattle.sync_walk.specs.declared.walk.Step.{Step}
-use Rattle.sync_walk.specs.Law.{events_in}
-use Rattle.sync_walk.specs.Walk.{Walk, nothing, go_walk, lines_walk, opened, rest_walk, IsNextStep}
+use Rattle.sync_play.specs.declared.fault.FaultyLine.{FaultyLine}
+use Rattle.sync_play.specs.declared.walk.Rest.{Rest}
+use Rattle.sync_play.specs.declared.walk.Step.{Step}
+use Rattle.sync_play.specs.declared.walk.Stride.{Stride}
+use Rattle.sync_play.specs.WalkOutput.{events_in}
+use Rattle.sync_play.specs.Walk.{Walk, steps_then, nothing, go_walk, lines_walk, opened, rest_walk, after_times, IsNextStride}
+use Rattle.sync_play.proofs.PlayLaws.{events_then, fault_then}
+use Rattle.sync_play.proofs.TextLaws.{after_both}
 use Rattle.sync_trace.specs.declared.rows.Row.{Row}
 use Rattle.sync_trace.specs.Cells.{Texts, cells_at}
-use Rattle.sync_trace.specs.Rows.{Entry, entries, added}
+use Rattle.sync_trace.specs.Rows.{Entry, entries, added, added_often}
 use Rattle.sync_trace.specs.declared.trace.Rows.{Rows}
 use Rattle.sync_trace.specs.Table.{table}
+use Rattle.sync_trace.proofs.QuietLaws.{cells_again, cells_after}
 use Rattle.sync_trace.specs.Trace.{rows_with, HasAdded, RowsAndFault, rows_of_walk, rows_of_opened, rows_of, AreRowsOf, HasPlayed, Written, trace_of}
 
 abbrev Ev : Type 0
@@ -32,46 +39,73 @@ pub record IsHalfway (header : Header) (past : List Ev) (first rest : Rest) (old
 pub begins : (header : Header) (past : List Ev) (rest : Rest) (rows : List Row) (machine : Configuration ℕ) → StandsAt u64_arithmetic header.object header.parties past machine → IsHalfway header past rest rest rows rows machine
 begins header past rest rows machine stands = record { here = past; stands = stands; rows = refl; fault = refl; events = refl }
 
--- a step, whatever run stands at the machine
-abbrev Steps : Header → Rest → Rest → Configuration ℕ → Configuration ℕ → Result (Option Step) FaultyLine → Type 0
-Steps header old new machine machine' told =
-    (parties : ℕ) (past : List Ev) → StandsAt u64_arithmetic header.object parties past machine → IsNextStep header.object parties past old new machine' told
+-- a stride, whatever run stands at the machine
+abbrev Strides : Rest → Rest → Configuration ℕ → Configuration ℕ → Result (Option Stride) FaultyLine → Type 0
+Strides old new machine machine' told = (o : Object ℕ) (parties : ℕ) (past : List Ev) → StandsAt u64_arithmetic o parties past machine → IsNextStride o parties past old new machine' told
 
-pub goes_on : (header : Header) (past : List Ev) (first rest rest' : Rest) (old rows rows' : List Row) (machine machine' : Configuration ℕ) (told : Option Step) (step : Step) (cells : Texts) → told ≡ Some step →
-    IsHalfway header past first rest old rows machine → Steps header rest rest' machine machine' (Ok told) →
-    ((here : List Ev) → StandsAt u64_arithmetic header.object header.parties here machine' → cells ≡ cells_at header here step) → entries rows' ≡ added cells (entries rows) →
+-- equal steps of which each reads as the first, and then others
+rows_along : (header : Header) (step : Step) (n : ℕ) (past : List Ev) (steps : List Step) (cells : Texts) (rows : List Entry) → (1 < n → is_quiet step.event.act ≡ true) → (0 < n → cells_at header (step.event ∷ past) step ≡ cells) →
+    rows_with header past (replicate n step ++ steps) rows ≡ rows_with header (after_times n step.event past) steps (added_often n cells rows)
+rows_along header step zero past steps cells rows quiet reads = refl
+rows_along header step (suc zero) past steps cells rows quiet reads =
+    ap (λ (t : Texts). rows_with header (step.event ∷ past) steps (added t rows)) (reads (omega arith))
+rows_along header step (suc (suc n)) past steps cells rows quiet reads =
+    let still : is_quiet step.event.act ≡ true = quiet (omega arith) in
+    let first = reads (omega arith) in
+    ap (λ (t : Texts). rows_with header (step.event ∷ past) (replicate (suc n) step ++ steps) (added t rows)) first
+    ∙ rows_along header step (suc n) (step.event ∷ past) steps cells (added cells rows) (λ more. still) (λ some. cells_again header step past still ∙ first)
+
+steps_in : (n : ℕ) (step : Step) (walk : Walk) → (steps_then (replicate n step) walk).steps ≡ replicate n step ++ walk.steps
+steps_in zero step walk = refl
+steps_in (suc n) step walk = ap (λ (l : List Step). step ∷ l) (steps_in n step walk)
+
+-- what the last of so many reads, each of them reads
+reads_first : (header : Header) (step : Step) (n : ℕ) (past : List Ev) (cells : Texts) → (1 < n → is_quiet step.event.act ≡ true) → cells ≡ cells_at header (after_times n step.event past) step → 0 < n → cells_at header (step.event ∷ past) step ≡ cells
+reads_first header step zero past cells quiet reads some = absurd (omega (arith, some))
+reads_first header step (suc zero) past cells quiet reads some = sym reads
+reads_first header step (suc (suc n)) past cells quiet reads some = sym (reads ∙ cells_after header step (suc n) past (quiet (omega arith)))
+
+pub goes_on : (header : Header) (past : List Ev) (first rest rest' : Rest) (old rows rows' : List Row) (machine machine' : Configuration ℕ) (told : Option Stride) (stride : Stride) (cells : Texts) → told ≡ Some stride →
+    IsHalfway header past first rest old rows machine → Strides rest rest' machine machine' (Ok told) → IfSome told (λ s. 1 < s.times → IsQuiet s.step.event) →
+    ((here : List Ev) → StandsAt u64_arithmetic header.object header.parties here machine' → cells ≡ cells_at header here stride.step) → entries rows' ≡ added_often stride.times cells (entries rows) →
     IsHalfway header past first rest' old rows' machine'
-goes_on header past first rest rest' old rows rows' machine machine' told step cells some h steps reads is =
-    let next = subst (λ (x : Option Step). IsNextStep header.object header.parties h.here rest rest' machine' (Ok x)) some (steps header.parties h.here h.stands) in
-    let there = step.event ∷ h.here in
+goes_on header past first rest rest' old rows rows' machine machine' told stride cells some h strides leaves reads is =
+    let next = subst (λ (x : Option Stride). IsNextStride header.object header.parties h.here rest rest' machine' (Ok x)) some (strides header.object header.parties h.here h.stands) in
+    let quiet = subst (λ (x : Option Stride). IfSome x (λ s. 1 < s.times → IsQuiet s.step.event)) some leaves in
+    let step = stride.step in
+    let e = step.event in
+    let n = stride.times in
+    let there = after_times n e h.here in
     let walk : Walk = rest_walk header.object header.parties there rest' in
-    let text : cells_at header there step ≡ cells = sym (reads there next.1) in
+    let still : 1 < n → is_quiet e.act ≡ true = λ more. (quiet more).act in
+    let events : events_in (rest_walk header.object header.parties h.here rest).steps ≡ replicate n e ++ events_in walk.steps = ap (λ (w : Walk). events_in w.steps) next.0 ∙ events_then n step walk in
     record {
       here = there;
       stands = next.1;
-      rows = h.rows ∙ ap (λ (w : Walk). rows_with header h.here w.steps (entries rows)) next.0
-          ∙ ap (λ (t : Texts). rows_with header there walk.steps (added t (entries rows))) text ∙ ap (λ (l : List Entry). rows_with header there walk.steps l) (sym is);
-      fault = h.fault ∙ ap (λ (w : Walk). w.fault) next.0;
-      events = h.events ∙ ap (λ (w : Walk). after (events_in w.steps) h.here) next.0;
+      rows = h.rows ∙ ap (λ (w : Walk). rows_with header h.here w.steps (entries rows)) next.0 ∙ ap (λ (l : List Step). rows_with header h.here l (entries rows)) (steps_in n step walk)
+          ∙ rows_along header step n h.here walk.steps cells (entries rows) still (reads_first header step n h.here cells still (reads there next.1))
+          ∙ ap (λ (l : List Entry). rows_with header there walk.steps l) (sym is);
+      fault = h.fault ∙ ap (λ (w : Walk). w.fault) next.0 ∙ fault_then n step walk;
+      events = h.events ∙ ap (λ (l : List Ev). after l h.here) events ∙ after_both (replicate n e) (events_in walk.steps) h.here;
     }
 
-pub ends : (header : Header) (past : List Ev) (first rest rest' : Rest) (old rows : List Row) (machine machine' : Configuration ℕ) (told : Option Step) → told ≡ None → IsHalfway header past first rest old rows machine →
-    Steps header rest rest' machine machine' (Ok told) → HasAdded header past (rest_walk header.object header.parties past first) old rows None
-ends header past first rest rest' old rows machine machine' told none h steps =
-    let next = subst (λ (x : Option Step). IsNextStep header.object header.parties h.here rest rest' machine' (Ok x)) none (steps header.parties h.here h.stands) in
+pub ends : (header : Header) (past : List Ev) (first rest rest' : Rest) (old rows : List Row) (machine machine' : Configuration ℕ) (told : Option Stride) → told ≡ None → IsHalfway header past first rest old rows machine →
+    Strides rest rest' machine machine' (Ok told) → HasAdded header past (rest_walk header.object header.parties past first) old rows None
+ends header past first rest rest' old rows machine machine' told none h strides =
+    let next = subst (λ (x : Option Stride). IsNextStride header.object header.parties h.here rest rest' machine' (Ok x)) none (strides header.object header.parties h.here h.stands) in
     (sym (h.rows ∙ ap (λ (w : Walk). rows_with header h.here w.steps (entries rows)) next.0), sym (h.fault ∙ ap (λ (w : Walk). w.fault) next.0))
 
-pub ends_so : (header : Header) (past : List Ev) (first rest rest' : Rest) (old rows : List Row) (machine machine' : Configuration ℕ) (told : Option Step) → told ≡ None → IsHalfway header past first rest old rows machine →
-    Steps header rest rest' machine machine' (Ok told) → HasPlayed header past (rest_walk header.object header.parties past first) machine' None
-ends_so header past first rest rest' old rows machine machine' told none h steps =
-    let next = subst (λ (x : Option Step). IsNextStep header.object header.parties h.here rest rest' machine' (Ok x)) none (steps header.parties h.here h.stands) in
+pub ends_so : (header : Header) (past : List Ev) (first rest rest' : Rest) (old rows : List Row) (machine machine' : Configuration ℕ) (told : Option Stride) → told ≡ None → IsHalfway header past first rest old rows machine →
+    Strides rest rest' machine machine' (Ok told) → HasPlayed header past (rest_walk header.object header.parties past first) machine' None
+ends_so header past first rest rest' old rows machine machine' told none h strides =
+    let next = subst (λ (x : Option Stride). IsNextStride header.object header.parties h.here rest rest' machine' (Ok x)) none (strides header.object header.parties h.here h.stands) in
     let here : after (events_in (rest_walk header.object header.parties past first).steps) past ≡ h.here = h.events ∙ ap (λ (w : Walk). after (events_in w.steps) h.here) next.0 in
     subst (λ (l : List Ev). StandsAt u64_arithmetic header.object header.parties l machine') (sym here) next.1
 
 pub fails : (header : Header) (past : List Ev) (first rest rest' : Rest) (old rows : List Row) (machine machine' : Configuration ℕ) (fault : FaultyLine) → IsHalfway header past first rest old rows machine →
-    Steps header rest rest' machine machine' (Err fault) → HasAdded header past (rest_walk header.object header.parties past first) old rows (Some fault)
-fails header past first rest rest' old rows machine machine' fault h steps =
-    let next = steps header.parties h.here h.stands in
+    Strides rest rest' machine machine' (Err fault) → HasAdded header past (rest_walk header.object header.parties past first) old rows (Some fault)
+fails header past first rest rest' old rows machine machine' fault h strides =
+    let next = strides header.object header.parties h.here h.stands in
     (sym (h.rows ∙ ap (λ (w : Walk). rows_with header h.here w.steps (entries rows)) next), sym (h.fault ∙ ap (λ (w : Walk). w.fault) next))
 
 -- A text.

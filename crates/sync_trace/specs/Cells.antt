@@ -22,7 +22,7 @@ use Rattle.sync_steps.specs.Objects.{table_of}
 use Rattle.sync_steps.specs.Runs.{word_in}
 use Rattle.sync_play.specs.declared.header.Header.{Header}
 use Rattle.sync_play.specs.Print.{answer_words, further_words, named_words}
-use Rattle.sync_walk.specs.declared.walk.Step.{Step}
+use Rattle.sync_play.specs.declared.walk.Step.{Step}
 use Rattle.sync_trace.specs.declared.cells.Cells.{Cells}
 
 -- The act.

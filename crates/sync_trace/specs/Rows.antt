@@ -1,5 +1,5 @@
 -- The rows of a trace: steps that read the same, one right after the other, are folded into one.
-use Rattle.std.specs.Prelude.{ℕ, ◌+◌, ◌-◌, ◌^◌, min, Bool, true, false, ◌&&◌, List, [], ◌∷◌, map}
+use Rattle.std.specs.Prelude.{ℕ, zero, suc, ◌+◌, ◌-◌, ◌^◌, min, Bool, true, false, ◌&&◌, List, [], ◌∷◌, map}
 use Rattle.std.specs.Str.{bytes_eq}
 use Rattle.sync_trace.specs.declared.rows.Row.{Row}
 use Rattle.sync_trace.specs.Cells.{Texts, texts_of}
@@ -42,6 +42,11 @@ abbrev pub added : Texts → List Entry → List Entry
 added cells [] = alone 1 cells ∷ []
 added cells (row ∷ []) = joined (read_same row.cells cells) row cells
 added cells (row ∷ next ∷ rows) = row ∷ added cells (next ∷ rows)
+
+-- the rows with so many steps that read like this
+abbrev pub added_often : ℕ → Texts → List Entry → List Entry
+added_often zero cells rows = rows
+added_often (suc times) cells rows = added_often times cells (added cells rows)
 
 -- the rows with these steps, in order
 abbrev pub folded : List Texts → List Entry → List Entry

@@ -4,7 +4,7 @@ use Rattle.std.specs.Io.KnownBytes.{Appends}
 use Rattle.sync_play.specs.declared.fault.RunFault.{RunFault}
 use Rattle.sync_play.specs.declared.fault.RunFault.TheVariants as runs
 use Rattle.sync_play.specs.Run.{HasRead}
-use Rattle.sync_walk.specs.declared.walk.FaultyLine.{FaultyLine}
+use Rattle.sync_play.specs.declared.fault.FaultyLine.{FaultyLine}
 use Rattle.sync_trace.specs.Trace.{trace_of}
 
 -- all that was read is a text with this fault, or none, and its trace was written and nothing else

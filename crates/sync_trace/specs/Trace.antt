@@ -6,10 +6,10 @@ use Rattle.steps_events.specs.Runs.{after}
 use Rattle.sync_steps.specs.Machine.{Configuration, StandsAt}
 use Rattle.sync_play.specs.declared.header.Header.{Header}
 use Rattle.sync_play.specs.Lexer.{lines_of}
-use Rattle.sync_walk.specs.declared.walk.FaultyLine.{FaultyLine}
-use Rattle.sync_walk.specs.declared.walk.Step.{Step}
-use Rattle.sync_walk.specs.Law.{events_in}
-use Rattle.sync_walk.specs.Walk.{Walk, lines_walk, opened}
+use Rattle.sync_play.specs.declared.fault.FaultyLine.{FaultyLine}
+use Rattle.sync_play.specs.declared.walk.Step.{Step}
+use Rattle.sync_play.specs.WalkOutput.{events_in}
+use Rattle.sync_play.specs.Walk.{Walk, lines_walk, opened}
 use Rattle.sync_trace.specs.declared.rows.Row.{Row}
 use Rattle.sync_trace.specs.declared.trace.Rows.{Rows}
 use Rattle.sync_trace.specs.declared.trace.Trace.{Trace}

@@ -3,7 +3,7 @@
 //! [`run::run`] traces the text that a reader brings, and writes it to a writer; [`trace::trace_text`] traces a text that is already
 //! there. The program of the crate beside this one is the first of them over standard input and output.
 //!
-//! A text is walked once (`sync_walk`): each step becomes the cells of a row ([`cells`]), steps that read the same are folded into one row
+//! A text is walked once (`sync_play::walk`): each step becomes the cells of a row ([`cells`]), steps that read the same are folded into one row
 //! ([`rows`]), and the rows are laid out ([`table`]).
 #![tactic(auto)]
 

@@ -1,5 +1,5 @@
 //! The rows of a trace: steps that read the same, one right after the other, are folded into one.
-ghost use Rattle.std.specs.Prelude.{◌≡◌, OnOk, string_bytes};
+ghost use Rattle.std.specs.Prelude.{◌≡◌, ◌<◌, OnOk, string_bytes};
 ghost use Rattle.std.specs.Str.{bytes_eq};
 ghost use Rattle.sync_trace.specs.Cells.{texts_of};
 ghost use Rattle.sync_trace.specs.Rows as meaning;
@@ -9,7 +9,7 @@ use std::alloc::{AllocError, Global};
 use sync_play::lexer::is;
 
 /// A row: steps with the same cells. Steps are counted from 1, up to 2^64 - 1.
-#[derive(Debug, Drop)]
+#[derive(Drop)]
 pub struct Row {
     /// The number of its first step.
     pub first: u64,
@@ -37,30 +37,31 @@ fn read_same(a: &Cells, b: &Cells) -> bool
         && same(&a.call, &b.call)
 }
 
-/// Adds the next step: to the last row where it reads the same, and else in a row of its own.
-pub fn add(rows: &mut Vec<Row>, cells: Cells) -> Result<(), AllocError>
-    ensures { OnOk result (meaning.entries rows.new.items ≡ meaning.added (texts_of cells) (meaning.entries rows.old.items)) }
+/// Adds the next steps, as many as read like this: to the last row where it reads the same, and else in a row of their own.
+pub fn add(rows: &mut Vec<Row>, cells: Cells, times: u64) -> Result<(), AllocError>
+    requires { 0 < times }
+    ensures { OnOk result (meaning.entries rows.new.items ≡ meaning.added_often times (texts_of cells) (meaning.entries rows.old.items)) }
 {
     let Some(last) = rows.pop() else {
         rows.push(Row {
             first: 1,
-            last: 1,
+            last: times,
             cells,
         })?;
         return Ok(());
     };
-    let number = last.last.saturating_add(1);
     if read_same(&last.cells, &cells) {
         rows.push(Row {
             first: last.first,
-            last: number,
+            last: last.last.saturating_add(times),
             cells,
         })?;
     } else {
+        let before = last.last;
         rows.push(last)?;
         rows.push(Row {
-            first: number,
-            last: number,
+            first: before.saturating_add(1),
+            last: before.saturating_add(times),
             cells,
         })?;
     }

@@ -5,9 +5,8 @@ ghost use Rattle.sync_trace.specs.Run.{HasTraced, HasBegun, TellsFault, IsEarly}
 use crate::trace::trace_text;
 use std::alloc::Global;
 use std::io::{Read, Write};
-use sync_play::fault::RunFault;
+use sync_play::fault::{FaultyLine, RunFault};
 use sync_play::run::{read_all, write_all};
-use sync_walk::walk::FaultyLine;
 
 /// Reads a schedule text to its end, and writes its trace, and nothing else.
 ///

@@ -3,19 +3,20 @@ ghost use Rattle.std.specs.Prelude.{◌≡◌, ◌+◌, ◌^◌, ◌<◌, ℕ, L
 ghost use Rattle.steps_events.specs.Integers.{u64_arithmetic};
 ghost use Rattle.sync_steps.specs.Machine.{StandsAt};
 ghost use Rattle.steps_events.specs.declared.event.Event.{Event as AnEvent};
-ghost use Rattle.sync_walk.specs.Walk.{rest_walk};
+ghost use Rattle.sync_play.specs.Walk.{rest_walk};
 ghost use Rattle.sync_trace.specs.Trace as meaning;
 
 use crate::cells::cells_of;
 use crate::rows::{Row, add};
 use crate::table::table;
 use std::alloc::{AllocError, Global};
+use sync_play::fault::FaultyLine;
 use sync_play::header::Header;
+use sync_play::walk::{Rest, next_stride, open};
 use sync_steps::steps::Machine;
-use sync_walk::walk::{FaultyLine, Rest, next_step, open};
 
 /// The rows of a run, and the line with a fault that ended it early, if there is one.
-#[derive(Debug, Drop)]
+#[derive(Drop)]
 pub struct Rows {
     pub rows: Vec<Row>,
     pub fault: Option<FaultyLine>,
@@ -43,10 +44,10 @@ pub fn add_steps(
         IfOk result (meaning.HasPlayed header past (rest_walk header.object header.parties past rest.old) machine.new) }
 {
     loop {
-        match next_step(header.object, machine, rest) {
-            Ok(Some(step)) => {
-                let cells = cells_of(alloc, header, machine, step)?;
-                add(rows, cells)?;
+        match next_stride(machine, rest) {
+            Ok(Some(stride)) => {
+                let cells = cells_of(alloc, header, machine, stride.step)?;
+                add(rows, cells, stride.times)?;
             }
             Ok(None) => return Ok(None),
             Err(fault) => return Ok(Some(fault)),

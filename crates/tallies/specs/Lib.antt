@@ -9,3 +9,5 @@ pub mod HeldTally
 pub mod RwReaderRule
 pub mod RwWriterRule
 pub mod RwWriterTally
+pub mod MutexScript
+pub mod Shown

@@ -11,7 +11,7 @@ mod wait_word;
 
 pub use barrier::{Arrivals, Rounds};
 pub use held::{Held, Known};
-pub use mutex::Holds;
+pub use mutex::{Holds, MutexScript, PlayedMutex};
 pub use rw_writer::MarkedHolds;
 pub use semaphore::Permits;
 pub use wait_word::WaitWord;

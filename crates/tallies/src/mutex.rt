@@ -1,6 +1,34 @@
-//! What a pass of a mutex counts.
+//! The model that a mutex plays, and what its pass counts beside.
 
 use passes::{Rule, Tally};
+use playing::{Played, Script};
+use steps_mutex::MutexPlace;
+
+/// The model that a mutex plays: its one word is the lock's.
+pub struct MutexScript;
+
+impl Script<(), MutexPlace> for MutexScript {
+    ghost use Rattle.std.specs.Prelude.{[], ◌∷◌};
+    ghost use Rattle.steps_events.specs.declared.event.Word.TheVariants as words;
+    ghost use Rattle.steps_mutex.specs.Table.{mutex_table};
+    ghost use Rattle.steps_mutex.specs.Law.{KeepsMutex};
+    ghost use Rattle.tallies.specs.MutexScript.{mutex_lawful};
+
+    ghost table = { λ _. mutex_table };
+
+    ghost law = { λ _. KeepsMutex };
+
+    ghost lawful = { λ _. mutex_lawful };
+
+    ghost names = { words.State ∷ [] };
+
+    ghost apart = { (tt, tt) };
+
+    ghost handed = { λ _. words.State };
+}
+
+/// What a pass of a mutex is in its model, and counts beside.
+pub type PlayedMutex = Played<MutexScript, MutexPlace, Holds>;
 
 /// What a pass of a mutex counts. No value of it is made.
 pub struct Holds {

@@ -1,6 +1,9 @@
 //! The word that wait and wake closures see.
-use crate::{Held, Holds, MarkedHolds, Permits, Rounds};
+ghost use Rattle.std.specs.Prelude.{◌≡◌};
+
+use crate::{Held, MarkedHolds, Permits, PlayedMutex, Rounds};
 use passes::Word;
+use playing::Shown;
 
 /// A word of an object, as wait and wake closures see it. It can be loaded, and no more.
 #[derive(Drop)]
@@ -11,7 +14,7 @@ pub struct WaitWord<'t> {
 /// A word of any object.
 #[derive(Drop)]
 enum AnyWord<'t> {
-    Mutex(Word<'t, (), Holds>),
+    Mutex(Word<'t, (), PlayedMutex>),
     ReaderLock(Word<'t, (), Held<()>>),
     WriterLock(Word<'t, (), MarkedHolds>),
     Semaphore(Word<'t, u64, Permits>),
@@ -32,9 +35,23 @@ impl WaitWord<'_> {
     }
 }
 
-impl<'t> From<Word<'t, (), Holds>> for WaitWord<'t> {
+/// Which word of which object it is.
+impl Shown for WaitWord<'_> {
+    ghost use Rattle.tallies.specs.Shown.{object_shown, index_shown};
+
+    ghost object = { object_shown };
+
+    ghost index = { index_shown };
+}
+
+impl<'t> From<Word<'t, (), PlayedMutex>> for WaitWord<'t> {
+    ghost use Rattle.tallies.specs.Shown.{object_shown, index_shown};
+
     #[inline(always)]
-    fn from(word: Word<'t, (), Holds>) -> WaitWord<'t> {
+    fn from(word: Word<'t, (), PlayedMutex>) -> WaitWord<'t>
+        ensures object { object_shown result ≡ word.entry.shared.now.table_id }
+        ensures index { index_shown result ≡ word.entry.index }
+    {
         WaitWord {
             word: AnyWord::Mutex(word),
         }

@@ -1,7 +1,7 @@
 //! What the integers of the atomics have in common.
 ghost use Rattle.std.specs.Prelude.{◌≡◌, ℕ};
 ghost use Rattle.std.specs.Ordering.{ord_max, ord_min};
-ghost use Rattle.steps_events.specs.Arithmetic.{Arithmetic, IsValue, KeepsValues};
+ghost use Rattle.steps_events.specs.Arithmetic.{Arithmetic, IsValue, IsClosed};
 
 use std::fmt::Debug;
 use std::ops::{BitAnd, BitOr, BitXor, Not};
@@ -70,84 +70,6 @@ pub trait AtomicInteger: Copy
 
     ghost same_gives: { (x y : Self) → Self.eq x y ≡ arithmetic.same x y };
 
-    /// They lead from values of the type to values of the type.
-    ghost add_keeps: { KeepsValues arithmetic arithmetic.add };
-
-    ghost subtract_keeps: { KeepsValues arithmetic arithmetic.subtract };
-
-    ghost and_keeps: { KeepsValues arithmetic arithmetic.and };
-
-    ghost or_keeps: { KeepsValues arithmetic arithmetic.or };
-
-    ghost xor_keeps: { KeepsValues arithmetic arithmetic.xor };
-
-    ghost inverse_keeps: { (x : Self) → IsValue arithmetic x → IsValue arithmetic (arithmetic.inverse x) };
-
-    ghost greater_keeps: { KeepsValues arithmetic arithmetic.greater };
-
-    ghost lesser_keeps: { KeepsValues arithmetic arithmetic.lesser };
-}
-
-impl AtomicInteger for u64 {
-    ghost use Rattle.steps_events.specs.Integers.{u64_arithmetic};
-    ghost use Rattle.std.proofs.Common.{rules};
-    ghost use Rattle.steps_events.specs.IntegerLaws as laws;
-
-    const NAME: &'static str = "u64";
-
-    ghost arithmetic = { u64_arithmetic };
-
-    ghost can_and = { Prim.search rules };
-
-    ghost can_or = { Prim.search rules };
-
-    ghost can_xor = { Prim.search rules };
-
-    ghost can_invert = { Prim.search rules };
-
-    ghost and_gives = { Prim.search rules };
-
-    ghost or_gives = { Prim.search rules };
-
-    ghost xor_gives = { Prim.search rules };
-
-    ghost inverse_gives = { Prim.search rules };
-
-    ghost greater_gives = { Prim.search rules };
-
-    ghost lesser_gives = { Prim.search rules };
-
-    ghost same_gives = { Prim.search rules };
-
-    ghost add_keeps = { Prim.search rules };
-
-    ghost subtract_keeps = { Prim.search rules };
-
-    ghost and_keeps = { laws.and_keeps };
-
-    ghost or_keeps = { laws.or_keeps };
-
-    ghost xor_keeps = { laws.xor_keeps };
-
-    ghost inverse_keeps = { laws.inverse_keeps };
-
-    ghost greater_keeps = { Prim.search rules };
-
-    ghost lesser_keeps = { Prim.search rules };
-
-    fn to_words(self) -> (u64, u64) {
-        (self, 0)
-    }
-
-    fn from_words(low: u64, _high: u64) -> Self {
-        low
-    }
-
-    fn overflowing_add(self, rhs: Self) -> (Self, bool) {
-        u64::overflowing_add(self, rhs)
-    }
-
-    fn overflowing_sub(self, rhs: Self) -> (Self, bool) {
-        u64::overflowing_sub(self, rhs)
-    }
+    /// All operators lead from values of the type to values of the type.
+    ghost closed: { IsClosed arithmetic };
 }

@@ -1,6 +1,8 @@
 //! What the project's own types are compared with.
 
 use crate::lines::{Operation, successes};
+use crossbeam_channel::{Receiver, Sender, bounded};
+use std::alloc::{AllocError, Global};
 use std::sync::atomic::{AtomicU64, Ordering};
 use std::sync::{Barrier, Condvar, Mutex, OnceLock, RwLock, Wait};
 
@@ -319,5 +321,31 @@ impl Operation for StdCondvar {
     fn once(&mut self) -> bool {
         self.condvar.notify_one();
         true
+    }
+}
+
+/// Sends a message to a bounded channel of the kit's crossbeam_channel, and receives it.
+pub fn channel_send_receive(rt: &impl Wait, alloc: Global) -> Result<u32, AllocError> {
+    let (sender, receiver) = bounded(alloc, 8)?;
+    Ok(successes(&mut SendReceive {
+        rt,
+        sender,
+        receiver,
+    }))
+}
+
+#[derive(Drop)]
+struct SendReceive<'r, R: Wait> {
+    rt: &'r R,
+    sender: Sender<u64>,
+    receiver: Receiver<u64>,
+}
+
+impl<'r, R: Wait> Operation for SendReceive<'r, R> {
+    #[inline(always)]
+    fn once(&mut self) -> bool {
+        let sent = self.sender.try_send(self.rt, 7);
+        let received = self.receiver.try_recv(self.rt);
+        sent.is_ok() && received.is_ok()
     }
 }

@@ -6,7 +6,7 @@ use std::test::Fail;
 use std::time::{Clock, Duration};
 
 /// The names of the lines, in the order of the table.
-const NAMES: [&str; 28] = [
+const NAMES: [&str; 30] = [
     "bare exchange store",
     "std mutex lock unlock",
     "mutex lock unlock",
@@ -35,6 +35,8 @@ const NAMES: [&str; 28] = [
     "bare load add",
     "std condvar notify_one",
     "condvar notify_one",
+    "crossbeam_channel send receive",
+    "job_queue put take",
 ];
 
 const HEAD: &str = "name\tmedian\tlower tenth\tupper tenth\n";

@@ -54,9 +54,18 @@ fn step_after(alloc: Global, steps: u64) -> Result<Result<Option<Then<u64>>, Lin
 
 #[test]
 fn a_run_ends_at_its_limit(rt: HostRuntime) -> Result<(), Fail> {
-    let done = Then::Answers(Answer::Done);
-    assert!(rt; step_after(rt.alloc(), 99998)? == Ok(Some(done)));
-    assert!(rt; step_after(rt.alloc(), 99999)? == Ok(Some(done)));
-    assert!(rt; step_after(rt.alloc(), 100000)? == Err(LineFault::StepLimit));
+    assert!(rt;
+        matches!(
+            step_after(rt.alloc(), 99998)?,
+            Ok(Some(Then::Answers(Answer::Done)))
+        )
+    );
+    assert!(rt;
+        matches!(
+            step_after(rt.alloc(), 99999)?,
+            Ok(Some(Then::Answers(Answer::Done)))
+        )
+    );
+    assert!(rt; matches!(step_after(rt.alloc(), 100000)?, Err(LineFault::StepLimit)));
     Ok(())
 }

@@ -1,7 +1,7 @@
-use crate::command::Command;
+use crate::command::{Command, Task};
 use crate::fault::LineFault;
 use crate::header::Header;
-use crate::player::next_event;
+use crate::player::next_events;
 use crate::print::{print_event, print_last};
 use std::test::Fail;
 use sync_steps::steps::{Machine, Object};
@@ -9,7 +9,7 @@ use sync_steps::steps::{Machine, Object};
 #[test]
 fn a_header_is_read(rt: HostRuntime) -> Result<(), Fail> {
     let header = Header::parse(b"semaphore 64 5").ok().ok_or("it is one")?;
-    assert!(rt; header.object == Object::Semaphore(5));
+    assert!(rt; matches!(header.object, Object::Semaphore(5)));
     assert_eq!(rt; header.parties, 64);
     Ok(())
 }
@@ -24,16 +24,17 @@ fn events_one_at_a_time(rt: HostRuntime) -> Result<(), Fail> {
         let command = Command::parse(Object::Mutex, line);
         let mut left = command.ok().flatten().ok_or("it asks something")?;
         for _ in 0..want {
-            let event = next_event(&mut machine, &mut left)
+            let found = next_events(&mut machine, &mut left)
                 .ok()
                 .flatten()
                 .ok_or("it goes on")?;
-            assert_eq!(rt; event.party, 0);
-            print_event(&mut out, &event)?;
+            assert_eq!(rt; found.times, 1);
+            assert_eq!(rt; found.event.party, 0);
+            print_event(&mut out, &found.event)?;
         }
-        assert!(rt; next_event(&mut machine, &mut left) == Ok(None));
+        assert!(rt; matches!(&next_events(&mut machine, &mut left), Ok(None)));
     }
-    print_last(&mut out, Object::Mutex, &machine)?;
+    print_last(&mut out, &machine)?;
     assert_eq!(rt;
         out.as_str(),
         "1 success\n1 wakes one\n1 done\nword 0 failed 0\n"
@@ -46,9 +47,16 @@ fn a_refused_command_keeps_its_machine(rt: HostRuntime) -> Result<(), Fail> {
     let mut machine = Machine::new(rt.alloc(), Object::Semaphore(3), 1)?;
     let command = Command::parse(Object::Semaphore(3), b" 1 run");
     let mut left = command.ok().flatten().ok_or("it asks something")?;
-    let asked = left;
-    assert!(rt; next_event(&mut machine, &mut left) == Err(LineFault::Idle));
-    assert!(rt; left == asked);
+    assert!(rt; matches!(&next_events(&mut machine, &mut left), Err(LineFault::Idle)));
+    assert!(rt;
+        matches!(
+            left,
+            Command {
+                party: 0,
+                task: Task::Run(100000)
+            }
+        )
+    );
     assert_eq!(rt; machine.word(), 3);
     Ok(())
 }

@@ -71,9 +71,18 @@ fn swap_after(alloc: Global, swaps: u64) -> Result<Result<Option<Then<u64>>, Lin
 
 #[test]
 fn a_run_ends_at_its_limit(rt: HostRuntime) -> Result<(), Fail> {
-    let success = Then::Answers(Answer::Success);
-    assert!(rt; swap_after(rt.alloc(), 0)? == Ok(Some(success)));
-    assert!(rt; swap_after(rt.alloc(), 99999)? == Ok(Some(success)));
-    assert!(rt; swap_after(rt.alloc(), 100000)? == Err(LineFault::StepLimit));
+    assert!(rt;
+        matches!(
+            swap_after(rt.alloc(), 0)?,
+            Ok(Some(Then::Answers(Answer::Success)))
+        )
+    );
+    assert!(rt;
+        matches!(
+            swap_after(rt.alloc(), 99999)?,
+            Ok(Some(Then::Answers(Answer::Success)))
+        )
+    );
+    assert!(rt; matches!(swap_after(rt.alloc(), 100000)?, Err(LineFault::StepLimit)));
     Ok(())
 }

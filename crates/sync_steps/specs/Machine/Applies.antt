@@ -5,6 +5,7 @@ use Rattle.steps_events.specs.declared.event.Event.{Event}
 use Rattle.steps_events.specs.declared.event.Input.{Input}
 use Rattle.steps_events.specs.declared.event.StepFault.{StepFault}
 use Rattle.steps_events.specs.declared.event.Word.{Word}
+use Rattle.steps_events.specs.Arithmetic.{Arithmetic}
 use Rattle.steps_events.specs.Past.{word_after, failures_by, event}
 use Rattle.steps_events.specs.WordsAt.{word_at}
 use Rattle.sync_steps.specs.declared.steps.place.Party.{Party}
@@ -26,16 +27,16 @@ pub record Applies {T : Type 0} (party : ℕ) (turn : Turn T) (old new : Configu
   pub failed : (count : ℕ) → old.failed ≡ min count (2 ^ 64 - 1) → new.failed ≡ min (failures_by turn.act + count) (2 ^ 64 - 1)
 
 -- the party had a turn at the input, and the machine made it
-pub record HasTurned {T : Type 0} (party : ℕ) (input : Input T) (old new : Configuration T) (made : Event T) : Type 0 where
+pub record HasTurned {T : Type 0} (z : Arithmetic T) (party : ℕ) (input : Input T) (old new : Configuration T) (made : Event T) : Type 0 where
   pub found : Party T
   pub there : slice_get old.parties party ≡ Some found
   pub turn : Turn T
-  pub is : turn_at old.object found (word_at old.words) input ≡ Ok turn
+  pub is : turn_at z old.object found (word_at old.words) input ≡ Ok turn
   pub made_is : made ≡ event party turn.act turn.outcome
   pub applied : Applies party turn old new
 
 -- the party has a fault in its place
-pub record HasRefused {T : Type 0} (party : ℕ) (input : Input T) (old : Configuration T) (fault : StepFault) : Type 0 where
+pub record HasRefused {T : Type 0} (z : Arithmetic T) (party : ℕ) (input : Input T) (old : Configuration T) (fault : StepFault) : Type 0 where
   pub found : Party T
   pub there : slice_get old.parties party ≡ Some found
-  pub is : turn_at old.object found (word_at old.words) input ≡ Err fault
+  pub is : turn_at z old.object found (word_at old.words) input ≡ Err fault

@@ -1,5 +1,5 @@
 -- Where a machine's parties are: the code's places, as places of the object's table.
-use Rattle.std.specs.Prelude.{◌≡◌, ℕ, Bool, false, Option, Some, None}
+use Rattle.std.specs.Prelude.{◌≡◌, ℕ, Bool, Option, Some, None}
 use Rattle.steps_events.specs.declared.WaitAction.{WaitAction}
 use Rattle.steps_events.specs.declared.event.Call.{Call}
 use Rattle.steps_events.specs.declared.event.Object.{Object}
@@ -7,7 +7,6 @@ use Rattle.steps_events.specs.declared.event.Object.TheVariants as objects
 use Rattle.steps_events.specs.declared.event.Then.{Then}
 use Rattle.steps_events.specs.declared.event.Then.TheVariants as thens
 use Rattle.steps_events.specs.declared.event.Word.{Word}
-use Rattle.steps_events.specs.declared.event.Word.TheVariants as words
 use Rattle.steps_events.specs.declared.hold.HoldKind.{HoldKind}
 use Rattle.steps_events.specs.declared.row.After.{After}
 use Rattle.steps_events.specs.declared.row.Intent.{Intent}
@@ -15,15 +14,27 @@ use Rattle.steps_events.specs.Arithmetic.{Arithmetic}
 use Rattle.steps_events.specs.Past.{PendingCall, latest_outcome}
 use Rattle.steps_events.specs.Moves.{stage_of}
 use Rattle.steps_events.specs.Rows.{within}
-use Rattle.steps_mutex.specs.Table.{mutex_begins, mutex_intent, mutex_after, mutex_answered, mutex_grant, mutex_needs_hold}
-use Rattle.steps_spin.specs.Table.{spin_begins, spin_intent, spin_after, spin_grant, spin_needs_hold}
-use Rattle.steps_semaphore.specs.Table.{semaphore_opening, semaphore_begins, semaphore_intent, semaphore_after, semaphore_answered}
-use Rattle.steps_barrier.specs.Table.{barrier_begins, barrier_intent, barrier_after}
-use Rattle.steps_rw_reader.specs.Table.{rw_reader_begins, rw_reader_intent, rw_reader_after, rw_reader_answered, rw_reader_grant, rw_reader_needs_hold}
-use Rattle.steps_rw_writer.specs.Table.{rw_writer_begins, rw_writer_intent, rw_writer_after, rw_writer_answered, rw_writer_grant, rw_writer_needs_hold}
-use Rattle.steps_condvar.specs.Table.{condvar_begins, condvar_intent, condvar_after, condvar_answered, condvar_grant, condvar_needs_hold}
-use Rattle.steps_once.specs.Table.{once_begins, once_intent, once_after}
-use Rattle.steps_lazy.specs.Table.{lazy_begins, lazy_intent, lazy_after}
+use Rattle.steps_events.specs.Tables.{Table}
+use Rattle.steps_mutex.specs.declared.MutexPlace.{MutexPlace}
+use Rattle.steps_mutex.specs.Table.{mutex_table}
+use Rattle.steps_spin.specs.declared.SpinPlace.{SpinPlace}
+use Rattle.steps_spin.specs.Table.{spin_table}
+use Rattle.steps_semaphore.specs.declared.SemaphorePlace.{SemaphorePlace}
+use Rattle.steps_semaphore.specs.Table.{semaphore_table}
+use Rattle.steps_barrier.specs.declared.BarrierPlace.{BarrierPlace}
+use Rattle.steps_barrier.specs.Table.{barrier_table}
+use Rattle.steps_rw_reader.specs.declared.RwReaderPlace.{RwReaderPlace}
+use Rattle.steps_rw_reader.specs.Table.{rw_reader_table}
+use Rattle.steps_rw_writer.specs.declared.RwWriterPlace.{RwWriterPlace}
+use Rattle.steps_rw_writer.specs.Table.{rw_writer_table}
+use Rattle.steps_condvar.specs.declared.CondvarPlace.{CondvarPlace}
+use Rattle.steps_condvar.specs.Table.{condvar_table}
+use Rattle.steps_once.specs.declared.OncePlace.{OncePlace}
+use Rattle.steps_once.specs.Table.{once_table}
+use Rattle.steps_lazy.specs.declared.LazyPlace.{LazyPlace}
+use Rattle.steps_lazy.specs.Table.{lazy_table}
+use Rattle.steps_atomic.specs.declared.AtomicPlace.{AtomicPlace}
+use Rattle.steps_atomic.specs.Table.{atomic_intent, atomic_after, atomic_chosen, atomic_table}
 use Rattle.sync_steps.specs.declared.steps.place.Closure.{Closure}
 use Rattle.sync_steps.specs.declared.steps.place.Closure.TheVariants as closures
 use Rattle.sync_steps.specs.declared.steps.place.Doing.{Doing}
@@ -43,7 +54,7 @@ place_in objects.WriterLock place = places.RwWriter place
 place_in objects.Condvar place = places.Condvar place
 place_in objects.Once place = places.Once place
 place_in (objects.Lazy v) place = places.Lazy place v
-place_in (objects.Atomic v) place = absurd place
+place_in (objects.Atomic v) place = places.Atomic place
 
 -- the closure at which a call stands
 abbrev pub closure_of : {T : Type 0} → Then T → Option Closure
@@ -75,95 +86,62 @@ abbrev pub map_place : {T P : Type 0} → (P → Place T) → Option P → Optio
 map_place wrap None = None
 map_place wrap (Some place) = Some (wrap place)
 
--- the first word: what a semaphore opens with
-abbrev pub opening_at : {T : Type 0} → Object T → Word → ℕ
-opening_at objects.Mutex word = 0
-opening_at objects.Spin word = 0
-opening_at (objects.Semaphore initial) word = semaphore_opening initial word
-opening_at (objects.Barrier n) word = 0
-opening_at objects.ReaderLock word = 0
-opening_at objects.WriterLock word = 0
-opening_at objects.Condvar word = 0
-opening_at objects.Once word = 0
-opening_at (objects.Lazy v) word = 0
-opening_at (objects.Atomic v) word = 0
+-- the table of an object, with what its places are in the code
+abbrev pub at_object : {T R : Type 0} → Arithmetic T → ((P : Type 0) → Table T P → (P → Place T) → R) → Object T → R
+at_object z k objects.Mutex = k MutexPlace mutex_table places.Mutex
+at_object z k objects.Spin = k SpinPlace spin_table places.Spin
+at_object z k (objects.Semaphore initial) = k SemaphorePlace (semaphore_table initial) places.Semaphore
+at_object z k (objects.Barrier n) = k BarrierPlace (barrier_table n) places.Barrier
+at_object z k objects.ReaderLock = k RwReaderPlace rw_reader_table places.RwReader
+at_object z k objects.WriterLock = k RwWriterPlace rw_writer_table places.RwWriter
+at_object z k objects.Condvar = k CondvarPlace condvar_table places.Condvar
+at_object z k objects.Once = k OncePlace once_table places.Once
+at_object z k (objects.Lazy v) = k LazyPlace (lazy_table v) (λ p. places.Lazy p v)
+at_object {T} z k (objects.Atomic v) = k (AtomicPlace T) (atomic_table z v) places.Atomic
 
-abbrev pub begins_at : {T : Type 0} → Object T → Call T → Option (Place T)
-begins_at objects.Mutex call = map_place places.Mutex (mutex_begins call)
-begins_at objects.Spin call = map_place places.Spin (spin_begins call)
-begins_at (objects.Semaphore initial) call = map_place places.Semaphore (semaphore_begins call)
-begins_at (objects.Barrier n) call = map_place places.Barrier (barrier_begins n call)
-begins_at objects.ReaderLock call = map_place places.RwReader (rw_reader_begins call)
-begins_at objects.WriterLock call = map_place places.RwWriter (rw_writer_begins call)
-begins_at objects.Condvar call = map_place places.Condvar (condvar_begins call)
-begins_at objects.Once call = map_place places.Once (once_begins call)
-begins_at (objects.Lazy v) call = map_place (λ place. places.Lazy place v) (lazy_begins call)
-begins_at (objects.Atomic v) call = None
+abbrev pub opening_at : {T : Type 0} → Arithmetic T → Object T → Word → ℕ
+opening_at z o word = at_object z (λ P t wrap. t.opening word) o
 
-abbrev pub intent_at : {T : Type 0} → Place T → Option HoldKind → Intent T
-intent_at (places.Mutex place) hold = mutex_intent words.State place
-intent_at (places.Spin place) hold = spin_intent words.State place
-intent_at (places.Semaphore place) hold = semaphore_intent words.State place
-intent_at (places.Barrier place) hold = barrier_intent words.State place
-intent_at (places.RwReader place) hold = rw_reader_intent words.State place hold
-intent_at (places.RwWriter place) hold = rw_writer_intent words.State words.Counter place hold
-intent_at (places.Condvar place) hold = condvar_intent place
-intent_at (places.Once place) hold = once_intent words.State place
-intent_at (places.Lazy place v) hold = lazy_intent v words.State place
+abbrev pub begins_at : {T : Type 0} → Arithmetic T → Object T → Call T → Option (Place T)
+begins_at z o call = at_object z (λ P t wrap. map_place wrap (t.begins call)) o
 
-abbrev pub after_at : {T : Type 0} → Place T → Option ℕ → After T (Place T)
-after_at (places.Mutex place) told = within places.Mutex (mutex_after place told)
-after_at (places.Spin place) told = within places.Spin (spin_after place told)
-after_at (places.Semaphore place) told = within places.Semaphore (semaphore_after place told)
-after_at (places.Barrier place) told = within places.Barrier (barrier_after place told)
-after_at (places.RwReader place) told = within places.RwReader (rw_reader_after place told)
-after_at (places.RwWriter place) told = within places.RwWriter (rw_writer_after place told)
-after_at (places.Condvar place) told = within places.Condvar (condvar_after place told)
-after_at (places.Once place) told = within places.Once (once_after place told)
-after_at (places.Lazy place v) told = within (λ next. places.Lazy next v) (lazy_after v place told)
+abbrev pub grant_at : {T : Type 0} → Arithmetic T → Object T → Call T → ℕ → ℕ → Option HoldKind
+grant_at z o call from to = at_object z (λ P t wrap. t.grant call from to) o
 
-abbrev pub answered_at : {T : Type 0} → Place T → WaitAction → Place T
-answered_at (places.Mutex place) action = places.Mutex (mutex_answered place action)
-answered_at (places.Spin place) action = places.Spin place
-answered_at (places.Semaphore place) action = places.Semaphore (semaphore_answered place action)
-answered_at (places.Barrier place) action = places.Barrier place
-answered_at (places.RwReader place) action = places.RwReader (rw_reader_answered place action)
-answered_at (places.RwWriter place) action = places.RwWriter (rw_writer_answered place action)
-answered_at (places.Condvar place) action = places.Condvar (condvar_answered place action)
-answered_at (places.Once place) action = places.Once place
-answered_at (places.Lazy place v) action = places.Lazy place v
+abbrev pub needs_hold_at : {T : Type 0} → Arithmetic T → Object T → Call T → Bool
+needs_hold_at z o call = at_object z (λ P t wrap. t.needs_hold call) o
 
-abbrev pub chosen_at : {T : Type 0} → Place T → Option T → Place T
-chosen_at (places.Mutex place) choice = places.Mutex place
-chosen_at (places.Spin place) choice = places.Spin place
-chosen_at (places.Semaphore place) choice = places.Semaphore place
-chosen_at (places.Barrier place) choice = places.Barrier place
-chosen_at (places.RwReader place) choice = places.RwReader place
-chosen_at (places.RwWriter place) choice = places.RwWriter place
-chosen_at (places.Condvar place) choice = places.Condvar place
-chosen_at (places.Once place) choice = places.Once place
-chosen_at (places.Lazy place v) choice = places.Lazy place v
+-- what a table says of a place
+pub record Rows (T P : Type 0) : Type 0 where
+  pub intent : P → Option HoldKind → Intent T
+  pub after : P → Option ℕ → After T P
+  pub answered : P → WaitAction → P
+  pub chosen : P → Option T → P
 
-abbrev pub grant_at : {T : Type 0} → Object T → Call T → ℕ → ℕ → Option HoldKind
-grant_at objects.Mutex call from to = mutex_grant call from to
-grant_at objects.Spin call from to = spin_grant call from to
-grant_at (objects.Semaphore initial) call from to = None
-grant_at (objects.Barrier n) call from to = None
-grant_at objects.ReaderLock call from to = rw_reader_grant call from to
-grant_at objects.WriterLock call from to = rw_writer_grant call from to
-grant_at objects.Condvar call from to = condvar_grant call from to
-grant_at objects.Once call from to = None
-grant_at (objects.Lazy v) call from to = None
-grant_at (objects.Atomic v) call from to = None
+abbrev pub rows_in : {T P : Type 0} → Table T P → Rows T P
+rows_in t = record { intent = t.intent; after = t.after; answered = t.answered; chosen = t.chosen }
 
-abbrev pub needs_hold_at : {T : Type 0} → Object T → Call T → Bool
-needs_hold_at objects.Mutex call = mutex_needs_hold call
-needs_hold_at objects.Spin call = spin_needs_hold call
-needs_hold_at (objects.Semaphore initial) call = false
-needs_hold_at (objects.Barrier n) call = false
-needs_hold_at objects.ReaderLock call = rw_reader_needs_hold call
-needs_hold_at objects.WriterLock call = rw_writer_needs_hold call
-needs_hold_at objects.Condvar call = condvar_needs_hold call
-needs_hold_at objects.Once call = false
-needs_hold_at (objects.Lazy v) call = false
-needs_hold_at (objects.Atomic v) call = false
+-- the rows at a place of the code; they don't depend on what the object is opened with
+abbrev pub at_rows : {T R : Type 0} → Arithmetic T → ((P : Type 0) → Rows T P → (P → Place T) → P → R) → Place T → R
+at_rows z k (places.Mutex place) = k MutexPlace (rows_in mutex_table) places.Mutex place
+at_rows z k (places.Spin place) = k SpinPlace (rows_in spin_table) places.Spin place
+at_rows z k (places.Semaphore place) = k SemaphorePlace (rows_in (semaphore_table 0)) places.Semaphore place
+at_rows z k (places.Barrier place) = k BarrierPlace (rows_in (barrier_table 0)) places.Barrier place
+at_rows z k (places.RwReader place) = k RwReaderPlace (rows_in rw_reader_table) places.RwReader place
+at_rows z k (places.RwWriter place) = k RwWriterPlace (rows_in rw_writer_table) places.RwWriter place
+at_rows z k (places.Condvar place) = k CondvarPlace (rows_in condvar_table) places.Condvar place
+at_rows z k (places.Once place) = k OncePlace (rows_in once_table) places.Once place
+at_rows z k (places.Lazy place v) = k LazyPlace (rows_in (lazy_table v)) (λ p. places.Lazy p v) place
+at_rows {T} z k (places.Atomic place) = k (AtomicPlace T) (record { intent = atomic_intent; after = atomic_after z; answered = λ p action. p; chosen = atomic_chosen z }) places.Atomic place
+
+abbrev pub intent_at : {T : Type 0} → Arithmetic T → Place T → Option HoldKind → Intent T
+intent_at z place hold = at_rows z (λ P rows wrap p. rows.intent p hold) place
+
+abbrev pub after_at : {T : Type 0} → Arithmetic T → Place T → Option ℕ → After T (Place T)
+after_at z place told = at_rows z (λ P rows wrap p. within wrap (rows.after p told)) place
+
+abbrev pub answered_at : {T : Type 0} → Arithmetic T → Place T → WaitAction → Place T
+answered_at z place action = at_rows z (λ P rows wrap p. wrap (rows.answered p action)) place
+
+abbrev pub chosen_at : {T : Type 0} → Arithmetic T → Place T → Option T → Place T
+chosen_at z place choice = at_rows z (λ P rows wrap p. wrap (rows.chosen p choice)) place

@@ -16,6 +16,7 @@ use Rattle.steps_events.specs.declared.event.Word.TheVariants as words
 use Rattle.steps_events.specs.declared.hold.HoldKind.{HoldKind}
 use Rattle.steps_events.specs.declared.row.After.{After}
 use Rattle.steps_events.specs.declared.row.After.TheVariants as afters
+use Rattle.steps_events.specs.Arithmetic.{Arithmetic}
 use Rattle.steps_events.specs.Rows.{carried_out, value_told, outcome_of}
 use Rattle.steps_events.specs.Past.{is_release, hold_or}
 use Rattle.steps_events.specs.Moves.{is_locking}
@@ -38,13 +39,13 @@ TurnsTo turned old new (Ok told) = turned ≡ Ok (record { act = told.0; outcome
 TurnsTo turned old new (Err fault) = (turned ≡ Err fault) × (new ≡ old)
 
 -- the hold that an act of a call takes
-abbrev pub hold_won : {T : Type 0} → Object T → Call T → Act T → Option HoldKind
-hold_won o call (acts.Exchange words.State from to found true) = grant_at o call from to
-hold_won o call (acts.Swap words.State zero put) = grant_at o call 0 put
-hold_won o call act = None
+abbrev pub hold_won : {T : Type 0} → Arithmetic T → Object T → Call T → Act T → Option HoldKind
+hold_won z o call (acts.Exchange words.State from to found true) = grant_at z o call from to
+hold_won z o call (acts.Swap words.State zero put) = grant_at z o call 0 put
+hold_won z o call act = None
 
-abbrev pub new_hold : {T : Type 0} → Object T → Call T → Act T → Option HoldKind → Option HoldKind
-new_hold o call act hold = if is_release act then None else hold_or (hold_won o call act) hold
+abbrev pub new_hold : {T : Type 0} → Arithmetic T → Object T → Call T → Act T → Option HoldKind → Option HoldKind
+new_hold z o call act hold = if is_release act then None else hold_or (hold_won z o call act) hold
 
 abbrev pub doing_after : {T : Type 0} → Call T → After T (Place T) → Option (Doing T)
 doing_after call (afters.At place) = Some (record { call = call; place = place; stands = None })
@@ -65,34 +66,34 @@ begun party call place =
       party = record { doing = Some (record { call = call; place = place; stands = None }); hold = party.hold };
     }
 
-abbrev pub begin_at : {T : Type 0} → Object T → Party T → Call T → Option (Place T) → Result (Turn T) StepFault
-begin_at o party call None = Err faults.OtherObject
-begin_at o party call (Some place) =
+abbrev pub begin_at : {T : Type 0} → Arithmetic T → Object T → Party T → Call T → Option (Place T) → Result (Turn T) StepFault
+begin_at z o party call None = Err faults.OtherObject
+begin_at z o party call (Some place) =
     if (is_locking call && is_some party.hold)
     then Err faults.Holding
-    else (if (needs_hold_at o call && is_none party.hold) then Err faults.NoHold else Ok (begun party call place))
+    else (if (needs_hold_at z o call && is_none party.hold) then Err faults.NoHold else Ok (begun party call place))
 
-abbrev pub begin_turn : {T : Type 0} → Object T → Party T → Call T → Result (Turn T) StepFault
-begin_turn o party call = if is_some party.doing then Err faults.Busy else begin_at o party call (begins_at o call)
+abbrev pub begin_turn : {T : Type 0} → Arithmetic T → Object T → Party T → Call T → Result (Turn T) StepFault
+begin_turn z o party call = if is_some party.doing then Err faults.Busy else begin_at z o party call (begins_at z o call)
 
 -- after an act of a call that goes on so
-abbrev pub turn_after : {T : Type 0} → Object T → Call T → Option HoldKind → Act T → After T (Place T) → Turn T
-turn_after o call hold act after =
-    record { act = act; outcome = outcome_of after; party = record { doing = doing_after call after; hold = new_hold o call act hold } }
+abbrev pub turn_after : {T : Type 0} → Arithmetic T → Object T → Call T → Option HoldKind → Act T → After T (Place T) → Turn T
+turn_after z o call hold act after =
+    record { act = act; outcome = outcome_of after; party = record { doing = doing_after call after; hold = new_hold z o call act hold } }
 
 -- the step at the place of a call
-abbrev pub stepped_by : {T : Type 0} → Object T → Doing T → Option HoldKind → Act T → Turn T
-stepped_by o doing hold act = turn_after o doing.call hold act (after_at doing.place (value_told act))
+abbrev pub stepped_by : {T : Type 0} → Arithmetic T → Object T → Doing T → Option HoldKind → Act T → Turn T
+stepped_by z o doing hold act = turn_after z o doing.call hold act (after_at z doing.place (value_told act))
 
-abbrev pub stepped : {T : Type 0} → Object T → Doing T → Option HoldKind → (Word → ℕ) → Turn T
-stepped o doing hold memory = stepped_by o doing hold (carried_out (intent_at doing.place hold) memory)
+abbrev pub stepped : {T : Type 0} → Arithmetic T → Object T → Doing T → Option HoldKind → (Word → ℕ) → Turn T
+stepped z o doing hold memory = stepped_by z o doing hold (carried_out (intent_at z doing.place hold) memory)
 
-abbrev pub go_at : {T : Type 0} → Object T → Option (Doing T) → Option HoldKind → (Word → ℕ) → Result (Turn T) StepFault
-go_at o None hold memory = Err faults.Idle
-go_at o (Some doing) hold memory = if is_some doing.stands then Err faults.WaitingForAnswer else Ok (stepped o doing hold memory)
+abbrev pub go_at : {T : Type 0} → Arithmetic T → Object T → Option (Doing T) → Option HoldKind → (Word → ℕ) → Result (Turn T) StepFault
+go_at z o None hold memory = Err faults.Idle
+go_at z o (Some doing) hold memory = if is_some doing.stands then Err faults.WaitingForAnswer else Ok (stepped z o doing hold memory)
 
-abbrev pub go_turn : {T : Type 0} → Object T → Party T → (Word → ℕ) → Result (Turn T) StepFault
-go_turn o party memory = go_at o party.doing party.hold memory
+abbrev pub go_turn : {T : Type 0} → Arithmetic T → Object T → Party T → (Word → ℕ) → Result (Turn T) StepFault
+go_turn z o party memory = go_at z o party.doing party.hold memory
 
 -- a closure has answered, and the call goes on from this place
 abbrev pub told_answer : {T : Type 0} → Act T → Doing T → Option HoldKind → Place T → Turn T
@@ -111,28 +112,28 @@ abbrev pub is_at_choice : Option Closure → Bool
 is_at_choice (Some closures.Choice) = true
 is_at_choice other = false
 
-abbrev pub answer_at : {T : Type 0} → Option (Doing T) → Option HoldKind → WaitAction → Result (Turn T) StepFault
-answer_at None hold action = Err faults.NotWaiting
-answer_at (Some doing) hold action =
+abbrev pub answer_at : {T : Type 0} → Arithmetic T → Option (Doing T) → Option HoldKind → WaitAction → Result (Turn T) StepFault
+answer_at z None hold action = Err faults.NotWaiting
+answer_at z (Some doing) hold action =
     if is_at_wait doing.stands
-    then Ok (told_answer (acts.Answered action) doing hold (answered_at doing.place action))
+    then Ok (told_answer (acts.Answered action) doing hold (answered_at z doing.place action))
     else Err faults.NotWaiting
 
-abbrev pub answer_turn : {T : Type 0} → Party T → WaitAction → Result (Turn T) StepFault
-answer_turn party action = answer_at party.doing party.hold action
+abbrev pub answer_turn : {T : Type 0} → Arithmetic T → Party T → WaitAction → Result (Turn T) StepFault
+answer_turn z party action = answer_at z party.doing party.hold action
 
-abbrev pub choose_at : {T : Type 0} → Option (Doing T) → Option HoldKind → Option T → Result (Turn T) StepFault
-choose_at None hold choice = Err faults.NotWaiting
-choose_at (Some doing) hold choice =
+abbrev pub choose_at : {T : Type 0} → Arithmetic T → Option (Doing T) → Option HoldKind → Option T → Result (Turn T) StepFault
+choose_at z None hold choice = Err faults.NotWaiting
+choose_at z (Some doing) hold choice =
     if is_at_choice doing.stands
-    then Ok (told_answer (acts.Chosen choice) doing hold (chosen_at doing.place choice))
+    then Ok (told_answer (acts.Chosen choice) doing hold (chosen_at z doing.place choice))
     else Err faults.NotWaiting
 
-abbrev pub choose_turn : {T : Type 0} → Party T → Option T → Result (Turn T) StepFault
-choose_turn party choice = choose_at party.doing party.hold choice
+abbrev pub choose_turn : {T : Type 0} → Arithmetic T → Party T → Option T → Result (Turn T) StepFault
+choose_turn z party choice = choose_at z party.doing party.hold choice
 
-abbrev pub turn_at : {T : Type 0} → Object T → Party T → (Word → ℕ) → Input T → Result (Turn T) StepFault
-turn_at o party memory (inputs.Begin call) = begin_turn o party call
-turn_at o party memory inputs.Go = go_turn o party memory
-turn_at o party memory (inputs.Answer action) = answer_turn party action
-turn_at o party memory (inputs.Choose choice) = choose_turn party choice
+abbrev pub turn_at : {T : Type 0} → Arithmetic T → Object T → Party T → (Word → ℕ) → Input T → Result (Turn T) StepFault
+turn_at z o party memory (inputs.Begin call) = begin_turn z o party call
+turn_at z o party memory inputs.Go = go_turn z o party memory
+turn_at z o party memory (inputs.Answer action) = answer_turn z party action
+turn_at z o party memory (inputs.Choose choice) = choose_turn z party choice

@@ -2,7 +2,7 @@ use std::alloc::{Allocator, Global};
 use steps_events::event::{Event, StepFault};
 
 /// Why a schedule was not played to its end.
-#[derive(Debug, Drop)]
+#[derive(Drop)]
 pub enum PlayFault<T, A: Allocator = Global> {
     /// The list of events could not grow. It is asked for before the first step, so the machine is unchanged.
     Memory,

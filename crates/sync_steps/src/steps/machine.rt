@@ -2,12 +2,14 @@ ghost use Rattle.std.specs.Prelude.{◌≡◌, ◌<◌, true, [], length, IfOk, 
 ghost use Rattle.steps_events.specs.declared.event.Input.TheVariants as inputs;
 ghost use Rattle.steps_events.specs.declared.event.Word.TheVariants as words;
 ghost use Rattle.steps_events.specs.Past.{event};
-ghost use Rattle.sync_steps.specs.Objects.{is_served, IsObject};
-ghost use Rattle.sync_steps.specs.Machine.{StandsAt, Tells, IsNoneWithout, TellsFailed, TellsHold, Steps, RefusesStep, KeepsHeadline};
+ghost use Rattle.sync_steps.specs.Objects.{IsObject};
+ghost use Rattle.sync_steps.specs.Machine.{StandsAt, TellsObject, Tells, IsNoneWithout, TellsFailed, TellsHold, Steps, RefusesStep, KeepsHeadline};
 ghost use Rattle.sync_steps.specs.Machine.Applies.{HasWritten, HasTurned, HasRefused};
 ghost use Rattle.sync_steps.specs.Machine.Places.{opening_at};
 ghost use Rattle.steps_events.specs.declared.event.Word.{Word as AnyWord};
 ghost use Rattle.steps_events.specs.WordsAt.{word_at};
+
+mod stride;
 
 use super::place::Party;
 use super::turn;
@@ -18,9 +20,10 @@ use steps_events::atomic::internal::AtomicInteger;
 use steps_events::event::{Act, Call, Event, Input, Object, StepFault, Then};
 use steps_events::hold::HoldKind;
 use steps_events::words::{Words, failed_after};
+pub use stride::Stride;
 
 /// One object and its parties, numbered from 0, each with at most one call under way and at most one hold.
-#[derive(Debug, Drop)]
+#[derive(Drop)]
 pub struct Machine<T, A: Allocator = Global> {
     object: Object<T>,
     parties: Vec<Party<T>, A>,
@@ -37,12 +40,10 @@ impl<T, A: Allocator> Model for Machine<T, A> {
 }
 
 impl<T: AtomicInteger, A: Allocator> Machine<T, A> {
-    /// A machine of the object, where no party has begun a call yet. So far it serves mutexes, spin locks, semaphores, barriers, both
-    /// reader-writer locks, condition variables, onces and lazy values.
+    /// A machine of the object, where no party has begun a call yet.
     ///
     /// It takes memory for the places of its parties, and answers `AllocError` where there is none.
     pub fn new(alloc: A, object: Object<T>, parties: usize) -> Result<Machine<T, A>, AllocError>
-        requires { is_served object ≡ true }
         ensures { IfOk result (StandsAt T.arithmetic object parties []) }
     {
         let party = Party {
@@ -56,6 +57,13 @@ impl<T: AtomicInteger, A: Allocator> Machine<T, A> {
             words,
             failed: 0,
         })
+    }
+
+    /// The object.
+    pub fn object(&self) -> Object<T>
+        ensures { TellsObject T.arithmetic self.now result }
+    {
+        self.object
     }
 
     /// The word: of a lock, a semaphore, a barrier or a once; of a `Condvar` its mutex's, of an `Atomic` its lock's.
@@ -142,14 +150,14 @@ impl<T: AtomicInteger, A: Allocator> Machine<T, A> {
     }
 }
 
-impl<T: Copy, A: Allocator> Machine<T, A> {
+impl<T: AtomicInteger, A: Allocator> Machine<T, A> {
     /// A party begins a call.
     #[tactic(auto, using(crate::proofs::Stands::turned_in_place, crate::proofs::Stands::refused_in_place))]
     #[inline(always)]
     fn begin(&mut self, party: usize, call: Call<T>) -> Result<Event<T>, StepFault>
         requires { party < length self.old.parties }
-        ensures ok { IfOk result (HasTurned party (inputs.Begin call) self.old self.new) }
-        ensures fault { IfErr result (HasRefused party (inputs.Begin call) self.old) }
+        ensures ok { IfOk result (HasTurned T.arithmetic party (inputs.Begin call) self.old self.new) }
+        ensures fault { IfErr result (HasRefused T.arithmetic party (inputs.Begin call) self.old) }
         ensures err { OnErr result (self.new ≡ self.old) }
     {
         match turn::begin(&self.object, &mut self.parties[party], call) {
@@ -163,8 +171,8 @@ impl<T: Copy, A: Allocator> Machine<T, A> {
     #[inline(always)]
     fn go(&mut self, party: usize) -> Result<Event<T>, StepFault>
         requires { party < length self.old.parties }
-        ensures ok { IfOk result (HasTurned party inputs.Go self.old self.new) }
-        ensures fault { IfErr result (HasRefused party inputs.Go self.old) }
+        ensures ok { IfOk result (HasTurned T.arithmetic party inputs.Go self.old self.new) }
+        ensures fault { IfErr result (HasRefused T.arithmetic party inputs.Go self.old) }
         ensures err { OnErr result (self.new ≡ self.old) }
     {
         match turn::go(&self.object, &mut self.parties[party], &self.words) {
@@ -178,8 +186,8 @@ impl<T: Copy, A: Allocator> Machine<T, A> {
     #[inline(always)]
     fn answer(&mut self, party: usize, action: WaitAction) -> Result<Event<T>, StepFault>
         requires { party < length self.old.parties }
-        ensures ok { IfOk result (HasTurned party (inputs.Answer action) self.old self.new) }
-        ensures fault { IfErr result (HasRefused party (inputs.Answer action) self.old) }
+        ensures ok { IfOk result (HasTurned T.arithmetic party (inputs.Answer action) self.old self.new) }
+        ensures fault { IfErr result (HasRefused T.arithmetic party (inputs.Answer action) self.old) }
         ensures err { OnErr result (self.new ≡ self.old) }
     {
         match turn::answer(&mut self.parties[party], action) {
@@ -193,8 +201,8 @@ impl<T: Copy, A: Allocator> Machine<T, A> {
     #[inline(always)]
     fn choose(&mut self, party: usize, choice: Option<T>) -> Result<Event<T>, StepFault>
         requires { party < length self.old.parties }
-        ensures ok { IfOk result (HasTurned party (inputs.Choose choice) self.old self.new) }
-        ensures fault { IfErr result (HasRefused party (inputs.Choose choice) self.old) }
+        ensures ok { IfOk result (HasTurned T.arithmetic party (inputs.Choose choice) self.old self.new) }
+        ensures fault { IfErr result (HasRefused T.arithmetic party (inputs.Choose choice) self.old) }
         ensures err { OnErr result (self.new ≡ self.old) }
     {
         match turn::choose(&mut self.parties[party], choice) {
@@ -217,33 +225,35 @@ impl<T: Copy, A: Allocator> Machine<T, A> {
 
 /// The words of an object before the first event.
 fn opened<T: AtomicInteger>(object: &Object<T>) -> Words
-    ensures words { (word : AnyWord) → word_at result word ≡ opening_at object.now word }
+    ensures words { (word : AnyWord) → word_at result word ≡ opening_at T.arithmetic object.now word }
     ensures values { IsObject T.arithmetic object.now }
 {
-    let state = match object {
-        Object::Semaphore(initial) => *initial,
+    let mut state = 0;
+    let mut low_high = (0, 0);
+    match object {
+        Object::Semaphore(initial) => state = *initial,
         // Read, so that it is known to be below 2^32.
         Object::Barrier(n) => {
             let _n = *n;
-            0
         }
-        Object::Lazy(value) | Object::Atomic(value) => {
-            turn::read_value(*value);
-            0
+        Object::Lazy(value) => turn::read_value(*value),
+        Object::Atomic(value) => {
+            steps_atomic::closed::<T>();
+            low_high = (*value).to_words();
         }
         Object::Mutex
         | Object::Spin
         | Object::ReaderLock
         | Object::WriterLock
         | Object::Condvar
-        | Object::Once => 0,
-    };
+        | Object::Once => {}
+    }
     Words {
         state,
         counter: 0,
         waiters: 0,
         value: 0,
-        low: 0,
-        high: 0,
+        low: low_high.0,
+        high: low_high.1,
     }
 }

@@ -3,9 +3,11 @@ ghost use Rattle.std.specs.Prelude.{◌≡◌};
 ghost use Rattle.sync_steps.specs.Machine.Places.{begins_at, intent_at, after_at, answered_at, chosen_at, grant_at, needs_hold_at};
 
 use std::alloc::AllocError;
+use steps_atomic::AtomicPlace;
 use steps_barrier::BarrierPlace;
 use steps_condvar::CondvarPlace;
 use steps_events::WaitAction;
+use steps_events::atomic::internal::AtomicInteger;
 use steps_events::event::{Call, Object, Word};
 use steps_events::hold::HoldKind;
 use steps_events::row::{After, Intent};
@@ -18,7 +20,7 @@ use steps_semaphore::SemaphorePlace;
 use steps_spin::SpinPlace;
 
 /// Where a party is in its call: a place of its object's primitive.
-#[derive(Clone, Copy, Debug, PartialEq, Eq)]
+#[derive(Clone, Copy)]
 pub enum Place<T> {
     Mutex(MutexPlace),
     Spin(SpinPlace),
@@ -30,17 +32,18 @@ pub enum Place<T> {
     Once(OncePlace),
     /// With the value that the closure gives.
     Lazy(LazyPlace, T),
+    Atomic(AtomicPlace<T>),
 }
 
 /// A closure at which a call stands until it has answered.
-#[derive(Clone, Copy, Debug, PartialEq, Eq)]
+#[derive(Clone, Copy, PartialEq, Eq)]
 pub enum Closure {
     Wait,
     Choice,
 }
 
 /// A call under way: where it is, and whether it stands at a closure.
-#[derive(Clone, Copy, Debug, PartialEq, Eq)]
+#[derive(Clone, Copy)]
 pub struct Doing<T> {
     pub call: Call<T>,
     pub place: Place<T>,
@@ -48,7 +51,7 @@ pub struct Doing<T> {
 }
 
 /// A party: the call that it has under way, and what it holds.
-#[derive(Copy, Debug, PartialEq, Eq)]
+#[derive(Copy)]
 pub struct Party<T> {
     pub doing: Option<Doing<T>>,
     pub hold: Option<HoldKind>,
@@ -76,10 +79,10 @@ macro_rules! within {
     };
 }
 
-impl<T: Copy> Place<T> {
+impl<T: AtomicInteger> Place<T> {
     /// Where a call begins, if the object has it.
     pub fn begin(object: &Object<T>, call: &Call<T>) -> Option<Place<T>>
-        ensures { result ≡ begins_at object.now call.now }
+        ensures { result ≡ begins_at T.arithmetic object.now call.now }
     {
         match object {
             Object::Mutex => Some(Place::Mutex(MutexPlace::begin(call)?)),
@@ -91,14 +94,14 @@ impl<T: Copy> Place<T> {
             Object::Condvar => Some(Place::Condvar(CondvarPlace::begin(call)?)),
             Object::Once => Some(Place::Once(OncePlace::begin(call)?)),
             Object::Lazy(value) => Some(Place::Lazy(LazyPlace::begin(call)?, *value)),
-            Object::Atomic(_) => None,
+            Object::Atomic(_) => Some(Place::Atomic(AtomicPlace::begin(call)?)),
         }
     }
 
     /// What the step is to do, by its party's hold.
     #[inline(always)]
     pub fn intent(&self, hold: Option<HoldKind>) -> Intent<T>
-        ensures { result ≡ intent_at self.now hold }
+        ensures { result ≡ intent_at T.arithmetic self.now hold }
     {
         match self {
             Place::Mutex(place) => place.intent(Word::State),
@@ -110,13 +113,14 @@ impl<T: Copy> Place<T> {
             Place::Condvar(place) => place.intent(),
             Place::Once(place) => place.intent(Word::State),
             Place::Lazy(place, value) => place.intent(Word::State, *value),
+            Place::Atomic(place) => place.intent(hold),
         }
     }
 
     /// How the call goes on, by what the step told.
     #[inline(always)]
     pub fn after(&self, told: Option<u64>) -> After<T, Place<T>>
-        ensures { result ≡ after_at self.now told }
+        ensures { result ≡ after_at T.arithmetic self.now told }
     {
         match self {
             Place::Mutex(place) => within!(place.after(told), Place::Mutex),
@@ -128,12 +132,13 @@ impl<T: Copy> Place<T> {
             Place::Condvar(place) => within!(place.after(told), Place::Condvar),
             Place::Once(place) => within!(place.after(told), Place::Once),
             Place::Lazy(place, value) => within!(place.after(told, *value), Place::Lazy, *value),
+            Place::Atomic(place) => within!(place.after(told), Place::Atomic),
         }
     }
 
     /// Where the call goes on once its wait closure has answered.
     pub fn answered(&self, action: WaitAction) -> Place<T>
-        ensures { result ≡ answered_at self.now action }
+        ensures { result ≡ answered_at T.arithmetic self.now action }
     {
         match self {
             Place::Mutex(place) => Place::Mutex(place.answered(action)),
@@ -145,31 +150,30 @@ impl<T: Copy> Place<T> {
             Place::Condvar(place) => Place::Condvar(place.answered(action)),
             Place::Once(place) => Place::Once(place.answered(action)),
             Place::Lazy(place, value) => Place::Lazy(place.answered(action), *value),
+            Place::Atomic(place) => Place::Atomic(place.answered(action)),
         }
     }
 
-    /// Where the call goes on once its choice closure has answered: no place of today's objects asks for a choice.
-    pub fn chosen(&self, _choice: Option<T>) -> Place<T>
-        ensures { result ≡ chosen_at self.now _choice }
+    /// Where the call goes on once its choice closure has answered: only an atomic's calls ask for a choice.
+    pub fn chosen(&self, choice: Option<T>) -> Place<T>
+        ensures { result ≡ chosen_at T.arithmetic self.now choice }
     {
         match self {
-            Place::Mutex(place) => Place::Mutex(*place),
-            Place::Spin(place) => Place::Spin(*place),
-            Place::Semaphore(place) => Place::Semaphore(*place),
-            Place::Barrier(place) => Place::Barrier(*place),
-            Place::RwReader(place) => Place::RwReader(*place),
-            Place::RwWriter(place) => Place::RwWriter(*place),
-            Place::Condvar(place) => Place::Condvar(*place),
-            Place::Once(place) => Place::Once(*place),
-            Place::Lazy(place, value) => Place::Lazy(*place, *value),
+            Place::Atomic(place) => Place::Atomic(place.chosen(choice)),
+            other => *other,
         }
     }
 }
 
 /// The hold that a call takes where its exchange of the lock's word puts `to` in the place of `from`.
 #[inline(always)]
-pub fn grant<T>(object: &Object<T>, call: &Call<T>, from: u64, to: u64) -> Option<HoldKind>
-    ensures { result ≡ grant_at object.now call.now from to }
+pub fn grant<T: AtomicInteger>(
+    object: &Object<T>,
+    call: &Call<T>,
+    from: u64,
+    to: u64,
+) -> Option<HoldKind>
+    ensures { result ≡ grant_at T.arithmetic object.now call.now from to }
 {
     match object {
         Object::Mutex => steps_mutex::grant(call),
@@ -177,17 +181,14 @@ pub fn grant<T>(object: &Object<T>, call: &Call<T>, from: u64, to: u64) -> Optio
         Object::ReaderLock => steps_rw_reader::grant(call),
         Object::WriterLock => steps_rw_writer::grant(call, from, to),
         Object::Condvar => steps_condvar::grant(call),
-        Object::Semaphore(_)
-        | Object::Barrier(_)
-        | Object::Once
-        | Object::Lazy(_)
-        | Object::Atomic(_) => None,
+        Object::Atomic(_) => steps_atomic::grant(call),
+        Object::Semaphore(_) | Object::Barrier(_) | Object::Once | Object::Lazy(_) => None,
     }
 }
 
 /// Whether only a party with a hold may begin the call.
-pub fn needs_hold<T>(object: &Object<T>, call: &Call<T>) -> bool
-    ensures { result ≡ needs_hold_at object.now call.now }
+pub fn needs_hold<T: AtomicInteger>(object: &Object<T>, call: &Call<T>) -> bool
+    ensures { result ≡ needs_hold_at T.arithmetic object.now call.now }
 {
     match object {
         Object::Mutex | Object::Spin | Object::ReaderLock | Object::WriterLock => {

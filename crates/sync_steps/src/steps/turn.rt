@@ -31,13 +31,13 @@ fn is_locking<T>(call: &Call<T>) -> bool
 
 /// The hold of a party after an act of its call.
 #[inline(always)]
-fn hold_after<T>(
+fn hold_after<T: AtomicInteger>(
     object: &Object<T>,
     call: &Call<T>,
     act: &Act<T>,
     hold: Option<HoldKind>,
 ) -> Option<HoldKind>
-    ensures { result ≡ new_hold object.now call.now act.now hold }
+    ensures { result ≡ new_hold T.arithmetic object.now call.now act.now hold }
 {
     match act {
         Act::Store {
@@ -93,12 +93,12 @@ fn move_on<T: Copy>(doing: &mut Option<Doing<T>>, after: &After<T, Place<T>>)
 }
 
 /// A party begins a call.
-pub(crate) fn begin<T: Copy>(
+pub(crate) fn begin<T: AtomicInteger>(
     object: &Object<T>,
     party: &mut Party<T>,
     call: Call<T>,
 ) -> Result<(Act<T>, Then<T>), StepFault>
-    ensures { TurnsTo (begin_turn object.now party.old call) party.old party.new result }
+    ensures { TurnsTo (begin_turn T.arithmetic object.now party.old call) party.old party.new result }
 {
     if party.doing.is_some() {
         return Err(StepFault::Busy);
@@ -123,12 +123,12 @@ pub(crate) fn begin<T: Copy>(
 /// A party makes the step at the place of its call. Of all turns it is the one that comes by the million: so what the step does not
 /// change stays where it is.
 #[inline(always)]
-pub(crate) fn go<T: Copy>(
+pub(crate) fn go<T: AtomicInteger>(
     object: &Object<T>,
     party: &mut Party<T>,
     words: &Words,
 ) -> Result<(Act<T>, Then<T>), StepFault>
-    ensures { TurnsTo (go_turn object.now party.old (word_at words.now)) party.old party.new result }
+    ensures { TurnsTo (go_turn T.arithmetic object.now party.old (word_at words.now)) party.old party.new result }
 {
     let Some(doing) = &party.doing else {
         return Err(StepFault::Idle);
@@ -144,11 +144,11 @@ pub(crate) fn go<T: Copy>(
 }
 
 /// The wait closure of a party answers.
-pub(crate) fn answer<T: Copy>(
+pub(crate) fn answer<T: AtomicInteger>(
     party: &mut Party<T>,
     action: WaitAction,
 ) -> Result<(Act<T>, Then<T>), StepFault>
-    ensures { TurnsTo (answer_turn party.old action) party.old party.new result }
+    ensures { TurnsTo (answer_turn T.arithmetic party.old action) party.old party.new result }
 {
     let Some(doing) = party.doing else {
         return Err(StepFault::NotWaiting);
@@ -165,11 +165,11 @@ pub(crate) fn answer<T: Copy>(
 }
 
 /// The choice closure of a party answers.
-pub(crate) fn choose<T: Copy>(
+pub(crate) fn choose<T: AtomicInteger>(
     party: &mut Party<T>,
     choice: Option<T>,
 ) -> Result<(Act<T>, Then<T>), StepFault>
-    ensures { TurnsTo (choose_turn party.old choice) party.old party.new result }
+    ensures { TurnsTo (choose_turn T.arithmetic party.old choice) party.old party.new result }
 {
     let Some(doing) = party.doing else {
         return Err(StepFault::NotWaiting);

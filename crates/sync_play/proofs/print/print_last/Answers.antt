@@ -3,6 +3,6 @@ use Rattle.sync_play.proofs.print.print_last.Goals as goal
 
 pub returns : goal.returns
 returns c =
-    λ parties past stands. last_printed c.writeln.result c.args.object past c.word-word.result c.failed-failed.result _ _ _ _
-    (c.word-word.ensures c.args.object parties past stands) (c.failed-failed.ensures c.args.object parties past stands)
-    c.in_ok-write.ensures.bytes (c.in_ok-print_further_words.ensures parties past stands) c.writeln.ensures.bytes
+    λ o parties past stands. last_printed c.writeln.result o past c.word-word.result c.failed-failed.result _ _ _ _
+    (c.word-word.ensures o parties past stands) (c.failed-failed.ensures o parties past stands)
+    c.in_ok-write.ensures.bytes (c.in_ok-print_further_words.ensures o parties past stands) c.writeln.ensures.bytes

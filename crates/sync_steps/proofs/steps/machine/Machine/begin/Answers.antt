@@ -1,5 +1,4 @@
 use Rattle.std.proofs.Common.{◌<◌, length, subst}
-use Rattle.steps_events.specs.WordsAt.{word_at}
 use Rattle.steps_events.specs.declared.event.Input.TheVariants as inputs
 use Rattle.sync_steps.specs.Machine.{Configuration}
 use Rattle.sync_steps.specs.Machine.Applies.{HasRefused}
@@ -11,9 +10,9 @@ pub returns-in-Err-clause-fault : goal.returns-in-Err-clause-fault
 returns-in-Err-clause-fault g c =
     let own = c.self.inside in
     let was : Configuration g.row.T.Denot = record { object = own.object; parties = own.parties.items; words = own.words; failed = own.failed } in
-    let turned = subst (λ r. TurnsTo (begin_turn was.object c.index_mut.result.now c.args.call) c.index_mut.result.now c.begin.new.party r) c.in-Err.is c.begin.ensures in
+    let turned = subst (λ r. TurnsTo (begin_turn g.T.AtomicInteger.arithmetic was.object c.index_mut.result.now c.args.call) c.index_mut.result.now c.begin.new.party r) c.in-Err.is c.begin.ensures in
     subst
-    (λ (m : Configuration g.row.T.Denot). c.args.party < length m.parties → HasRefused c.args.party (inputs.Begin c.args.call) m c.in-Err.fault)
+    (λ (m : Configuration g.row.T.Denot). c.args.party < length m.parties → HasRefused g.T.AtomicInteger.arithmetic c.args.party (inputs.Begin c.args.call) m c.in-Err.fault)
     c.self.view_is
-    (λ within. refused_in_place c.args.party (inputs.Begin c.args.call) c.index_mut.result.now c.begin.new.party c.in-Err.fault was within c.index_mut.ensures.value turned)
+    (λ within. refused_in_place g.T.AtomicInteger.arithmetic c.args.party (inputs.Begin c.args.call) c.index_mut.result.now c.begin.new.party c.in-Err.fault was within c.index_mut.ensures.value turned)
     c.requires

@@ -1,0 +1,323 @@
+//! The running semaphore.
+ghost use Rattle.std.specs.Prelude.{◌≡◌, ◌+◌};
+ghost use Rattle.passes.specs.Parts.{IsWhole};
+ghost use Rattle.passes.specs.Passes.{IsSamePass, part_of, view};
+ghost use Rattle.passes.specs.Views.{first_view};
+ghost use Rattle.tallies.specs.SemaphoreRule.{first_permits};
+ghost use Rattle.running_semaphore.specs.SemaphoreShown.{IsSemPass, HasCounted, given_of, taken_of};
+
+use crate::strategy::semaphore::{SemPass, Semaphore};
+use crate::{WaitAction, WaitResult, WaitWord};
+use signal::Signal;
+use std::sync::Wait;
+use std::sync::atomic::{AtomicU64, Ordering};
+use std::test::Fail;
+use std::thread;
+use std::thread::Threads;
+
+/// Takes three times from a new semaphore of 2, and posts 1.
+fn take_three_and_post_one<R: Wait>(
+    rt: &R,
+    semaphore: &Semaphore,
+    pass: &mut SemPass,
+) -> (WaitResult<()>, WaitResult<()>, WaitResult<()>)
+    requires own { IsSemPass semaphore.now pass.old }
+    requires new { view pass.old ≡ first_view (first_permits 2) }
+    ensures same { IsSamePass pass.old pass.new }
+    ensures tally { (given_of pass.new ≡ 2 + 1) × (taken_of pass.new ≡ 2) }
+    ensures whole { IsWhole (part_of pass.new) }
+{
+    let answers = (
+        semaphore.try_wait(rt, pass),
+        semaphore.try_wait(rt, pass),
+        semaphore.try_wait(rt, pass),
+    );
+    semaphore.post(pass, |_| (), 1);
+    answers
+}
+
+#[test]
+fn two_of_three_take(rt: HostRuntime) -> Result<(), Fail> {
+    let (semaphore, mut pass) = Semaphore::new(rt.alloc(), 2)?;
+    let (first, second, third) = take_three_and_post_one(&rt, &semaphore, &mut pass);
+    assert_eq!(rt; first, WaitResult::Success(()));
+    assert_eq!(rt; second, WaitResult::Success(()));
+    assert_eq!(rt; third, WaitResult::Interrupted);
+    assert_eq!(rt; semaphore.value(&mut pass), 1);
+    assert_eq!(rt; semaphore.close(pass), 1);
+    Ok(())
+}
+
+/// How often `post` calls its wake closure, and the value that the closure sees.
+fn post_counted(semaphore: &Semaphore, pass: &mut SemPass, value: u64) -> (u64, u64)
+    requires { IsSemPass semaphore.now pass.old }
+    ensures { IsSamePass pass.old pass.new }
+{
+    let calls = AtomicU64::new(0);
+    let word = AtomicU64::new(9);
+    let wakes = |now: &WaitWord| {
+        calls.fetch_add(1, Ordering::SeqCst);
+        word.store(now.load(), Ordering::SeqCst);
+    };
+    semaphore.post(pass, wakes, value);
+    (calls.load(Ordering::SeqCst), word.load(Ordering::SeqCst))
+}
+
+#[test]
+fn post_wakes_once_after_its_add(rt: HostRuntime) -> Result<(), Fail> {
+    let (semaphore, mut pass) = Semaphore::new(rt.alloc(), 2)?;
+    assert_eq!(rt; post_counted(&semaphore, &mut pass, 0), (1, 2));
+    assert_eq!(rt; post_counted(&semaphore, &mut pass, 1), (1, 3));
+    Ok(())
+}
+
+/// What a `wait` did whose wait closure answers `Abort` at once: its answer, how often it asked, and with what.
+fn wait_and_abort<R: Wait>(
+    rt: &R,
+    semaphore: &Semaphore,
+    pass: &mut SemPass,
+) -> (WaitResult<()>, u64, u64)
+    requires { IsSemPass semaphore.now pass.old }
+    ensures { IsSamePass pass.old pass.new }
+{
+    let calls = AtomicU64::new(0);
+    let got = AtomicU64::new(9);
+    let answer = semaphore.wait(rt, pass, |_, seen| {
+        calls.fetch_add(1, Ordering::SeqCst);
+        got.store(*seen, Ordering::SeqCst);
+        WaitAction::Abort
+    });
+    let calls = calls.load(Ordering::SeqCst);
+    (answer, calls, got.load(Ordering::SeqCst))
+}
+
+#[test]
+fn a_waiter_aborts(rt: HostRuntime) -> Result<(), Fail> {
+    let (semaphore, mut pass) = Semaphore::new(rt.alloc(), 1)?;
+    assert_eq!(rt;
+        wait_and_abort(&rt, &semaphore, &mut pass),
+        (WaitResult::Success(()), 0, 9)
+    );
+    assert_eq!(rt;
+        wait_and_abort(&rt, &semaphore, &mut pass),
+        (WaitResult::Interrupted, 1, 0)
+    );
+    assert_eq!(rt; semaphore.close(pass), 0);
+    Ok(())
+}
+
+/// Posts 1 once the other thread's call is over, or asks again.
+fn post_when_over(semaphore: &Semaphore, pass: &mut SemPass, over: &Signal) -> bool
+    requires { IsSemPass semaphore.now pass.old }
+{
+    let was_over = over.awaited();
+    semaphore.post(pass, |_| (), 1);
+    was_over
+}
+
+/// Waits with a closure that answers `Abort` at once, and says so should it be asked again.
+fn wait_until_over<R: Wait>(
+    rt: &R,
+    semaphore: &Semaphore,
+    pass: &mut SemPass,
+    over: &Signal,
+) -> (WaitResult<()>, u64)
+    requires { IsSemPass semaphore.now pass.old }
+{
+    let calls = AtomicU64::new(0);
+    let answer = semaphore.wait(rt, pass, |_, _| {
+        if calls.fetch_add(1, Ordering::SeqCst) > 0 {
+            over.give();
+        }
+        WaitAction::Abort
+    });
+    over.give();
+    (answer, calls.load(Ordering::SeqCst))
+}
+
+/// A call that went on after `Abort` would take what the other thread then posts.
+#[test]
+fn an_abort_is_obeyed(rt: HostRuntime) -> Result<(), Fail> {
+    let (semaphore, pass) = Semaphore::new(rt.alloc(), 0)?;
+    let Ok((mut one, mut two)) = pass.split(&semaphore) else {
+        unreachable!()
+    };
+    let over = Signal::new();
+    let (was_over, answer) = thread::join(
+        &rt,
+        || post_when_over(&semaphore, &mut one, &over),
+        || wait_until_over(&rt, &semaphore, &mut two, &over),
+    );
+    assert!(rt; was_over);
+    assert_eq!(rt; answer, (WaitResult::Interrupted, 1));
+    Ok(())
+}
+
+/// Posts 1 once the other thread asks for it, and tells it.
+fn post_when_asked(
+    semaphore: &Semaphore,
+    pass: &mut SemPass,
+    asked: &Signal,
+    posted: &Signal,
+) -> bool
+    requires { IsSemPass semaphore.now pass.old }
+{
+    if !asked.awaited() {
+        return false;
+    }
+    semaphore.post(pass, |_| (), 1);
+    posted.give();
+    true
+}
+
+/// Waits with a closure that answers `Abort` only after the other thread has posted.
+fn wait_until_posted<R: Wait>(
+    rt: &R,
+    semaphore: &Semaphore,
+    pass: &mut SemPass,
+    asked: &Signal,
+    posted: &Signal,
+) -> WaitResult<()>
+    requires { IsSemPass semaphore.now pass.old }
+{
+    semaphore.wait(rt, pass, |_, _| {
+        asked.give();
+        if posted.awaited() {
+            WaitAction::Abort
+        } else {
+            WaitAction::Continue
+        }
+    })
+}
+
+#[test]
+fn success_after_abort(rt: HostRuntime) -> Result<(), Fail> {
+    let (semaphore, pass) = Semaphore::new(rt.alloc(), 0)?;
+    let Ok((mut one, mut two)) = pass.split(&semaphore) else {
+        unreachable!()
+    };
+    let (asked, posted) = (Signal::new(), Signal::new());
+    let (did, answer) = thread::join(
+        &rt,
+        || post_when_asked(&semaphore, &mut one, &asked, &posted),
+        || wait_until_posted(&rt, &semaphore, &mut two, &asked, &posted),
+    );
+    assert!(rt; did);
+    assert_eq!(rt; answer, WaitResult::Success(()));
+    Ok(())
+}
+
+/// Posts 1 so many times.
+fn post_often(semaphore: &Semaphore, mut pass: SemPass, times: u64) -> SemPass
+    requires own { IsSemPass semaphore.now pass }
+    ensures posted { HasCounted times 0 pass result }
+{
+    for _ in 0..times {
+        semaphore.post(&mut pass, |_| (), 1);
+    }
+    pass
+}
+
+/// Takes so many permits, with a closure that yields and answers `Continue`: that is never interrupted.
+fn take_often<R: Wait>(rt: &R, semaphore: &Semaphore, mut pass: SemPass, times: u64) -> SemPass
+    requires own { IsSemPass semaphore.now pass }
+    ensures taken { HasCounted 0 times pass result }
+{
+    for _ in 0..times {
+        let answer = semaphore.wait(rt, &mut pass, |_, _| {
+            thread::yield_now();
+            WaitAction::Continue
+        });
+        match answer {
+            WaitResult::Success(()) => (),
+            WaitResult::Interrupted => unreachable!(),
+        }
+    }
+    pass
+}
+
+/// One thread posts 100 permits to a new semaphore of 2, and another takes 101 of the 102.
+fn post_and_take<R: Threads + Wait + Sync>(rt: &R, semaphore: Semaphore, pass: SemPass) -> u64
+    requires own { IsSemPass semaphore pass }
+    requires new { view pass ≡ first_view (first_permits 2) }
+    ensures { result ≡ 1 }
+{
+    let Ok((one, two)) = pass.split(&semaphore) else {
+        unreachable!()
+    };
+    let shared = &semaphore;
+    let (one, two) = thread::join(
+        rt,
+        || -> SemPass
+            requires { IsSemPass shared.now one }
+            ensures { HasCounted 100 0 one result }
+        { post_often(shared, one, 100) },
+        || -> SemPass
+            requires { IsSemPass shared.now two }
+            ensures { HasCounted 0 101 two result }
+        { take_often(rt, shared, two, 101) },
+    );
+    let Ok(pass) = SemPass::join(one, two, &semaphore) else {
+        unreachable!()
+    };
+    semaphore.close(pass)
+}
+
+#[test]
+fn two_threads_post_and_take(rt: HostRuntime) -> Result<(), Fail> {
+    let (semaphore, pass) = Semaphore::new(rt.alloc(), 2)?;
+    assert_eq!(rt; post_and_take(&rt, semaphore, pass), 1);
+    Ok(())
+}
+
+/// Acts under a permit of a new semaphore of 1, and answers what the action gave.
+fn act_under_a_permit<R: Wait>(rt: &R, semaphore: &Semaphore, pass: &mut SemPass) -> u64
+    requires own { IsSemPass semaphore.now pass.old }
+    requires new { view pass.old ≡ first_view (first_permits 1) }
+    ensures seven { result ≡ 7 }
+    ensures same { IsSamePass pass.old pass.new }
+    ensures tally { (given_of pass.new ≡ 2) × (taken_of pass.new ≡ 1) }
+{
+    let answer = semaphore.with_permit(rt, pass, |_, _| WaitAction::Continue, |_| (), || 7);
+    match answer {
+        WaitResult::Success(seven) => seven,
+        WaitResult::Interrupted => unreachable!(),
+    }
+}
+
+#[test]
+fn a_permit_is_given_back(rt: HostRuntime) -> Result<(), Fail> {
+    let (semaphore, mut pass) = Semaphore::new(rt.alloc(), 1)?;
+    assert_eq!(rt; act_under_a_permit(&rt, &semaphore, &mut pass), 7);
+    assert_eq!(rt; semaphore.close(pass), 1);
+    Ok(())
+}
+
+/// What another pass sees under `with_permit`.
+fn value_under_a_permit<R: Wait>(
+    rt: &R,
+    semaphore: &Semaphore,
+    one: &mut SemPass,
+    two: &mut SemPass,
+) -> WaitResult<u64>
+    requires { IsSemPass semaphore.now one.old × IsSemPass semaphore.now two.old }
+{
+    semaphore.with_permit(
+        rt,
+        one,
+        |_, _| WaitAction::Continue,
+        |_| (),
+        || semaphore.value(two),
+    )
+}
+
+#[test]
+fn acts_while_the_permit_is_taken(rt: HostRuntime) -> Result<(), Fail> {
+    let (semaphore, pass) = Semaphore::new(rt.alloc(), 1)?;
+    let Ok((mut one, mut two)) = pass.split(&semaphore) else {
+        return Err("no parts")?;
+    };
+    let inside = value_under_a_permit(&rt, &semaphore, &mut one, &mut two);
+    assert_eq!(rt; matches!(inside, WaitResult::Success(0)), true);
+    Ok(())
+}

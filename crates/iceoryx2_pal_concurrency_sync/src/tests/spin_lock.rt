@@ -1,0 +1,150 @@
+//! The running spin lock.
+mod kept;
+mod refusals;
+mod threads;
+
+ghost use Rattle.std.specs.Prelude.{◌≡◌, ◌+◌, ◌*◌, ◌^◌, ◌<◌, IfSome};
+ghost use Rattle.running_spin_lock.specs.SpinShown.{IsSpinPass, IsSamePass, IsAlone, HasStayed, grants_of, value_of};
+
+use crate::spin_lock::{PoisonError, SpinLock, SpinLockGuard, SpinPass};
+use std::sync::Wait;
+use std::test::Fail;
+
+/// Whether `try_lock` is refused now.
+fn is_refused(lock: &SpinLock<u64>, pass: &mut SpinPass) -> bool
+    requires { IsSpinPass lock.now pass.old }
+    ensures { IsSamePass pass.old pass.new }
+{
+    match SpinLock::try_lock(pass, lock) {
+        Some(_guard) => false,
+        None => true,
+    }
+}
+
+/// Whether `two` is refused while `one` has the guard, and whether it is afterwards.
+fn refused_while_held(
+    lock: &SpinLock<u64>,
+    one: &mut SpinPass,
+    two: &mut SpinPass,
+) -> Option<(bool, bool)>
+    requires { IsSpinPass lock.now one.old × IsSpinPass lock.now two.old }
+{
+    let held = match SpinLock::try_lock(one, lock) {
+        Some(_guard) => is_refused(lock, two),
+        None => return None,
+    };
+    Some((held, is_refused(lock, two)))
+}
+
+#[test]
+fn one_holder_at_a_time(rt: HostRuntime) -> Result<(), Fail> {
+    let (lock, pass) = SpinLock::new(rt.alloc(), 0u64)?;
+    let Ok((mut one, mut two)) = pass.split(&lock) else {
+        unreachable!()
+    };
+    assert_eq!(rt;
+        refused_while_held(&lock, &mut one, &mut two),
+        Some((true, false))
+    );
+    Ok(())
+}
+
+/// What is written through a guard is what it lends.
+fn double(guard: &mut SpinLockGuard<'_, u64>)
+    requires small { value_of guard.old < 2 ^ 63 }
+    ensures doubled { value_of guard.new ≡ 2 * value_of guard.old }
+{
+    **guard *= 2;
+}
+
+/// Writes a number, doubles it and halves it, under one guard.
+fn half_of_double(lock: &SpinLock<u64>, pass: &mut SpinPass, number: u64) -> Option<u64>
+    requires own { IsSpinPass lock.now pass.old }
+    requires small { number < 2 ^ 63 }
+    ensures half { IfSome result (λ half. half ≡ number) }
+{
+    match SpinLock::try_lock(pass, lock) {
+        Some(mut guard) => {
+            *guard = number;
+            double(&mut guard);
+            Some(*guard / 2)
+        }
+        None => None,
+    }
+}
+
+#[test]
+fn what_was_written_is_lent(rt: HostRuntime) -> Result<(), Fail> {
+    let (lock, mut pass) = SpinLock::new(rt.alloc(), 7u64)?;
+    assert_eq!(rt; half_of_double(&lock, &mut pass, 21), Some(21));
+    Ok(())
+}
+
+/// Adds to the value, and locks again in the same function: with the whole pass `try_lock` is granted.
+fn add_twice<R: Wait>(rt: &R, lock: &SpinLock<u64>, pass: &mut SpinPass, more: u64) -> u64
+    requires own { IsSpinPass lock.now pass.old }
+    requires alone { IsAlone pass.old }
+    ensures stayed { HasStayed pass.old pass.new }
+    ensures grants { grants_of pass.new ≡ grants_of pass.old + 3 }
+{
+    {
+        let mut guard = SpinLock::blocking_lock(pass, lock, rt);
+        *guard = guard.wrapping_add(more);
+    }
+    match SpinLock::lock(pass, lock, rt) {
+        Ok(mut guard) => *guard = guard.wrapping_add(more),
+        Err(_) => unreachable!(),
+    }
+    match SpinLock::try_lock(pass, lock) {
+        Some(guard) => *guard,
+        None => unreachable!(),
+    }
+}
+
+#[test]
+fn the_value_is_the_one_that_was_left(rt: HostRuntime) -> Result<(), Fail> {
+    let (lock, mut pass) = SpinLock::new(rt.alloc(), 40u64)?;
+    assert_eq!(rt; add_twice(&rt, &lock, &mut pass, 1), 42);
+    assert_eq!(rt; add_twice(&rt, &lock, &mut pass, 0), 42);
+    Ok(())
+}
+
+/// Parts a pass of which nothing is known but that it is whole, in three, and joins them again: that one is granted.
+fn part_and_join(lock: &SpinLock<u64>, pass: SpinPass) -> SpinPass
+    requires own { IsSpinPass lock.now pass }
+    requires alone { IsAlone pass }
+    ensures own { IsSpinPass lock.now result }
+    ensures alone { IsAlone result }
+{
+    let Ok((one, other)) = pass.split(lock) else {
+        unreachable!()
+    };
+    let Ok((two, three)) = other.split(lock) else {
+        unreachable!()
+    };
+    let Ok(other) = SpinPass::join(two, three, lock) else {
+        unreachable!()
+    };
+    let Ok(mut pass) = SpinPass::join(one, other, lock) else {
+        unreachable!()
+    };
+    match SpinLock::try_lock(&mut pass, lock) {
+        Some(_guard) => {}
+        None => unreachable!(),
+    }
+    pass
+}
+
+#[test]
+fn parts_are_the_whole_again(rt: HostRuntime) -> Result<(), Fail> {
+    let (lock, pass) = SpinLock::new(rt.alloc(), 0u64)?;
+    let mut pass = part_and_join(&lock, pass);
+    assert!(rt; !is_refused(&lock, &mut pass));
+    Ok(())
+}
+
+#[test]
+fn a_poison_error_gives_its_guard_back(rt: HostRuntime) -> Result<(), Fail> {
+    assert_eq!(rt; PoisonError::new(7).into_inner(), 7);
+    Ok(())
+}

@@ -1,0 +1,2 @@
+pub mod TicketsFollow
+pub mod Locked

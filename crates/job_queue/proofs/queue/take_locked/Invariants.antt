@@ -1,0 +1,13 @@
+use Rattle.std.proofs.Common.{◌≡◌}
+use Rattle.running_mutex.specs.MutexShown.{pass_of, borrow_of, HasStayed as HasLockedAtMost}
+use Rattle.running_mutex.specs.CondShown.{HasStayed as HasWaitedAtMost}
+use Rattle.running_spin_lock.specs.SpinShown.{HasStayed as HasSpunAtMost}
+use Rattle.job_queue.proofs.queue.take_locked.Given as goal
+
+abbrev pub invariant-loop : goal.invariant-loop
+invariant-loop g l = record {
+  borrow : borrow_of l.hold ≡ borrow_of l.initial.hold;
+  held : HasLockedAtMost (pass_of l.initial.hold) (pass_of l.hold);
+  waited : HasWaitedAtMost l.fn.cond_pass l.cond_pass;
+  spun : HasSpunAtMost l.fn.pass l.pass;
+}

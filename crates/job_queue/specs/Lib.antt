@@ -1,0 +1,7 @@
+pub mod Answers
+pub mod Tickets
+pub mod Jobs
+pub mod StateShown
+pub mod Looks
+pub mod Locked
+pub mod QueueShown

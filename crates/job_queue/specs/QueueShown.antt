@@ -1,0 +1,39 @@
+-- What contracts see of a queue and its pass, and what a call changes in a pass.
+use Rattle.std.specs.Prelude.{◌≡◌, ◌+◌, ◌≤◌}
+use Rattle.running_mutex.specs.MutexShown as mutexes
+use Rattle.running_mutex.specs.CondShown as conds
+use Rattle.running_spin_lock.specs.SpinShown as spins
+use Rattle.running_mutex.specs.declared.condition_variable.CondPass.{CondPass}
+use Rattle.running_spin_lock.specs.declared.pass.SpinPass.{SpinPass}
+use Rattle.job_queue.specs.Locked.{HasLockedOnce}
+use Rattle.job_queue.specs.declared.pass.QueuePass.{QueuePass}
+use Rattle.job_queue.specs.declared.queue.JobQueue.{JobQueue}
+
+-- the three passes inside: that of the mutex, that of the condition variable, and that of the state
+abbrev pub mutex_in : QueuePass → mutexes.MutexPass
+mutex_in p = p.mutex
+
+abbrev pub changed_in : QueuePass → CondPass
+changed_in p = p.changed
+
+abbrev pub state_in : QueuePass → SpinPass
+state_in p = p.state
+
+abbrev pub IsQueuePass : {T A : Type 0} → JobQueue T A → QueuePass → Type 0
+IsQueuePass q p = mutexes.IsMutexPass q.mutex (mutex_in p) × conds.IsCondPass q.changed (changed_in p) × spins.IsSpinPass q.state (state_in p)
+
+-- It may have put, taken, waited and closed. A helper, a loop and a closure carry this one fact.
+pub record HasStayed (p q : QueuePass) : Type 0 where
+  pub mutex : mutexes.HasStayed (mutex_in p) (mutex_in q)
+  pub changed : conds.HasStayed (changed_in p) (changed_in q)
+  pub state : spins.HasStayed (state_in p) (state_in q)
+
+-- it locked the mutex once and the state's lock once, and let both go
+pub record HasGoneInOnce (p q : QueuePass) : Type 0 where
+  pub mutex : HasLockedOnce (mutex_in p) (mutex_in q)
+  pub state : spins.HasLockedOnce (state_in p) (state_in q)
+
+-- so, each at least once
+pub record HasGoneIn (p q : QueuePass) : Type 0 where
+  pub mutex : mutexes.grants_of (mutex_in p) + 1 ≤ mutexes.grants_of (mutex_in q)
+  pub state : spins.grants_of (state_in p) + 1 ≤ spins.grants_of (state_in q)

@@ -1,0 +1,59 @@
+//! The right to call a queue.
+ghost use Rattle.std.specs.Prelude.{◌≡◌, IfOk, is_ok, true};
+ghost use Rattle.running_mutex.specs.MutexShown.{holds_of};
+
+use crate::queue::JobQueue;
+use running_mutex::MutexPass;
+use running_mutex::condition_variable::CondPass;
+use running_spin_lock::SpinPass;
+use std::alloc::Allocator;
+
+/// The right to call a queue, which has no bytes. No call of its owner is under way. Every thread needs one of its own.
+#[derive(Drop)]
+pub struct QueuePass {
+    pub(crate) mutex: MutexPass,
+    pub(crate) changed: CondPass,
+    pub(crate) state: SpinPass,
+    ghost off: { holds_of mutex ≡ 0 },
+}
+
+impl QueuePass {
+    ghost use Rattle.job_queue.specs.QueueShown.{IsQueuePass};
+
+    /// Two passes of the same queue. `Err`, which never comes today, would hand the pass back.
+    pub fn split<T, A: Allocator>(
+        self,
+        of: &JobQueue<T, A>,
+    ) -> Result<(QueuePass, QueuePass), QueuePass>
+        requires own { IsQueuePass of.now self }
+        ensures never_refused { is_ok result ≡ true }
+        ensures own { IfOk result (λ parts. IsQueuePass of.now parts.0 × IsQueuePass of.now parts.1) }
+    {
+        let QueuePass {
+            mutex,
+            changed,
+            state,
+        } = self;
+        let Ok((mutex, other_mutex)) = mutex.split(&of.mutex) else {
+            unreachable!()
+        };
+        let Ok((changed, other_changed)) = changed.split(&of.changed) else {
+            unreachable!()
+        };
+        let Ok((state, other_state)) = state.split(&of.state) else {
+            unreachable!()
+        };
+        Ok((
+            QueuePass {
+                mutex,
+                changed,
+                state,
+            },
+            QueuePass {
+                mutex: other_mutex,
+                changed: other_changed,
+                state: other_state,
+            },
+        ))
+    }
+}

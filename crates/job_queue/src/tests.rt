@@ -1,0 +1,4 @@
+mod queue;
+mod refusals;
+mod state;
+mod threads;

@@ -1,0 +1,551 @@
+//! The running mutex.
+ghost use Rattle.std.specs.Prelude.{◌≡◌, ◌+◌, false};
+ghost use Rattle.steps_events.specs.declared.WaitAction.TheVariants.{Abort};
+ghost use Rattle.passes.specs.Passes.{IsSamePass, sights_of};
+ghost use Rattle.running_mutex.specs.MutexShown.{IsMutexPass, IsAlone, HasStayed, holds_of, grants_of};
+
+use iceoryx2_pal_concurrency_sync::strategy::mutex::{Mutex, MutexPass};
+use iceoryx2_pal_concurrency_sync::{WaitAction, WaitResult};
+use signal::Signal;
+use std::alloc::Global;
+use std::sync::Wait;
+use std::sync::atomic::{AtomicU64, Ordering};
+use std::test::Fail;
+use std::thread;
+use std::thread::Threads;
+
+/// Locks and unlocks, with closures that yield and answer `Continue`: that is never interrupted.
+fn lock_and_unlock<R: Wait>(rt: &R, mutex: &Mutex, pass: &mut MutexPass)
+    requires own { IsMutexPass mutex.now pass.old }
+    requires off { holds_of pass.old ≡ 0 }
+    ensures stayed { HasStayed pass.old pass.new }
+{
+    let locked = Mutex::lock(pass, mutex, rt, |_, _| {
+        thread::yield_now();
+        WaitAction::Continue
+    });
+    match locked {
+        WaitResult::Success(hold) => {
+            mutex.unlock(hold, |_| ());
+        }
+        WaitResult::Interrupted => unreachable!(),
+    }
+}
+
+fn lock_and_unlock_often<R: Wait>(rt: &R, mutex: &Mutex, mut pass: MutexPass) -> MutexPass
+    requires own { IsMutexPass mutex.now pass }
+    requires off { holds_of pass ≡ 0 }
+    ensures stayed { HasStayed pass result }
+{
+    for _ in 0..100u64 {
+        lock_and_unlock(rt, mutex, &mut pass);
+    }
+    pass
+}
+
+/// Two threads lock and unlock in turn. After the join the whole pass is granted.
+fn lock_in_two_threads<R: Threads + Wait + Sync>(
+    rt: &R,
+    mutex: &Mutex,
+    pass: MutexPass,
+) -> MutexPass
+    requires own { IsMutexPass mutex.now pass }
+    requires alone { IsAlone pass }
+    ensures own { IsMutexPass mutex.now result }
+    ensures alone { IsAlone result }
+{
+    let Ok((one, two)) = pass.split(mutex) else {
+        unreachable!()
+    };
+    let (one, two) = thread::join(
+        rt,
+        || -> MutexPass
+            requires { IsMutexPass mutex.now one × (holds_of one ≡ 0) }
+            ensures { HasStayed one result }
+        { lock_and_unlock_often(rt, mutex, one) },
+        || -> MutexPass
+            requires { IsMutexPass mutex.now two × (holds_of two ≡ 0) }
+            ensures { HasStayed two result }
+        { lock_and_unlock_often(rt, mutex, two) },
+    );
+    let Ok(mut pass) = MutexPass::join(one, two, mutex) else {
+        unreachable!()
+    };
+    match Mutex::try_lock(&mut pass, mutex) {
+        WaitResult::Success(hold) => {
+            mutex.unlock(hold, |_| ());
+        }
+        WaitResult::Interrupted => unreachable!(),
+    }
+    pass
+}
+
+#[test]
+fn two_threads_lock_in_turn(rt: HostRuntime) -> Result<(), Fail> {
+    let (mutex, pass) = Mutex::new(rt.alloc())?;
+    lock_in_two_threads(&rt, &mutex, pass);
+    Ok(())
+}
+
+/// Whether `try_lock` is refused now.
+fn is_refused(mutex: &Mutex, pass: &mut MutexPass) -> bool
+    requires { IsMutexPass mutex.now pass.old }
+    ensures { IsSamePass pass.old pass.new }
+{
+    match Mutex::try_lock(pass, mutex) {
+        WaitResult::Success(hold) => {
+            mutex.unlock(hold, |_| ());
+            false
+        }
+        WaitResult::Interrupted => true,
+    }
+}
+
+/// Whether `two` is refused while `one` has the hold, and whether it is afterwards.
+fn refused_while_held(
+    mutex: &Mutex,
+    one: &mut MutexPass,
+    two: &mut MutexPass,
+) -> Option<(bool, bool)>
+    requires { IsMutexPass mutex.now one.old × IsMutexPass mutex.now two.old }
+{
+    match Mutex::try_lock(one, mutex) {
+        WaitResult::Success(hold) => {
+            let held = is_refused(mutex, two);
+            mutex.unlock(hold, |_| ());
+            Some((held, is_refused(mutex, two)))
+        }
+        WaitResult::Interrupted => None,
+    }
+}
+
+#[test]
+fn one_holder_at_a_time(rt: HostRuntime) -> Result<(), Fail> {
+    let (mutex, pass) = Mutex::new(rt.alloc())?;
+    let Ok((mut one, mut two)) = pass.split(&mutex) else {
+        unreachable!()
+    };
+    assert_eq!(rt;
+        refused_while_held(&mutex, &mut one, &mut two),
+        Some((true, false))
+    );
+    Ok(())
+}
+
+/// What a `lock` did whose wait closure answers `Abort` at once: whether it was interrupted, how often it asked, with what, and what
+/// the closure saw of the word.
+fn lock_and_abort<R: Wait>(rt: &R, mutex: &Mutex, pass: &mut MutexPass) -> (bool, u64, u64, u64)
+    requires { IsMutexPass mutex.now pass.old }
+    ensures { IsSamePass pass.old pass.new }
+{
+    let calls = AtomicU64::new(0);
+    let got = AtomicU64::new(0);
+    let saw = AtomicU64::new(0);
+    let locked = Mutex::lock(pass, mutex, rt, |word, seen| {
+        calls.fetch_add(1, Ordering::SeqCst);
+        got.store(*seen, Ordering::SeqCst);
+        saw.store(word.load(), Ordering::SeqCst);
+        WaitAction::Abort
+    });
+    let interrupted = match locked {
+        WaitResult::Success(hold) => {
+            mutex.unlock(hold, |_| ());
+            false
+        }
+        WaitResult::Interrupted => true,
+    };
+    let calls = calls.load(Ordering::SeqCst);
+    let got = got.load(Ordering::SeqCst);
+    (interrupted, calls, got, saw.load(Ordering::SeqCst))
+}
+
+/// The same while `one` has the hold.
+fn abort_while_held<R: Wait>(
+    rt: &R,
+    mutex: &Mutex,
+    one: &mut MutexPass,
+    two: &mut MutexPass,
+) -> Option<(bool, u64, u64, u64)>
+    requires { IsMutexPass mutex.now one.old × IsMutexPass mutex.now two.old }
+    ensures { IsSamePass one.old one.new × IsSamePass two.old two.new }
+{
+    match Mutex::try_lock(one, mutex) {
+        WaitResult::Success(hold) => {
+            let answers = lock_and_abort(rt, mutex, two);
+            mutex.unlock(hold, |_| ());
+            Some(answers)
+        }
+        WaitResult::Interrupted => None,
+    }
+}
+
+#[test]
+fn a_waiter_aborts(rt: HostRuntime) -> Result<(), Fail> {
+    let (mutex, pass) = Mutex::new(rt.alloc())?;
+    let Ok((mut one, mut two)) = pass.split(&mutex) else {
+        unreachable!()
+    };
+    assert_eq!(rt;
+        abort_while_held(&rt, &mutex, &mut one, &mut two),
+        Some((true, 1, 1, 1))
+    );
+    assert_eq!(rt; lock_and_abort(&rt, &mutex, &mut two), (false, 0, 0, 0));
+    Ok(())
+}
+
+/// Locks where the mutex is free, with a closure that never answers `Continue`: a call that gives up has then looked 10002 times.
+fn lock_or_abort_at_once<R: Wait>(rt: &R, mutex: &Mutex, pass: &mut MutexPass) -> bool
+    requires { IsMutexPass mutex.now pass.old }
+    ensures stayed { HasStayed pass.old pass.new }
+    ensures looked { result ≡ false → (sights_of pass.new).count ≡ (sights_of pass.old).count + 10002 }
+{
+    let answer = mutex.with_lock(
+        rt,
+        pass,
+        |_, _| -> WaitAction
+            ensures { result ≡ Abort }
+        { WaitAction::Abort },
+        |_| (),
+        || (),
+    );
+    match answer {
+        WaitResult::Success(()) => true,
+        WaitResult::Interrupted => false,
+    }
+}
+
+/// The same while `one` has the hold.
+fn abort_at_once_while_held<R: Wait>(
+    rt: &R,
+    mutex: &Mutex,
+    one: &mut MutexPass,
+    two: &mut MutexPass,
+) -> Option<bool>
+    requires { IsMutexPass mutex.now one.old × IsMutexPass mutex.now two.old }
+{
+    match Mutex::try_lock(one, mutex) {
+        WaitResult::Success(hold) => {
+            let locked = lock_or_abort_at_once(rt, mutex, two);
+            mutex.unlock(hold, |_| ());
+            Some(locked)
+        }
+        WaitResult::Interrupted => None,
+    }
+}
+
+#[test]
+fn gives_up_after_10002_looks(rt: HostRuntime) -> Result<(), Fail> {
+    let (mutex, pass) = Mutex::new(rt.alloc())?;
+    let Ok((mut one, mut two)) = pass.split(&mutex) else {
+        unreachable!()
+    };
+    assert_eq!(rt; lock_or_abort_at_once(&rt, &mutex, &mut one), true);
+    assert_eq!(rt;
+        abort_at_once_while_held(&rt, &mutex, &mut one, &mut two),
+        Some(false)
+    );
+    Ok(())
+}
+
+/// Holds the mutex until the other thread's call is over, or asks again.
+fn hold_until_over(mutex: &Mutex, pass: &mut MutexPass, locked: &Signal, over: &Signal) -> bool
+    requires { IsMutexPass mutex.now pass.old }
+{
+    match Mutex::try_lock(pass, mutex) {
+        WaitResult::Success(hold) => {
+            locked.give();
+            let was_over = over.awaited();
+            mutex.unlock(hold, |_| ());
+            was_over
+        }
+        WaitResult::Interrupted => false,
+    }
+}
+
+/// Locks with a closure that answers `Abort` at once, and says so should it be asked again. How often it was asked, if the call gave
+/// up.
+fn lock_until_over<R: Wait>(
+    rt: &R,
+    mutex: &Mutex,
+    pass: &mut MutexPass,
+    locked: &Signal,
+    over: &Signal,
+) -> Option<u64>
+    requires { IsMutexPass mutex.now pass.old }
+{
+    let calls = AtomicU64::new(0);
+    locked.awaited();
+    let answer = Mutex::lock(pass, mutex, rt, |_, _| {
+        if calls.fetch_add(1, Ordering::SeqCst) > 0 {
+            over.give();
+        }
+        WaitAction::Abort
+    });
+    over.give();
+    match answer {
+        WaitResult::Success(hold) => {
+            mutex.unlock(hold, |_| ());
+            None
+        }
+        WaitResult::Interrupted => Some(calls.load(Ordering::SeqCst)),
+    }
+}
+
+/// A call that went on after `Abort` would lock the mutex once the other thread lets it go.
+#[test]
+fn an_abort_is_obeyed(rt: HostRuntime) -> Result<(), Fail> {
+    let (mutex, pass) = Mutex::new(rt.alloc())?;
+    let Ok((mut one, mut two)) = pass.split(&mutex) else {
+        unreachable!()
+    };
+    let (locked, over) = (Signal::new(), Signal::new());
+    let (was_over, asked) = thread::join(
+        &rt,
+        || hold_until_over(&mutex, &mut one, &locked, &over),
+        || lock_until_over(&rt, &mutex, &mut two, &locked, &over),
+    );
+    assert!(rt; was_over);
+    assert_eq!(rt; asked, Some(1));
+    Ok(())
+}
+
+/// How often `unlock` calls its wake closure, and the word that the closure sees.
+fn unlock_counted(mutex: &Mutex, pass: &mut MutexPass) -> Option<(u64, u64)>
+    requires { IsMutexPass mutex.now pass.old }
+{
+    let calls = AtomicU64::new(0);
+    let word = AtomicU64::new(9);
+    match Mutex::try_lock(pass, mutex) {
+        WaitResult::Success(hold) => {
+            mutex.unlock(hold, |now| {
+                calls.fetch_add(1, Ordering::SeqCst);
+                word.store(now.load(), Ordering::SeqCst);
+            });
+            Some((calls.load(Ordering::SeqCst), word.load(Ordering::SeqCst)))
+        }
+        WaitResult::Interrupted => None,
+    }
+}
+
+#[test]
+fn unlock_wakes_once_after_its_store(rt: HostRuntime) -> Result<(), Fail> {
+    let (mutex, mut pass) = Mutex::new(rt.alloc())?;
+    assert_eq!(rt; unlock_counted(&mutex, &mut pass), Some((1, 0)));
+    Ok(())
+}
+
+/// Locks, and unlocks only once the other thread asks for it. Tells of both.
+fn unlock_when_asked(
+    mutex: &Mutex,
+    pass: &mut MutexPass,
+    locked: &Signal,
+    asked: &Signal,
+    unlocked: &Signal,
+) -> bool
+    requires { IsMutexPass mutex.now pass.old }
+{
+    match Mutex::try_lock(pass, mutex) {
+        WaitResult::Success(hold) => {
+            locked.give();
+            let was_asked = asked.awaited();
+            mutex.unlock(hold, |_| ());
+            unlocked.give();
+            was_asked
+        }
+        WaitResult::Interrupted => false,
+    }
+}
+
+/// Locks with a closure that asks for the mutex, and answers `Abort` only once it was unlocked.
+fn lock_after_unlock<R: Wait>(
+    rt: &R,
+    mutex: &Mutex,
+    pass: &mut MutexPass,
+    locked: &Signal,
+    asked: &Signal,
+    unlocked: &Signal,
+) -> bool
+    requires { IsMutexPass mutex.now pass.old }
+{
+    let was_locked = locked.awaited();
+    let answer = Mutex::lock(pass, mutex, rt, |_, _| {
+        asked.give();
+        if unlocked.awaited() {
+            WaitAction::Abort
+        } else {
+            WaitAction::Continue
+        }
+    });
+    match answer {
+        WaitResult::Success(hold) => {
+            mutex.unlock(hold, |_| ());
+            was_locked
+        }
+        WaitResult::Interrupted => false,
+    }
+}
+
+/// The holder lets go only after the other call has asked its closure, so both calls are under way at once; and that call looks
+/// once more after its closure answered `Abort`.
+#[test]
+fn two_calls_meet_and_success_after_abort(rt: HostRuntime) -> Result<(), Fail> {
+    let (mutex, pass) = Mutex::new(rt.alloc())?;
+    let Ok((mut one, mut two)) = pass.split(&mutex) else {
+        unreachable!()
+    };
+    let (locked, asked, unlocked) = (Signal::new(), Signal::new(), Signal::new());
+    let (was_asked, entered) = thread::join(
+        &rt,
+        || unlock_when_asked(&mutex, &mut one, &locked, &asked, &unlocked),
+        || lock_after_unlock(&rt, &mutex, &mut two, &locked, &asked, &unlocked),
+    );
+    assert!(rt; was_asked);
+    assert!(rt; entered);
+    Ok(())
+}
+
+/// Parts a pass of which nothing is known but that it is whole, in three, and joins them again: that one is granted.
+fn part_and_join(mutex: &Mutex, pass: MutexPass) -> MutexPass
+    requires own { IsMutexPass mutex.now pass }
+    requires alone { IsAlone pass }
+    ensures own { IsMutexPass mutex.now result }
+    ensures alone { IsAlone result }
+{
+    let Ok((one, other)) = pass.split(mutex) else {
+        unreachable!()
+    };
+    let Ok((two, three)) = other.split(mutex) else {
+        unreachable!()
+    };
+    let Ok(other) = MutexPass::join(two, three, mutex) else {
+        unreachable!()
+    };
+    let Ok(mut pass) = MutexPass::join(one, other, mutex) else {
+        unreachable!()
+    };
+    match Mutex::try_lock(&mut pass, mutex) {
+        WaitResult::Success(hold) => {
+            mutex.unlock(hold, |_| ());
+        }
+        WaitResult::Interrupted => unreachable!(),
+    }
+    pass
+}
+
+#[test]
+fn parts_are_the_whole_again(rt: HostRuntime) -> Result<(), Fail> {
+    let (mutex, pass) = Mutex::new(rt.alloc())?;
+    let mut pass = part_and_join(&mutex, pass);
+    assert!(rt; !is_refused(&mutex, &mut pass));
+    Ok(())
+}
+
+/// Parts a pass of which nothing is known but that it is whole, in four, and joins them from left to right: the whole is there again.
+fn part_in_four_and_join(mutex: &Mutex, pass: MutexPass) -> MutexPass
+    requires own { IsMutexPass mutex.now pass }
+    requires alone { IsAlone pass }
+    ensures own { IsMutexPass mutex.now result }
+    ensures alone { IsAlone result }
+{
+    let Ok((left, right)) = pass.split(mutex) else {
+        unreachable!()
+    };
+    let Ok((one, two)) = left.split(mutex) else {
+        unreachable!()
+    };
+    let Ok((three, four)) = right.split(mutex) else {
+        unreachable!()
+    };
+    let Ok(pass) = MutexPass::join(one, two, mutex) else {
+        unreachable!()
+    };
+    let Ok(pass) = MutexPass::join(pass, three, mutex) else {
+        unreachable!()
+    };
+    let Ok(pass) = MutexPass::join(pass, four, mutex) else {
+        unreachable!()
+    };
+    pass
+}
+
+#[test]
+fn four_parts_are_the_whole_from_left_to_right(rt: HostRuntime) -> Result<(), Fail> {
+    let (mutex, pass) = Mutex::new(rt.alloc())?;
+    let mut pass = part_in_four_and_join(&mutex, pass);
+    assert!(rt; !is_refused(&mutex, &mut pass));
+    Ok(())
+}
+
+/// A struct that owns a mutex and its pass, and how often it was entered.
+#[derive(Drop)]
+struct Counted {
+    mutex: Mutex,
+    pass: MutexPass,
+    entered: u64,
+    ghost own: { IsMutexPass mutex pass },
+    ghost alone: { IsAlone pass },
+}
+
+impl Counted {
+    /// What stood before.
+    fn enter<R: Wait>(&mut self, rt: &R) -> u64
+        ensures before { result ≡ self.old.entered }
+        ensures grants { grants_of self.new.pass ≡ grants_of self.old.pass + 1 }
+    {
+        let entered = self.entered;
+        let answer = self.mutex.with_lock(
+            rt,
+            &mut self.pass,
+            |_, _| WaitAction::Continue,
+            |_| (),
+            move || entered,
+        );
+        self.entered = entered.wrapping_add(1);
+        match answer {
+            WaitResult::Success(before) => before,
+            WaitResult::Interrupted => unreachable!(),
+        }
+    }
+}
+
+#[test]
+fn locks_within_a_method(rt: HostRuntime) -> Result<(), Fail> {
+    let (mutex, pass) = Mutex::new(rt.alloc())?;
+    let mut counted = Counted {
+        mutex,
+        pass,
+        entered: 0,
+    };
+    assert_eq!(rt; counted.enter(&rt), 0);
+    assert_eq!(rt; counted.enter(&rt), 1);
+    Ok(())
+}
+
+/// What `try_lock` of another pass answers under `with_lock`.
+fn is_refused_under_the_lock<R: Wait>(
+    rt: &R,
+    mutex: &Mutex,
+    one: &mut MutexPass,
+    two: &mut MutexPass,
+) -> WaitResult<bool>
+    requires { IsMutexPass mutex.now one.old × IsMutexPass mutex.now two.old }
+{
+    mutex.with_lock(
+        rt,
+        one,
+        |_, _| WaitAction::Continue,
+        |_| (),
+        || is_refused(mutex, two),
+    )
+}
+
+#[test]
+fn acts_while_the_mutex_is_locked(rt: HostRuntime) -> Result<(), Fail> {
+    let (mutex, pass) = Mutex::new(rt.alloc())?;
+    let Ok((mut one, mut two)) = pass.split(&mutex) else {
+        return Err("no parts")?;
+    };
+    let inside = is_refused_under_the_lock(&rt, &mutex, &mut one, &mut two);
+    assert_eq!(rt; matches!(inside, WaitResult::Success(true)), true);
+    Ok(())
+}

@@ -1,0 +1,76 @@
+-- The test whether a pass has a hold tells it.
+use Rattle.std.proofs.Common.{◌≡◌, ℕ, zero, suc, refl, sym, ap, ◌∙◌, Bool, true, false, List, [], ◌∷◌, Option, Some, None}
+use Rattle.std.specs.Prelude.{◌&&◌, is_none}
+use Rattle.steps_events.specs.declared.event.Event.{Event}
+use Rattle.steps_events.specs.declared.hold.HoldKind.{HoldKind}
+use Rattle.steps_events.specs.declared.hold.HoldKind.TheVariants as kinds
+use Rattle.steps_events.specs.Tables.{Table}
+use Rattle.steps_events.specs.Past.{call_of, hold_of}
+use Rattle.playing.specs.Slots.{Slot, Free, Mine, Torn, only, Parties}
+use Rattle.playing.specs.Plays.{IsHolding}
+use Rattle.playing.specs.Holding.{is_one, party_in, own_in, is_kind, is_holding}
+
+one_is : (ss : List Slot) → is_one ss ≡ true → ss ≡ only (party_in ss) (Mine (own_in ss))
+one_is [] is = absurd cc
+one_is (Free ∷ ss) is = ap (λ (rest : List Slot). Free ∷ rest) (one_is ss is)
+one_is (Mine own ∷ []) is = refl
+one_is (Mine own ∷ s ∷ ss) is = absurd cc
+one_is (Torn ∷ ss) is = absurd cc
+
+only_is_one : (q : ℕ) (own : List (Event ℕ)) → is_one (only q (Mine own)) ≡ true
+only_is_one zero own = refl
+only_is_one (suc q) own = only_is_one q own
+
+only_party : (q : ℕ) (own : List (Event ℕ)) → party_in (only q (Mine own)) ≡ q
+only_party zero own = refl
+only_party (suc q) own = ap suc (only_party q own)
+
+only_own : (q : ℕ) (own : List (Event ℕ)) → own_in (only q (Mine own)) ≡ own
+only_own zero own = refl
+only_own (suc q) own = only_own q own
+
+both_true : (a b : Bool) → (a && b) ≡ true → (a ≡ true) × (b ≡ true)
+both_true true b is = (refl, is)
+both_true false b is = absurd cc
+
+true_both : (a b : Bool) → a ≡ true → b ≡ true → (a && b) ≡ true
+true_both true b one other = other
+true_both false b one other = absurd cc
+
+none_is : {A : Type 0} (x : Option A) → is_none x ≡ true → x ≡ None
+none_is None is = refl
+none_is (Some x) is = absurd cc
+
+kind_is : (kind : HoldKind) (hold : Option HoldKind) → is_kind kind hold ≡ true → hold ≡ Some kind
+kind_is kinds.Read None is = absurd cc
+kind_is kinds.Write None is = absurd cc
+kind_is kinds.Read (Some kinds.Read) is = refl
+kind_is kinds.Read (Some kinds.Write) is = absurd cc
+kind_is kinds.Write (Some kinds.Read) is = absurd cc
+kind_is kinds.Write (Some kinds.Write) is = refl
+
+is_kind_of : (kind : HoldKind) → is_kind kind (Some kind) ≡ true
+is_kind_of kinds.Read = refl
+is_kind_of kinds.Write = refl
+
+module _ {P : Type 0} (t : Table ℕ P) (Law : List (Event ℕ) → Type 0) where
+  pub holding_told : (kind : HoldKind) (p : Parties) → is_holding t kind p ≡ true → IsHolding t Law kind p.resting p
+  holding_told kind p is =
+      let one = both_true _ _ is in
+      let rest = both_true _ _ one.1 in
+      record {
+        party = party_in p.acting;
+        own = own_in p.acting;
+        acting = one_is p.acting one.0;
+        resting = refl;
+        idle = none_is _ rest.0;
+        has = kind_is kind _ rest.1;
+      }
+
+  pub holding_is : (kind : HoldKind) (done : List Slot) (p : Parties) → IsHolding t Law kind done p → is_holding t kind p ≡ true
+  holding_is kind done p h =
+      let party : party_in p.acting ≡ h.party = ap party_in h.acting ∙ only_party h.party h.own in
+      let own : own_in p.acting ≡ h.own = ap own_in h.acting ∙ only_own h.party h.own in
+      let calls : call_of (party_in p.acting) (own_in p.acting) ≡ None = (λ i. call_of (party i) (own i)) ∙ h.idle in
+      let holds : hold_of t (party_in p.acting) (own_in p.acting) ≡ Some kind = (λ i. hold_of t (party i) (own i)) ∙ h.has in
+      true_both _ _ (ap is_one h.acting ∙ only_is_one h.party h.own) (true_both _ _ (ap is_none calls) (ap (is_kind kind) holds ∙ is_kind_of kind))

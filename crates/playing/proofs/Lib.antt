@@ -1,0 +1,11 @@
+pub mod Own
+pub mod Next
+pub mod Words
+pub mod Same
+pub mod Ready
+pub mod Updates
+pub mod Opening
+pub mod Attempts
+pub mod Patience
+pub mod Holding
+pub mod Counter

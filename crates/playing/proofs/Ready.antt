@@ -1,0 +1,394 @@
+-- A pass that is ready for a step, whatever the others are, and where the step leads it.
+use Rattle.std.proofs.Common.{◌≡◌, ◌≢◌, ℕ, zero, ◌+◌, refl, sym, ap, subst, ◌∙◌, true, cond, List, [], ◌∷◌, Option, Some, None, ◌⊎◌, inl, inr, length, set, get_or, arith}
+use Rattle.std.specs.Prelude.{nat_lt}
+use Rattle.std.proofs.lemmas.Bool.Decides.{nat_tests}
+use mathlib.Core.Logic.{dite}
+use native.Mathlib.Decide.{ℕ_discrete}
+use Rattle.steps_events.specs.declared.WaitAction.{WaitAction}
+use Rattle.steps_events.specs.declared.event.Word.{Word}
+use Rattle.steps_events.specs.declared.event.Word.TheVariants as words
+use Rattle.steps_events.specs.declared.event.Call.{Call}
+use Rattle.steps_events.specs.declared.event.Answer.{Answer}
+use Rattle.steps_events.specs.declared.event.Act.{Act}
+use Rattle.steps_events.specs.declared.event.Act.TheVariants as acts
+use Rattle.steps_events.specs.declared.event.Event.{Event}
+use Rattle.steps_events.specs.declared.event.Then.{Then}
+use Rattle.steps_events.specs.declared.event.Then.TheVariants as thens
+use Rattle.steps_events.specs.declared.event.Input.TheVariants as inputs
+use Rattle.steps_events.specs.declared.hold.HoldKind.{HoldKind}
+use Rattle.steps_events.specs.declared.row.After.{After}
+use Rattle.steps_events.specs.declared.row.After.TheVariants as afters
+use Rattle.steps_events.specs.Integers.{u64_arithmetic}
+use Rattle.steps_events.specs.Tables.{Table}
+use Rattle.steps_events.specs.Rows.{carried_out, value_told, outcome_of, place_after}
+use Rattle.steps_events.specs.Past.{PendingCall, word_after, call_of, call_after, call_going_on, hold_of, hold_after, hold_taken, hold_or, is_release, word_in, latest_outcome, event}
+use Rattle.steps_events.specs.Moves.{stage_of, next_stage, begin_fault, IsNext}
+use Rattle.steps_events.specs.Runs.{IsPast}
+use Rattle.steps_events.proofs.Holds.{call_of_same, hold_of_same}
+use Rattle.steps_events.proofs.Steps.{carried_goes_on, carried_stage}
+use Rattle.playing.specs.Slots.{Slot, Free, Mine, Torn, both, all, slot_at, only, Parties, parties, all_of, both_parties}
+use Rattle.playing.specs.SlotLaws.{free_adds, group_all, all_of_both, slot_of_all, slot_of_only, slot_of_other, slot_past_end}
+use Rattle.playing.specs.Words.{AllHold, AreApart, IsNamed, IsStepOn, effect}
+use Rattle.playing.specs.Plays.{events_of, Matches, fresh_call, Coming, Going, Beginning, Continuing, Answered, IsPlayed, IsAt, WasAnswered, HasEnded, MayBegin, Begins, BeginsHolding, GoesOnAfter, ComesBy, act_at, hold_then, Leads, Led}
+use Rattle.playing.proofs.Own.{events_of_other, own_call, own_hold, absent}
+use Rattle.playing.proofs.Next.{run_of_more, begins_next, answers_next, goes_next}
+use Rattle.playing.proofs.Words.{hold_at, same_hold, set_holds, effect_here, effect_there, carried_here}
+
+dec : (p q : ℕ) → (p ≡ q) ⊎ (p ≢ q)
+dec p q = dite (ℕ_discrete p q) (λ same. inl same) (λ apart. inr apart)
+
+below_suc : (q m : ℕ) → nat_lt q (q + m + 1) ≡ true
+below_suc q m = grind (arith, nat_tests)
+
+-- where one is its owner's, nobody else says so
+alone_there : (own : List (Event ℕ)) (r : Slot) (made : List (Event ℕ)) → Matches (both (Mine own) r) made → (r ≡ Free) × (made ≡ own)
+alone_there own Free made is = (refl, is)
+alone_there own (Mine other) made is = absurd is
+alone_there own Torn made is = absurd is
+
+-- all slots tell what their parties have made
+abbrev pub AllMatch : List Slot → List (Event ℕ) → Type 0
+AllMatch slots past = (q : ℕ) → Matches (slot_at q slots) (events_of q past)
+
+-- all but this party's do, which is nobody's there
+pub record Others (others : List Slot) (past : List (Event ℕ)) (q : ℕ) : Type 0 where
+  pub free : slot_at q others ≡ Free
+  pub each : (p : ℕ) → p ≢ q → Matches (slot_at p others) (events_of p past)
+
+-- what is known of the party that a pass is, and of all others
+parted : (others : List Slot) (past : List (Event ℕ)) (q : ℕ) (own : List (Event ℕ)) → AllMatch (all (only q (Mine own)) others) past → Others others past q × (events_of q past ≡ own)
+parted others past q own each =
+    let same : slot_at q (all (only q (Mine own)) others) ≡ both (Mine own) (slot_at q others) =
+    slot_of_all q (only q (Mine own)) others ∙ ap (λ (s : Slot). both s (slot_at q others)) (slot_of_only q (Mine own)) in
+    let here = alone_there own (slot_at q others) (events_of q past) (subst (λ (s : Slot). Matches s (events_of q past)) same (each q)) in (
+      record {
+        free = here.0;
+        each = λ p apart.
+            let other : slot_at p (all (only q (Mine own)) others) ≡ slot_at p others =
+            slot_of_all p (only q (Mine own)) others ∙ ap (λ (s : Slot). both s (slot_at p others)) (slot_of_other q p (Mine own) apart) in
+            subst (λ (s : Slot). Matches s (events_of p past)) other (each p);
+      },
+      here.1,
+    )
+
+-- the party is its owner's again, with all that it has made
+joined : (others : List Slot) (past : List (Event ℕ)) (q : ℕ) → Others others past q → AllMatch (all (only q (Mine (events_of q past))) others) past
+joined others past q o p = by_party (dec p q)
+  where
+    s : Slot
+    s = Mine (events_of q past)
+
+    by_party : (p ≡ q) ⊎ (p ≢ q) → Matches (slot_at p (all (only q s) others)) (events_of p past)
+    by_party (inl same) =
+        let here : slot_at q (all (only q s) others) ≡ s = slot_of_all q (only q s) others ∙ ap (λ (r : Slot). both r (slot_at q others)) (slot_of_only q s) ∙ ap (both s) o.free ∙ free_adds s in
+        subst (λ n. Matches (slot_at n (all (only q s) others)) (events_of n past)) (sym same) (subst (λ (r : Slot). Matches r (events_of q past)) (sym here) refl)
+    by_party (inr apart) =
+        let other : slot_at p (all (only q s) others) ≡ slot_at p others = slot_of_all p (only q s) others ∙ ap (λ (r : Slot). both r (slot_at p others)) (slot_of_other q p s apart) in
+        subst (λ (r : Slot). Matches r (events_of p past)) (sym other) (o.each p apart)
+
+-- an event of the party is nothing to the others
+others_on : (others : List Slot) (past : List (Event ℕ)) (q : ℕ) (act : Act ℕ) (outcome : Then ℕ) → Others others past q → Others others (event q act outcome ∷ past) q
+others_on others past q act outcome o = record {
+  free = o.free;
+  each = λ p apart. subst (λ (made : List (Event ℕ)). Matches (slot_at p others) made) (sym (events_of_other q p act outcome past apart)) (o.each p apart);
+}
+
+module _ {P : Type 0} (t : Table ℕ P) (Law : List (Event ℕ) → Type 0) (names : List Word) where
+  -- beside these others a party of the pass has a call at this place, and may make its step
+  pub record Ready (found : List ℕ) (others : List Slot) (call : Call ℕ) (place : P) (hold : Option HoldKind) : Type 0 where
+    pub parties : ℕ
+    pub past : List (Event ℕ)
+    pub run : IsPast u64_arithmetic t parties past
+    pub words : AllHold names found (word_in t past)
+    pub party : ℕ
+    pub there : nat_lt party parties ≡ true
+    pub pending : PendingCall ℕ
+    pub under_way : call_of party past ≡ Some pending
+    pub called : pending.call ≡ call
+    pub stage : stage_of t pending ≡ Some place
+    pub left : latest_outcome pending.own ≡ thens.GoesOn
+    pub has : hold_of t party past ≡ hold
+    pub apart : Others others past party
+
+  -- all parties, and those of the pass among them
+  with_acting : (p rest : Parties) (done : List Slot) (s : List Slot) → p.acting ≡ s → p.resting ≡ done → all_of (both_parties p rest) ≡ all s (all done (all_of rest))
+  with_acting p rest done s acting resting =
+      all_of_both p rest ∙ group_all p.acting p.resting (all_of rest) ∙ (λ i. all (acting i) (all (resting i) (all_of rest)))
+
+  with_all : (p rest : Parties) (done : List Slot) → all_of p ≡ done → all_of (both_parties p rest) ≡ all done (all_of rest)
+  with_all p rest done is = all_of_both p rest ∙ ap (λ (ss : List Slot). all ss (all_of rest)) is
+
+  moved : (past : List (Event ℕ)) (a b : List Slot) → a ≡ b → AllMatch a past → AllMatch b past
+  moved past a b same each = subst (λ (ss : List Slot). AllMatch ss past) same each
+
+  -- the party acts
+  ready_at : (found : List ℕ) (p rest : Parties) (call : Call ℕ) (place : P) (hold : Option HoldKind) (done : List Slot) →
+      IsPlayed t Law names found (both_parties p rest) → IsAt t Law call place thens.GoesOn hold done p → Ready found (all done (all_of rest)) call place hold
+  ready_at found p rest call place hold done r at =
+      let q : ℕ = at.party in
+      let here = parted (all done (all_of rest)) r.past q at.own (moved r.past _ _ (with_acting p rest done (only q (Mine at.own)) at.acting at.resting) r.each) in
+      record {
+        parties = q + r.parties + 1;
+        past = r.past;
+        run = run_of_more u64_arithmetic t r.parties (q + r.parties + 1) r.past (omega arith) r.run;
+        words = r.hold;
+        party = q;
+        there = below_suc q r.parties;
+        pending = at.pending;
+        under_way = sym (own_call q r.past) ∙ ap (call_of q) here.1 ∙ at.under_way;
+        called = at.called;
+        stage = at.stage;
+        left = at.left;
+        has = sym (own_hold t q r.past) ∙ ap (hold_of t q) here.1 ∙ at.has;
+        apart = here.0;
+      }
+
+  -- it begins a call
+  begin_of : (found : List ℕ) (others : List Slot) (parties : ℕ) (past : List (Event ℕ)) (q : ℕ) (call : Call ℕ) (place : P) (hold : Option HoldKind) →
+      IsPast u64_arithmetic t parties past → AllHold names found (word_in t past) → nat_lt q parties ≡ true → call_of q past ≡ None → hold_of t q past ≡ hold → Others others past q →
+      MayBegin t Law call place hold → Ready found others call place hold
+  begin_of found others parties past q call place hold run words there idle has apart may =
+      let act : Act ℕ = acts.Begun call in
+      let free : begin_fault t None (hold_of t q past) call ≡ None = rw (has, may.begins) may.free in
+      record {
+        parties = parties;
+        past = event q act thens.GoesOn ∷ past;
+        run = ((inputs.Begin call, begins_next u64_arithmetic t parties past q call there idle free may.values), run);
+        words = same_hold names found (word_in t past) (word_in t (event q act thens.GoesOn ∷ past)) words (λ n. refl);
+        party = q;
+        there = there;
+        pending = fresh_call call;
+        under_way = call_of_same q act thens.GoesOn past;
+        called = refl;
+        stage = may.begins;
+        left = refl;
+        has = hold_of_same t q act thens.GoesOn past ∙ has;
+        apart = others_on others past q act thens.GoesOn apart;
+      }
+
+  -- as a party that has made nothing
+  ready_begins : (found : List ℕ) (p rest : Parties) (call : Call ℕ) (place : P) (hold : Option HoldKind) (done : List Slot) →
+      IsPlayed t Law names found (both_parties p rest) → Begins t Law call place hold done p → Ready found (all done (all_of rest)) call place hold
+  ready_begins found p rest call place hold done r b =
+      let others : List Slot = all done (all_of rest) in
+      let q : ℕ = r.parties + length others in
+      let each = moved r.past _ _ (with_all p rest done b.others) r.each in
+      let nothing = absent t r.parties q r.past (omega arith) r.run in
+      begin_of found others (q + r.parties + 1) r.past q call place hold
+      (run_of_more u64_arithmetic t r.parties (q + r.parties + 1) r.past (omega arith) r.run) r.hold (below_suc q r.parties)
+      (sym (own_call q r.past) ∙ ap (call_of q) nothing) (sym (own_hold t q r.past) ∙ ap (hold_of t q) nothing ∙ sym b.new)
+      (record { free = slot_past_end q others (omega arith); each = λ p _. each p }) b.may
+
+  -- as the party that has the hold
+  ready_continues : (found : List ℕ) (p rest : Parties) (call : Call ℕ) (place : P) (hold : Option HoldKind) (done : List Slot) →
+      IsPlayed t Law names found (both_parties p rest) → BeginsHolding t Law call place hold done p → Ready found (all done (all_of rest)) call place hold
+  ready_continues found p rest call place hold done r b =
+      let h = b.holding in
+      let q : ℕ = h.party in
+      let others : List Slot = all done (all_of rest) in
+      let here = parted others r.past q h.own (moved r.past _ _ (with_acting p rest done (only q (Mine h.own)) h.acting h.resting) r.each) in
+      begin_of found others (q + r.parties + 1) r.past q call place hold
+      (run_of_more u64_arithmetic t r.parties (q + r.parties + 1) r.past (omega arith) r.run) r.hold (below_suc q r.parties)
+      (sym (own_call q r.past) ∙ ap (call_of q) here.1 ∙ h.idle) (sym (own_hold t q r.past) ∙ ap (hold_of t q) here.1 ∙ h.has ∙ sym b.kept) here.0 b.may
+
+  -- the wait closure has answered
+  ready_answered : (found : List ℕ) (p rest : Parties) (action : WaitAction) (call : Call ℕ) (place : P) (hold : Option HoldKind) (done : List Slot) →
+      IsPlayed t Law names found (both_parties p rest) → GoesOnAfter t Law action call place hold done p → Ready found (all done (all_of rest)) call place hold
+  ready_answered found p rest action call place hold done r g =
+      let act : Act ℕ = acts.Answered action in
+      let at = g.at in
+      let q : ℕ = at.party in
+      let c : PendingCall ℕ = at.pending in
+      let others : List Slot = all done (all_of rest) in
+      let here = parted others r.past q at.own (moved r.past _ _ (with_acting p rest done (only q (Mine at.own)) at.acting at.resting) r.each) in
+      let under_way : call_of q r.past ≡ Some c = sym (own_call q r.past) ∙ ap (call_of q) here.1 ∙ at.under_way in
+      let there = below_suc q r.parties in
+      let more = run_of_more u64_arithmetic t r.parties (q + r.parties + 1) r.past (omega arith) r.run in
+      record {
+        parties = q + r.parties + 1;
+        past = event q act thens.GoesOn ∷ r.past;
+        run = ((inputs.Answer action, answers_next u64_arithmetic t (q + r.parties + 1) r.past q c action there under_way (rw at.left refl)), more);
+        words = same_hold names found (word_in t r.past) (word_in t (event q act thens.GoesOn ∷ r.past)) r.hold (λ n. refl);
+        party = q;
+        there = there;
+        pending = record { call = c.call; own = event q act thens.GoesOn ∷ c.own };
+        under_way = call_of_same q act thens.GoesOn r.past ∙ ap (call_going_on act (event q act thens.GoesOn)) under_way;
+        called = at.called;
+        stage = ap (next_stage t act) at.stage ∙ ap (λ (s : P). Some s) (sym g.answered);
+        left = refl;
+        has = hold_of_same t q act thens.GoesOn r.past ∙ sym (own_hold t q r.past) ∙ ap (hold_of t q) here.1 ∙ at.has;
+        apart = others_on others r.past q act thens.GoesOn here.0;
+      }
+
+  pub ready : (coming : Coming) (found : List ℕ) (p rest : Parties) (call : Call ℕ) (place : P) (hold : Option HoldKind) (done : List Slot) →
+      IsPlayed t Law names found (both_parties p rest) → ComesBy t Law coming call place hold done p → Ready found (all done (all_of rest)) call place hold
+  ready Going found p rest call place hold done r comes = ready_at found p rest call place hold done r comes
+  ready (Beginning begun) found p rest call place hold done r comes = ready_begins found p rest call place hold done r comes.1
+  ready (Continuing begun) found p rest call place hold done r comes = ready_continues found p rest call place hold done r comes.1
+  ready (Answered action) found p rest call place hold done r comes = ready_answered found p rest action call place hold done r comes
+
+  -- The step is made.
+
+  -- the hold that an act takes depends on the call alone
+  taken_by_call : (act : Act ℕ) (c : PendingCall ℕ) → hold_taken t act (Some c) ≡ hold_taken t act (Some (fresh_call c.call))
+  taken_by_call (acts.Exchange words.State from to found true) c = refl
+  taken_by_call (acts.Swap words.State zero put) c = refl
+  taken_by_call act c = refl
+
+  then_by_call : (act : Act ℕ) (c : PendingCall ℕ) (hold : Option HoldKind) → hold_after t act (Some c) hold ≡ hold_after t act (Some (fresh_call c.call)) hold
+  then_by_call act c hold = ap (λ (k : Option HoldKind). cond (is_release act) None (hold_or k hold)) (taken_by_call act c)
+
+  -- what the pass is after the step, and the words
+  abbrev pub Stepped : (found : List ℕ) (rest : Parties) (i y : ℕ) (leads : Parties → Type 0) → Type 0
+  Stepped found rest i y leads = (p : Parties) × IsPlayed t Law names (set found i y) (both_parties p rest) × leads p
+
+  pub steps :
+      ((n : ℕ) (past : List (Event ℕ)) → IsPast u64_arithmetic t n past → Law past) → AreApart names → (found : List ℕ) (done : List Slot) (rest : Parties) (call : Call ℕ) (place : P) (hold : Option HoldKind) (i : ℕ) (w : Word) →
+      Ready found (all done (all_of rest)) call place hold → IsNamed names i w → IsStepOn w (t.intent place hold) →
+      Stepped found rest i (effect (t.intent place hold) (get_or found i 0)) (Led t Law call place hold (get_or found i 0) done)
+  steps lawful apart found done rest call place hold i w r named on = by_after (t.after place (value_told (act_at t Law place hold x))) refl
+    where
+      x : ℕ
+      x = get_or found i 0
+
+      q : ℕ
+      q = r.party
+
+      others : List Slot
+      others = all done (all_of rest)
+
+      seen : x ≡ word_in t r.past w
+      seen = hold_at names found i w (word_in t r.past) r.words named
+
+      act : Act ℕ
+      act = act_at t Law place hold x
+
+      outcome : Then ℕ
+      outcome = outcome_of (t.after place (value_told act))
+
+      e : Event ℕ
+      e = event q act outcome
+
+      new : List (Event ℕ)
+      new = e ∷ r.past
+
+      own : List (Event ℕ)
+      own = events_of q new
+
+      act_is : carried_out (t.intent place (hold_of t q r.past)) (word_in t r.past) ≡ act
+      act_is = ap (λ h. carried_out (t.intent place h) (word_in t r.past)) r.has ∙ carried_here w (t.intent place hold) (word_in t r.past) on
+          ∙ ap (λ (n : ℕ). carried_out (t.intent place hold) (λ _. n)) (sym seen)
+
+      run : IsPast u64_arithmetic t r.parties new
+      run = (
+        (
+          inputs.Go,
+          subst (λ (a : Act ℕ). IsNext u64_arithmetic t r.parties r.past q inputs.Go (event q a (outcome_of (t.after place (value_told a))))) act_is
+              (goes_next u64_arithmetic t r.parties r.past q r.pending place r.there r.under_way r.stage (rw r.left refl)),
+        ),
+        r.run,
+      )
+
+      law : Law new
+      law = lawful r.parties new run
+
+      call_now : call_of q own ≡ call_after outcome e (Some r.pending)
+      call_now = own_call q new ∙ call_of_same q act outcome r.past ∙ ap (call_after outcome e) r.under_way
+
+      hold_now : hold_of t q own ≡ hold_then t Law call place hold x
+      hold_now = own_hold t q new ∙ hold_of_same t q act outcome r.past ∙ ap (λ (k : Option (PendingCall ℕ)). hold_after t act k (hold_of t q r.past)) r.under_way
+          ∙ ap (hold_after t act (Some r.pending)) r.has ∙ then_by_call act r.pending hold ∙ ap (λ (k : Call ℕ). hold_after t act (Some (fresh_call k)) hold) r.called
+
+      words_now : AllHold names (set found i (effect (t.intent place hold) x)) (word_in t new)
+      words_now = set_holds names found i w (word_in t r.past) (word_in t new) (effect (t.intent place hold) x) apart r.words named
+          (ap (word_after w act) (sym seen) ∙ effect_here w (t.intent place hold) (λ _. x) on)
+          (λ n other. effect_there w n (t.intent place hold) (λ _. x) (word_in t r.past n) on other)
+
+      all_match : AllMatch (all (only q (Mine own)) others) new
+      all_match = joined others new q (others_on others r.past q act outcome r.apart)
+
+      played : (p : Parties) → all_of (both_parties p rest) ≡ all (only q (Mine own)) others → IsPlayed t Law names (set found i (effect (t.intent place hold) x)) (both_parties p rest)
+      played p is = record { parties = r.parties; past = new; run = run; law = law; hold = words_now; each = moved new _ _ (sym is) all_match }
+
+      -- the party acts on
+      acting : Parties
+      acting = parties (only q (Mine own)) done
+
+      played_acting : IsPlayed t Law names (set found i (effect (t.intent place hold) x)) (both_parties acting rest)
+      played_acting = played acting (with_acting acting rest done (only q (Mine own)) refl refl)
+
+      -- or rests
+      resting : Parties
+      resting = parties [] (all (only q (Mine own)) done)
+
+      played_resting : IsPlayed t Law names (set found i (effect (t.intent place hold) x)) (both_parties resting rest)
+      played_resting = played resting (with_all resting rest (all (only q (Mine own)) done) refl ∙ group_all (only q (Mine own)) done (all_of rest))
+
+      on_from : (a : After ℕ P) (next : P) → t.after place (value_told act) ≡ a → place_after a ≡ Some next →
+          ((k : Option (PendingCall ℕ)) → call_after (outcome_of a) e k ≡ call_going_on act e k) →
+          Stepped found rest i (effect (t.intent place hold) x) (IsAt t Law call next (outcome_of a) (hold_then t Law call place hold x) done)
+      on_from a next is to goes =
+          let c : PendingCall ℕ = record { call = r.pending.call; own = e ∷ r.pending.own } in (
+            acting,
+            played_acting,
+            record {
+              party = q;
+              own = own;
+              acting = refl;
+              resting = refl;
+              made = record { parties = r.parties; past = new; run = run; law = law; own_is = refl };
+              pending = c;
+              under_way = call_now ∙ ap (λ (o : Then ℕ). call_after o e (Some r.pending)) (ap outcome_of is) ∙ goes (Some r.pending) ∙ carried_goes_on (t.intent place hold) (λ _. x) e r.pending;
+              called = r.called;
+              stage = ap (next_stage t act) r.stage ∙ carried_stage t place (t.intent place hold) (λ _. x) ∙ ap place_after is ∙ to;
+              left = ap outcome_of is;
+              has = hold_now;
+            },
+          )
+
+      answered : (answer : Answer ℕ) → t.after place (value_told act) ≡ afters.Ends answer → WasAnswered t Law call answer q own
+      answered answer is = record {
+        parties = r.parties;
+        past = r.past;
+        latest = e;
+        run = run;
+        law = law;
+        own_is = refl;
+        its_own = refl;
+        pending = r.pending;
+        under_way = r.under_way;
+        called = r.called;
+        answered = ap outcome_of is;
+      }
+
+      ended : (answer : Answer ℕ) → t.after place (value_told act) ≡ afters.Ends answer → (h : Option HoldKind) → hold_of t q own ≡ h →
+          Stepped found rest i (effect (t.intent place hold) x) (HasEnded t Law call answer h done)
+      ended answer is None none = (
+        resting,
+        played_resting,
+        record { party = q; own = own; all_is = refl; answered = answered answer is; rests = refl },
+      )
+      ended answer is (Some kind) has = (
+        acting,
+        played_acting,
+        record {
+          party = q;
+          own = own;
+          all_is = refl;
+          answered = answered answer is;
+          rests = record {
+            party = q;
+            own = own;
+            acting = refl;
+            resting = refl;
+            idle = call_now ∙ ap (λ (o : Then ℕ). call_after o e (Some r.pending)) (ap outcome_of is);
+            has = has;
+          };
+        },
+      )
+
+      by_after : (a : After ℕ P) → t.after place (value_told (act_at t Law place hold x)) ≡ a → Stepped found rest i (effect (t.intent place hold) x) (Leads t Law call a (hold_then t Law call place hold x) done)
+      by_after (afters.At next) is = on_from (afters.At next) next is refl (λ k. refl)
+      by_after (afters.Waits next told) is = on_from (afters.Waits next told) next is refl (λ k. refl)
+      by_after (afters.Chooses next old) is = on_from (afters.Chooses next old) next is refl (λ k. refl)
+      by_after (afters.Ends answer) is = ended answer is (hold_then t Law call place hold x) hold_now

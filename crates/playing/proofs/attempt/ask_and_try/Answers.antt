@@ -1,0 +1,67 @@
+use Rattle.std.proofs.Common.{◌∙◌}
+use Rattle.steps_events.specs.declared.WaitAction.TheVariants as actions
+use Rattle.steps_events.specs.Rows.{answered}
+use Rattle.passes.proofs.Attempts.{goes_on, has_asked, told_of_its_kind}
+use Rattle.playing.specs.Tries.{spun}
+use Rattle.playing.proofs.Attempts.{seen_twice, still_so}
+use Rattle.playing.proofs.Patience.{tries_on}
+use Rattle.playing.proofs.attempt.ask_and_try.Goals as goal
+
+pub ask-requires-clause-stands : goal.ask-requires-clause-stands
+ask-requires-clause-stands g c =
+    record {
+      call = g.B.Attempt.call;
+      place = g.B.Attempt.place (spun 10000);
+      hold = _;
+      done = c.requires.at.0;
+      at = c.loop.invariant.at c.requires.at.0 c.requires.at.1;
+      word = c.requires.handed (spun 10000);
+    }
+
+pub attempt-requires-clause-comes : goal.attempt-requires-clause-comes
+attempt-requires-clause-comes g c =
+    record {
+      patience = answered (spun 10000) actions.Continue;
+      done = c.requires.at.0;
+      comes = tries_on _ _ _ _ (g.met.B.Attempt.answers _) actions.Continue c.loop.last _ _ (c.loop.invariant.at c.requires.at.0 c.requires.at.1);
+    }
+
+pub attempt-requires-in-Abort-clause-comes : goal.attempt-requires-in-Abort-clause-comes
+attempt-requires-in-Abort-clause-comes g c =
+    record {
+      patience = answered (spun 10000) actions.Abort;
+      done = c.requires.at.0;
+      comes = tries_on _ _ _ _ (g.met.B.Attempt.answers _) actions.Abort c.loop.last _ _ (c.loop.invariant.at c.requires.at.0 c.requires.at.1);
+    }
+
+pub returns-in-Ok-clause-over : goal.returns-in-Ok-clause-over
+returns-in-Ok-clause-over g c =
+    λ done stood. c.in-Ok.ensures.granted (answered (spun 10000) actions.Continue) done (tries_on _ _ _ _ (g.met.B.Attempt.answers _) actions.Continue c.loop.last _ _ (c.loop.invariant.at done stood))
+
+pub returns-in-Ok-attempt-clause-over : goal.returns-in-Ok-attempt-clause-over
+returns-in-Ok-attempt-clause-over g c =
+    λ done stood. c.in-Ok-attempt.ensures.granted (answered (spun 10000) actions.Abort) done (tries_on _ _ _ _ (g.met.B.Attempt.answers _) actions.Abort c.loop.last _ _ (c.loop.invariant.at done stood))
+
+pub returns-in-Err-attempt-clause-over : goal.returns-in-Err-attempt-clause-over
+returns-in-Err-attempt-clause-over g c =
+    λ done stood. c.in-Err-attempt.ensures.failed (answered (spun 10000) actions.Abort) done (tries_on _ _ _ _ (g.met.B.Attempt.answers _) actions.Abort c.loop.last _ _ (c.loop.invariant.at done stood))
+
+pub returns-in-Err-attempt-clause-aborted : goal.returns-in-Err-attempt-clause-aborted
+returns-in-Err-attempt-clause-aborted g c = λ _. told_of_its_kind g.W.Fn _ g.B.Attempt.refuses actions.Abort _ c.in-Abort.ensures.answered c.loop.invariant.refused
+
+pub returns-in-Err-attempt-clause-asked : goal.returns-in-Err-attempt-clause-asked
+returns-in-Err-attempt-clause-asked g c = λ _ looks_once. has_asked _ _ _ c.args.pass.now c.loop.pass c.attempt-in-Abort.new.pass
+    (c.loop.invariant.asked looks_once)
+    (c.in-Err-attempt.ensures.once (still_so g.B.Attempt.looks_once c.args.pass.now c.loop.pass c.loop.invariant.stayed looks_once))
+
+pub loop-preserved : goal.loop-preserved
+loop-preserved g c = record {
+  own = c.in-Err.ensures.refused.stayed.same.0 ∙ c.loop.invariant.own;
+  stayed = seen_twice c.args.pass.now c.loop.pass c.attempt.new.pass c.loop.invariant.stayed c.in-Err.ensures.refused.stayed;
+  refused = c.in-Err.ensures.refused.looked.refusing.1;
+  asked = λ looks_once. goes_on _ _ _ c.args.pass.now c.loop.pass c.attempt.new.pass
+      (c.loop.invariant.asked looks_once)
+      (told_of_its_kind g.W.Fn _ g.B.Attempt.refuses actions.Continue _ c.in-Continue.ensures.answered c.loop.invariant.refused)
+      (c.in-Err.ensures.once (still_so g.B.Attempt.looks_once c.args.pass.now c.loop.pass c.loop.invariant.stayed looks_once));
+  at = λ done stood. c.in-Err.ensures.failed (answered (spun 10000) actions.Continue) done (tries_on _ _ _ _ (g.met.B.Attempt.answers _) actions.Continue c.loop.last _ _ (c.loop.invariant.at done stood));
+}

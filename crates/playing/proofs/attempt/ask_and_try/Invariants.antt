@@ -1,0 +1,17 @@
+use Rattle.std.proofs.Common.{◌≡◌}
+use Rattle.passes.specs.Passes.{object_of, part_of}
+use Rattle.passes.proofs.Attempts.{HasGoneOn}
+use Rattle.playing.specs.Passes.{parties_of, counts_of}
+use Rattle.playing.specs.Counts.{HasOnlySeen}
+use Rattle.playing.specs.Tries.{IsStanding, OnceStanding}
+use Rattle.playing.proofs.attempt.ask_and_try.Given as goal
+
+abbrev pub invariant-loop : goal.invariant-loop
+invariant-loop g l = record {
+  own : object_of l.pass ≡ g.B.Attempt.object l.by;
+  stayed : HasOnlySeen l.fn.pass l.pass;
+  refused : g.B.Attempt.refuses l.last;
+  asked : g.B.Attempt.looks_once (part_of l.fn.pass) (counts_of l.fn.pass) → HasGoneOn g.W.Fn l.wait g.B.Attempt.refuses l.fn.pass l.pass;
+  at : OnceStanding (g.M.Script.table (g.B.Attempt.key l.by)) (g.M.Script.law (g.B.Attempt.key l.by)) g.B.Attempt.call g.B.Attempt.place l.initial.last (parties_of l.fn.pass)
+      (λ done. IsStanding (g.M.Script.table (g.B.Attempt.key l.by)) (g.M.Script.law (g.B.Attempt.key l.by)) g.B.Attempt.call g.B.Attempt.place l.last done (parties_of l.pass));
+}

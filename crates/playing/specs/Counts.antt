@@ -1,0 +1,41 @@
+-- What a call changes in what a pass of an object that plays a model counts and saw; what it changes in its parties is said apart.
+use Rattle.std.specs.Prelude.{◌≡◌, ℕ}
+use Rattle.std.specs.Borrow.{Bor}
+use Rattle.std.specs.Fn.{Shared}
+use Rattle.steps_events.specs.declared.WaitAction.{WaitAction}
+use Rattle.passes.specs.declared.part.Part.{Part}
+use Rattle.passes.specs.declared.pass.Pass.{Pass}
+use Rattle.passes.specs.Sights.{HasLooked, HasOnlyRead, HasWritten}
+use Rattle.passes.specs.Passes.{part_of, sights_of, IsSamePass}
+use Rattle.passes.specs.Answers.{HasAsked}
+use Rattle.playing.specs.declared.played.Played.{Played}
+use Rattle.playing.specs.Passes.{counts_of}
+
+module _ {M Q C : Type 0} where
+  -- nothing was counted, and nothing changed but what was seen
+  pub record HasOnlySeen (p q : Pass (Played M Q C)) : Type 0 where
+    pub same : IsSamePass p q
+    pub counts : counts_of q ≡ counts_of p
+    pub part : part_of q ≡ part_of p
+    pub saw : HasOnlyRead (sights_of p) (sights_of q)
+
+  -- A write moved the counts so, and nothing else changed but what was seen on the way. `Moves` is told the part, the counts before and
+  -- after, and the value seen last.
+  pub record HasMoved (Moves : Part → C → C → ℕ → Type 0) (p q : Pass (Played M Q C)) : Type 0 where
+    pub same : IsSamePass p q
+    pub counts : Moves (part_of p) (counts_of p) (counts_of q) (sights_of q).last
+    pub part : part_of q ≡ part_of p
+    pub saw : HasWritten (sights_of p) (sights_of q)
+
+  -- Nothing was counted. At least n more sights were counted, and the last of them is of a value that refuses.
+  pub record WasRefused (IsRefusing : ℕ → Type 0) (n : ℕ) (p q : Pass (Played M Q C)) : Type 0 where
+    pub stayed : HasOnlySeen p q
+    pub looked : HasLooked IsRefusing n (sights_of p) (sights_of q)
+
+  -- so, and the value that refused is this
+  abbrev pub WasRefusedAt : (ℕ → Type 0) → ℕ → ℕ → Pass (Played M Q C) → Pass (Played M Q C) → Type 0
+  WasRefusedAt IsRefusing seen n p q = WasRefused (λ m. (m ≡ seen) × IsRefusing seen) n p q
+
+-- The waiting call was refused with the value, after 10001 looks by itself and those that it made once it had asked.
+abbrev pub HasGivenUp : {F W M Q C : Type 0} → Shared F (Bor W × (Bor ℕ × Unit {0})) WaitAction → F → (ℕ → Type 0) → Pass (Played M Q C) → Pass (Played M Q C) → Type 0
+HasGivenUp g wait P p q = WasRefused P 10002 p q × HasAsked g wait P 10001 p q

@@ -1,0 +1,39 @@
+-- Whether the acting party of a pass has a hold, as a test.
+use Rattle.std.specs.Prelude.{ℕ, zero, suc, Bool, true, false, ◌&&◌, is_none, List, [], ◌∷◌, Option, Some, None}
+use Rattle.steps_events.specs.declared.event.Event.{Event}
+use Rattle.steps_events.specs.declared.hold.HoldKind.{HoldKind}
+use Rattle.steps_events.specs.declared.hold.HoldKind.TheVariants as kinds
+use Rattle.steps_events.specs.Tables.{Table}
+use Rattle.steps_events.specs.Past.{call_of, hold_of}
+use Rattle.playing.specs.Slots.{Slot, Free, Mine, Torn, Parties}
+
+-- these are the slots of one party, which is its owner's
+abbrev pub is_one : List Slot → Bool
+is_one [] = false
+is_one (Free ∷ ss) = is_one ss
+is_one (Mine own ∷ []) = true
+is_one (Mine own ∷ s ∷ ss) = false
+is_one (Torn ∷ ss) = false
+
+-- which party it is, and what it has made
+abbrev pub party_in : List Slot → ℕ
+party_in [] = zero
+party_in (Free ∷ ss) = suc (party_in ss)
+party_in (Mine own ∷ ss) = zero
+party_in (Torn ∷ ss) = zero
+
+abbrev pub own_in : List Slot → List (Event ℕ)
+own_in [] = []
+own_in (Free ∷ ss) = own_in ss
+own_in (Mine own ∷ ss) = own
+own_in (Torn ∷ ss) = []
+
+abbrev pub is_kind : HoldKind → Option HoldKind → Bool
+is_kind kinds.Read (Some kinds.Read) = true
+is_kind kinds.Write (Some kinds.Write) = true
+is_kind kind hold = false
+
+-- the acting party has this hold, and no call under way
+abbrev pub is_holding : {P : Type 0} → Table ℕ P → HoldKind → Parties → Bool
+is_holding t kind p =
+    is_one p.acting && (is_none (call_of (party_in p.acting) (own_in p.acting)) && is_kind kind (hold_of t (party_in p.acting) (own_in p.acting)))

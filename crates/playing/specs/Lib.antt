@@ -1,0 +1,10 @@
+pub mod Slots
+pub mod SlotLaws
+pub mod Words
+pub mod Plays
+pub mod Passes
+pub mod Stages
+pub mod Counts
+pub mod Tries
+pub mod Holding
+pub mod Counter

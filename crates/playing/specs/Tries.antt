@@ -1,0 +1,78 @@
+-- A call that tries again until it is granted or gives up.
+use Rattle.std.specs.Prelude.{◌≡◌, ℕ, true, List, Option, None}
+use Rattle.steps_events.specs.declared.event.Word.{Word}
+use Rattle.steps_events.specs.declared.event.Wake.{Wake}
+use Rattle.steps_events.specs.declared.event.Call.{Call}
+use Rattle.steps_events.specs.declared.event.Answer.TheVariants as answers
+use Rattle.steps_events.specs.declared.event.Then.TheVariants as thens
+use Rattle.steps_events.specs.declared.event.Event.{Event}
+use Rattle.steps_events.specs.declared.hold.HoldKind.{HoldKind}
+use Rattle.steps_events.specs.declared.patience.Patience.{Patience}
+use Rattle.steps_events.specs.declared.row.Intent.TheVariants as intents
+use Rattle.steps_events.specs.Tables.{Table}
+use Rattle.steps_events.specs.Rows.{within, refused}
+use Rattle.playing.specs.Slots.{Slot, Parties}
+use Rattle.playing.specs.Words.{IsNamed}
+use Rattle.playing.specs.Plays.{Coming, ComesBy, IsAt, Leads, HasEnded}
+
+-- the patience of a call that has spun so often, and keeps on asking
+abbrev pub spun : ℕ → Patience
+spun n = record { spins = n; keep = true }
+
+module _ {P : Type 0} (t : Table ℕ P) (Law : List (Event ℕ) → Type 0) (call : Call ℕ) (place : Patience → P) where
+  -- the pass comes to a try of its call
+  pub record MayTry (coming : Coming) (p : Parties) : Type 0 where
+    pub patience : Patience
+    pub done : List Slot
+    pub comes : ComesBy t Law coming call (place patience) None done p
+
+  -- a try led to this, whatever patience was left
+  abbrev pub Tried : Coming → Parties → (Patience → List Slot → Type 0) → Type 0
+  Tried coming p Then = (patience : Patience) (done : List Slot) → ComesBy t Law coming call (place patience) None done p → Then patience done
+
+  -- the call was refused, by a word that held this
+  abbrev pub IsRefused : Patience → ℕ → List Slot → Parties → Type 0
+  IsRefused patience seen done p = Leads t Law call (within place (refused patience seen)) None done p
+
+  -- it stands at its wait closure, to be told this
+  abbrev pub IsStanding : ℕ → List Slot → Parties → Type 0
+  IsStanding told done p = IsAt t Law call (place (spun 10000)) (thens.Waits told) None done p
+
+  -- it was granted, and has taken this hold
+  abbrev pub IsGranted : Option HoldKind → List Slot → Parties → Type 0
+  IsGranted kind done p = HasEnded t Law call answers.Success kind done p
+
+  -- it gave up
+  abbrev pub HasGivenUp : List Slot → Parties → Type 0
+  HasGivenUp done p = HasEnded t Law call answers.Interrupted None done p
+
+  -- what follows from where a first try was refused, by a word that held this
+  abbrev pub OnceRefused : ℕ → Parties → (List Slot → Type 0) → Type 0
+  OnceRefused seen p Then = (done : List Slot) → IsRefused (spun 0) seen done p → Then done
+
+  -- what follows from where it stood, to be told this
+  abbrev pub OnceStanding : ℕ → Parties → (List Slot → Type 0) → Type 0
+  OnceStanding told p Then = (done : List Slot) → IsStanding told done p → Then done
+
+-- Closures.
+
+module _ {P : Type 0} (t : Table ℕ P) (Law : List (Event ℕ) → Type 0) (names : List Word) (handed : P → Word) where
+  -- a call of the pass stands at its wait closure, which is to be told this, and handed the word at this index
+  pub record StandsToWait (index told : ℕ) (p : Parties) : Type 0 where
+    pub call : Call ℕ
+    pub place : P
+    pub hold : Option HoldKind
+    pub done : List Slot
+    pub at : IsAt t Law call place (thens.Waits told) hold done p
+    pub word : IsNamed names index (handed place)
+
+  -- the next that a call of the pass does is to call its wake closure, of the word at this index
+  pub record IsToWake (index : ℕ) (p : Parties) : Type 0 where
+    pub call : Call ℕ
+    pub place : P
+    pub hold : Option HoldKind
+    pub done : List Slot
+    pub at : IsAt t Law call place thens.GoesOn hold done p
+    pub who : Wake
+    pub wakes : t.intent place hold ≡ intents.Wake who
+    pub word : IsNamed names index (handed place)

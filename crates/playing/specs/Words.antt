@@ -1,0 +1,47 @@
+-- The words of an object, by the names that they have in its model.
+use Rattle.std.specs.Prelude.{◌≡◌, ℕ, zero, suc, ◌+◌, ◌-◌, ◌%◌, ◌^◌, ◌==◌, false, if◌then◌else◌, List, [], ◌∷◌}
+use Rattle.steps_events.specs.declared.event.Word.{Word}
+use Rattle.steps_events.specs.declared.row.Intent.{Intent}
+use Rattle.steps_events.specs.declared.row.Intent.TheVariants as intents
+use Rattle.steps_events.specs.Past.{same_word}
+
+-- each word holds what the memory tells of its name
+abbrev pub AllHold : List Word → List ℕ → (Word → ℕ) → Type 0
+AllHold [] [] memory = Unit {0}
+AllHold (n ∷ ns) (x ∷ xs) memory = (x ≡ memory n) × AllHold ns xs memory
+AllHold [] (x ∷ xs) memory = ⊥
+AllHold (n ∷ ns) [] memory = ⊥
+
+abbrev pub IsApart : Word → List Word → Type 0
+IsApart w [] = Unit {0}
+IsApart w (n ∷ ns) = (same_word n w ≡ false) × (same_word w n ≡ false) × IsApart w ns
+
+-- no two have one name
+abbrev pub AreApart : List Word → Type 0
+AreApart [] = Unit {0}
+AreApart (n ∷ ns) = IsApart n ns × AreApart ns
+
+-- the word at this index has this name
+abbrev pub IsNamed : List Word → ℕ → Word → Type 0
+IsNamed [] i w = ⊥
+IsNamed (n ∷ ns) zero w = n ≡ w
+IsNamed (n ∷ ns) (suc i) w = IsNamed ns i w
+
+-- the intent is a step on this word
+abbrev pub IsStepOn : Word → Intent ℕ → Type 0
+IsStepOn w (intents.Load v) = v ≡ w
+IsStepOn w (intents.Store v put) = v ≡ w
+IsStepOn w (intents.Swap v put) = v ≡ w
+IsStepOn w (intents.Add v more) = v ≡ w
+IsStepOn w (intents.Subtract v less) = v ≡ w
+IsStepOn w (intents.Exchange v from to) = v ≡ w
+IsStepOn w other = ⊥
+
+-- what it leaves in the word
+abbrev pub effect : Intent ℕ → ℕ → ℕ
+effect (intents.Store v put) n = put
+effect (intents.Swap v put) n = put
+effect (intents.Add v more) n = (n + more) % 2 ^ 64
+effect (intents.Subtract v less) n = (n + (2 ^ 64 - less)) % 2 ^ 64
+effect (intents.Exchange v from to) n = if n == from then to else n
+effect other n = n

@@ -1,0 +1,37 @@
+//! How a pass comes to a step.
+
+/// How a pass comes to a step.
+pub trait Entry {
+    ghost use Rattle.playing.specs.Plays.{Coming};
+
+    ghost coming: { Coming };
+}
+
+/// A call goes on by itself.
+pub struct GoesOn;
+
+impl Entry for GoesOn {
+    ghost use Rattle.playing.specs.Plays.{Going};
+
+    ghost coming = { Going };
+}
+
+/// A wait closure has answered `Continue`.
+pub struct Continued;
+
+impl Entry for Continued {
+    ghost use Rattle.steps_events.specs.declared.WaitAction.TheVariants as actions;
+    ghost use Rattle.playing.specs.Plays.{Answered};
+
+    ghost coming = { Answered actions.Continue };
+}
+
+/// A wait closure has answered `Abort`.
+pub struct Aborted;
+
+impl Entry for Aborted {
+    ghost use Rattle.steps_events.specs.declared.WaitAction.TheVariants as actions;
+    ghost use Rattle.playing.specs.Plays.{Answered};
+
+    ghost coming = { Answered actions.Abort };
+}

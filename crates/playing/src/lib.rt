@@ -1,0 +1,19 @@
+//! What running objects share that play a model: the rule that their words are those of some run of it, in which the passes are
+//! parties, and the steps that its table has.
+#![tactic(auto)]
+
+mod attempt;
+mod entry;
+mod played;
+mod script;
+mod stage;
+#[cfg(test)]
+mod tests;
+mod wait;
+
+pub use attempt::{Attempt, ask, try_again};
+pub use entry::{Aborted, Continued, Entry, GoesOn};
+pub use played::{Parties, Played};
+pub use script::Script;
+pub use stage::Stage;
+pub use wait::Shown;

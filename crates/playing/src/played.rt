@@ -1,0 +1,46 @@
+//! What a pass is in the model, and counts beside.
+use crate::script::Script;
+use passes::{Rule, Tally};
+use std::marker::{Model, PhantomData};
+
+/// Which parties of the model a pass is, and what each of them has made. No value of it is made.
+pub struct Parties<M, P> {
+    of: PhantomData<M>,
+    at: PhantomData<P>,
+}
+
+impl<M, P> Model for Parties<M, P> {
+    ghost use Rattle.playing.specs.Slots.{Parties, no_parties};
+
+    ghost Value = { Parties };
+
+    ghost view = { λ _. no_parties };
+}
+
+/// What a pass is in the model, and what it counts beside.
+pub struct Played<M, P, C> {
+    pub parties: Parties<M, P>,
+    pub counts: C,
+}
+
+impl<M, P, C: Tally> Tally for Played<M, P, C> {
+    ghost use Rattle.playing.specs.Passes.{none_played, both_played, core_played, played_add_up};
+
+    ghost none = { none_played C.none };
+
+    ghost add = { both_played C.add };
+
+    ghost core = { core_played C.core };
+
+    ghost adds_up = { played_add_up C.none C.add C.core C.adds_up };
+}
+
+/// The words of an object are those of a run of its model, and agree with what all passes count beside.
+impl<K, P, M: Script<K, P>, C: Rule<(), K>> Rule<(), K> for Played<M, P, C> {
+    ghost use Rattle.playing.specs.Slots.{no_parties};
+    ghost use Rattle.playing.specs.Passes.{played, PlaysAndCounts};
+
+    ghost first = { λ key. played no_parties (C.first key) };
+
+    ghost agrees = { λ key. PlaysAndCounts (M.table key) (M.law key) M.names (C.agrees key) };
+}

@@ -1,0 +1,195 @@
+-- Who reads and writes the data words: only who has the lock, and a writer is alone.
+use Rattle.std.proofs.Common.{◌≡◌, ◌≢◌, ℕ, ◌<◌, ◌==◌, refl, sym, ◌∙◌, ap, subst, Bool, true, false, cond, is_some, List, [], ◌∷◌, Option, Some, None, inl, inr, arith}
+use Rattle.std.specs.Prelude.{◌||◌, MatchOption}
+use Rattle.std.proofs.lemmas.Bool.{eqb-true}
+use Rattle.steps_events.specs.declared.event.Word.{Word}
+use Rattle.steps_events.specs.declared.event.Word.TheVariants as words
+use Rattle.steps_events.specs.declared.event.Event.{Event}
+use Rattle.steps_events.specs.declared.hold.HoldKind.{HoldKind}
+use Rattle.steps_events.specs.declared.hold.HoldKind.TheVariants as kinds
+use Rattle.steps_events.specs.Arithmetic.{Arithmetic}
+use Rattle.steps_events.specs.Past.{Hold, PendingCall, call_of, holds_of, hold_of, hold_among, word_in, is_release}
+use Rattle.steps_events.specs.Moves.{Move, step_at, is_step}
+use Rattle.steps_events.specs.Runs.{IsPast}
+use Rattle.steps_events.specs.Sights.{acts_in}
+use Rattle.steps_events.proofs.HoldCounts.{counted_of}
+use Rattle.steps_events.proofs.Parties.{IsAtPlaceOrRests, each_rests}
+use Rattle.steps_events.proofs.Steps.{by_move}
+use Rattle.steps_rw_reader.specs.Law.{CountsHolds}
+use Rattle.steps_atomic.specs.declared.AtomicPlace.{AtomicPlace}
+use Rattle.steps_atomic.specs.declared.AtomicPlace.TheVariants as places
+use Rattle.steps_atomic.specs.Register.{is_data_access, is_data_write, acts_made}
+use Rattle.steps_atomic.specs.Table.{atomic_table}
+use Rattle.steps_atomic.specs.Law.{AccessesUnderHold, IsAlone, WritesAlone, ActsLast, WorksUntilItLeaves, FewAccesses, RestsWithout}
+use Rattle.steps_atomic.proofs.Places.{AtAtomic, HasNone, atomic_kept, here}
+use Rattle.steps_atomic.proofs.Laws.{keeps_lock}
+
+-- beside the writer nobody has a hold
+pub alone : (w p q : ℕ) (holds : List Hold) → CountsHolds w holds → hold_among p holds ≡ Some kinds.Write → q ≢ p → hold_among q holds ≡ None
+alone w p q holds (inl read) held other = let unwritten = read.unwritten in let some = counted_of kinds.Write p holds held in absurd (omega (arith, unwritten, some))
+alone w p q holds (inr written) held other =
+    by_test (written.writer == p) (written.writer == q) refl refl (ap (hold_among p) (sym written.alone) ∙ held)
+  where
+    by_test : (b d : Bool) → (written.writer == p) ≡ b → (written.writer == q) ≡ d → cond b (Some kinds.Write) None ≡ Some kinds.Write → hold_among q holds ≡ None
+    by_test true true e f is = absurd (other (sym (eqb-true written.writer q f) ∙ eqb-true written.writer p e))
+    by_test true false e f is = ap (hold_among q) written.alone ∙ rw f refl
+    by_test false d e f is = absurd cc
+
+-- a call without the lock has read and written no data word
+untouched_outside : {T : Type 0} (z : Arithmetic T) (place : AtomicPlace T) (c : PendingCall T) → AtAtomic z place c None → acts_in is_data_access c.own ≡ 0
+untouched_outside z places.Look c at = at.2.untouched
+untouched_outside z (places.Enter seen to) c at = at.3.untouched
+untouched_outside z (places.Take call) c at = at.4.untouched
+untouched_outside z (places.Low call) c at = absurd (let no_grant = at.1 in let some = at.2.0 in cc)
+untouched_outside z (places.High call low) c at = absurd (let no_grant = at.1 in let some = at.2.0 in cc)
+untouched_outside z (places.Again old) c at = absurd (let held = at.1.held in cc)
+untouched_outside z (places.PutLow low high answer) c at = absurd (let held = at.held in cc)
+untouched_outside z (places.PutHigh high answer) c at = absurd (let held = at.held in cc)
+untouched_outside z (places.Leave answer) c at = absurd (let held = at.held in cc)
+
+-- the step at a place reads or writes a data word only under a hold, and writes one only under the write hold
+
+accessed_at :
+    {T : Type 0} (z : Arithmetic T) (v : T) (place : AtomicPlace T) (c : PendingCall T) (hold : Option HoldKind) (memory : Word → ℕ) → AtAtomic z place c hold → is_data_access (step_at (atomic_table z v) place hold memory).act ≡ true →
+    is_some hold ≡ true
+accessed_at z v places.Look c hold memory at is = absurd cc
+accessed_at z v (places.Enter seen to) c hold memory at is = absurd cc
+accessed_at z v (places.Take call) c hold memory at is = absurd cc
+accessed_at z v (places.Low call) c hold memory at is = ap is_some at.1 ∙ at.2.0
+accessed_at z v (places.High call low) c hold memory at is = ap is_some at.1 ∙ at.2.0
+accessed_at z v (places.Again old) c hold memory at is = ap is_some at.1.held
+accessed_at z v (places.PutLow low high answer) c hold memory at is = ap is_some at.held
+accessed_at z v (places.PutHigh high answer) c hold memory at is = ap is_some at.held
+accessed_at z v (places.Leave answer) c hold memory at is = at.held
+
+written_at :
+    {T : Type 0} (z : Arithmetic T) (v : T) (place : AtomicPlace T) (c : PendingCall T) (hold : Option HoldKind) (memory : Word → ℕ) → AtAtomic z place c hold → is_data_write (step_at (atomic_table z v) place hold memory).act ≡ true →
+    hold ≡ Some kinds.Write
+written_at z v places.Look c hold memory at is = absurd cc
+written_at z v (places.Enter seen to) c hold memory at is = absurd cc
+written_at z v (places.Take call) c hold memory at is = absurd cc
+written_at z v (places.Low call) c hold memory at is = absurd cc
+written_at z v (places.High call low) c hold memory at is = absurd cc
+written_at z v (places.Again old) c hold memory at is = absurd cc
+written_at z v (places.PutLow low high answer) c hold memory at is = at.held
+written_at z v (places.PutHigh high answer) c hold memory at is = at.held
+written_at z v (places.Leave answer) c None memory at is = absurd (let held = at.held in cc)
+written_at z v (places.Leave answer) c (Some kinds.Read) memory at is = absurd cc
+written_at z v (places.Leave answer) c (Some kinds.Write) memory at is = absurd cc
+
+pub accesses : {T : Type 0} (z : Arithmetic T) (v : T) (parties : ℕ) (past : List (Event T)) → IsPast z (atomic_table z v) parties past → AccessesUnderHold z v past
+accesses z v parties [] run = tt
+accesses {T} z v parties (e ∷ past) run =
+    let t = atomic_table z v in
+    by_move t (call_of e.party past) (hold_of t e.party past) (word_in t past) (λ (k : Option (PendingCall T)) (m : Move T). is_data_access m.act ≡ true → is_some (hold_of t e.party past) ≡ true)
+    run.0.0 (record { act = e.act; outcome = e.then }) (λ call _ is. absurd cc) (λ action _ is. absurd cc) (λ choice _ is. absurd cc)
+    (λ c place _ called stage. accessed_at z v place c (hold_of t e.party past) (word_in t past) (here z v parties past run.1 e.party c place called stage))
+    run.0.1.moved
+
+-- a step that reads or writes a data word is of a call that has not acted
+
+unacted_at :
+    {T : Type 0} (z : Arithmetic T) (v : T) (place : AtomicPlace T) (c : PendingCall T) (hold : Option HoldKind) (memory : Word → ℕ) → AtAtomic z place c hold → is_data_access (step_at (atomic_table z v) place hold memory).act ≡ true →
+    acts_made z c.call c.own ≡ 0
+unacted_at z v places.Look c hold memory at is = absurd cc
+unacted_at z v (places.Enter seen to) c hold memory at is = absurd cc
+unacted_at z v (places.Take call) c hold memory at is = absurd cc
+unacted_at z v (places.Low call) c hold memory at is = at.3.fresh.unmade
+unacted_at z v (places.High call low) c hold memory at is = at.3.unmade
+unacted_at z v (places.Again old) c hold memory at is = at.1.unmade
+unacted_at z v (places.PutLow low high answer) c hold memory at is = at.unmade
+unacted_at z v (places.PutHigh high answer) c hold memory at is = at.unmade
+unacted_at z v (places.Leave answer) c None memory at is = absurd cc
+unacted_at z v (places.Leave answer) c (Some kinds.Read) memory at is = absurd cc
+unacted_at z v (places.Leave answer) c (Some kinds.Write) memory at is = absurd cc
+
+pub acts_last : {T : Type 0} (z : Arithmetic T) (v : T) (parties : ℕ) (past : List (Event T)) → IsPast z (atomic_table z v) parties past → ActsLast z past
+acts_last z v parties [] run = tt
+acts_last {T} z v parties (e ∷ past) run =
+    let t = atomic_table z v in
+    by_move t (call_of e.party past) (hold_of t e.party past) (word_in t past) (λ (k : Option (PendingCall T)) (m : Move T). is_data_access m.act ≡ true → MatchOption k (Unit {0}) (λ c. acts_made z c.call c.own ≡ 0))
+    run.0.0 (record { act = e.act; outcome = e.then }) (λ call _ is. absurd cc) (λ action _ is. absurd cc) (λ choice _ is. absurd cc)
+    (λ c place _ called stage. unacted_at z v place c (hold_of t e.party past) (word_in t past) (here z v parties past run.1 e.party c place called stage))
+    run.0.1.moved
+
+-- a step with the lock reads or writes a data word, or leaves the lock
+
+works_at :
+    {T : Type 0} (z : Arithmetic T) (v : T) (place : AtomicPlace T) (c : PendingCall T) (hold : Option HoldKind) (memory : Word → ℕ) → AtAtomic z place c hold → is_some hold ≡ true →
+    (is_data_access (step_at (atomic_table z v) place hold memory).act || is_release (step_at (atomic_table z v) place hold memory).act) ≡ true
+works_at z v places.Look c hold memory at held = absurd (let free = at.1 in cc)
+works_at z v (places.Enter seen to) c hold memory at held = absurd (let free = at.1 in cc)
+works_at z v (places.Take call) c hold memory at held = absurd (let free = at.1 in cc)
+works_at z v (places.Low call) c hold memory at held = refl
+works_at z v (places.High call low) c hold memory at held = refl
+works_at z v (places.Again old) c hold memory at held = refl
+works_at z v (places.PutLow low high answer) c hold memory at held = refl
+works_at z v (places.PutHigh high answer) c hold memory at held = refl
+works_at z v (places.Leave answer) c None memory at held = absurd cc
+works_at z v (places.Leave answer) c (Some kinds.Read) memory at held = refl
+works_at z v (places.Leave answer) c (Some kinds.Write) memory at held = refl
+
+pub works_until : {T : Type 0} (z : Arithmetic T) (v : T) (parties : ℕ) (past : List (Event T)) → IsPast z (atomic_table z v) parties past → WorksUntilItLeaves z v past
+works_until z v parties [] run = tt
+works_until {T} z v parties (e ∷ past) run =
+    let t = atomic_table z v in
+    by_move t (call_of e.party past) (hold_of t e.party past) (word_in t past)
+    (λ (k : Option (PendingCall T)) (m : Move T). is_step m.act ≡ true → is_some (hold_of t e.party past) ≡ true → (is_data_access m.act || is_release m.act) ≡ true)
+    run.0.0 (record { act = e.act; outcome = e.then }) (λ call _ is held. absurd cc) (λ action _ is held. absurd cc) (λ choice _ is held. absurd cc)
+    (λ c place _ called stage is held. works_at z v place c (hold_of t e.party past) (word_in t past) (here z v parties past run.1 e.party c place called stage) held)
+    run.0.1.moved
+
+-- a call has made few accesses
+
+few_at : {T : Type 0} (z : Arithmetic T) (place : AtomicPlace T) (c : PendingCall T) (hold : Option HoldKind) → AtAtomic z place c hold → acts_in is_data_access c.own < 5
+few_at z places.Look c hold at = let untouched = at.2.untouched in omega (arith, untouched)
+few_at z (places.Enter seen to) c hold at = let untouched = at.3.untouched in omega (arith, untouched)
+few_at z (places.Take call) c hold at = let untouched = at.4.untouched in omega (arith, untouched)
+few_at z (places.Low call) c hold at = let untouched = at.3.untouched in omega (arith, untouched)
+few_at z (places.High call low) c hold at = let looked = at.5 in omega (arith, looked)
+few_at z (places.Again old) c hold at = let looked = at.1.looked in omega (arith, looked)
+few_at z (places.PutLow low high answer) c hold at = let few = at.few in omega (arith, few)
+few_at z (places.PutHigh high answer) c hold at = let few = at.few in omega (arith, few)
+few_at z (places.Leave answer) c hold at = at.few
+
+pub few_accesses : {T : Type 0} (z : Arithmetic T) (v : T) (parties : ℕ) (past : List (Event T)) → IsPast z (atomic_table z v) parties past → FewAccesses past
+few_accesses {T} z v parties past run party = by_call (call_of party past) refl
+  where
+    by_call : (pending : Option (PendingCall T)) → call_of party past ≡ pending → MatchOption pending (Unit {0}) (λ c. acts_in is_data_access c.own < 5)
+    by_call None called = tt
+    by_call (Some c) called =
+        let at = subst (λ (k : Option (PendingCall T)). IsAtPlaceOrRests (atomic_table z v) HasNone (AtAtomic z) k (hold_of (atomic_table z v) party past)) called
+        (each_rests z (atomic_table z v) HasNone (AtAtomic z) (atomic_kept z v) parties refl past run party) in
+        few_at z at.0 c (hold_of (atomic_table z v) party past) at.2
+
+pub rests_without : {T : Type 0} (z : Arithmetic T) (v : T) (parties : ℕ) (past : List (Event T)) → IsPast z (atomic_table z v) parties past → RestsWithout z v past
+rests_without {T} z v parties past run party none =
+    subst (λ (k : Option (PendingCall T)). IsAtPlaceOrRests (atomic_table z v) HasNone (AtAtomic z) k (hold_of (atomic_table z v) party past)) none
+    (each_rests z (atomic_table z v) HasNone (AtAtomic z) (atomic_kept z v) parties refl past run party)
+
+-- beside a writer no other call has touched the data
+others_untouched :
+    {T : Type 0} (z : Arithmetic T) (v : T) (parties : ℕ) (past : List (Event T)) → IsPast z (atomic_table z v) parties past → (party : ℕ) → hold_of (atomic_table z v) party past ≡ Some kinds.Write →
+    (other : ℕ) → other ≢ party → MatchOption (call_of other past) (Unit {0}) (λ c. acts_in is_data_access c.own ≡ 0)
+others_untouched {T} z v parties past run party held other differs = by_call (call_of other past) refl
+  where
+    none : hold_of (atomic_table z v) other past ≡ None
+    none = alone (word_in (atomic_table z v) past words.State) party other (holds_of (atomic_table z v) past) (keeps_lock z v parties past run).counts held differs
+
+    by_call : (pending : Option (PendingCall T)) → call_of other past ≡ pending → MatchOption pending (Unit {0}) (λ c. acts_in is_data_access c.own ≡ 0)
+    by_call None called = tt
+    by_call (Some c) called =
+        let at = subst (λ (k : Option (PendingCall T)). IsAtPlaceOrRests (atomic_table z v) HasNone (AtAtomic z) k (hold_of (atomic_table z v) other past)) called
+        (each_rests z (atomic_table z v) HasNone (AtAtomic z) (atomic_kept z v) parties refl past run other) in
+        untouched_outside z at.0 c (subst (λ h. AtAtomic z at.0 c h) none at.2)
+
+pub writes_alone : {T : Type 0} (z : Arithmetic T) (v : T) (parties : ℕ) (past : List (Event T)) → IsPast z (atomic_table z v) parties past → WritesAlone z v past
+writes_alone z v parties [] run = tt
+writes_alone {T} z v parties (e ∷ past) run =
+    let t = atomic_table z v in
+    by_move t (call_of e.party past) (hold_of t e.party past) (word_in t past) (λ (k : Option (PendingCall T)) (m : Move T). is_data_write m.act ≡ true → IsAlone z v e.party past)
+    run.0.0 (record { act = e.act; outcome = e.then }) (λ call _ is. absurd cc) (λ action _ is. absurd cc) (λ choice _ is. absurd cc)
+    (λ c place _ called stage is.
+    let held = written_at z v place c (hold_of t e.party past) (word_in t past) (here z v parties past run.1 e.party c place called stage) is in
+    record { held = held; untouched = others_untouched z v parties past run.1 e.party held })
+    run.0.1.moved

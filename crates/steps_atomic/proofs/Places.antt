@@ -1,0 +1,362 @@
+-- What is kept of a call at each place of an atomic.
+use Rattle.std.proofs.Common.{◌≡◌, ◌≢◌, ℕ, ◌+◌, ◌-◌, ◌^◌, ◌<◌, ◌==◌, refl, sym, ◌∙◌, ap, subst, Bool, true, false, cond, is_some, List, [], ◌∷◌, Option, Some, None, ◌⊎◌, inl, inr, arith}
+use Rattle.std.specs.Prelude.{not}
+use Rattle.std.proofs.lemmas.Bool.Decides.{nat_tests}
+use Rattle.steps_events.specs.declared.WaitAction.{WaitAction}
+use Rattle.steps_events.specs.declared.event.Word.{Word}
+use Rattle.steps_events.specs.declared.event.Word.TheVariants as words
+use Rattle.steps_events.specs.declared.event.Call.{Call}
+use Rattle.steps_events.specs.declared.event.Call.TheVariants as calls
+use Rattle.steps_events.specs.declared.event.Act.{Act}
+use Rattle.steps_events.specs.declared.event.Act.TheVariants as acts
+use Rattle.steps_events.specs.declared.event.Answer.{Answer}
+use Rattle.steps_events.specs.declared.event.Answer.TheVariants as answers
+use Rattle.steps_events.specs.declared.event.Event.{Event}
+use Rattle.steps_events.specs.declared.event.Input.TheVariants as inputs
+use Rattle.steps_events.specs.declared.event.Then.{Then}
+use Rattle.steps_events.specs.declared.event.Then.TheVariants as thens
+use Rattle.steps_events.specs.declared.hold.HoldKind.{HoldKind}
+use Rattle.steps_events.specs.declared.hold.HoldKind.TheVariants as kinds
+use Rattle.steps_events.specs.declared.row.After.TheVariants as afters
+use Rattle.steps_events.specs.Arithmetic.{Arithmetic}
+use Rattle.steps_events.specs.Rows.{carried_out, value_told, outcome_of, place_after}
+use Rattle.steps_events.specs.Past.{PendingCall, call_of, hold_of, latest_outcome, hold_or, hold_after, event}
+use Rattle.steps_events.specs.Moves.{stage_of, step_at, go_fault, answer_fault, choose_fault, CallValues, InputValues}
+use Rattle.steps_events.specs.Laws.{is_refusal}
+use Rattle.steps_events.specs.Sights.{acts_in}
+use Rattle.steps_events.specs.Runs.{IsPast}
+use Rattle.steps_events.proofs.Holds.{some_same}
+use Rattle.steps_events.proofs.Parties.{IsKeptFromRest, at_place_from_rest}
+use Rattle.steps_rw_reader.specs.Table.{lets_readers_in}
+use Rattle.steps_atomic.specs.declared.AtomicPlace.{AtomicPlace}
+use Rattle.steps_atomic.specs.declared.AtomicPlace.TheVariants as places
+use Rattle.steps_atomic.specs.Register.{choice_in, choice_of, low_told, is_last, acts_made, is_data_access, HasChosen}
+use Rattle.steps_atomic.specs.Table.{atomic_begins, atomic_grant, look_at, puts, inside, knows, compares, atomic_table}
+
+abbrev pub is_store : {T : Type 0} → Call T → Bool
+is_store (calls.Store x) = true
+is_store other = false
+
+-- it has not acted yet, and goes on by itself
+pub record Fresh {T : Type 0} (z : Arithmetic T) (call : Call T) (own : List (Event T)) : Type 0 where
+  pub unchosen : choice_of own ≡ None
+  pub unmade : acts_made z call own ≡ 0
+  pub goes : latest_outcome own ≡ thens.GoesOn
+
+-- it has moreover neither read nor written a data word
+pub record Outside {T : Type 0} (z : Arithmetic T) (call : Call T) (own : List (Event T)) : Type 0 where
+  pub fresh : Fresh z call own
+  pub untouched : acts_in is_data_access own ≡ 0
+
+-- it has the lock for writing, and has not acted yet
+pub record Puts {T : Type 0} (z : Arithmetic T) (most : ℕ) (answer : Answer T) (call : Call T) (own : List (Event T)) (hold : Option HoldKind) : Type 0 where
+  pub held : hold ≡ Some kinds.Write
+  pub unmade : acts_made z call own ≡ 0
+  pub goes : latest_outcome own ≡ thens.GoesOn
+  pub said : is_refusal (thens.Answers answer) ≡ false
+  pub chose : HasChosen call (choice_of own)
+  pub few : acts_in is_data_access own < most
+
+pub record Leaves {T : Type 0} (z : Arithmetic T) (answer : Answer T) (call : Call T) (own : List (Event T)) (hold : Option HoldKind) : Type 0 where
+  pub held : is_some hold ≡ true
+  pub made : acts_made z call own ≡ 1
+  pub goes : latest_outcome own ≡ thens.GoesOn
+  pub said : is_refusal (thens.Answers answer) ≡ false
+  pub chose : HasChosen call (choice_of own)
+  pub few : acts_in is_data_access own < 5
+
+pub record Asks {T : Type 0} (z : Arithmetic T) (old : T) (call : Call T) (own : List (Event T)) (hold : Option HoldKind) : Type 0 where
+  pub held : hold ≡ Some kinds.Write
+  pub unmade : acts_made z call own ≡ 0
+  pub looked : acts_in is_data_access own ≡ 2
+  pub chooses : ((latest_outcome own ≡ thens.Chooses old) × (choice_of own ≡ None)) ⊎ ((latest_outcome own ≡ thens.GoesOn) × (choice_of own ≡ Some None))
+
+abbrev pub Enters : ℕ → ℕ → Type 0
+Enters seen to = (to ≡ seen + 1) × (seen < 2 ^ 64 - 2)
+
+-- a call that may look at the data, or write them
+abbrev pub Looks : {T : Type 0} → Arithmetic T → Call T → Type 0
+Looks z call = (is_some (atomic_grant call) ≡ true) × (is_store call ≡ false) × CallValues z call
+
+abbrev pub AtAtomic : {T : Type 0} → Arithmetic T → AtomicPlace T → PendingCall T → Option HoldKind → Type 0
+AtAtomic z places.Look c hold = (c.call ≡ calls.Load) × (hold ≡ None) × Outside z c.call c.own
+AtAtomic z (places.Enter seen to) c hold = (c.call ≡ calls.Load) × (hold ≡ None) × Enters seen to × Outside z c.call c.own
+AtAtomic z (places.Take call) c hold = (c.call ≡ call) × (hold ≡ None) × (atomic_grant call ≡ Some kinds.Write) × CallValues z call × Outside z c.call c.own
+AtAtomic z (places.Low call) c hold = (c.call ≡ call) × (hold ≡ atomic_grant call) × Looks z call × Outside z c.call c.own
+AtAtomic z (places.High call low) c hold = (c.call ≡ call) × (hold ≡ atomic_grant call) × Looks z call × Fresh z c.call c.own × (low_told c.own ≡ low) × (acts_in is_data_access c.own ≡ 1)
+AtAtomic z (places.Again old) c hold = (c.call ≡ calls.FetchUpdate) × Asks z old c.call c.own hold
+AtAtomic z (places.PutLow low high answer) c hold = Puts z 3 answer c.call c.own hold
+AtAtomic z (places.PutHigh high answer) c hold = Puts z 4 answer c.call c.own hold
+AtAtomic z (places.Leave answer) c hold = Leaves z answer c.call c.own hold
+
+-- the place that is next
+leads : {T : Type 0} (z : Arithmetic T) (place next : AtomicPlace T) (c : PendingCall T) (hold : Option HoldKind) → Some place ≡ Some next → AtAtomic z place c hold → AtAtomic z next c hold
+leads z place next c hold is at = subst (λ p. AtAtomic z p c hold) (some_same place next is) at
+
+-- an event by which the call does not act
+still_fresh :
+    {T : Type 0} (z : Arithmetic T) (call : Call T) (own : List (Event T)) (number : ℕ) (act : Act T) → Fresh z call own → choice_in act (choice_of own) ≡ choice_of own → is_last z (record { call = call; own = own }) act ≡ false →
+    Fresh z call (event number act thens.GoesOn ∷ own)
+still_fresh z call own number act fresh same early =
+    let unmade = fresh.unmade in
+    record { unchosen = same ∙ fresh.unchosen; unmade = rw early (omega (arith, unmade)); goes = refl }
+
+still_outside :
+    {T : Type 0} (z : Arithmetic T) (call : Call T) (own : List (Event T)) (number : ℕ) (act : Act T) → Outside z call own → choice_in act (choice_of own) ≡ choice_of own → is_last z (record { call = call; own = own }) act ≡ false →
+    is_data_access act ≡ false → Outside z call (event number act thens.GoesOn ∷ own)
+still_outside z call own number act outside same early quiet =
+    let untouched = outside.untouched in
+    record { fresh = still_fresh z call own number act outside.fresh same early; untouched = rw quiet (omega (arith, untouched)) }
+
+-- Where a call begins.
+
+new_call : {T : Type 0} (z : Arithmetic T) (call : Call T) → Outside z call []
+new_call z call = record { fresh = record { unchosen = refl; unmade = refl; goes = refl }; untouched = refl }
+
+pub begins_at : {T : Type 0} (z : Arithmetic T) (call : Call T) (place : AtomicPlace T) (hold : Option HoldKind) → atomic_begins call ≡ Some place → CallValues z call → hold ≡ None → AtAtomic z place (record { call = call; own = [] }) hold
+begins_at z calls.Load place hold is values free = leads z _ place _ hold is (refl, free, new_call z _)
+begins_at z (calls.Store x) place hold is values free = leads z _ place _ hold is (refl, free, refl, values, new_call z _)
+begins_at z (calls.Swap x) place hold is values free = leads z _ place _ hold is (refl, free, refl, values, new_call z _)
+begins_at z (calls.CompareExchange c x) place hold is values free = leads z _ place _ hold is (refl, free, refl, values, new_call z _)
+begins_at z (calls.CompareExchangeWeak c x) place hold is values free = leads z _ place _ hold is (refl, free, refl, values, new_call z _)
+begins_at z (calls.FetchAdd x) place hold is values free = leads z _ place _ hold is (refl, free, refl, values, new_call z _)
+begins_at z (calls.FetchSub x) place hold is values free = leads z _ place _ hold is (refl, free, refl, values, new_call z _)
+begins_at z (calls.FetchAnd x) place hold is values free = leads z _ place _ hold is (refl, free, refl, values, new_call z _)
+begins_at z (calls.FetchOr x) place hold is values free = leads z _ place _ hold is (refl, free, refl, values, new_call z _)
+begins_at z (calls.FetchXor x) place hold is values free = leads z _ place _ hold is (refl, free, refl, values, new_call z _)
+begins_at z (calls.FetchNand x) place hold is values free = leads z _ place _ hold is (refl, free, refl, values, new_call z _)
+begins_at z (calls.FetchMax x) place hold is values free = leads z _ place _ hold is (refl, free, refl, values, new_call z _)
+begins_at z (calls.FetchMin x) place hold is values free = leads z _ place _ hold is (refl, free, refl, values, new_call z _)
+begins_at z calls.FetchUpdate place hold is values free = leads z _ place _ hold is (refl, free, refl, values, new_call z _)
+begins_at z other place hold is values free = absurd cc
+
+-- Where a step leads.
+
+pub room : (v : ℕ) → lets_readers_in v ≡ true → v < 2 ^ 64 - 2
+room v is = grind (arith, nat_tests)
+
+look_leads :
+    {T : Type 0} (z : Arithmetic T) (v : ℕ) (c : PendingCall T) (hold : Option HoldKind) (next : AtomicPlace T) (b : Bool) → lets_readers_in v ≡ b → c.call ≡ calls.Load → hold ≡ None → Outside z c.call c.own →
+    ◌≡◌ {A = Option (AtomicPlace T)} (Some (cond b (places.Enter v (v + 1)) places.Look)) (Some next) → AtAtomic z next c hold
+look_leads z v c hold next true sees load free out is = leads z (places.Enter v (v + 1)) next c hold is (load, free, (refl, room v sees), out)
+look_leads z v c hold next false sees load free out is = leads z places.Look next c hold is (load, free, out)
+
+enter_leads :
+    {T : Type 0} (z : Arithmetic T) (v : T) (c : PendingCall T) (hold : Option HoldKind) (seen to w number : ℕ) (next : AtomicPlace T) (b : Bool) → c.call ≡ calls.Load → hold ≡ None → Outside z c.call c.own →
+    ◌≡◌ {A = Option (AtomicPlace T)} (Some (cond b (places.Low calls.Load) (look_at w))) (Some next) →
+    AtAtomic z next (record { call = c.call; own = event number (acts.Exchange words.State seen to w b) thens.GoesOn ∷ c.own }) (hold_after (atomic_table z v) (acts.Exchange words.State seen to w b) (Some c) hold)
+enter_leads {T} z v c hold seen to w number next true load free out is =
+    leads z (places.Low calls.Load) next _ _ is (load, ap (λ (k : Call T). hold_or (atomic_grant k) hold) load, (refl, refl, tt), still_outside z c.call c.own number (acts.Exchange words.State seen to w true) out refl refl refl)
+enter_leads z v c hold seen to w number next false load free out is =
+    look_leads z w _ hold next (lets_readers_in w) refl load free (still_outside z c.call c.own number (acts.Exchange words.State seen to w false) out refl refl refl) is
+
+inside_leads :
+    {T : Type 0} (z : Arithmetic T) (call : Call T) (own : List (Event T)) (hold : Option HoldKind) (next : AtomicPlace T) → hold ≡ Some kinds.Write → atomic_grant call ≡ Some kinds.Write → CallValues z call → Outside z call own →
+    ◌≡◌ {A = Option (AtomicPlace T)} (Some (inside z call)) (Some next) → AtAtomic z next (record { call = call; own = own }) hold
+inside_leads z (calls.Store x) own hold next held grants values out is =
+    let untouched = out.untouched in
+    leads z (puts z x answers.Done) next _ hold is (record { held = held; unmade = out.fresh.unmade; goes = out.fresh.goes; said = refl; chose = tt; few = omega (arith, untouched) })
+inside_leads z other own hold next held grants values fresh is =
+    leads z (places.Low other) next _ hold is (refl, held ∙ sym grants, (ap is_some grants, refl, values), fresh)
+
+take_leads :
+    {T : Type 0} (z : Arithmetic T) (v : T) (call : Call T) (own : List (Event T)) (hold : Option HoldKind) (w number : ℕ) (next : AtomicPlace T) (b : Bool) → hold ≡ None → atomic_grant call ≡ Some kinds.Write → CallValues z call → Outside z call own →
+    ◌≡◌ {A = Option (AtomicPlace T)} (Some (cond b (inside z call) (places.Take call))) (Some next) →
+    AtAtomic z next (record { call = call; own = event number (acts.Exchange words.State 0 (2 ^ 64 - 1) w b) thens.GoesOn ∷ own }) (hold_after (atomic_table z v) (acts.Exchange words.State 0 (2 ^ 64 - 1) w b) (Some (record { call = call; own = own })) hold)
+take_leads z v call own hold w number next true free grants values out is =
+    inside_leads z call _ _ next (ap (λ g. hold_or g hold) grants) grants values (still_outside z call own number (acts.Exchange words.State 0 (2 ^ 64 - 1) w true) out refl refl refl) is
+take_leads z v call own hold w number next false free grants values out is =
+    leads z (places.Take call) next _ hold is (refl, free, grants, values, still_outside z call own number (acts.Exchange words.State 0 (2 ^ 64 - 1) w false) out refl refl refl)
+
+-- the load of the high word, by which the old value is known
+
+module _ {T : Type 0} (z : Arithmetic T) (own : List (Event T)) (low w number : ℕ) (hold : Option HoldKind) (next : AtomicPlace T) (looked : acts_in is_data_access own ≡ 1) where
+  old : T
+  old = z.of_words low w
+
+  abbrev after_look : Call T → Then T → PendingCall T
+  after_look call outcome = record { call = call; own = event number (acts.Load words.High w) outcome ∷ own }
+
+  -- it has not acted, and will store
+  will_put : (call : Call T) (new : T) (answer : Answer T) → hold ≡ Some kinds.Write → is_refusal (thens.Answers answer) ≡ false → Fresh z call own → is_last z (record { call = call; own = own }) (acts.Load words.High w) ≡ false → HasChosen call (choice_of own) →
+      ◌≡◌ {A = Option (AtomicPlace T)} (Some (puts z new answer)) (Some next) → AtAtomic z next (after_look call thens.GoesOn) hold
+  will_put call new answer held said fresh early chose is =
+      let unmade = fresh.unmade in
+      leads z (puts z new answer) next _ hold is (record { held = held; unmade = rw early (omega (arith, unmade)); goes = refl; said = said; chose = chose; few = omega (arith, looked) })
+
+  -- it has acted
+  has_acted : (call : Call T) (answer : Answer T) → is_some hold ≡ true → is_refusal (thens.Answers answer) ≡ false → Fresh z call own → is_last z (record { call = call; own = own }) (acts.Load words.High w) ≡ true → HasChosen call (choice_of own) →
+      ◌≡◌ {A = Option (AtomicPlace T)} (Some (places.Leave answer)) (Some next) → AtAtomic z next (after_look call thens.GoesOn) hold
+  has_acted call answer held said fresh late chose is =
+      let unmade = fresh.unmade in
+      leads z (places.Leave answer) next _ hold is (record { held = held; made = rw late (omega (arith, unmade)); goes = refl; said = said; chose = chose; few = omega (arith, looked) })
+
+  compare_leads : (call : Call T) (new : T) (b : Bool) → hold ≡ Some kinds.Write → Fresh z call own → is_last z (record { call = call; own = own }) (acts.Load words.High w) ≡ not b → HasChosen call (choice_of own) →
+      ◌≡◌ {A = Option (AtomicPlace T)} (Some (compares z b (z.of_words low w) new)) (Some next) → AtAtomic z next (after_look call thens.GoesOn) hold
+  compare_leads call new true held fresh last chose is = will_put call new (answers.OkOld (z.of_words low w)) held refl fresh last chose is
+  compare_leads call new false held fresh last chose is = has_acted call (answers.ErrOld (z.of_words low w)) (ap is_some held) refl fresh last chose is
+
+  high_leads : (call : Call T) → hold ≡ atomic_grant call → Looks z call → Fresh z call own → low_told own ≡ low → place_after (knows z call (z.of_words low w)) ≡ Some next →
+      AtAtomic z next (after_look call (outcome_of (knows z call (z.of_words low w)))) hold
+  high_leads calls.Load held looks fresh told is = has_acted calls.Load _ (ap is_some held) refl fresh refl tt is
+  high_leads (calls.Store x) held looks fresh told is = let no = looks.1 in absurd cc
+  high_leads (calls.Swap x) held looks fresh told is = will_put (calls.Swap x) _ _ held refl fresh refl tt is
+  high_leads (calls.CompareExchange c x) held looks fresh told is = compare_leads (calls.CompareExchange c x) x (z.same (z.of_words low w) c) held fresh (ap (λ l. not (z.same (z.of_words l w) c)) told) tt is
+  high_leads (calls.CompareExchangeWeak c x) held looks fresh told is = compare_leads (calls.CompareExchangeWeak c x) x (z.same (z.of_words low w) c) held fresh (ap (λ l. not (z.same (z.of_words l w) c)) told) tt is
+  high_leads (calls.FetchAdd x) held looks fresh told is = will_put (calls.FetchAdd x) _ _ held refl fresh refl tt is
+  high_leads (calls.FetchSub x) held looks fresh told is = will_put (calls.FetchSub x) _ _ held refl fresh refl tt is
+  high_leads (calls.FetchAnd x) held looks fresh told is = will_put (calls.FetchAnd x) _ _ held refl fresh refl tt is
+  high_leads (calls.FetchOr x) held looks fresh told is = will_put (calls.FetchOr x) _ _ held refl fresh refl tt is
+  high_leads (calls.FetchXor x) held looks fresh told is = will_put (calls.FetchXor x) _ _ held refl fresh refl tt is
+  high_leads (calls.FetchNand x) held looks fresh told is = will_put (calls.FetchNand x) _ _ held refl fresh refl tt is
+  high_leads (calls.FetchMax x) held looks fresh told is = will_put (calls.FetchMax x) _ _ held refl fresh refl tt is
+  high_leads (calls.FetchMin x) held looks fresh told is = will_put (calls.FetchMin x) _ _ held refl fresh refl tt is
+  high_leads calls.FetchUpdate held looks fresh told is =
+      let unmade = fresh.unmade in
+      leads z (places.Again (z.of_words low w)) next _ hold is (refl, record { held = held; unmade = rw fresh.unchosen (omega (arith, unmade)); looked = omega (arith, looked); chooses = inl (refl, fresh.unchosen) })
+  high_leads other held looks fresh told is = let no = looks.0 in absurd cc
+
+-- where its closure chose nothing a `FetchUpdate` looks once more, and so acts
+again_leads :
+    {T : Type 0} (z : Arithmetic T) (old : T) (own : List (Event T)) (hold : Option HoldKind) (w number : ℕ) (next : AtomicPlace T) → Asks z old calls.FetchUpdate own hold → go_fault (latest_outcome own) ≡ None →
+    ◌≡◌ {A = Option (AtomicPlace T)} (Some (places.Leave (answers.ErrOld old))) (Some next) →
+    AtAtomic z next (record { call = calls.FetchUpdate; own = event number (acts.Load words.High w) thens.GoesOn ∷ own }) hold
+again_leads {T} z old own hold w number next asks free is = by_choice asks.chooses
+  where
+    by_choice : ((latest_outcome own ≡ thens.Chooses old) × (choice_of own ≡ None)) ⊎ ((latest_outcome own ≡ thens.GoesOn) × (choice_of own ≡ Some None)) →
+        AtAtomic z next (record { call = calls.FetchUpdate; own = event number (acts.Load words.High w) thens.GoesOn ∷ own }) hold
+    by_choice (inl stands) = let no : go_fault {T = T} (thens.Chooses old) ≡ None = subst (λ (o : Then T). go_fault o ≡ None) stands.0 free in absurd cc
+    by_choice (inr chose) =
+        let unmade = asks.unmade in
+        let looked = asks.looked in
+        leads z (places.Leave (answers.ErrOld old)) next _ hold is (record { held = ap is_some asks.held; made = rw chose.1 (omega (arith, unmade)); goes = refl; said = refl; chose = rw chose.1 refl; few = omega (arith, looked) })
+
+steps_at :
+    {T : Type 0} (z : Arithmetic T) (v : T) (place : AtomicPlace T) (c : PendingCall T) (hold : Option HoldKind) (memory : Word → ℕ) (number : ℕ) (next : AtomicPlace T) → AtAtomic z place c hold → go_fault (latest_outcome c.own) ≡ None →
+    place_after ((atomic_table z v).after place (value_told (carried_out ((atomic_table z v).intent place hold) memory))) ≡ Some next →
+    AtAtomic z next (record { call = c.call; own = event number (step_at (atomic_table z v) place hold memory).act (step_at (atomic_table z v) place hold memory).outcome ∷ c.own })
+    (hold_after (atomic_table z v) (step_at (atomic_table z v) place hold memory).act (Some c) hold)
+steps_at z v places.Look c hold memory number next at free is =
+    look_leads z (memory words.State) _ hold next (lets_readers_in (memory words.State)) refl at.0 at.1 (still_outside z c.call c.own number (acts.Load words.State (memory words.State)) at.2 refl refl refl) is
+steps_at z v (places.Enter seen to) c hold memory number next at free is = enter_leads z v c hold seen to (memory words.State) number next (memory words.State == seen) at.0 at.1 at.3 is
+steps_at {T} z v (places.Take call) c hold memory number next at free is =
+    let w = memory words.State in
+    subst (λ (k : Call T). Outside z k c.own → AtAtomic z next (record { call = k; own = event number (acts.Exchange words.State 0 (2 ^ 64 - 1) w (w == 0)) thens.GoesOn ∷ c.own }) (hold_after (atomic_table z v) (acts.Exchange words.State 0 (2 ^ 64 - 1) w (w == 0)) (Some (record { call = k; own = c.own })) hold)) (sym at.0)
+    (λ out. take_leads z v call c.own hold w number next (w == 0) at.1 at.2 at.3 out is) at.4
+steps_at z v (places.Low call) c hold memory number next at free is =
+    let untouched = at.3.untouched in
+    leads z (places.High call (memory words.Low)) next _ _ is (at.0, at.1, at.2, still_fresh z c.call c.own number (acts.Load words.Low (memory words.Low)) at.3.fresh refl refl, refl, omega (arith, untouched))
+steps_at {T} z v (places.High call low) c hold memory number next at free is =
+    let w = memory words.High in
+    subst (λ (k : Call T). Fresh z k c.own → AtAtomic z next (record { call = k; own = event number (acts.Load words.High w) (outcome_of (knows z call (z.of_words low w))) ∷ c.own }) hold) (sym at.0)
+    (λ fresh. high_leads z c.own low w number hold next at.5 call at.1 at.2 fresh at.4 is) at.3
+steps_at {T} z v (places.Again old) c hold memory number next at free is =
+    subst (λ (k : Call T). Asks z old k c.own hold → AtAtomic z next (record { call = k; own = event number (acts.Load words.High (memory words.High)) thens.GoesOn ∷ c.own }) hold) (sym at.0)
+    (λ asks. again_leads z old c.own hold (memory words.High) number next asks free is) at.1
+steps_at z v (places.PutLow low high answer) c hold memory number next at free is =
+    let unmade = at.unmade in
+    let few = at.few in
+    leads z (places.PutHigh high answer) next _ _ is (record { held = at.held; unmade = omega (arith, unmade); goes = refl; said = at.said; chose = at.chose; few = omega (arith, few) })
+steps_at z v (places.PutHigh high answer) c hold memory number next at free is =
+    let unmade = at.unmade in
+    let few = at.few in
+    leads z (places.Leave answer) next _ _ is (record { held = ap is_some at.held; made = omega (arith, unmade); goes = refl; said = at.said; chose = at.chose; few = omega (arith, few) })
+steps_at z v (places.Leave answer) c hold memory number next at free is = absurd cc
+
+-- Where an answer leads: no call stands at a wait closure.
+
+asked_nothing : {T : Type 0} (own : List (Event T)) (outcome : Then T) → latest_outcome own ≡ outcome → answer_fault outcome ≢ None → answer_fault (latest_outcome own) ≡ None → ⊥
+asked_nothing own outcome is refuses waits = refuses (subst (λ o. answer_fault o ≡ None) is waits)
+
+goes_not : (T : Type 0) → answer_fault {T = T} thens.GoesOn ≢ None
+goes_not T is = absurd cc
+
+answers_at :
+    {T : Type 0} (z : Arithmetic T) (place : AtomicPlace T) (c : PendingCall T) (hold : Option HoldKind) (action : WaitAction) (number : ℕ) → AtAtomic z place c hold → answer_fault (latest_outcome c.own) ≡ None →
+    AtAtomic z place (record { call = c.call; own = event number (acts.Answered action) thens.GoesOn ∷ c.own }) hold
+answers_at {T} z places.Look c hold action number at waits = absurd (asked_nothing c.own thens.GoesOn at.2.fresh.goes (goes_not T) waits)
+answers_at {T} z (places.Enter seen to) c hold action number at waits = absurd (asked_nothing c.own thens.GoesOn at.3.fresh.goes (goes_not T) waits)
+answers_at {T} z (places.Take call) c hold action number at waits = absurd (asked_nothing c.own thens.GoesOn at.4.fresh.goes (goes_not T) waits)
+answers_at {T} z (places.Low call) c hold action number at waits = absurd (asked_nothing c.own thens.GoesOn at.3.fresh.goes (goes_not T) waits)
+answers_at {T} z (places.High call low) c hold action number at waits = absurd (asked_nothing c.own thens.GoesOn at.3.goes (goes_not T) waits)
+answers_at {T} z (places.Again old) c hold action number at waits = by_choice at.1.chooses
+  where
+    by_choice : ((latest_outcome c.own ≡ thens.Chooses old) × (choice_of c.own ≡ None)) ⊎ ((latest_outcome c.own ≡ thens.GoesOn) × (choice_of c.own ≡ Some None)) →
+        AtAtomic z (places.Again old) (record { call = c.call; own = event number (acts.Answered action) thens.GoesOn ∷ c.own }) hold
+    by_choice (inl stands) = let no : answer_fault {T = T} (thens.Chooses old) ≡ None = subst (λ (o : Then T). answer_fault o ≡ None) stands.0 waits in absurd cc
+    by_choice (inr chose) = absurd (asked_nothing c.own thens.GoesOn chose.0 (goes_not T) waits)
+answers_at {T} z (places.PutLow low high answer) c hold action number at waits = absurd (asked_nothing c.own thens.GoesOn at.goes (goes_not T) waits)
+answers_at {T} z (places.PutHigh high answer) c hold action number at waits = absurd (asked_nothing c.own thens.GoesOn at.goes (goes_not T) waits)
+answers_at {T} z (places.Leave answer) c hold action number at waits = absurd (asked_nothing c.own thens.GoesOn at.goes (goes_not T) waits)
+
+-- Where a choice leads.
+
+offered_nothing : {T : Type 0} (own : List (Event T)) → latest_outcome own ≡ thens.GoesOn → choose_fault (latest_outcome own) ≡ None → ⊥
+offered_nothing {T} own goes stands = let no : choose_fault {T = T} thens.GoesOn ≡ None = subst (λ (o : Then T). choose_fault o ≡ None) goes stands in absurd cc
+
+chooses_at :
+    {T : Type 0} (z : Arithmetic T) (v : T) (place : AtomicPlace T) (c : PendingCall T) (hold : Option HoldKind) (choice : Option T) (number : ℕ) → AtAtomic z place c hold → choose_fault (latest_outcome c.own) ≡ None → InputValues z (inputs.Choose choice) →
+    AtAtomic z ((atomic_table z v).chosen place choice) (record { call = c.call; own = event number (acts.Chosen choice) thens.GoesOn ∷ c.own }) hold
+chooses_at z v places.Look c hold choice number at stands value = absurd (offered_nothing c.own at.2.fresh.goes stands)
+chooses_at z v (places.Enter seen to) c hold choice number at stands value = absurd (offered_nothing c.own at.3.fresh.goes stands)
+chooses_at z v (places.Take call) c hold choice number at stands value = absurd (offered_nothing c.own at.4.fresh.goes stands)
+chooses_at z v (places.Low call) c hold choice number at stands value = absurd (offered_nothing c.own at.3.fresh.goes stands)
+chooses_at z v (places.High call low) c hold choice number at stands value = absurd (offered_nothing c.own at.3.goes stands)
+chooses_at {T} z v (places.Again old) c hold (Some new) number at stands value = let unmade = at.1.unmade in let looked = at.1.looked in record { held = at.1.held; unmade = omega (arith, unmade); goes = refl; said = refl; chose = subst (λ (k : Call T). HasChosen k (Some (Some new))) (sym at.0) refl; few = omega (arith, looked) }
+chooses_at z v (places.Again old) c hold None number at stands value = let unmade = at.1.unmade in let looked = at.1.looked in (at.0, record { held = at.1.held; unmade = omega (arith, unmade); looked = omega (arith, looked); chooses = inr (refl, refl) })
+chooses_at z v (places.PutLow low high answer) c hold choice number at stands value = absurd (offered_nothing c.own at.goes stands)
+chooses_at z v (places.PutHigh high answer) c hold choice number at stands value = absurd (offered_nothing c.own at.goes stands)
+chooses_at z v (places.Leave answer) c hold choice number at stands value = absurd (offered_nothing c.own at.goes stands)
+
+-- Where a call ends.
+
+pub knows_goes_on : {T : Type 0} (z : Arithmetic T) (call : Call T) (old : T) (answer : Answer T) → knows z call old ≡ afters.Ends answer → ⊥
+knows_goes_on z calls.Load old answer is = absurd cc
+knows_goes_on z (calls.Swap x) old answer is = absurd cc
+knows_goes_on z (calls.CompareExchange c x) old answer is = absurd cc
+knows_goes_on z (calls.CompareExchangeWeak c x) old answer is = absurd cc
+knows_goes_on z (calls.FetchAdd x) old answer is = absurd cc
+knows_goes_on z (calls.FetchSub x) old answer is = absurd cc
+knows_goes_on z (calls.FetchAnd x) old answer is = absurd cc
+knows_goes_on z (calls.FetchOr x) old answer is = absurd cc
+knows_goes_on z (calls.FetchXor x) old answer is = absurd cc
+knows_goes_on z (calls.FetchNand x) old answer is = absurd cc
+knows_goes_on z (calls.FetchMax x) old answer is = absurd cc
+knows_goes_on z (calls.FetchMin x) old answer is = absurd cc
+knows_goes_on z calls.FetchUpdate old answer is = absurd cc
+knows_goes_on z other old answer is = absurd cc
+
+ends_at :
+    {T : Type 0} (z : Arithmetic T) (v : T) (place : AtomicPlace T) (c : PendingCall T) (hold : Option HoldKind) (memory : Word → ℕ) (answer : Answer T) → AtAtomic z place c hold →
+    (atomic_table z v).after place (value_told (carried_out ((atomic_table z v).intent place hold) memory)) ≡ afters.Ends answer → hold_after (atomic_table z v) (step_at (atomic_table z v) place hold memory).act (Some c) hold ≡ None
+ends_at z v places.Look c hold memory answer at is = absurd cc
+ends_at z v (places.Enter seen to) c hold memory answer at is = absurd cc
+ends_at z v (places.Take call) c hold memory answer at is = absurd cc
+ends_at z v (places.Low call) c hold memory answer at is = absurd cc
+ends_at z v (places.High call low) c hold memory answer at is = absurd (knows_goes_on z call _ answer is)
+ends_at z v (places.Again old) c hold memory answer at is = absurd cc
+ends_at z v (places.PutLow low high a) c hold memory answer at is = absurd cc
+ends_at z v (places.PutHigh high a) c hold memory answer at is = absurd cc
+ends_at z v (places.Leave a) c None memory answer at is = refl
+ends_at z v (places.Leave a) c (Some kinds.Read) memory answer at is = refl
+ends_at z v (places.Leave a) c (Some kinds.Write) memory answer at is = refl
+
+-- a party without a call has no hold
+abbrev pub HasNone : Option HoldKind → Type 0
+HasNone hold = hold ≡ None
+
+pub atomic_kept : {T : Type 0} (z : Arithmetic T) (v : T) → IsKeptFromRest z (atomic_table z v) HasNone (AtAtomic z)
+atomic_kept z v =
+    record {
+      begins = λ call place hold is allowed values none. begins_at z call place hold is values none;
+      steps = steps_at z v;
+      answers = answers_at z;
+      chooses = chooses_at z v;
+      ends = ends_at z v;
+    }
+
+-- so it is of each call under way
+pub here :
+    {T : Type 0} (z : Arithmetic T) (v : T) (parties : ℕ) (past : List (Event T)) → IsPast z (atomic_table z v) parties past → (party : ℕ) (c : PendingCall T) (place : AtomicPlace T) →
+    call_of party past ≡ Some c → stage_of (atomic_table z v) c ≡ Some place → AtAtomic z place c (hold_of (atomic_table z v) party past)
+here z v parties past run party c place called stage = at_place_from_rest z (atomic_table z v) HasNone (AtAtomic z) (atomic_kept z v) parties refl past run party c place called stage

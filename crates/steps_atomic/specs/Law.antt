@@ -1,0 +1,99 @@
+-- What an atomic keeps at every front of every run: one writer or only readers, and it answers as one register.
+use Rattle.std.specs.Prelude.{◌≡◌, ◌≢◌, ◌<◌, ◌||◌, ℕ, true, is_some, List, [], ◌∷◌, Some, None, MatchOption}
+use Rattle.steps_events.specs.declared.event.Word.TheVariants as words
+use Rattle.steps_events.specs.declared.event.Call.{Call}
+use Rattle.steps_events.specs.declared.event.Call.TheVariants as calls
+use Rattle.steps_events.specs.declared.event.Then.{Then}
+use Rattle.steps_events.specs.declared.event.Then.TheVariants as thens
+use Rattle.steps_events.specs.declared.event.Event.{Event}
+use Rattle.steps_events.specs.Arithmetic.{Arithmetic}
+use Rattle.steps_events.specs.declared.hold.HoldKind.TheVariants as kinds
+use Rattle.steps_events.specs.Past.{call_of, holds_of, hold_of, word_in, is_release}
+use Rattle.steps_events.specs.Moves.{is_step}
+use Rattle.steps_events.specs.Sights.{acts_in}
+use Rattle.steps_events.specs.HoldCounts.{writes_in}
+use Rattle.steps_events.specs.Laws.{Keeps}
+use Rattle.steps_rw_reader.specs.Law.{CountsHolds}
+use Rattle.steps_atomic.specs.Register.{register_after, answer_of, choice_of, HasChosen, acts_made, is_data_access, is_data_write}
+use Rattle.steps_atomic.specs.Table.{atomic_table}
+
+-- no call is refused
+abbrev pub AtomicCause : {T : Type 0} → Call T → ℕ → List (Event T) → Type 0
+AtomicCause call party events = ⊥
+
+-- the register's value as the two data words tell it, while nobody writes them
+abbrev pub DataIsRegister : {T : Type 0} → Arithmetic T → T → List (Event T) → Type 0
+DataIsRegister z v past =
+    writes_in (holds_of (atomic_table z v) past) ≡ 0 →
+    z.of_words (word_in (atomic_table z v) past words.Low) (word_in (atomic_table z v) past words.High) ≡ register_after z v past
+
+-- an answer is what the register answered the call, which has acted once; and a choice closure is told the register's value
+abbrev pub AnswersAsRegister : {T : Type 0} → Arithmetic T → T → ℕ → List (Event T) → Then T → Type 0
+AnswersAsRegister z v party past (thens.Answers answer) =
+    (answer_of z v party past ≡ Some answer) × MatchOption (call_of party past) ⊥ (λ c. (acts_made z c.call c.own ≡ 1) × HasChosen c.call (choice_of c.own))
+AnswersAsRegister z v party past (thens.Chooses old) =
+    (old ≡ register_after z v past) × MatchOption (call_of party past) ⊥ (λ c. (c.call ≡ calls.FetchUpdate) × (choice_of c.own ≡ None))
+AnswersAsRegister z v party past (thens.Waits seen) = ⊥
+AnswersAsRegister z v party past thens.GoesOn = Unit {0}
+
+abbrev pub LatestAnswers : {T : Type 0} → Arithmetic T → T → List (Event T) → Type 0
+LatestAnswers z v [] = Unit {0}
+LatestAnswers z v (e ∷ past) = AnswersAsRegister z v e.party past e.then
+
+-- whoever reads or writes a data word has the lock
+abbrev pub AccessesUnderHold : {T : Type 0} → Arithmetic T → T → List (Event T) → Type 0
+AccessesUnderHold z v [] = Unit {0}
+AccessesUnderHold z v (e ∷ past) = is_data_access e.act ≡ true → is_some (hold_of (atomic_table z v) e.party past) ≡ true
+
+-- a call reads and writes no data word once it has acted: it acts at its last data access
+abbrev pub ActsLast : {T : Type 0} → Arithmetic T → List (Event T) → Type 0
+ActsLast z [] = Unit {0}
+ActsLast z (e ∷ past) = is_data_access e.act ≡ true → MatchOption (call_of e.party past) (Unit {0}) (λ c. acts_made z c.call c.own ≡ 0)
+
+-- a call that has the lock works on the data words until it leaves the lock
+abbrev pub WorksUntilItLeaves : {T : Type 0} → Arithmetic T → T → List (Event T) → Type 0
+WorksUntilItLeaves z v [] = Unit {0}
+WorksUntilItLeaves z v (e ∷ past) =
+    is_step e.act ≡ true → is_some (hold_of (atomic_table z v) e.party past) ≡ true → (is_data_access e.act || is_release e.act) ≡ true
+
+-- a call makes four data accesses at most
+abbrev pub FewAccesses : {T : Type 0} → List (Event T) → Type 0
+FewAccesses past = (party : ℕ) → MatchOption (call_of party past) (Unit {0}) (λ c. acts_in is_data_access c.own < 5)
+
+-- the lock is left where a call ends: a party without a call has no hold
+abbrev pub RestsWithout : {T : Type 0} → Arithmetic T → T → List (Event T) → Type 0
+RestsWithout z v past = (party : ℕ) → call_of party past ≡ None → hold_of (atomic_table z v) party past ≡ None
+
+-- the party has the lock for writing, and no other call under way has read or written a data word yet
+pub record IsAlone {T : Type 0} (z : Arithmetic T) (v : T) (party : ℕ) (past : List (Event T)) : Type 0 where
+  pub held : hold_of (atomic_table z v) party past ≡ Some kinds.Write
+  pub untouched : (other : ℕ) → other ≢ party → MatchOption (call_of other past) (Unit {0}) (λ c. acts_in is_data_access c.own ≡ 0)
+
+-- whoever writes a data word is alone: so no write falls between two accesses of another call
+abbrev pub WritesAlone : {T : Type 0} → Arithmetic T → T → List (Event T) → Type 0
+WritesAlone z v [] = Unit {0}
+WritesAlone z v (e ∷ past) = is_data_write e.act ≡ true → IsAlone z v e.party past
+
+-- What an atomic keeps beside what every object does.
+pub record AtomicLaw {T : Type 0} (z : Arithmetic T) (v : T) (past : List (Event T)) : Type 0 where
+  -- the lock's word is the number of read holds, or 2^64 - 1 with one write hold and no other
+  pub counts : CountsHolds (word_in (atomic_table z v) past words.State) (holds_of (atomic_table z v) past)
+  -- while nobody has the lock for writing, the data words are the register's value
+  pub held : DataIsRegister z v past
+  -- the calls answer as one register does
+  pub register : LatestAnswers z v past
+  -- the data words are read and written under the lock
+  pub accesses : AccessesUnderHold z v past
+  -- and written by nobody between the accesses of another call, so no value is read half written
+  pub apart : WritesAlone z v past
+  -- a call acts at its last access to them
+  pub last : ActsLast z past
+  -- where it has the lock it does nothing else
+  pub works : WorksUntilItLeaves z v past
+  -- and this in five steps of its own at most
+  pub few : FewAccesses past
+  -- and has left the lock where it answers
+  pub rests : RestsWithout z v past
+
+abbrev pub KeepsAtomic : {T : Type 0} → Arithmetic T → T → List (Event T) → Type 0
+KeepsAtomic z v past = Keeps (atomic_table z v) AtomicCause (AtomicLaw z v) past

@@ -1,0 +1,3 @@
+pub mod Register
+pub mod Table
+pub mod Law

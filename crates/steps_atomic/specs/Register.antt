@@ -1,0 +1,115 @@
+-- An atomic as one register: a value, and the acts of its calls, in the order of their last data accesses.
+use Rattle.std.specs.Prelude.{◌≡◌, is_some, ℕ, Bool, true, false, ◌+◌, ◌==◌, ◌||◌, if◌then◌else◌, not, List, [], ◌∷◌, Option, Some, None}
+use Rattle.steps_events.specs.declared.event.Word.TheVariants as words
+use Rattle.steps_events.specs.declared.event.Call.{Call}
+use Rattle.steps_events.specs.declared.event.Call.TheVariants as calls
+use Rattle.steps_events.specs.declared.event.Act.{Act}
+use Rattle.steps_events.specs.declared.event.Act.TheVariants as acts
+use Rattle.steps_events.specs.declared.event.Answer.{Answer}
+use Rattle.steps_events.specs.declared.event.Answer.TheVariants as answers
+use Rattle.steps_events.specs.declared.event.Event.{Event}
+use Rattle.steps_events.specs.Arithmetic.{Arithmetic}
+use Rattle.steps_events.specs.Past.{PendingCall, call_of}
+use Rattle.steps_events.specs.Sights.{is_sight, is_write}
+
+-- what an act answers, and the register's new value
+abbrev pub Outcome : Type 0 → Type 0
+Outcome T = Answer T × T
+
+abbrev pub swapped : {T : Type 0} → T → T → Outcome T
+swapped old new = (answers.Value old, new)
+
+abbrev pub compared : {T : Type 0} → Bool → T → T → Outcome T
+compared same old new = if same then (answers.OkOld old, new) else (answers.ErrOld old, old)
+
+abbrev pub updated : {T : Type 0} → Option (Option T) → T → Outcome T
+updated (Some (Some new)) old = (answers.OkOld old, new)
+updated other old = (answers.ErrOld old, old)
+
+-- a call's act at a register of this value, with its choice where it was given one
+abbrev pub act_of : {T : Type 0} → Arithmetic T → Call T → Option (Option T) → T → Outcome T
+act_of z calls.Load choice old = (answers.Value old, old)
+act_of z (calls.Store x) choice old = (answers.Done, x)
+act_of z (calls.Swap x) choice old = swapped old x
+act_of z (calls.CompareExchange c x) choice old = compared (z.same old c) old x
+act_of z (calls.CompareExchangeWeak c x) choice old = compared (z.same old c) old x
+act_of z (calls.FetchAdd x) choice old = swapped old (z.add old x)
+act_of z (calls.FetchSub x) choice old = swapped old (z.subtract old x)
+act_of z (calls.FetchAnd x) choice old = swapped old (z.and old x)
+act_of z (calls.FetchOr x) choice old = swapped old (z.or old x)
+act_of z (calls.FetchXor x) choice old = swapped old (z.xor old x)
+act_of z (calls.FetchNand x) choice old = swapped old (z.inverse (z.and old x))
+act_of z (calls.FetchMax x) choice old = swapped old (z.greater old x)
+act_of z (calls.FetchMin x) choice old = swapped old (z.lesser old x)
+act_of z calls.FetchUpdate choice old = updated choice old
+act_of z other choice old = (answers.Done, old)
+
+-- the choice that the call was given
+abbrev pub choice_in : {T : Type 0} → Act T → Option (Option T) → Option (Option T)
+choice_in (acts.Chosen choice) before = Some choice
+choice_in other before = before
+
+abbrev pub choice_of : {T : Type 0} → List (Event T) → Option (Option T)
+choice_of [] = None
+choice_of (e ∷ own) = choice_in e.act (choice_of own)
+
+-- the low word that the call was told
+abbrev pub low_in : {T : Type 0} → Act T → ℕ → ℕ
+low_in (acts.Load words.Low seen) before = seen
+low_in other before = before
+
+abbrev pub low_told : {T : Type 0} → List (Event T) → ℕ
+low_told [] = 0
+low_told (e ∷ own) = low_in e.act (low_told own)
+
+-- whether a load of the high word, by which the old value is known, is the call's last data access
+abbrev pub ends_at_look : {T : Type 0} → Arithmetic T → Call T → Option (Option T) → T → Bool
+ends_at_look z calls.Load choice old = true
+ends_at_look z (calls.CompareExchange c x) choice old = not (z.same old c)
+ends_at_look z (calls.CompareExchangeWeak c x) choice old = not (z.same old c)
+ends_at_look z calls.FetchUpdate (Some choice) old = true
+ends_at_look z other choice old = false
+
+-- the act is the call's last data access: its store of the high word, or the load of it after which it stores nothing
+abbrev pub is_last : {T : Type 0} → Arithmetic T → PendingCall T → Act T → Bool
+is_last z c (acts.Store words.High put) = true
+is_last z c (acts.Load words.High seen) = ends_at_look z c.call (choice_of c.own) (z.of_words (low_told c.own) seen)
+is_last z c other = false
+
+abbrev pub acted : {T : Type 0} → Arithmetic T → Option (PendingCall T) → Act T → T → T
+acted z None act old = old
+acted z (Some c) act old = if is_last z c act then (act_of z c.call (choice_of c.own) old).1 else old
+
+-- the register's value after the events, where it began with v
+abbrev pub register_after : {T : Type 0} → Arithmetic T → T → List (Event T) → T
+register_after z v [] = v
+register_after z v (e ∷ past) = acted z (call_of e.party past) e.act (register_after z v past)
+
+-- what the register answered the party's call under way, once that has acted
+abbrev pub answer_in : {T : Type 0} → Arithmetic T → Option (PendingCall T) → Act T → T → Option (Answer T) → Option (Answer T)
+answer_in z None act old before = None
+answer_in z (Some c) act old before = if is_last z c act then Some (act_of z c.call (choice_of c.own) old).0 else before
+
+abbrev pub answer_of : {T : Type 0} → Arithmetic T → T → ℕ → List (Event T) → Option (Answer T)
+answer_of z v party [] = None
+answer_of z v party (e ∷ past) =
+    if e.party == party
+    then answer_in z (call_of party past) e.act (register_after z v past) (answer_of z v party past)
+    else answer_of z v party past
+
+-- a `FetchUpdate` acts with its choice, and so once its closure has answered
+abbrev pub HasChosen : {T : Type 0} → Call T → Option (Option T) → Type 0
+HasChosen calls.FetchUpdate choice = is_some choice ≡ true
+HasChosen other choice = Unit {0}
+
+-- how often a call has acted
+abbrev pub acts_made : {T : Type 0} → Arithmetic T → Call T → List (Event T) → ℕ
+acts_made z call [] = 0
+acts_made z call (e ∷ own) = (if is_last z (record { call = call; own = own }) e.act then 1 else 0) + acts_made z call own
+
+-- an act that writes a data word, or tells or writes one
+abbrev pub is_data_write : {T : Type 0} → Act T → Bool
+is_data_write act = is_write words.Low act || is_write words.High act
+
+abbrev pub is_data_access : {T : Type 0} → Act T → Bool
+is_data_access act = is_data_write act || (is_sight words.Low act || is_sight words.High act)

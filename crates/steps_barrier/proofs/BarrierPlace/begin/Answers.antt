@@ -1,0 +1,5 @@
+use Rattle.std.proofs.Common.{rules}
+use Rattle.steps_barrier.proofs.BarrierPlace.begin.Goals as goal
+
+pub returns-in-Wait : goal.returns-in-Wait
+returns-in-Wait g c = search rules

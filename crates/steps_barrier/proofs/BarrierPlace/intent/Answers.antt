@@ -1,0 +1,5 @@
+use Rattle.std.proofs.Common.{rules}
+use Rattle.steps_barrier.proofs.BarrierPlace.intent.Goals as goal
+
+pub returns-in-Wake : goal.returns-in-Wake
+returns-in-Wake g c = search rules

@@ -1,0 +1,22 @@
+-- A step of a call is the one that what its call has seen asks for. Which that is, and how it leaves the call, each object says for itself, of
+-- events alone: by the call, its own events so far, the act, and what comes of it.
+use Rattle.std.specs.Prelude.{ℕ, nat_lt, if◌then◌else◌, List, [], ◌∷◌, MatchBool, MatchOption}
+use Rattle.steps_events.specs.declared.event.Call.{Call}
+use Rattle.steps_events.specs.declared.event.Act.{Act}
+use Rattle.steps_events.specs.declared.event.Event.{Event}
+use Rattle.steps_events.specs.declared.event.Answer.TheVariants as answers
+use Rattle.steps_events.specs.declared.event.Then.{Then}
+use Rattle.steps_events.specs.declared.event.Then.TheVariants as thens
+use Rattle.steps_events.specs.Past.{call_of}
+use Rattle.steps_events.specs.Moves.{is_step}
+use Rattle.steps_events.specs.Sights.{keeps_asking}
+
+-- the latest event, where it is a step of a call, is that call's next
+abbrev pub StepsAs : {T : Type 0} → (Call T → List (Event T) → Act T → Then T → Type 0) → List (Event T) → Type 0
+StepsAs Next [] = Unit {0}
+StepsAs Next (e ∷ past) = MatchBool (is_step e.act) (MatchOption (call_of e.party past) ⊥ (λ c. Next c.call c.own e.act e.then)) (Unit {0})
+
+-- How a refused call with a wait closure is left, that has spun so often: it goes on by itself until it has spun 10000 times, and then asks its
+-- closure; once that has answered Abort it gives up.
+abbrev pub refused_waiting : {T : Type 0} → List (Event T) → ℕ → ℕ → Then T
+refused_waiting own spins told = if keeps_asking own then (if nat_lt spins 10000 then thens.GoesOn else thens.Waits told) else thens.Answers answers.Interrupted

@@ -1,0 +1,5 @@
+use Rattle.std.proofs.Common.{rules}
+use Rattle.steps_mutex.proofs.MutexPlace.after.Goals as goal
+
+pub returns-in-Release : goal.returns-in-Release
+returns-in-Release g c = search rules

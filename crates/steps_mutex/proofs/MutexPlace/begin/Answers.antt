@@ -1,0 +1,5 @@
+use Rattle.std.proofs.Common.{rules}
+use Rattle.steps_mutex.proofs.MutexPlace.begin.Goals as goal
+
+pub returns-in-TryLock : goal.returns-in-TryLock
+returns-in-TryLock g c = search rules

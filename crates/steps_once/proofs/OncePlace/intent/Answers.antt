@@ -1,0 +1,8 @@
+use Rattle.std.proofs.Common.{rules}
+use Rattle.steps_once.proofs.OncePlace.intent.Goals as goal
+
+pub returns-in-Run : goal.returns-in-Run
+returns-in-Run g c = search rules
+
+pub returns-in-Complete : goal.returns-in-Complete
+returns-in-Complete g c = search rules

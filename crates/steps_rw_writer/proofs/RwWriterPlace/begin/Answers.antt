@@ -1,0 +1,5 @@
+use Rattle.std.proofs.Common.{rules}
+use Rattle.steps_rw_writer.proofs.RwWriterPlace.begin.Goals as goal
+
+pub returns-in-WriteLock : goal.returns-in-WriteLock
+returns-in-WriteLock g c = search rules

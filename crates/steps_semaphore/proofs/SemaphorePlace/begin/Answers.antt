@@ -1,0 +1,5 @@
+use Rattle.std.proofs.Common.{rules}
+use Rattle.steps_semaphore.proofs.SemaphorePlace.begin.Goals as goal
+
+pub returns-in-TryWait : goal.returns-in-TryWait
+returns-in-TryWait g c = search rules

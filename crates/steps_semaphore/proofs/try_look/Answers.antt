@@ -1,0 +1,5 @@
+use Rattle.std.proofs.Common.{rules}
+use Rattle.steps_semaphore.proofs.try_look.Goals as goal
+
+pub returns-in-Some : goal.returns-in-Some
+returns-in-Some g c = search rules

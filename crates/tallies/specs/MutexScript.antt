@@ -1,0 +1,12 @@
+-- The model that a mutex plays.
+use Rattle.std.specs.Prelude.{◌≡◌, ℕ, List}
+use Rattle.steps_events.specs.declared.event.Event.{Event}
+use Rattle.steps_events.specs.Integers.{u64_arithmetic}
+use Rattle.steps_events.specs.Runs.{IsPast}
+use Rattle.steps_mutex.specs.Table.{mutex_table}
+use Rattle.steps_mutex.specs.Law.{KeepsMutex}
+use Rattle.steps_mutex.proofs.Laws.{keeps_mutex}
+
+-- every run keeps the mutex's law
+pub mutex_lawful : (parties : ℕ) (past : List (Event ℕ)) → IsPast u64_arithmetic mutex_table parties past → KeepsMutex past
+mutex_lawful parties past run = keeps_mutex u64_arithmetic parties past run

@@ -1,0 +1,146 @@
+//! A pool of workers over a bounded queue: four threads square a thousand numbers, and every square is collected.
+//!
+//! A fifth party puts the numbers. Where the queue is full it squares the number itself, so it never waits; at last it closes the queue.
+//! The workers take numbers until the queue is closed and empty, and yield while it is empty and open.
+#![tactic(auto)]
+
+ghost use Rattle.job_queue.specs.QueueShown.{IsQueuePass, HasStayed};
+
+use job_queue::{JobQueue, PutFault, QueuePass, Taken};
+use std::alloc::{AllocError, Global};
+use std::sync::Wait;
+use std::{io, thread};
+use steps_events::WaitAction;
+
+const NUMBERS: u64 = 1000;
+
+const PLACES: usize = 16;
+
+/// The numbers that a party has squared, each with its square.
+type Squares = Vec<(u64, u64), Global>;
+
+/// What a party of the pool does.
+#[derive(Drop)]
+enum Role {
+    Puts,
+    Works,
+}
+
+/// A party of the pool, which goes to a thread of its own.
+#[derive(Drop)]
+struct Party<'q> {
+    queue: &'q JobQueue<u64>,
+    pass: QueuePass,
+    role: Role,
+    ghost own: { IsQueuePass queue.now pass },
+}
+
+fn main(rt: HostRuntime) -> io::Result<()> {
+    let (queue, pass) = JobQueue::new(rt.alloc(), PLACES)?;
+    let parties = parties(rt.alloc(), &queue, pass)?;
+    let mut squares = Vec::new(rt.alloc());
+    for done in thread::map_vec(&rt, parties, &|party| play(&rt, rt.alloc(), party))? {
+        squares.append(&mut done?)?;
+    }
+    squares.sort()?;
+    let wrong = (0u64..)
+        .zip(squares.iter())
+        .filter(|(number, done)| **done != (*number, square(*number)))
+        .count();
+    println!(rt; "{} squares, {wrong} of them wrong", squares.len())
+}
+
+/// One that puts, and four workers.
+fn parties<'q>(
+    alloc: Global,
+    queue: &'q JobQueue<u64>,
+    pass: QueuePass,
+) -> Result<Vec<Party<'q>, Global>, AllocError>
+    requires own { IsQueuePass queue.now pass }
+{
+    let mut parties = Vec::new(alloc);
+    let mut rest = pass;
+    for _ in 0..4u64 {
+        let Ok((pass, other)) = rest.split(queue) else {
+            unreachable!()
+        };
+        rest = other;
+        parties.push(Party {
+            queue,
+            pass,
+            role: Role::Works,
+        })?;
+    }
+    parties.push(Party {
+        queue,
+        pass: rest,
+        role: Role::Puts,
+    })?;
+    Ok(parties)
+}
+
+/// What a party comes to.
+fn play<R: Wait>(rt: &R, alloc: Global, party: Party) -> Result<Squares, AllocError> {
+    let Party { queue, pass, role } = party;
+    match role {
+        Role::Puts => {
+            let mut pass = pass;
+            let squares = put_all(rt, alloc, queue, &mut pass);
+            queue.close(rt, &mut pass, |_| ());
+            squares
+        }
+        Role::Works => work(rt, alloc, queue, pass),
+    }
+}
+
+/// Puts each number, and squares those that find no place.
+fn put_all<R: Wait>(
+    rt: &R,
+    alloc: Global,
+    queue: &JobQueue<u64>,
+    pass: &mut QueuePass,
+) -> Result<Squares, AllocError>
+    requires own { IsQueuePass queue.now pass.old }
+    ensures stayed { HasStayed pass.old pass.new }
+{
+    let mut squares = Vec::new(alloc);
+    for number in 0..NUMBERS {
+        if let Err(PutFault::Full(number)) = queue.put(rt, pass, number, |_| ()) {
+            squares.push((number, square(number)))?;
+        }
+    }
+    Ok(squares)
+}
+
+/// Squares numbers until the queue is closed and has none.
+fn work<R: Wait>(
+    rt: &R,
+    alloc: Global,
+    queue: &JobQueue<u64>,
+    mut pass: QueuePass,
+) -> Result<Squares, AllocError>
+    requires own { IsQueuePass queue.now pass }
+{
+    let mut squares = Vec::new(alloc);
+    for _ in rt.forever() {
+        let taken = queue.take(
+            rt,
+            &mut pass,
+            |_, _| {
+                thread::yield_now();
+                WaitAction::Continue
+            },
+            |_| (),
+        );
+        match taken {
+            Taken::Job { ticket: _, job } => squares.push((job, square(job)))?,
+            Taken::Closed => return Ok(squares),
+            Taken::Empty | Taken::Interrupted => unreachable!(),
+        }
+    }
+    unreachable!()
+}
+
+fn square(number: u64) -> u64 {
+    number.wrapping_mul(number)
+}
