@@ -9,9 +9,14 @@ use Rattle.passes.specs.Tallies.{IsTally}
 use Rattle.passes.specs.Parts.{IsWhole}
 use Rattle.passes.specs.Views.{first_view, spent_view, left_view, right_view, joined_view, IsCounted, Updates}
 use Rattle.passes.specs.Passes.{Told}
-use Rattle.passes.specs.Objects.{HasClosed}
+use Rattle.passes.specs.Objects.{HasClosed, HaveClosed}
 use Rattle.passes.proofs.Parts.{shared_first, shared_step, shared_split, shared_join}
 use Rattle.passes.proofs.Sums.{others, sum_at, sum_set, sum_split, sum_join, alone}
+
+found : (words : List ℕ) (i n : ℕ) → get_elem? words i ≡ some n → get_or words i 0 ≡ n
+found [] i n at = absurd (some-ne-none n (sym at))
+found (x ∷ xs) zero n at = some-injective x n at
+found (x ∷ xs) (suc i) n at = found xs i n at
 
 module _ {S T : Type 0} (none : T) (add : T → T → T) (core : T → T) (laws : IsTally none add core) (agrees : List ℕ → List (maybe.Option S) → T → Type 0) where
   pub opens : (words : List ℕ) (first : T) → agrees words [] first → IsCounted none add agrees (opening words [] (first_view first))
@@ -53,8 +58,15 @@ module _ {S T : Type 0} (none : T) (add : T → T → T) (core : T → T) (laws 
         rule = subst (λ (ws : List ℕ). agrees ws s.homes v.tally) final.2 (subst (agrees s.words s.homes) all r.agree);
         here = found words i n at;
       }
-    where
-      found : (words : List ℕ) (i n : ℕ) → get_elem? words i ≡ some n → get_or words i 0 ≡ n
-      found [] i n at = absurd (some-ne-none n (sym at))
-      found (x ∷ xs) zero n at = some-injective x n at
-      found (x ∷ xs) (suc i) n at = found xs i n at
+
+  -- and of two of its words
+  pub closes_both : (words : List ℕ) (slots : List S) (id : ℕ) (v : View T) (i n j m : ℕ) → get_elem? words i ≡ some n → get_elem? words j ≡ some m → Final (Seen (IsCounted none add agrees) id v) words slots → IsWhole v.part
+      → HaveClosed agrees v.tally i n j m
+  unfolding closes
+  closes_both words slots id v i n j m at also final whole = let one = closes words slots id v i n at final whole in let other = closes words slots id v j m also final whole in record {
+    words = words;
+    homes = final.0.homes;
+    rule = one.rule;
+    here = one.here;
+    there = other.here;
+  }

@@ -41,3 +41,11 @@ pub record HasClosed {S T : Type 0} (agrees : List ℕ → List (maybe.Option S)
   pub homes : List (maybe.Option S)
   pub rule : agrees words homes tally
   pub here : slice_index words i ≡ found
+
+-- the rule holds at the end, and two words were these
+pub record HaveClosed {S T : Type 0} (agrees : List ℕ → List (maybe.Option S) → T → Type 0) (tally : T) (i found j other : ℕ) : Type 0 where
+  pub words : List ℕ
+  pub homes : List (maybe.Option S)
+  pub rule : agrees words homes tally
+  pub here : slice_index words i ≡ found
+  pub there : slice_index words j ≡ other

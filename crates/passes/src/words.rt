@@ -58,7 +58,7 @@ impl<K, T: Rule<(), K>, A: Allocator> Words<K, T, A> {
     ghost use Rattle.passes.specs.Views.{first_view, Updates};
     ghost use Rattle.passes.specs.Passes.{view, part_of, tally_of, IsSamePass};
     ghost use Rattle.passes.specs.Parts.{IsWhole};
-    ghost use Rattle.passes.specs.Objects.{IsPassOf, IsWordOf, key_of, count_of, HasClosed};
+    ghost use Rattle.passes.specs.Objects.{IsPassOf, IsWordOf, key_of, count_of, HasClosed, HaveClosed};
 
     /// Words under this key, and the pass that is whole. `Err` where there was no memory; then nothing was made.
     pub fn new(alloc: A, words: &[u64], key: &K) -> Result<(Words<K, T, A>, Pass<T>), AllocError>
@@ -110,6 +110,30 @@ impl<K, T: Rule<(), K>, A: Allocator> Words<K, T, A> {
     {
         let shared = &self.origin.table.shared;
         shared.store::<Brand>(&mut pass.seat, word, new);
+    }
+
+    /// Loads a word. What it tells may speak of what it is handed.
+    #[inline(always)]
+    pub fn load_of<D: Deed<K, T>, E>(&self, pass: &mut Pass<T>, word: usize, _of: &E) -> u64
+        requires own { IsPassOf self.now pass.old }
+        requires inside { word < count_of self.now }
+        requires update { Updates T.none T.add (T.agrees (key_of self.now)) (view pass.old) word (λ n. n) (D.tells (key_of self.now) 0 0 (view pass.old)) }
+        ensures same { IsSamePass pass.old pass.new }
+        ensures told { D.tells (key_of self.now) 0 0 (view pass.old) result (view pass.new) }
+    {
+        self.load::<D>(pass, word)
+    }
+
+    /// Stores a word. What it tells may speak of what it is handed.
+    #[inline(always)]
+    pub fn store_of<D: Deed<K, T>, E>(&self, pass: &mut Pass<T>, word: usize, new: u64, _of: &E)
+        requires own { IsPassOf self.now pass.old }
+        requires inside { word < count_of self.now }
+        requires update { Updates T.none T.add (T.agrees (key_of self.now)) (view pass.old) word (λ _. new) (λ _. D.tells (key_of self.now) new 0 (view pass.old) new) }
+        ensures same { IsSamePass pass.old pass.new }
+        ensures told { D.tells (key_of self.now) new 0 (view pass.old) new (view pass.new) }
+    {
+        self.store::<D>(pass, word, new);
     }
 
     /// Stores `new` where it finds `old`, and answers what it found.
@@ -169,5 +193,20 @@ impl<K, T: Rule<(), K>, A: Allocator> Words<K, T, A> {
         let found = closed.word(word);
         closed.free();
         found
+    }
+    /// Ends the object, and answers two of its words.
+    pub fn close_two(self, pass: Pass<T>, word: usize, second: usize) -> (u64, u64)
+        requires own { IsPassOf self pass }
+        requires inside { word < count_of self }
+        requires also { second < count_of self }
+        ensures exact { IsWhole (part_of pass) → HaveClosed (T.agrees (key_of self)) (tally_of pass) word result.0 second result.1 }
+    {
+        let Origin { table } = self.origin;
+        let Pass { seat } = pass;
+        let closed = table.close_with(seat);
+        let found = closed.word(word);
+        let other = closed.word(second);
+        closed.free();
+        (found, other)
     }
 }

@@ -15,43 +15,14 @@ use Rattle.passes.specs.Passes.{view}
 use Rattle.passes.proofs.Sums.{sum_at}
 use Rattle.passes.proofs.Updates.{by_look, by_exchange}
 use Rattle.tallies.specs.declared.barrier.Rounds.{Rounds}
-use Rattle.tallies.specs.BarrierRule.{in_round, one_more, both_counts, rounds, no_rounds, both_rounds, known_rounds, word_of, IsFilling, BarrierAgrees}
+use Rattle.tallies.specs.Counts.{one_more, both_counts}
+use Rattle.tallies.proofs.CountLaws.{in_both, more_in_both, more_here, more_elsewhere}
+use Rattle.tallies.specs.BarrierRule.{in_round, rounds, no_rounds, both_rounds, known_rounds, word_of, IsFilling, BarrierAgrees}
 use Rattle.running_barrier.specs.BarrierSteps.{OpenRoundsAreFull, reaches, Says, MadeAll, Loaded, Exchanged}
 use Rattle.tallies.specs.BarrierTally.{rounds_add_up}
 use Rattle.running_barrier.specs.BarrierShown.{counts_of, arrivals_of, IsNextWord}
 
 -- counts
-
-in_both : (round : ℕ) (xs ys : List ℕ) → in_round round (both_counts xs ys) ≡ in_round round xs + in_round round ys
-in_both round [] ys = omega arith
-in_both round (x ∷ xs) [] = omega arith
-in_both zero (x ∷ xs) (y ∷ ys) = refl
-in_both (suc round) (x ∷ xs) (y ∷ ys) = in_both round xs ys
-
-more_in_both : (round : ℕ) (xs ys : List ℕ) → both_counts (one_more round xs) ys ≡ one_more round (both_counts xs ys)
-more_in_both zero [] [] = refl
-more_in_both zero [] (y ∷ ys) = λ i. (let e : 1 + y ≡ y + 1 = omega arith in e) i ∷ ys
-more_in_both zero (x ∷ xs) [] = refl
-more_in_both zero (x ∷ xs) (y ∷ ys) = λ i. (let e : x + 1 + y ≡ x + y + 1 = omega arith in e) i ∷ both_counts xs ys
-more_in_both (suc round) [] [] = refl
-more_in_both (suc round) [] (y ∷ ys) = λ i. (let e : 0 + y ≡ y = omega arith in e) i ∷ more_in_both round [] ys i
-more_in_both (suc round) (x ∷ xs) [] = refl
-more_in_both (suc round) (x ∷ xs) (y ∷ ys) = λ i. (x + y) ∷ more_in_both round xs ys i
-
-more_here : (round : ℕ) (xs : List ℕ) → in_round round (one_more round xs) ≡ in_round round xs + 1
-more_here zero [] = refl
-more_here zero (x ∷ xs) = refl
-more_here (suc round) [] = more_here round []
-more_here (suc round) (x ∷ xs) = more_here round xs
-
-more_elsewhere : (round other : ℕ) (xs : List ℕ) → other ≢ round → in_round other (one_more round xs) ≡ in_round other xs
-more_elsewhere zero zero xs apart = absurd (apart refl)
-more_elsewhere zero (suc other) [] apart = refl
-more_elsewhere zero (suc other) (x ∷ xs) apart = refl
-more_elsewhere (suc round) zero [] apart = refl
-more_elsewhere (suc round) zero (x ∷ xs) apart = refl
-more_elsewhere (suc round) (suc other) [] apart = more_elsewhere round other [] (λ e. apart (ap suc e))
-more_elsewhere (suc round) (suc other) (x ∷ xs) apart = more_elsewhere round other xs (λ e. apart (ap suc e))
 
 sum_cons : (x : ℕ) (xs : List ℕ) → sum (x ∷ xs) ≡ x + sum xs
 sum_cons x xs = sum_by-cons (λ (y : ℕ). y) x xs

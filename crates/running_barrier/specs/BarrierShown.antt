@@ -9,7 +9,7 @@ use Rattle.passes.specs.Passes.{IsSamePass, part_of, sights_of, tally_of}
 use Rattle.passes.specs.Objects.{IsPassOf, key_of}
 use Rattle.tallies.specs.declared.barrier.Rounds.{Rounds}
 use Rattle.running_barrier.specs.declared.Barrier.{Barrier}
-use Rattle.tallies.specs.BarrierRule.{one_more}
+use Rattle.tallies.specs.Counts.{one_more}
 use Rattle.running_barrier.specs.BarrierSteps.{Arrives}
 
 module _ {A : Type 0} where

@@ -10,7 +10,8 @@ use Rattle.passes.specs.Parts.{IsWhole, total}
 use Rattle.passes.specs.Sights.{stale}
 use Rattle.passes.specs.Views.{view_of, looked, missed, IsCounted}
 use Rattle.tallies.specs.declared.barrier.Rounds.{Rounds}
-use Rattle.tallies.specs.BarrierRule.{in_round, one_more, rounds, no_rounds, both_rounds, word_of, BarrierAgrees}
+use Rattle.tallies.specs.Counts.{one_more}
+use Rattle.tallies.specs.BarrierRule.{in_round, rounds, no_rounds, both_rounds, word_of, BarrierAgrees}
 
 -- whenever the rule holds, a round that a pass knows to be open has n arrivals of all passes
 abbrev pub OpenRoundsAreFull : Type 0

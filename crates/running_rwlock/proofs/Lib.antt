@@ -1,4 +1,3 @@
-pub mod HeldKeeps
 pub mod RwReaderKeeps
 pub mod RwWriterKeeps
 pub mod RwReaderUnlocks

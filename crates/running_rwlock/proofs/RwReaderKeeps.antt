@@ -12,7 +12,7 @@ use Rattle.tallies.specs.Held.{read_holds, write_holds, Locks}
 use Rattle.tallies.specs.HeldTally.{same_nothing, tells_same_nothing, held_adds_up}
 use Rattle.tallies.specs.RwReaderRule.{Holds, no_holds, both_holds, IsHeld, RwReaderAgrees}
 use Rattle.running_rwlock.specs.RwReaderSteps.{NoHoldBesideAWriteHold, word_of, read, no_more_read, written, Loaded, ReaderIn, ReaderOut, WriterIn, WriterOut}
-use Rattle.running_rwlock.proofs.HeldKeeps.{comes_in, goes_out, takes_over, steps_down, word_alone, parts, only_writes}
+use Rattle.tallies.proofs.HeldKeeps.{comes_in, goes_out, takes_over, steps_down, word_alone, parts, only_writes}
 
 -- the word is written, and is what all holds come to again
 held_again : (words : List ℕ) (n : ℕ) (t u : Holds) → IsHeld words t → Locks n tt u → IsHeld (set words 0 n) u

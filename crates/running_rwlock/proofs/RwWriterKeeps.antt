@@ -18,7 +18,7 @@ use Rattle.tallies.specs.RwReaderRule.{Holds, no_holds, both_holds}
 use Rattle.tallies.specs.RwWriterRule.{nothing_marked, both_marked, IsMarkedOrHeld, RwWriterAgrees}
 use Rattle.tallies.specs.RwWriterTally.{marked_add_up}
 use Rattle.running_rwlock.specs.RwWriterSteps.{NoHoldBesideTheWriter, NoMarkWithoutAFlag, IsMarked, word_of, read, no_more_read, written, no_more_written, flagged, SaysAlone, Loaded, IsSeenByWriter, LoadedToWrite, ReaderIn, ReaderOut, WriterIn, WriterOut, SetsMark, TakesMark, Unchanged}
-use Rattle.running_rwlock.proofs.HeldKeeps.{comes_in, goes_out, takes_over, steps_down, parts, only_writes, only_reads}
+use Rattle.tallies.proofs.HeldKeeps.{comes_in, goes_out, takes_over, steps_down, parts, only_writes, only_reads}
 
 -- how many holds stand, as the word of a lock without a mark would say it
 abbrev holds_say : Holds → ℕ

@@ -4,23 +4,11 @@ use Rattle.std.specs.List.{sum}
 use mathlib.Core.Option as maybe
 use mathlib.Core.Option.{some}
 use Rattle.tallies.specs.declared.barrier.Rounds.{Rounds}
+use Rattle.tallies.specs.Counts.{both_counts}
 
 -- how many arrivals a list of counts has in this round
 abbrev pub in_round : ℕ → List ℕ → ℕ
 in_round round counts = slice_index counts round
-
--- one more arrival in this round
-abbrev pub one_more : ℕ → List ℕ → List ℕ
-one_more zero [] = 1 ∷ []
-one_more zero (x ∷ xs) = (x + 1) ∷ xs
-one_more (suc round) [] = 0 ∷ one_more round []
-one_more (suc round) (x ∷ xs) = x ∷ one_more round xs
-
--- two lists of counts, added up round by round
-abbrev pub both_counts : List ℕ → List ℕ → List ℕ
-both_counts [] ys = ys
-both_counts (x ∷ xs) [] = x ∷ xs
-both_counts (x ∷ xs) (y ∷ ys) = (x + y) ∷ both_counts xs ys
 
 abbrev pub rounds : List ℕ → ℕ → ℕ → Rounds
 rounds arrivals reached opened = record { arrivals = arrivals; reached = reached; opened = opened }

@@ -1,19 +1,8 @@
 -- What the passes of a barrier count and know adds up.
-use Rattle.std.proofs.Common.{◌≡◌, ℕ, ◌+◌, max, List, [], ◌∷◌, refl, arith, add_assoc, add_comm}
+use Rattle.std.proofs.Common.{◌≡◌, ℕ, ◌+◌, max, List, refl, arith}
 use Rattle.passes.specs.Tallies.{IsTally}
-use Rattle.tallies.specs.BarrierRule.{both_counts, rounds, no_rounds, both_rounds, known_rounds}
-
-counts_swap : (xs ys : List ℕ) → both_counts xs ys ≡ both_counts ys xs
-counts_swap [] [] = refl
-counts_swap [] (y ∷ ys) = refl
-counts_swap (x ∷ xs) [] = refl
-counts_swap (x ∷ xs) (y ∷ ys) = λ i. add_comm x y i ∷ counts_swap xs ys i
-
-counts_group : (xs ys zs : List ℕ) → both_counts (both_counts xs ys) zs ≡ both_counts xs (both_counts ys zs)
-counts_group [] ys zs = refl
-counts_group (x ∷ xs) [] zs = refl
-counts_group (x ∷ xs) (y ∷ ys) [] = refl
-counts_group (x ∷ xs) (y ∷ ys) (z ∷ zs) = λ i. add_assoc x y z i ∷ counts_group xs ys zs i
+use Rattle.tallies.specs.Counts.{both_counts, counts_swap, counts_group}
+use Rattle.tallies.specs.BarrierRule.{rounds, no_rounds, both_rounds, known_rounds}
 
 max_group : (a b c : ℕ) → max (max a b) c ≡ max a (max b c)
 max_group a b c = omega arith

@@ -2,6 +2,7 @@ pub mod MutexRule
 pub mod MutexTally
 pub mod SemaphoreRule
 pub mod SemaphoreTally
+pub mod Counts
 pub mod BarrierRule
 pub mod BarrierTally
 pub mod Held

@@ -1,0 +1,130 @@
+-- What is known of the history, and which acts are own, as it grows.
+use Rattle.std.proofs.Common.{◌≡◌, ℕ, zero, suc, ◌+◌, ◌≤◌, List, [], ◌∷◌, ◌++◌, length, sym, refl, ap, ◌∙◌, subst, arith}
+use Rattle.steps_events.specs.Arithmetic.{Arithmetic}
+use Rattle.tallies.specs.Counts.{count_at, one_more, both_counts}
+use Rattle.tallies.proofs.CountLaws.{in_both, more_in_both}
+use Rattle.running_atomic.specs.declared.history.AtomicAct.{AtomicAct}
+use Rattle.running_atomic.specs.declared.history.Place.{Place}
+use Rattle.running_atomic.specs.declared.history.Place.TheVariants.{Unknown, Is, Torn}
+use Rattle.running_atomic.specs.declared.history.Heard.{Heard}
+use Rattle.running_atomic.specs.Agree.{merge, met_is, met_else, by_same, merge_none, merge_idem, merge_comm, merge_assoc}
+use Rattle.running_atomic.specs.History.{heard, both_heard, same_act, acts_tell}
+use Rattle.running_atomic.specs.AtomicRule.{RegisterAct, front, known, each_once, acts_in, act_in, history_in, value_after, register_after, HasHistory}
+use Rattle.running_atomic.specs.AtomicSteps.{StartsWith, AreMarks}
+
+abbrev Places : Type 0
+Places = List (Place AtomicAct)
+
+abbrev M : Places → Places → Places
+M = merge same_act
+
+-- the sum of two knows what the second knows
+pub absorbs : (v r h : Places) → M v r ≡ h → M h r ≡ h
+absorbs v r h is = ap (λ (x : Places). M x r) (sym is) ∙ merge_assoc same_act acts_tell v r r ∙ ap (M v) (merge_idem same_act acts_tell r) ∙ is
+
+-- and what the first knows
+pub absorbs_first : (v r h : Places) → M v r ≡ h → M h v ≡ h
+absorbs_first v r h is = absorbs r v h (merge_comm same_act acts_tell r v ∙ is)
+
+known_more : (h l : List AtomicAct) → M (known (h ++ l)) (known h) ≡ known (h ++ l)
+known_more [] l = merge_comm same_act acts_tell (known l) []
+known_more (x ∷ h) l = λ i. met_is same_act acts_tell x i ∷ known_more h l i
+
+pub grows : (h l : List AtomicAct) (v r : Places) → M v r ≡ known h → M (known (h ++ l)) r ≡ known (h ++ l)
+grows h l v r is = let g : Places = known (h ++ l) in
+    ap (λ (x : Places). M x r) (sym (known_more h l)) ∙ merge_assoc same_act acts_tell g (known h) r ∙ ap (M g) (absorbs v r (known h) is) ∙ known_more h l
+
+abbrev IsTorn : Place AtomicAct → Type 0
+IsTorn Unknown = ⊥
+IsTorn (Is a) = ⊥
+IsTorn Torn = Unit {0}
+
+abbrev IsSome : Places → Type 0
+IsSome [] = ⊥
+IsSome (x ∷ xs) = Unit {0}
+
+abbrev first : Places → Place AtomicAct
+first [] = Unknown
+first (x ∷ xs) = x
+
+abbrev others : Places → Places
+others [] = []
+others (x ∷ xs) = xs
+
+-- what is known of a history from the first act on begins it
+starts : (h : List AtomicAct) (p : Places) → M (known h) p ≡ known h → StartsWith h (front p)
+starts h [] is = (h, refl)
+starts h (Unknown ∷ p) is = (h, refl)
+starts h (Torn ∷ p) is = (h, refl)
+starts [] (Is x ∷ p) is = absurd (subst IsSome is tt)
+starts (y ∷ h) (Is x ∷ p) is = by_same same_act acts_tell _ y x
+    (λ same. let t = starts h p (ap others is) in (t.0, (λ i. same i ∷ t.1 i)))
+    (λ apart. absurd (subst IsTorn (sym (met_else same_act acts_tell y x apart) ∙ ap first is) tt))
+
+pub front_known : (h : List AtomicAct) → front (known h) ≡ h
+front_known [] = refl
+front_known (x ∷ h) = ap (λ (l : List AtomicAct). x ∷ l) (front_known h)
+
+-- own acts
+
+pub snoc_own : (h : List AtomicAct) (a : AtomicAct) → one_more (length h) (each_once h) ≡ each_once (h ++ a ∷ [])
+snoc_own [] a = refl
+snoc_own (x ∷ h) a = ap (λ (l : List ℕ). 1 ∷ l) (snoc_own h a)
+
+pub grows_own : (h : List AtomicAct) (a : AtomicAct) (v r : List ℕ) → both_counts v r ≡ each_once h → both_counts (one_more (length h) v) r ≡ each_once (h ++ a ∷ [])
+grows_own h a v r is = more_in_both (length h) v r ∙ ap (one_more (length h)) is ∙ snoc_own h a
+
+in_once : (x : ℕ) (h : List AtomicAct) → (count_at x (each_once h) ≤ 1) × (length h ≤ x → count_at x (each_once h) ≡ 0)
+in_once x [] = (omega arith, λ _. refl)
+in_once zero (a ∷ h) = (omega arith, λ le. absurd (omega arith))
+in_once (suc x) (a ∷ h) = let t = in_once x h in (t.0, λ le. t.1 (omega arith))
+
+marks : (h : List AtomicAct) (v r : List ℕ) → both_counts v r ≡ each_once h → AreMarks v h
+marks h v r is x = let t = in_once x h in let sum = sym (ap (count_at x) is) ∙ in_both x v r in let low = t.0 in (omega arith, λ le. let none = t.1 le in omega arith)
+
+module _ {T : Type 0} (z : Arithmetic T) where
+  pub acts_append : (h l : List AtomicAct) → acts_in z (h ++ l) ≡ acts_in z h ++ acts_in z l
+  acts_append [] l = refl
+  acts_append (x ∷ h) l = ap (λ (l : List (RegisterAct T)). act_in z x ∷ l) (acts_append h l)
+
+  pub acts_length : (h : List AtomicAct) → length (acts_in z h) ≡ length h
+  acts_length [] = refl
+  acts_length (x ∷ h) = ap suc (acts_length h)
+
+  pub each_act : (h : List AtomicAct) → each_once (acts_in z h) ≡ each_once h
+  each_act [] = refl
+  each_act (x ∷ h) = ap (λ (l : List ℕ). 1 ∷ l) (each_act h)
+
+  pub value_snoc : (k : T) (h : List AtomicAct) (a : AtomicAct) → register_after z k (acts_in z (h ++ a ∷ [])) ≡ value_after z (act_in z a) (register_after z k (acts_in z h))
+  value_snoc k [] a = refl
+  value_snoc k (x ∷ h) a = value_snoc (value_after z (act_in z x) k) h a
+
+  -- all is known of a history
+  pub seen_known : (t : Heard) (h : List AtomicAct) → t.seen ≡ known h → history_in z t ≡ acts_in z h
+  seen_known t h is = ap (λ (p : Places). acts_in z (front p)) is ∙ ap (acts_in z) (front_known h)
+
+  -- the history that all know begins with what one of them knows
+  pub begins : (h : List AtomicAct) (v r : Heard) → (both_heard v r).seen ≡ known h → StartsWith (acts_in z h) (history_in z v)
+  begins h v r is = let t = starts h v.seen (absorbs_first v.seen r.seen (known h) is) in (acts_in z t.0, ap (acts_in z) t.1 ∙ acts_append (front v.seen) t.0)
+
+  pub begins_also : (h : List AtomicAct) (v r : Heard) → (both_heard v r).seen ≡ known h → StartsWith (acts_in z h) (history_in z r)
+  begins_also h v r is = let t = starts h r.seen (absorbs v.seen r.seen (known h) is) in (acts_in z t.0, ap (acts_in z) t.1 ∙ acts_append (front r.seen) t.0)
+
+  -- where nobody else knows anything, it is what the one knows
+  pub alone : (h : List AtomicAct) (v r : Heard) → (both_heard v r).seen ≡ known h → r ≡ heard [] [] → history_in z v ≡ acts_in z h
+  alone h v r is none = seen_known v h (sym (merge_none same_act acts_tell v.seen) ∙ ap (λ (t : Heard). M v.seen t.seen) (sym none) ∙ is)
+
+  pub marks_in : (h : List AtomicAct) (v r : List ℕ) → both_counts v r ≡ each_once h → (history : List (RegisterAct T)) → history ≡ acts_in z h → AreMarks v history
+  marks_in h v r is history same x = let t = marks h v r is x in (t.0, λ le. t.1 (subst (λ n. n ≤ x) (ap length same ∙ acts_length h) le))
+
+  -- one act more
+  abbrev pub more : List AtomicAct → AtomicAct → Heard → Heard
+  more h a t = heard (known (h ++ a ∷ [])) (one_more (length h) t.own)
+
+  abbrev pub extends : (k : T) (v r : Heard) (a : AtomicAct) (old : T) (has : HasHistory z k (both_heard v r) old) → HasHistory z k (both_heard (more has.history a v) r) (value_after z (act_in z a) old)
+  extends k v r a old has = let h : List AtomicAct = has.history in record {
+    history = h ++ a ∷ [];
+    seen = grows h (a ∷ []) v.seen r.seen has.seen;
+    own = grows_own h a v.own r.own has.own;
+    value_is = value_snoc k h a ∙ ap (value_after z (act_in z a)) has.value_is;
+  }

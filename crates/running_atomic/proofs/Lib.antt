@@ -1,0 +1,5 @@
+pub mod LockKeeps
+pub mod HistoryKeeps
+pub mod AtomicKeeps
+pub mod OneHistory
+pub mod Finish

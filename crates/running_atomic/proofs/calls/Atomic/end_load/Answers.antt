@@ -1,0 +1,5 @@
+use Rattle.running_atomic.proofs.AtomicKeeps.{ends_load}
+use Rattle.running_atomic.proofs.calls.Atomic.end_load.Goals as goal
+
+pub load-requires-clause-update : goal.load-requires-clause-update
+load-requires-clause-update g c = ends_load _ _ _ c.requires.on

@@ -1,0 +1,5 @@
+use Rattle.running_atomic.proofs.AtomicKeeps.{ends_store}
+use Rattle.running_atomic.proofs.calls.Atomic.end_store.Goals as goal
+
+pub store_of-requires-clause-update : goal.store_of-requires-clause-update
+store_of-requires-clause-update g c = ends_store _ _ _ _ _ c.requires.on c.requires.right

@@ -1,0 +1,118 @@
+-- An atomic as one register, by the model's acts; and the rule that ties the one history of all passes to the words.
+use Rattle.std.specs.Prelude.{◌≡◌, ℕ, List, [], ◌∷◌, ◌++◌, length, slice_index, Option, Some, None}
+use mathlib.Core.Option as maybe
+use Rattle.steps_events.specs.declared.event.Call.{Call}
+use Rattle.steps_events.specs.declared.event.Call.TheVariants as calls
+use Rattle.steps_events.specs.declared.event.Answer.{Answer}
+use Rattle.steps_events.specs.Arithmetic.{Arithmetic}
+use Rattle.steps_atomic.specs.Register.{act_of}
+use Rattle.tallies.specs.declared.held.Held.{Held}
+use Rattle.tallies.specs.declared.held.Held.TheVariants.{Free, Reading, Writing, Torn}
+use Rattle.tallies.specs.Held.{Locks}
+use Rattle.running_atomic.specs.declared.history.AtomicTally.{AtomicTally}
+use Rattle.running_atomic.specs.declared.history.Content.{Content}
+use Rattle.running_atomic.specs.declared.history.AtomicAct.{AtomicAct}
+use Rattle.running_atomic.specs.declared.history.AtomicAct.TheVariants as act
+use Rattle.running_atomic.specs.declared.history.Place.{Place}
+use Rattle.running_atomic.specs.declared.history.Place.TheVariants.{Unknown, Is, Torn}
+use Rattle.running_atomic.specs.declared.history.Heard.{Heard}
+use Rattle.running_atomic.specs.History.{content}
+
+-- A call of the model at a register, with its choice where its closure was asked for one.
+pub record RegisterAct (T : Type 0) : Type 0 where
+  pub call : Call T
+  pub choice : Option (Option T)
+
+-- a call that asks nobody
+abbrev pub plain : {T : Type 0} → Call T → RegisterAct T
+plain call = record { call = call; choice = None }
+
+-- a `fetch_update` whose closure chose this
+abbrev pub update : {T : Type 0} → Option T → RegisterAct T
+update choice = record { call = calls.FetchUpdate; choice = Some choice }
+
+module _ {T : Type 0} (z : Arithmetic T) where
+  -- what the register answers, and what it is then: the law is the model's
+  abbrev pub answer_to : RegisterAct T → T → Answer T
+  answer_to a old = (act_of z a.call a.choice old).0
+
+  abbrev pub value_after : RegisterAct T → T → T
+  value_after a old = (act_of z a.call a.choice old).1
+
+  -- the register after these acts, the first one first, where it began with v
+  abbrev pub register_after : T → List (RegisterAct T) → T
+  register_after v [] = v
+  register_after v (a ∷ acts) = register_after (value_after a v) acts
+
+  abbrev pub value_of : Content → T
+  value_of x = z.of_words x.low x.high
+
+  -- the act that a place of the history stands for
+  abbrev pub act_in : AtomicAct → RegisterAct T
+  act_in act.Load = plain calls.Load
+  act_in (act.Store x) = plain (calls.Store (value_of x))
+  act_in (act.Swap x) = plain (calls.Swap (value_of x))
+  act_in (act.CompareExchange x y) = plain (calls.CompareExchange (value_of x) (value_of y))
+  act_in (act.CompareExchangeWeak x y) = plain (calls.CompareExchangeWeak (value_of x) (value_of y))
+  act_in (act.FetchAdd x) = plain (calls.FetchAdd (value_of x))
+  act_in (act.FetchSub x) = plain (calls.FetchSub (value_of x))
+  act_in (act.FetchAnd x) = plain (calls.FetchAnd (value_of x))
+  act_in (act.FetchOr x) = plain (calls.FetchOr (value_of x))
+  act_in (act.FetchXor x) = plain (calls.FetchXor (value_of x))
+  act_in (act.FetchNand x) = plain (calls.FetchNand (value_of x))
+  act_in (act.FetchMax x) = plain (calls.FetchMax (value_of x))
+  act_in (act.FetchMin x) = plain (calls.FetchMin (value_of x))
+  act_in (act.FetchUpdate None) = update None
+  act_in (act.FetchUpdate (Some x)) = update (Some (value_of x))
+
+  abbrev pub acts_in : List AtomicAct → List (RegisterAct T)
+  acts_in [] = []
+  acts_in (a ∷ acts) = act_in a ∷ acts_in acts
+
+-- the acts that are known from the first on
+abbrev pub front : List (Place AtomicAct) → List AtomicAct
+front [] = []
+front (Unknown ∷ places) = []
+front (Is a ∷ places) = a ∷ front places
+front (Torn ∷ places) = []
+
+-- the history as far as it was seen
+abbrev pub history_in : {T : Type 0} → Arithmetic T → Heard → List (RegisterAct T)
+history_in z t = acts_in z (front t.seen)
+
+-- all of a history is known
+abbrev pub known : List AtomicAct → List (Place AtomicAct)
+known [] = []
+known (a ∷ acts) = Is a ∷ known acts
+
+-- one for each act
+abbrev pub each_once : {A : Type 0} → List A → List ℕ
+each_once [] = []
+each_once (a ∷ acts) = 1 ∷ each_once acts
+
+abbrev pub data_of : List ℕ → Content
+data_of words = content (slice_index words 1) (slice_index words 2)
+
+-- the words of the register: the data words, but under a write hold those that it found
+abbrev pub register_of : {X : Type 0} → Held X → X → X
+register_of Free d = d
+register_of (Reading n x) d = d
+register_of (Writing x found) d = found
+register_of Torn d = d
+
+-- There is one history. It is all that is known, each act in it is one pass's own, and it leaves the register at this value.
+pub record HasHistory {T : Type 0} (z : Arithmetic T) (opening : T) (t : Heard) (value : T) : Type 0 where
+  pub history : List AtomicAct
+  pub seen : t.seen ≡ known history
+  pub own : t.own ≡ each_once history
+  pub value_is : register_after z opening (acts_in z history) ≡ value
+
+-- There are three words. The lock's counts the holds, each of which knows the data words; and the history leaves the register at what they are, or, under
+-- a write hold, at what they were when it came in or last acted.
+pub record IsRegister {T : Type 0} (z : Arithmetic T) (opening : T) (words : List ℕ) (t : AtomicTally) : Type 0 where
+  pub three_words : length words ≡ 3
+  pub locks : Locks (slice_index words 0) (data_of words) t.hold
+  pub has : HasHistory z opening t.heard (value_of z (register_of t.hold (data_of words)))
+
+abbrev pub AtomicAgrees : {T : Type 0} → Arithmetic T → T → List ℕ → List (maybe.Option (Unit {0})) → AtomicTally → Type 0
+AtomicAgrees z opening words homes = IsRegister z opening words

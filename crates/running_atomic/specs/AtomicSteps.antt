@@ -1,0 +1,172 @@
+-- What the steps of an atomic tell, and what holds whenever its rule does.
+use Rattle.std.specs.Prelude.{◌≡◌, ◌≢◌, ℕ, ◌≤◌, List, [], ◌∷◌, ◌++◌, length, slice_index}
+use mathlib.Core.Option.{some}
+use lib.ListN.{get_elem?}
+use Rattle.atomic_table.specs.Table.{State}
+use Rattle.steps_events.specs.declared.event.Answer.{Answer}
+use Rattle.steps_events.specs.declared.event.Call.TheVariants as calls
+use Rattle.steps_events.specs.Arithmetic.{Arithmetic}
+use Rattle.passes.specs.declared.view.View.{View}
+use Rattle.passes.specs.Parts.{IsWhole, together}
+use Rattle.passes.specs.Views.{missed, wrote, sum_of, IsCounted}
+use Rattle.tallies.specs.Counts.{count_at, one_more, both_counts}
+use Rattle.tallies.specs.declared.held.Held.{Held}
+use Rattle.tallies.specs.declared.held.Held.TheVariants.{Free, Reading, Writing, Torn}
+use Rattle.tallies.specs.Held.{write_holds}
+use Rattle.running_atomic.specs.declared.history.AtomicTally.{AtomicTally}
+use Rattle.running_atomic.specs.declared.history.Content.{Content}
+use Rattle.running_atomic.specs.declared.history.AtomicAct.{AtomicAct}
+use Rattle.running_atomic.specs.declared.history.AtomicAct.TheVariants as act
+use Rattle.running_atomic.specs.declared.history.Heard.{Heard}
+use Rattle.running_atomic.specs.History.{content, heard, both_heard, atomic_tally, both_tallies, no_acts}
+use Rattle.running_atomic.specs.AtomicRule.{RegisterAct, answer_to, value_after, register_after, value_of, act_in, history_in, known, each_once, data_of, AtomicAgrees}
+
+abbrev V : Type 0
+V = View AtomicTally
+
+-- the hold became this, by a write
+abbrev pub now_holds : Held Content → V → V
+now_holds h v = wrote v (atomic_tally h v.tally.heard)
+
+-- an exchange by which a reader enters
+pub record EntersRead (from : ℕ) (v : V) (found : ℕ) (w : V) : Type 0 where
+  pub done : found ≡ from → (x : Content) × (w ≡ now_holds (Reading 0 x) v)
+  pub failed : found ≢ from → w ≡ missed v from found
+
+-- an exchange by which a writer enters
+pub record EntersWrite (v : V) (found : ℕ) (w : V) : Type 0 where
+  pub done : found ≡ 0 → (x : Content) × (w ≡ now_holds (Writing x x) v)
+  pub failed : found ≢ 0 → w ≡ missed v 0 found
+
+abbrev pub Leaves : V → V → Type 0
+Leaves v w = w ≡ now_holds Free v
+
+-- of what a hold knows of the data words
+abbrev pub IfHeld : Held Content → (Content → Type 0) → Type 0
+IfHeld Free P = Unit {0}
+IfHeld (Reading n x) P = P x
+IfHeld (Writing x found) P = P x
+IfHeld Torn P = Unit {0}
+
+abbrev pub IfWriting : Held Content → (Content → Content → Type 0) → Type 0
+IfWriting Free P = Unit {0}
+IfWriting (Reading n x) P = Unit {0}
+IfWriting (Writing x found) P = P x found
+IfWriting Torn P = Unit {0}
+
+abbrev pub ReadsLow : V → ℕ → V → Type 0
+ReadsLow v found w = (w ≡ v) × IfHeld v.tally.hold (λ x. found ≡ x.low)
+
+abbrev pub ReadsHigh : V → ℕ → V → Type 0
+ReadsHigh v found w = (w ≡ v) × IfHeld v.tally.hold (λ x. found ≡ x.high)
+
+abbrev pub StoresLow : V → ℕ → V → Type 0
+StoresLow v new w = IfWriting v.tally.hold (λ x found. w ≡ now_holds (Writing (content new x.high) found) v)
+
+abbrev pub StartsWith : {A : Type 0} → List A → List A → Type 0
+StartsWith {A} l first = (rest : List A) × (l ≡ first ++ rest)
+
+-- each act in the history is an own one once at most, and none beyond it is
+abbrev pub AreMarks : {A : Type 0} → List ℕ → List A → Type 0
+AreMarks own history = (place : ℕ) → (count_at place own ≤ 1) × (length history ≤ place → count_at place own ≡ 0)
+
+-- One act more, which was answered so: after all that the pass had seen, and what others did since. With no other pass left nobody did.
+pub record Acts {T : Type 0} (z : Arithmetic T) (opening : T) (a : RegisterAct T) (answer : Answer T) (v w : V) : Type 0 where
+  pub before : List (RegisterAct T)
+  pub answered : answer_to z a (register_after z opening before) ≡ answer
+  pub begins : StartsWith before (history_in z v.tally.heard)
+  pub alone : IsWhole v.part → before ≡ history_in z v.tally.heard
+  pub seen : history_in z w.tally.heard ≡ before ++ a ∷ []
+  pub own : w.tally.heard.own ≡ one_more (length before) v.tally.heard.own
+  pub marks : AreMarks w.tally.heard.own (history_in z w.tally.heard)
+  pub part : w.part ≡ v.part
+
+-- the act of a place, at a register of these words
+abbrev pub ActsAt : {T : Type 0} → Arithmetic T → T → AtomicAct → Content → V → V → Type 0
+ActsAt z opening a found v w = Acts z opening (act_in z a) (answer_to z (act_in z a) (value_of z found)) v w
+
+-- the last access of a load
+abbrev pub EndsLoad : {T : Type 0} → Arithmetic T → T → V → ℕ → V → Type 0
+EndsLoad z opening v found w = (w.tally.hold ≡ v.tally.hold) × IfHeld v.tally.hold (λ x. (found ≡ x.high) × ActsAt z opening act.Load x v w)
+
+-- the last access of a call that stores
+abbrev pub EndsStore : {T : Type 0} → Arithmetic T → T → AtomicAct → V → ℕ → V → Type 0
+EndsStore z opening a v new w = IfWriting v.tally.hold (λ x found. (w.tally.hold ≡ Writing (content x.low new) (content x.low new)) × ActsAt z opening a found v w)
+
+-- the last access of a call under a write hold that stores nothing
+abbrev pub EndsUnchanged : {T : Type 0} → Arithmetic T → T → AtomicAct → V → V → Type 0
+EndsUnchanged z opening a v w = (w.tally.hold ≡ v.tally.hold) × IfWriting v.tally.hold (λ x found. ActsAt z opening a found v w)
+
+-- one read hold stands
+abbrev pub IsReading : {X : Type 0} → Held X → Type 0
+IsReading Free = ⊥
+IsReading (Reading n x) = n ≡ 0
+IsReading (Writing x found) = ⊥
+IsReading Torn = ⊥
+
+-- a write hold stands
+abbrev pub IsWriting : {X : Type 0} → Held X → Type 0
+IsWriting Free = ⊥
+IsWriting (Reading n x) = ⊥
+IsWriting (Writing x found) = Unit {0}
+IsWriting Torn = ⊥
+
+-- and the data words are the register's
+abbrev pub IsSettled : {X : Type 0} → Held X → Type 0
+IsSettled Free = ⊥
+IsSettled (Reading n x) = ⊥
+IsSettled (Writing x found) = x ≡ found
+IsSettled Torn = ⊥
+
+-- one hold stands
+abbrev pub IsOn : {X : Type 0} → Held X → Type 0
+IsOn Free = ⊥
+IsOn (Reading n x) = n ≡ 0
+IsOn (Writing x found) = Unit {0}
+IsOn Torn = ⊥
+
+-- where this is stored after the low word that is known, the value is what the act makes of it
+abbrev pub IsRight : {T : Type 0} → Arithmetic T → AtomicAct → ℕ → Held Content → Type 0
+IsRight z a new h = IfWriting h (λ x found. value_after z (act_in z a) (value_of z found) ≡ z.of_words x.low new)
+
+-- the act leaves the value as it is
+abbrev pub ChangesNothing : {T : Type 0} → Arithmetic T → AtomicAct → Held Content → Type 0
+ChangesNothing z a h = IfWriting h (λ x found. value_after z (act_in z a) (value_of z found) ≡ value_of z found)
+
+-- all of the history was seen, whose start the pass knew
+pub record Settles {T : Type 0} (z : Arithmetic T) (opening : T) (v w : V) : Type 0 where
+  pub history : List AtomicAct
+  pub seen : w.tally.heard.seen ≡ known history
+  pub knew : (a b : Heard) → v.tally.heard ≡ both_heard a b → StartsWith (history_in z w.tally.heard) (history_in z a) × StartsWith (history_in z w.tally.heard) (history_in z b)
+  pub own : w.tally.heard.own ≡ v.tally.heard.own
+  pub marks : AreMarks w.tally.heard.own (history_in z w.tally.heard)
+  pub part : w.part ≡ v.part
+  pub hold : w.tally.hold ≡ v.tally.hold
+
+-- The acts of two passes are one's, which has seen one history that begins with what each had seen.
+pub record Joins {T : Type 0} (z : Arithmetic T) (v u w : V) : Type 0 where
+  pub begins : StartsWith (history_in z w.tally.heard) (history_in z v.tally.heard)
+  pub begins_also : StartsWith (history_in z w.tally.heard) (history_in z u.tally.heard)
+  pub own : w.tally.heard.own ≡ both_counts v.tally.heard.own u.tally.heard.own
+  pub marks : AreMarks w.tally.heard.own (history_in z w.tally.heard)
+  pub part : w.part ≡ together v.part u.part
+
+-- the history is the own acts, and the value is the register's after it
+pub record IsLast {T : Type 0} (z : Arithmetic T) (opening : T) (t : Heard) (value : T) : Type 0 where
+  pub own : t.own ≡ each_once (history_in z t)
+  pub value_is : value ≡ register_after z opening (history_in z t)
+
+-- what all passes know together
+abbrev pub all_of : List V → AtomicTally
+all_of views = sum_of no_acts (both_tallies) views
+
+-- Whenever the rule holds there is one history: what each pass has seen begins it, each act in it is one pass's own, and while no write
+-- hold stands the data words are the register after it.
+pub record IsOneHistory {T : Type 0} (z : Arithmetic T) (opening : T) (s : State (Unit {0}) V) : Type 0 where
+  pub history : List (RegisterAct T)
+  pub begins : (i : ℕ) (v : V) → get_elem? s.views i ≡ some v → StartsWith history (history_in z v.tally.heard)
+  pub own : (all_of s.views).heard.own ≡ each_once history
+  pub value_is : write_holds (all_of s.views).hold ≡ 0 → value_of z (data_of s.words) ≡ register_after z opening history
+
+abbrev pub OneHistory : {T : Type 0} → Arithmetic T → Type 0
+OneHistory {T} z = (opening : T) (s : State (Unit {0}) V) → IsCounted no_acts (both_tallies) (AtomicAgrees z opening) s → IsOneHistory z opening s

@@ -1,0 +1,82 @@
+//! The kinds of step on the words of an atomic.
+ghost use Rattle.std.specs.Prelude.{◌≡◌};
+ghost use Rattle.running_atomic.specs.AtomicSteps as steps;
+
+use crate::history::AtomicTally;
+use passes::{Deed, Rule};
+use steps_events::atomic::internal::AtomicInteger;
+
+/// The data words are the register after the one history that all passes know, unless a write hold stands.
+impl<T: AtomicInteger> Rule<(), T> for AtomicTally {
+    ghost use Rattle.running_atomic.specs.AtomicRule.{AtomicAgrees};
+    ghost use Rattle.running_atomic.specs.History.{no_acts};
+
+    ghost first = { λ _. no_acts };
+
+    ghost agrees = { AtomicAgrees T.arithmetic };
+}
+
+/// A load of the lock's word.
+pub(crate) struct Look;
+
+impl<T: AtomicInteger> Deed<T, AtomicTally> for Look {
+    ghost use Rattle.passes.specs.Views.{looked};
+
+    ghost tells = { λ _ _ _ before found after. after ≡ looked before found };
+}
+
+/// An exchange by which a reader enters.
+pub(crate) struct EnterRead;
+
+impl<T: AtomicInteger> Deed<T, AtomicTally> for EnterRead {
+    ghost tells = { λ _ from _. steps.EntersRead from };
+}
+
+/// An exchange by which a writer enters.
+pub(crate) struct EnterWrite;
+
+impl<T: AtomicInteger> Deed<T, AtomicTally> for EnterWrite {
+    ghost tells = { λ _ _ _. steps.EntersWrite };
+}
+
+/// The end of a hold.
+pub(crate) struct Leave;
+
+impl<T: AtomicInteger> Deed<T, AtomicTally> for Leave {
+    ghost tells = { λ _ _ _ before _ after. steps.Leaves before after };
+}
+
+/// A load of the low word under a hold.
+pub(crate) struct ReadLow;
+
+impl<T: AtomicInteger> Deed<T, AtomicTally> for ReadLow {
+    ghost tells = { λ _ _ _. steps.ReadsLow };
+}
+
+/// A load of the high word under a hold, after which the call goes on.
+pub(crate) struct ReadHigh;
+
+impl<T: AtomicInteger> Deed<T, AtomicTally> for ReadHigh {
+    ghost tells = { λ _ _ _. steps.ReadsHigh };
+}
+
+/// The load of the high word by which a `load` acts.
+pub(crate) struct EndLoad;
+
+impl<T: AtomicInteger> Deed<T, AtomicTally> for EndLoad {
+    ghost tells = { λ opening _ _. steps.EndsLoad T.arithmetic opening };
+}
+
+/// The store of the low word.
+pub(crate) struct StoreLow;
+
+impl<T: AtomicInteger> Deed<T, AtomicTally> for StoreLow {
+    ghost tells = { λ _ _ _. steps.StoresLow };
+}
+
+/// A load by which a pass sees all of the history.
+pub(crate) struct Settle;
+
+impl<T: AtomicInteger> Deed<T, AtomicTally> for Settle {
+    ghost tells = { λ opening _ _ before _ after. steps.Settles T.arithmetic opening before after };
+}

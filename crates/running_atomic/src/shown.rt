@@ -1,0 +1,21 @@
+//! An atomic's value, to be printed.
+use std::fmt::{Debug, Display, Error, Formatter, Write};
+use steps_events::atomic::internal::AtomicInteger;
+
+/// The value that an atomic had when it was loaded, which prints as `Atomic<u64> { value: 3 }`.
+#[derive(Drop)]
+pub struct AtomicShown<T: AtomicInteger> {
+    pub(crate) value: T,
+}
+
+impl<T: AtomicInteger> Display for AtomicShown<T> {
+    fn fmt<W: Write>(&self, f: &mut Formatter<W>) -> Result<(), Error> {
+        write!(f, "Atomic<{}> {{ value: {:?} }}", T::NAME, self.value)
+    }
+}
+
+impl<T: AtomicInteger> Debug for AtomicShown<T> {
+    fn fmt<W: Write>(&self, f: &mut Formatter<W>) -> Result<(), Error> {
+        Display::fmt(self, f)
+    }
+}
