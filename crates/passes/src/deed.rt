@@ -11,7 +11,7 @@ pub trait Deed<K, T> {
     ghost tells: { K → ℕ → ℕ → View T → ℕ → View T → Type 0 };
 }
 
-// What a step tells of something that it is handed; its caller picks it.
+// What a step tells that its caller picks, since it speaks of what was handed in.
 impl<K, T> Deed<K, T> for Brand {
     ghost tells = { λ _ _ _ _ _ _. Unit {0} };
 }

@@ -112,7 +112,7 @@ impl<K, T: Rule<(), K>, A: Allocator> Words<K, T, A> {
         shared.store::<Brand>(&mut pass.seat, word, new);
     }
 
-    /// Loads a word. What it tells may speak of what it is handed.
+    /// Loads a word. What the step tells may speak of what is handed in; its caller picks it.
     #[inline(always)]
     pub fn load_of<D: Deed<K, T>, E>(&self, pass: &mut Pass<T>, word: usize, _of: &E) -> u64
         requires own { IsPassOf self.now pass.old }
@@ -124,7 +124,7 @@ impl<K, T: Rule<(), K>, A: Allocator> Words<K, T, A> {
         self.load::<D>(pass, word)
     }
 
-    /// Stores a word. What it tells may speak of what it is handed.
+    /// Stores a word. What the step tells may speak of what is handed in; its caller picks it.
     #[inline(always)]
     pub fn store_of<D: Deed<K, T>, E>(&self, pass: &mut Pass<T>, word: usize, new: u64, _of: &E)
         requires own { IsPassOf self.now pass.old }
@@ -194,7 +194,8 @@ impl<K, T: Rule<(), K>, A: Allocator> Words<K, T, A> {
         closed.free();
         found
     }
-    /// Ends the object, and answers two of its words.
+
+    /// Ends the object, and answers two of its words. With the whole pass the rule holds of them and of what that pass counted.
     pub fn close_two(self, pass: Pass<T>, word: usize, second: usize) -> (u64, u64)
         requires own { IsPassOf self pass }
         requires inside { word < count_of self }
@@ -204,9 +205,9 @@ impl<K, T: Rule<(), K>, A: Allocator> Words<K, T, A> {
         let Origin { table } = self.origin;
         let Pass { seat } = pass;
         let closed = table.close_with(seat);
-        let found = closed.word(word);
+        let one = closed.word(word);
         let other = closed.word(second);
         closed.free();
-        (found, other)
+        (one, other)
     }
 }

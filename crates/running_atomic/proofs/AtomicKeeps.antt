@@ -16,7 +16,7 @@ use Rattle.running_atomic.specs.declared.history.AtomicAct.{AtomicAct}
 use Rattle.running_atomic.specs.declared.history.AtomicAct.TheVariants as act
 use Rattle.running_atomic.specs.declared.history.Heard.{Heard}
 use Rattle.running_atomic.specs.History.{content, heard, both_heard, atomic_tally, no_acts, both_tallies, heard_adds_up, same_content, tells_same_content}
-use Rattle.running_atomic.specs.AtomicRule.{RegisterAct, register_after, IsRegister, HasHistory, AtomicAgrees, data_of, register_of, value_of, value_after, act_in, acts_in, answer_to, history_in, known, each_once}
+use Rattle.running_atomic.specs.AtomicRule.{register_after, IsRegister, HasHistory, AtomicAgrees, data_of, register_of, value_of, act_in, acts_in, answer_to, history_in, known, each_once}
 use Rattle.running_atomic.specs.AtomicSteps.{StartsWith, now_holds, EntersRead, EntersWrite, Leaves, IfHeld, ReadsLow, ReadsHigh, EndsLoad, IfWriting, StoresLow, EndsStore, EndsUnchanged, Settles, Acts, ActsAt, IsReading, IsSettled, IsWriting, IsOn, IsRight, ChangesNothing, IsLast}
 use Rattle.running_atomic.proofs.LockKeeps.{enters_read, enters_write, reads, leaves_read, writes}
 use Rattle.running_atomic.proofs.HistoryKeeps.{begins, alone, marks_in, more, extends, absorbs, seen_known, acts_append, acts_length, each_act}
@@ -103,19 +103,23 @@ module _ {T : Type 0} (z : Arithmetic T) (k : T) where
       (λ words homes rest r only fits miss. (missed v 0 (get_or words 0 0), refl, r, record { done = λ hit. absurd (miss hit); failed = λ _. refl }))
 
   pub read_leaves : (v : View B) → IsReading v.tally.hold → Update v 0 (λ n. (n + (2 ^ 64 - 1)) % 2 ^ 64) (λ _ w. Leaves v w)
-  read_leaves v on = record { may = λ words homes rest r only fits. let x = (reading_is v.tally.hold on).0 in let is = (reading_is v.tally.hold on).1 in let d : Content = data_of words in let n : ℕ = get_or words 0 0 in
-      let t = leaves_read same_content tells_same_content n d x rest.hold (subst (λ (h : Held Content). Locks n d (both_held same_content h rest.hold)) is r.locks) fits in
-      (now_holds Free v, refl, relock words ((n + (2 ^ 64 - 1)) % 2 ^ 64) (both_held same_content v.tally.hold rest.hold) rest.hold (both_heard v.tally.heard rest.heard) r t.0 (t.1 ∙ ap (λ (h : Held Content). register_of (both_held same_content h rest.hold) d) (sym is)), refl) }
+  read_leaves v on = record {
+    may = λ words homes rest r only fits. let x = (reading_is v.tally.hold on).0 in let is = (reading_is v.tally.hold on).1 in let d : Content = data_of words in let n : ℕ = get_or words 0 0 in
+        let t = leaves_read same_content tells_same_content n d x rest.hold (subst (λ (h : Held Content). Locks n d (both_held same_content h rest.hold)) is r.locks) fits in
+        (now_holds Free v, refl, relock words ((n + (2 ^ 64 - 1)) % 2 ^ 64) (both_held same_content v.tally.hold rest.hold) rest.hold (both_heard v.tally.heard rest.heard) r t.0 (t.1 ∙ ap (λ (h : Held Content). register_of (both_held same_content h rest.hold) d) (sym is)), refl);
+  }
 
   pub write_leaves : (v : View B) → IsSettled v.tally.hold → Update v 0 (λ _. 0) (λ _ w. Leaves v w)
-  write_leaves v on = record { may = λ words homes rest r only fits. let x = (settled_is v.tally.hold on).0 in let is = (settled_is v.tally.hold on).1 in let d : Content = data_of words in let n : ℕ = get_or words 0 0 in
-      let t = writes same_content tells_same_content n d x x rest.hold (subst (λ (h : Held Content). Locks n d (both_held same_content h rest.hold)) is r.locks) in (
-        now_holds Free v,
-        refl,
-        relock words 0 (both_held same_content v.tally.hold rest.hold) rest.hold (both_heard v.tally.heard rest.heard) r (subst (Locks 0 d) (sym t.0) (record { word_is = omega arith; room = omega arith; knows = tt }))
-            (ap (λ (h : Held Content). register_of h d) t.0 ∙ sym t.2 ∙ ap (λ (h : Held Content). register_of (both_held same_content (Writing x x) h) d) (sym t.0) ∙ ap (λ (h : Held Content). register_of (both_held same_content h rest.hold) d) (sym is)),
-        refl,
-      ) }
+  write_leaves v on = record {
+    may = λ words homes rest r only fits. let x = (settled_is v.tally.hold on).0 in let is = (settled_is v.tally.hold on).1 in let d : Content = data_of words in let n : ℕ = get_or words 0 0 in
+        let t = writes same_content tells_same_content n d x x rest.hold (subst (λ (h : Held Content). Locks n d (both_held same_content h rest.hold)) is r.locks) in (
+          now_holds Free v,
+          refl,
+          relock words 0 (both_held same_content v.tally.hold rest.hold) rest.hold (both_heard v.tally.heard rest.heard) r (subst (Locks 0 d) (sym t.0) (record { word_is = omega arith; room = omega arith; knows = tt }))
+              (ap (λ (h : Held Content). register_of h d) t.0 ∙ sym t.2 ∙ ap (λ (h : Held Content). register_of (both_held same_content (Writing x x) h) d) (sym t.0) ∙ ap (λ (h : Held Content). register_of (both_held same_content h rest.hold) d) (sym is)),
+          refl,
+        );
+  }
 
   pub reads_low : (v : View B) → IsOn v.tally.hold → Update v 1 (λ n. n) (ReadsLow v)
   reads_low v on = by_look no_acts both_tallies (AtomicAgrees z k) v 1 (ReadsLow v) (λ words homes rest r only fits. let d : Content = data_of words in
@@ -157,38 +161,42 @@ module _ {T : Type 0} (z : Arithmetic T) (k : T) where
       ))
 
   pub stores_low : (v : View B) (new : ℕ) → IsWriting v.tally.hold → Update v 1 (λ _. new) (λ _. StoresLow v new)
-  stores_low v new on = record { may = λ words homes rest r only fits. let x = (writing_is v.tally.hold on).0 in let u = (writing_is v.tally.hold on).1 in let is = (writing_is v.tally.hold on).2 in let d : Content = data_of words in let n : ℕ = get_or words 0 0 in let three = r.three_words in
-      let t = writes same_content tells_same_content n d x u rest.hold (subst (λ (h : Held Content). Locks n d (both_held same_content h rest.hold)) is r.locks) in
-      let h : Held Content = Writing (content new x.high) u in let w : View B = now_holds h v in
-      let lone : both_held same_content h rest.hold ≡ h = ap (both_held same_content h) t.0 in
-      let words_are : content new x.high ≡ data_of (set words 1 new) = λ i. content (sym (get_or-set_same words 1 new 0 (omega (arith, three))) i) ((ap (λ (c : Content). c.high) t.2 ∙ sym (get_or-set_other words 1 2 new 0 (λ e. absurd (omega arith)))) i) in (
-        w,
-        refl,
-        record {
-          three_words = length-set words 1 new ∙ three;
-          locks = subst (Locks (get_or (set words 1 new) 0 0) (data_of (set words 1 new))) (sym lone) (record { word_is = get_or-set_other words 1 0 new 0 (λ e. absurd (omega arith)) ∙ t.1; room = omega arith; knows = words_are });
-          has = subst (HasHistory z k (both_heard v.tally.heard rest.heard)) (ap (value_of z) (ap (λ (g : Held Content). register_of (both_held same_content g rest.hold) d) is ∙ ap (λ (g : Held Content). register_of (both_held same_content (Writing x u) g) d) t.0 ∙ sym (ap (λ (g : Held Content). register_of g (data_of (set words 1 new))) lone))) r.has;
-        },
-        subst (λ (g : Held Content). IfWriting g (λ c m. w ≡ now_holds (Writing (content new c.high) m) v)) (sym is) refl,
-      ) }
+  stores_low v new on = record {
+    may = λ words homes rest r only fits. let x = (writing_is v.tally.hold on).0 in let u = (writing_is v.tally.hold on).1 in let is = (writing_is v.tally.hold on).2 in let d : Content = data_of words in let n : ℕ = get_or words 0 0 in let three = r.three_words in
+        let t = writes same_content tells_same_content n d x u rest.hold (subst (λ (h : Held Content). Locks n d (both_held same_content h rest.hold)) is r.locks) in
+        let h : Held Content = Writing (content new x.high) u in let w : View B = now_holds h v in
+        let lone : both_held same_content h rest.hold ≡ h = ap (both_held same_content h) t.0 in
+        let words_are : content new x.high ≡ data_of (set words 1 new) = λ i. content (sym (get_or-set_same words 1 new 0 (omega (arith, three))) i) ((ap (λ (c : Content). c.high) t.2 ∙ sym (get_or-set_other words 1 2 new 0 (λ e. absurd (omega arith)))) i) in (
+          w,
+          refl,
+          record {
+            three_words = length-set words 1 new ∙ three;
+            locks = subst (Locks (get_or (set words 1 new) 0 0) (data_of (set words 1 new))) (sym lone) (record { word_is = get_or-set_other words 1 0 new 0 (λ e. absurd (omega arith)) ∙ t.1; room = omega arith; knows = words_are });
+            has = subst (HasHistory z k (both_heard v.tally.heard rest.heard)) (ap (value_of z) (ap (λ (g : Held Content). register_of (both_held same_content g rest.hold) d) is ∙ ap (λ (g : Held Content). register_of (both_held same_content (Writing x u) g) d) t.0 ∙ sym (ap (λ (g : Held Content). register_of g (data_of (set words 1 new))) lone))) r.has;
+          },
+          subst (λ (g : Held Content). IfWriting g (λ c m. w ≡ now_holds (Writing (content new c.high) m) v)) (sym is) refl,
+        );
+  }
 
   pub ends_store : (v : View B) (new : ℕ) (a : AtomicAct) → IsWriting v.tally.hold → IsRight z a new v.tally.hold → Update v 2 (λ _. new) (λ _. EndsStore z k a v new)
-  ends_store v new a on so = record { may = λ words homes rest r only fits. let x = (writing_is v.tally.hold on).0 in let u = (writing_is v.tally.hold on).1 in let is = (writing_is v.tally.hold on).2 in let d : Content = data_of words in let n : ℕ = get_or words 0 0 in let three = r.three_words in
-      let t = writes same_content tells_same_content n d x u rest.hold (subst (λ (h : Held Content). Locks n d (both_held same_content h rest.hold)) is r.locks) in
-      let right = subst (IsRight z a new) is so in
-      let has : HasHistory z k (both_heard v.tally.heard rest.heard) (value_of z u) = subst (HasHistory z k (both_heard v.tally.heard rest.heard)) (ap (value_of z) (ap (λ (g : Held Content). register_of (both_held same_content g rest.hold) d) is ∙ ap (λ (g : Held Content). register_of (both_held same_content (Writing x u) g) d) t.0)) r.has in
-      let h : Held Content = Writing (content x.low new) (content x.low new) in let w : View B = after has.history a h v in
-      let lone : both_held same_content h rest.hold ≡ h = ap (both_held same_content h) t.0 in
-      let words_are : content x.low new ≡ data_of (set words 2 new) = λ i. content ((ap (λ (c : Content). c.low) t.2 ∙ sym (get_or-set_other words 2 1 new 0 (λ e. absurd (omega arith)))) i) (sym (get_or-set_same words 2 new 0 (omega (arith, three))) i) in (
-        w,
-        refl,
-        record {
-          three_words = length-set words 2 new ∙ three;
-          locks = subst (Locks (get_or (set words 2 new) 0 0) (data_of (set words 2 new))) (sym lone) (record { word_is = get_or-set_other words 2 0 new 0 (λ e. absurd (omega arith)) ∙ t.1; room = omega arith; knows = words_are });
-          has = subst (HasHistory z k (both_heard w.tally.heard rest.heard)) (right ∙ ap (value_of z) (sym (ap (λ (g : Held Content). register_of g (data_of (set words 2 new))) lone))) (extends z k v.tally.heard rest.heard a (value_of z u) has);
-        },
-        subst (λ (g : Held Content). IfWriting g (λ c found. (h ≡ Writing (content c.low new) (content c.low new)) × ActsAt z k a found v w)) (sym is) (refl, acts v rest h a (value_of z u) has only),
-      ) }
+  ends_store v new a on so = record {
+    may = λ words homes rest r only fits. let x = (writing_is v.tally.hold on).0 in let u = (writing_is v.tally.hold on).1 in let is = (writing_is v.tally.hold on).2 in let d : Content = data_of words in let n : ℕ = get_or words 0 0 in let three = r.three_words in
+        let t = writes same_content tells_same_content n d x u rest.hold (subst (λ (h : Held Content). Locks n d (both_held same_content h rest.hold)) is r.locks) in
+        let right = subst (IsRight z a new) is so in
+        let has : HasHistory z k (both_heard v.tally.heard rest.heard) (value_of z u) = subst (HasHistory z k (both_heard v.tally.heard rest.heard)) (ap (value_of z) (ap (λ (g : Held Content). register_of (both_held same_content g rest.hold) d) is ∙ ap (λ (g : Held Content). register_of (both_held same_content (Writing x u) g) d) t.0)) r.has in
+        let h : Held Content = Writing (content x.low new) (content x.low new) in let w : View B = after has.history a h v in
+        let lone : both_held same_content h rest.hold ≡ h = ap (both_held same_content h) t.0 in
+        let words_are : content x.low new ≡ data_of (set words 2 new) = λ i. content ((ap (λ (c : Content). c.low) t.2 ∙ sym (get_or-set_other words 2 1 new 0 (λ e. absurd (omega arith)))) i) (sym (get_or-set_same words 2 new 0 (omega (arith, three))) i) in (
+          w,
+          refl,
+          record {
+            three_words = length-set words 2 new ∙ three;
+            locks = subst (Locks (get_or (set words 2 new) 0 0) (data_of (set words 2 new))) (sym lone) (record { word_is = get_or-set_other words 2 0 new 0 (λ e. absurd (omega arith)) ∙ t.1; room = omega arith; knows = words_are });
+            has = subst (HasHistory z k (both_heard w.tally.heard rest.heard)) (right ∙ ap (value_of z) (sym (ap (λ (g : Held Content). register_of g (data_of (set words 2 new))) lone))) (extends z k v.tally.heard rest.heard a (value_of z u) has);
+          },
+          subst (λ (g : Held Content). IfWriting g (λ c found. (h ≡ Writing (content c.low new) (content c.low new)) × ActsAt z k a found v w)) (sym is) (refl, acts v rest h a (value_of z u) has only),
+        );
+  }
 
   pub ends_unchanged : (v : View B) (a : AtomicAct) → IsSettled v.tally.hold → ChangesNothing z a v.tally.hold → Update v 2 (λ n. n) (λ _ w. EndsUnchanged z k a v w)
   ends_unchanged v a on so = by_look no_acts both_tallies (AtomicAgrees z k) v 2 (λ _ w. EndsUnchanged z k a v w) (λ words homes rest r only fits. let x = (settled_is v.tally.hold on).0 in let is = (settled_is v.tally.hold on).1 in let d : Content = data_of words in let n : ℕ = get_or words 0 0 in
@@ -212,9 +220,10 @@ module _ {T : Type 0} (z : Arithmetic T) (k : T) where
         record {
           history = h;
           seen = refl;
-          knew = λ a b is. let sum_is : (both_heard (both_heard a b) rest.heard).seen ≡ known h = ap (λ (t : Heard). (both_heard t rest.heard).seen) (sym is) ∙ has.seen in
-              (subst (λ l. StartsWith l (history_in z a)) (sym all) (begins z h a (both_heard b rest.heard) (sym (heard_group a b rest.heard) ∙ sum_is)),
-              subst (λ l. StartsWith l (history_in z b)) (sym all) (begins z h b (both_heard a rest.heard) (sym (heard_group b a rest.heard) ∙ ap (λ (t : Heard). (both_heard t rest.heard).seen) (heard_adds_up.swap b a) ∙ sum_is)));
+          knew = λ a b is. let sum_is : (both_heard (both_heard a b) rest.heard).seen ≡ known h = ap (λ (t : Heard). (both_heard t rest.heard).seen) (sym is) ∙ has.seen in (
+            subst (λ l. StartsWith l (history_in z a)) (sym all) (begins z h a (both_heard b rest.heard) (sym (heard_group a b rest.heard) ∙ sum_is)),
+            subst (λ l. StartsWith l (history_in z b)) (sym all) (begins z h b (both_heard a rest.heard) (sym (heard_group b a rest.heard) ∙ ap (λ (t : Heard). (both_heard t rest.heard).seen) (heard_adds_up.swap b a) ∙ sum_is)),
+          );
           own = refl;
           marks = marks_in z h v.tally.heard.own rest.heard.own has.own (history_in z w.tally.heard) all;
           part = refl;

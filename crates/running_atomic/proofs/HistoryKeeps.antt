@@ -1,5 +1,5 @@
 -- What is known of the history, and which acts are own, as it grows.
-use Rattle.std.proofs.Common.{◌≡◌, ℕ, zero, suc, ◌+◌, ◌≤◌, List, [], ◌∷◌, ◌++◌, length, sym, refl, ap, ◌∙◌, subst, arith}
+use Rattle.std.proofs.Common.{◌≡◌, ℕ, zero, suc, ◌≤◌, List, [], ◌∷◌, ◌++◌, length, sym, refl, ap, ◌∙◌, subst, arith}
 use Rattle.steps_events.specs.Arithmetic.{Arithmetic}
 use Rattle.tallies.specs.Counts.{count_at, one_more, both_counts}
 use Rattle.tallies.proofs.CountLaws.{in_both, more_in_both}

@@ -2,4 +2,4 @@ pub mod LockKeeps
 pub mod HistoryKeeps
 pub mod AtomicKeeps
 pub mod OneHistory
-pub mod Finish
+pub mod Joins

@@ -1,14 +1,11 @@
 -- Whenever the rule of an atomic holds, all its passes have seen one history.
-use Rattle.std.proofs.Common.{◌≡◌, ℕ, List, sym, refl, ap, ◌∙◌}
-use mathlib.Core.Option.{some}
-use lib.ListN.{get_elem?}
+use Rattle.std.proofs.Common.{sym, ap, ◌∙◌}
 use Rattle.steps_events.specs.Arithmetic.{Arithmetic}
-use Rattle.passes.specs.declared.view.View.{View}
 use Rattle.passes.proofs.Sums.{others, sum_at}
 use Rattle.running_atomic.specs.declared.history.AtomicTally.{AtomicTally}
 use Rattle.running_atomic.specs.History.{no_acts, both_tallies, known_tally, tallies_add_up}
-use Rattle.running_atomic.specs.AtomicRule.{acts_in, each_once, data_of, value_of}
-use Rattle.running_atomic.specs.AtomicSteps.{all_of, IsOneHistory, OneHistory}
+use Rattle.running_atomic.specs.AtomicRule.{acts_in, data_of, value_of}
+use Rattle.running_atomic.specs.AtomicSteps.{all_of, OneHistory}
 use Rattle.running_atomic.proofs.LockKeeps.{no_writer}
 use Rattle.running_atomic.proofs.HistoryKeeps.{begins, each_act}
 

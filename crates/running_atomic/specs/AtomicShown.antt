@@ -1,5 +1,5 @@
 -- What contracts see of an atomic and its pass, and what a call changes in a pass.
-use Rattle.std.specs.Prelude.{◌≡◌, ℕ, List, [], ◌∷◌, ◌++◌}
+use Rattle.std.specs.Prelude.{◌≡◌, ℕ, List}
 use Rattle.steps_events.specs.declared.event.Answer.{Answer}
 use Rattle.steps_events.specs.Arithmetic.{Arithmetic}
 use Rattle.passes.specs.declared.part.Part.{Part}
@@ -8,14 +8,14 @@ use Rattle.passes.specs.Parts.{IsWhole}
 use Rattle.passes.specs.Passes.{IsSamePass, view}
 use Rattle.passes.specs.Objects.{IsPassOf, key_of}
 use Rattle.tallies.specs.declared.held.Held.{Held}
-use Rattle.tallies.specs.declared.held.Held.TheVariants.{Free, Writing}
+use Rattle.tallies.specs.declared.held.Held.TheVariants.{Writing}
 use Rattle.running_atomic.specs.declared.history.Content.{Content}
 use Rattle.running_atomic.specs.declared.calls.Atomic.{Atomic}
 use Rattle.running_atomic.specs.declared.pass.AtomicPass.{AtomicPass}
 use Rattle.running_atomic.specs.declared.shown.AtomicShown.{AtomicShown}
 use Rattle.running_atomic.specs.declared.history.AtomicTally.{AtomicTally}
 use Rattle.running_atomic.specs.AtomicRule.{RegisterAct, value_of, history_in}
-use Rattle.running_atomic.specs.AtomicSteps.{Acts, Joins, IsLast, StartsWith}
+use Rattle.running_atomic.specs.AtomicSteps.{Acts, Joins, IsLast}
 
 -- the pass inside, between two calls
 abbrev pub pass_in : AtomicPass → Pass AtomicTally

@@ -1,10 +1,9 @@
 -- What the steps of an atomic tell, and what holds whenever its rule does.
-use Rattle.std.specs.Prelude.{◌≡◌, ◌≢◌, ℕ, ◌≤◌, List, [], ◌∷◌, ◌++◌, length, slice_index}
+use Rattle.std.specs.Prelude.{◌≡◌, ◌≢◌, ℕ, ◌≤◌, List, [], ◌∷◌, ◌++◌, length}
 use mathlib.Core.Option.{some}
 use lib.ListN.{get_elem?}
 use Rattle.atomic_table.specs.Table.{State}
 use Rattle.steps_events.specs.declared.event.Answer.{Answer}
-use Rattle.steps_events.specs.declared.event.Call.TheVariants as calls
 use Rattle.steps_events.specs.Arithmetic.{Arithmetic}
 use Rattle.passes.specs.declared.view.View.{View}
 use Rattle.passes.specs.Parts.{IsWhole, together}
@@ -18,7 +17,7 @@ use Rattle.running_atomic.specs.declared.history.Content.{Content}
 use Rattle.running_atomic.specs.declared.history.AtomicAct.{AtomicAct}
 use Rattle.running_atomic.specs.declared.history.AtomicAct.TheVariants as act
 use Rattle.running_atomic.specs.declared.history.Heard.{Heard}
-use Rattle.running_atomic.specs.History.{content, heard, both_heard, atomic_tally, both_tallies, no_acts}
+use Rattle.running_atomic.specs.History.{content, both_heard, atomic_tally, both_tallies, no_acts}
 use Rattle.running_atomic.specs.AtomicRule.{RegisterAct, answer_to, value_after, register_after, value_of, act_in, history_in, known, each_once, data_of, AtomicAgrees}
 
 abbrev V : Type 0

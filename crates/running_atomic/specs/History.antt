@@ -1,5 +1,5 @@
 -- What is known of the history, and which places of it are own acts.
-use Rattle.std.specs.Prelude.{◌≡◌, ◌≢◌, ℕ, Bool, true, false, List, [], ◌∷◌, Some, None}
+use Rattle.std.specs.Prelude.{◌≡◌, ℕ, Bool, List, [], ◌∷◌, Some, None}
 use Rattle.std.proofs.Common.{refl, zero, suc}
 use Rattle.passes.specs.Tallies.{IsTally}
 use Rattle.tallies.specs.declared.held.Held.{Held}
@@ -65,8 +65,8 @@ pick (suc n) (a ∷ others) = pick n others
 abbrev act_by : ℕ → Content → Content → AtomicAct
 act_by which x y =
     pick which (
-      act.Load ∷ act.Store x ∷ act.Swap x ∷ act.CompareExchange x y ∷ act.CompareExchangeWeak x y ∷ act.FetchAdd x ∷ act.FetchSub x ∷ act.FetchAnd x ∷ act.FetchOr x ∷ act.FetchXor x ∷ act.FetchNand x
-      ∷ act.FetchMax x ∷ act.FetchMin x ∷ act.FetchUpdate None ∷ act.FetchUpdate (Some x) ∷ [])
+    act.Load ∷ act.Store x ∷ act.Swap x ∷ act.CompareExchange x y ∷ act.CompareExchangeWeak x y ∷ act.FetchAdd x ∷ act.FetchSub x ∷ act.FetchAnd x ∷ act.FetchOr x ∷ act.FetchXor x ∷ act.FetchNand x
+    ∷ act.FetchMax x ∷ act.FetchMin x ∷ act.FetchUpdate None ∷ act.FetchUpdate (Some x) ∷ [])
 
 abbrev read_back : List ℕ → AtomicAct
 read_back ns = act_by (number_at ns 0) (content_at ns 1) (content_at ns 3)

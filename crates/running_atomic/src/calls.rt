@@ -86,13 +86,7 @@ impl<T: AtomicInteger, A: Allocator> Atomic<T, A> {
 
     /// Writes the value, and answers the old one.
     #[inline(always)]
-    pub fn swap<R: Wait>(
-        &self,
-        rt: &R,
-        pass: &mut AtomicPass,
-        value: T,
-        _order: Ordering,
-    ) -> T
+    pub fn swap<R: Wait>(&self, rt: &R, pass: &mut AtomicPass, value: T, _order: Ordering) -> T
         requires own { IsAtomicPass self.now pass.old }
         ensures acted { HasActed T.arithmetic (opening_of self.now) (plain (calls.Swap value)) (answers.Value result) pass.old pass.new }
     {
@@ -156,13 +150,7 @@ impl<T: AtomicInteger, A: Allocator> Atomic<T, A> {
 
     /// Adds, wrapping, and answers the old value.
     #[inline(always)]
-    pub fn fetch_add<R: Wait>(
-        &self,
-        rt: &R,
-        pass: &mut AtomicPass,
-        value: T,
-        _order: Ordering,
-    ) -> T
+    pub fn fetch_add<R: Wait>(&self, rt: &R, pass: &mut AtomicPass, value: T, _order: Ordering) -> T
         requires own { IsAtomicPass self.now pass.old }
         ensures acted { HasActed T.arithmetic (opening_of self.now) (plain (calls.FetchAdd value)) (answers.Value result) pass.old pass.new }
     {
@@ -174,13 +162,7 @@ impl<T: AtomicInteger, A: Allocator> Atomic<T, A> {
 
     /// Subtracts, wrapping, and answers the old value.
     #[inline(always)]
-    pub fn fetch_sub<R: Wait>(
-        &self,
-        rt: &R,
-        pass: &mut AtomicPass,
-        value: T,
-        _order: Ordering,
-    ) -> T
+    pub fn fetch_sub<R: Wait>(&self, rt: &R, pass: &mut AtomicPass, value: T, _order: Ordering) -> T
         requires own { IsAtomicPass self.now pass.old }
         ensures acted { HasActed T.arithmetic (opening_of self.now) (plain (calls.FetchSub value)) (answers.Value result) pass.old pass.new }
     {
@@ -192,13 +174,7 @@ impl<T: AtomicInteger, A: Allocator> Atomic<T, A> {
 
     /// Writes the bits that both have, and answers the old value.
     #[inline(always)]
-    pub fn fetch_and<R: Wait>(
-        &self,
-        rt: &R,
-        pass: &mut AtomicPass,
-        value: T,
-        _order: Ordering,
-    ) -> T
+    pub fn fetch_and<R: Wait>(&self, rt: &R, pass: &mut AtomicPass, value: T, _order: Ordering) -> T
         requires own { IsAtomicPass self.now pass.old }
         ensures acted { HasActed T.arithmetic (opening_of self.now) (plain (calls.FetchAnd value)) (answers.Value result) pass.old pass.new }
     {
@@ -210,13 +186,7 @@ impl<T: AtomicInteger, A: Allocator> Atomic<T, A> {
 
     /// Writes the bits that one of them has, and answers the old value.
     #[inline(always)]
-    pub fn fetch_or<R: Wait>(
-        &self,
-        rt: &R,
-        pass: &mut AtomicPass,
-        value: T,
-        _order: Ordering,
-    ) -> T
+    pub fn fetch_or<R: Wait>(&self, rt: &R, pass: &mut AtomicPass, value: T, _order: Ordering) -> T
         requires own { IsAtomicPass self.now pass.old }
         ensures acted { HasActed T.arithmetic (opening_of self.now) (plain (calls.FetchOr value)) (answers.Value result) pass.old pass.new }
     {
@@ -228,13 +198,7 @@ impl<T: AtomicInteger, A: Allocator> Atomic<T, A> {
 
     /// Writes the bits that only one of them has, and answers the old value.
     #[inline(always)]
-    pub fn fetch_xor<R: Wait>(
-        &self,
-        rt: &R,
-        pass: &mut AtomicPass,
-        value: T,
-        _order: Ordering,
-    ) -> T
+    pub fn fetch_xor<R: Wait>(&self, rt: &R, pass: &mut AtomicPass, value: T, _order: Ordering) -> T
         requires own { IsAtomicPass self.now pass.old }
         ensures acted { HasActed T.arithmetic (opening_of self.now) (plain (calls.FetchXor value)) (answers.Value result) pass.old pass.new }
     {
@@ -264,13 +228,7 @@ impl<T: AtomicInteger, A: Allocator> Atomic<T, A> {
 
     /// Writes the greater of the two, and answers the old value.
     #[inline(always)]
-    pub fn fetch_max<R: Wait>(
-        &self,
-        rt: &R,
-        pass: &mut AtomicPass,
-        value: T,
-        _order: Ordering,
-    ) -> T
+    pub fn fetch_max<R: Wait>(&self, rt: &R, pass: &mut AtomicPass, value: T, _order: Ordering) -> T
         requires own { IsAtomicPass self.now pass.old }
         ensures acted { HasActed T.arithmetic (opening_of self.now) (plain (calls.FetchMax value)) (answers.Value result) pass.old pass.new }
     {
@@ -282,13 +240,7 @@ impl<T: AtomicInteger, A: Allocator> Atomic<T, A> {
 
     /// Writes the lesser of the two, and answers the old value.
     #[inline(always)]
-    pub fn fetch_min<R: Wait>(
-        &self,
-        rt: &R,
-        pass: &mut AtomicPass,
-        value: T,
-        _order: Ordering,
-    ) -> T
+    pub fn fetch_min<R: Wait>(&self, rt: &R, pass: &mut AtomicPass, value: T, _order: Ordering) -> T
         requires own { IsAtomicPass self.now pass.old }
         ensures acted { HasActed T.arithmetic (opening_of self.now) (plain (calls.FetchMin value)) (answers.Value result) pass.old pass.new }
     {

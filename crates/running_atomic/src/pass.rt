@@ -45,6 +45,7 @@ impl AtomicPass {
 
     /// One pass from two of the same atomic. It has seen one history, which begins with what each of them had seen; the own acts of both
     /// are its own, and it weighs what both weighed. `Err`, which never comes today, would hand both back.
+    #[tactic(auto, using(crate::proofs::Joins::joins))]
     pub fn join<T: AtomicInteger, A: Allocator>(
         a: AtomicPass,
         b: AtomicPass,

@@ -7,7 +7,9 @@ ghost use Rattle.passes.specs.Views.{looked};
 ghost use Rattle.running_atomic.specs.AtomicSteps.{EntersRead, EntersWrite, Leaves, ReadsLow, ReadsHigh, EndsLoad, EndsStore, EndsUnchanged, StoresLow, Settles, IsReading, IsSettled, IsWriting, IsOn, IsRight, ChangesNothing};
 
 use crate::calls::Atomic;
-use crate::deeds::{EndLoad, EnterRead, EnterWrite, Leave, Look, ReadHigh, ReadLow, Settle, StoreLow};
+use crate::deeds::{
+    EndLoad, EnterRead, EnterWrite, Leave, Look, ReadHigh, ReadLow, Settle, StoreLow,
+};
 use crate::history::{AtomicAct, AtomicTally};
 use passes::Pass;
 use std::alloc::Allocator;

@@ -1,5 +1,5 @@
 -- What a pass of a barrier counts and knows, and the rule over all passes.
-use Rattle.std.specs.Prelude.{◌≡◌, ℕ, zero, suc, ◌+◌, ◌-◌, ◌*◌, ◌%◌, ◌^◌, ◌<◌, ◌≤◌, max, List, [], ◌∷◌, length, slice_index}
+use Rattle.std.specs.Prelude.{◌≡◌, ℕ, ◌+◌, ◌-◌, ◌*◌, ◌%◌, ◌^◌, ◌<◌, ◌≤◌, max, List, [], length, slice_index}
 use Rattle.std.specs.List.{sum}
 use mathlib.Core.Option as maybe
 use mathlib.Core.Option.{some}
