@@ -6,6 +6,8 @@
 //! and here under its name.
 #![tactic(auto)]
 
+pub mod atomic;
+pub mod cell;
 pub mod lazy_lock;
 pub mod once;
 pub mod spin_lock;
@@ -14,5 +16,5 @@ pub mod strategy;
 mod tests;
 
 pub use passes::WaitResult;
-pub use sync_steps::{SPIN_REPETITIONS, WaitAction, atomic, steps};
+pub use sync_steps::{SPIN_REPETITIONS, WaitAction, steps};
 pub use tallies::WaitWord;

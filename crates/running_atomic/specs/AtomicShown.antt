@@ -75,6 +75,11 @@ module _ {T : Type 0} (z : Arithmetic T) where
     pub heard : (view q).tally.heard ≡ (view p).tally.heard
     pub holding : IsHolding value q
 
+-- what a helper, a loop or a closure leaves of a pass: it is the same, and as much of the whole
+pub record HasStayed (p q : AtomicPass) : Type 0 where
+  pub same : IsSamePass (pass_in p) (pass_in q)
+  pub part : part_of_atomic q ≡ part_of_atomic p
+
 -- within a call: a hold was got, and nothing else changed but what was seen on the way
 pub record HasGot (P : Held Content → Type 0) (p q : Pass AtomicTally) : Type 0 where
   pub same : IsSamePass p q

@@ -1,0 +1,3 @@
+//! Cells: those of std under their names.
+
+pub use std::cell::{Cell, OnceCell, Ref, RefCell, RefMut};
