@@ -24,6 +24,7 @@ use Rattle.steps_events.specs.Moves.{step_at, is_step}
 use Rattle.steps_events.specs.Runs.{IsPast}
 use Rattle.steps_events.specs.Sights.{last_of}
 use Rattle.steps_events.specs.NextStep.{StepsAs, seen_last}
+use Rattle.steps_events.specs.RwSteps.{gives_up, open_at, reader_looked}
 use Rattle.steps_events.proofs.Holds.{some_same}
 use Rattle.steps_events.proofs.Spins.{HasSpun}
 use Rattle.steps_events.proofs.Asks.{both_kept}
@@ -32,16 +33,16 @@ use Rattle.steps_events.proofs.Parties.{IsKept}
 use Rattle.steps_rw_reader.specs.declared.RwReaderPlace.{RwReaderPlace}
 use Rattle.steps_rw_reader.specs.declared.RwReaderPlace.TheVariants as places
 use Rattle.steps_rw_reader.specs.Table.{lets_readers_in, read_look, rw_reader_table, rw_reader_begins, rw_reader_answered}
-use Rattle.steps_rw_reader.specs.Law.{is_in_vain, open_at, looked, gives_up, waits, RwReaderStep}
+use Rattle.steps_rw_reader.specs.Law.{is_in_vain, waits, RwReaderStep}
 use Rattle.steps_rw_reader.proofs.Laws.{AtRwReader, rw_reader_kept, read_after}
 
 -- What the latest step of a call told, at each place.
 
 abbrev HasSeen : {T : Type 0} → RwReaderPlace → PendingCall T → Option HoldKind → Type 0
 HasSeen places.TryReadLook c hold = last_of is_step c.own ≡ None
-HasSeen (places.TryRead seen to) c hold = open_at (seen_last words.State c.own) ≡ Some seen
-HasSeen (places.ReadLook patience) c hold = open_at (seen_last words.State c.own) ≡ None
-HasSeen (places.Read seen to patience) c hold = open_at (seen_last words.State c.own) ≡ Some seen
+HasSeen (places.TryRead seen to) c hold = open_at lets_readers_in (seen_last words.State c.own) ≡ Some seen
+HasSeen (places.ReadLook patience) c hold = open_at lets_readers_in (seen_last words.State c.own) ≡ None
+HasSeen (places.Read seen to patience) c hold = open_at lets_readers_in (seen_last words.State c.own) ≡ Some seen
 HasSeen places.TryWrite c hold = last_of is_step c.own ≡ None
 HasSeen (places.Write patience) c hold = Unit {0}
 HasSeen places.Release c hold = last_of is_step c.own ≡ None
@@ -68,13 +69,13 @@ refused_seen {T} patience wrap v c hold next seen is = by_tests patience.keep (n
 
 -- after a look, by whether a reader may enter
 try_read_seen :
-    {T : Type 0} (c : PendingCall T) (hold : Option HoldKind) (v : ℕ) (e : Event T) (next : RwReaderPlace) (b : Bool) → open_at (seen_last words.State (e ∷ c.own)) ≡ cond b (Some v) None →
+    {T : Type 0} (c : PendingCall T) (hold : Option HoldKind) (v : ℕ) (e : Event T) (next : RwReaderPlace) (b : Bool) → open_at lets_readers_in (seen_last words.State (e ∷ c.own)) ≡ cond b (Some v) None →
     place_after {T = T} (cond b (afters.At (places.TryRead v (v + 1))) (afters.Ends answers.Interrupted)) ≡ Some next → HasSeen next (record { call = c.call; own = e ∷ c.own }) hold
 try_read_seen {T} c hold v e next true sees is = subst (λ p. HasSeen {T = T} p (record { call = c.call; own = e ∷ c.own }) hold) (some_same (places.TryRead v (v + 1)) next is) sees
 try_read_seen c hold v e next false sees is = absurd cc
 
 read_seen :
-    {T : Type 0} (patience : Patience) (c : PendingCall T) (hold : Option HoldKind) (v : ℕ) (e : Event T) (next : RwReaderPlace) (b : Bool) → open_at (seen_last words.State (e ∷ c.own)) ≡ cond b (Some v) None →
+    {T : Type 0} (patience : Patience) (c : PendingCall T) (hold : Option HoldKind) (v : ℕ) (e : Event T) (next : RwReaderPlace) (b : Bool) → open_at lets_readers_in (seen_last words.State (e ∷ c.own)) ≡ cond b (Some v) None →
     place_after {T = T} (read_after patience v b) ≡ Some next → HasSeen next (record { call = c.call; own = e ∷ c.own }) hold
 read_seen {T} patience c hold v e next true sees is = subst (λ p. HasSeen {T = T} p (record { call = c.call; own = e ∷ c.own }) hold) (some_same (places.Read v (v + 1) patience) next is) sees
 read_seen {T} patience c hold v e next false sees is = refused_seen patience places.ReadLook v (record { call = c.call; own = e ∷ c.own }) hold next (λ p. sees) is
@@ -166,7 +167,7 @@ read_outcome patience own v false spun = refused_left is_in_vain places.ReadLook
 
 enter_outcome :
     {T : Type 0} (patience : Patience) (own : List (Event T)) (w : ℕ) (done : Bool) → HasSpun is_in_vain patience own →
-    outcome_of {T = T} (cond done (afters.Ends answers.Success) (read_look patience w)) ≡ cond done (thens.Answers answers.Success) (looked (waits own) w)
+    outcome_of {T = T} (cond done (afters.Ends answers.Success) (read_look patience w)) ≡ cond done (thens.Answers answers.Success) (reader_looked lets_readers_in (waits own) w)
 enter_outcome patience own w true spun = refl
 enter_outcome patience own w false spun = read_outcome patience own w (lets_readers_in w) spun
 

@@ -17,7 +17,8 @@ use Rattle.steps_events.specs.HoldCounts.{reads_in, writes_in}
 use Rattle.steps_events.specs.RwAnswers.{AnswersByHold}
 use Rattle.steps_events.specs.Moves.{is_step}
 use Rattle.steps_events.specs.Sights.{is_sight, AtLastSight, HasAborted, HasMissed, spins_in, last_of}
-use Rattle.steps_events.specs.NextStep.{StepsAs, refused_waiting, seen_last, Loads, Exchanges}
+use Rattle.steps_events.specs.NextStep.{StepsAs, refused_waiting}
+use Rattle.steps_events.specs.RwSteps.{gives_up, reader_looked, ReadsIn, WritesIn}
 use Rattle.steps_events.specs.Asks.{SpinCount, AsksAfterSpinning, SpinsNoMore, sight_at, TellsRefusal, whole_call, AsksUntilAbort}
 use Rattle.steps_events.specs.Laws.{IsLocked, Keeps}
 use Rattle.steps_rw_reader.specs.Table.{lets_readers_in, rw_reader_table}
@@ -86,34 +87,11 @@ HasUnlocked done = ⊥
 
 -- What a call does next, by its own steps so far, and how it is left by what that tells.
 
--- the value from which a reader enters: what it saw last, if a reader may enter there
-abbrev pub open_at : Option ℕ → Option ℕ
-open_at None = None
-open_at (Some v) = if lets_readers_in v then Some v else None
-
--- how a look leaves a reader, which goes on where it may enter
-abbrev pub looked : {T : Type 0} → (ℕ → Then T) → ℕ → Then T
-looked shut v = if lets_readers_in v then thens.GoesOn else shut v
-
--- a reader looks, until it sees a value from which it may enter; from that it makes its exchange
-abbrev pub ReadsIn : {T : Type 0} → (ℕ → Then T) → (ℕ → Then T) → List (Event T) → Act T → Then T → Type 0
-ReadsIn shut missed own act outcome =
-    MatchOption (open_at (seen_last words.State own))
-    (Loads words.State (looked shut) act outcome)
-    (λ v. Exchanges words.State v (v + 1) (thens.Answers answers.Success) missed act outcome)
-
--- a writer's exchange
-abbrev pub WritesIn : {T : Type 0} → (ℕ → Then T) → Act T → Then T → Type 0
-WritesIn missed act outcome = Exchanges words.State 0 (2 ^ 64 - 1) (thens.Answers answers.Success) missed act outcome
-
 -- a release takes 1 from the word, or stores 0
 abbrev pub Releases : {T : Type 0} → Act T → Then T → Type 0
 Releases (acts.Add words.State old put) outcome = (put ≡ (old + (2 ^ 64 - 1)) % 2 ^ 64) × (outcome ≡ thens.GoesOn)
 Releases (acts.Store words.State put) outcome = (put ≡ 0) × (outcome ≡ thens.GoesOn)
 Releases act outcome = ⊥
-
-abbrev pub gives_up : {T : Type 0} → ℕ → Then T
-gives_up v = thens.Answers answers.Interrupted
 
 -- a refused call with a wait closure, which is told the value seen
 abbrev pub waits : {T : Type 0} → List (Event T) → ℕ → Then T
@@ -121,10 +99,10 @@ waits own v = refused_waiting own (spins_in is_in_vain own) v
 
 -- the next step of each call; no other has one
 abbrev pub RwReaderStep : {T : Type 0} → Call T → List (Event T) → Act T → Then T → Type 0
-RwReaderStep calls.TryReadLock own act outcome = ReadsIn gives_up gives_up own act outcome
-RwReaderStep calls.ReadLock own act outcome = ReadsIn (waits own) (looked (waits own)) own act outcome
-RwReaderStep calls.TryWriteLock own act outcome = (last_of is_step own ≡ None) × WritesIn gives_up act outcome
-RwReaderStep calls.WriteLock own act outcome = WritesIn (waits own) act outcome
+RwReaderStep calls.TryReadLock own act outcome = ReadsIn lets_readers_in 1 gives_up gives_up own act outcome
+RwReaderStep calls.ReadLock own act outcome = ReadsIn lets_readers_in 1 (waits own) (reader_looked lets_readers_in (waits own)) own act outcome
+RwReaderStep calls.TryWriteLock own act outcome = (last_of is_step own ≡ None) × WritesIn 0 gives_up act outcome
+RwReaderStep calls.WriteLock own act outcome = WritesIn 0 (waits own) act outcome
 RwReaderStep calls.Unlock own act outcome = MatchOption (last_of is_step own) (Releases act outcome) (λ before. (act ≡ acts.Woke wakes.One) × (outcome ≡ thens.Answers answers.Done))
 RwReaderStep other own act outcome = ⊥
 
