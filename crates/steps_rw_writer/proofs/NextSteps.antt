@@ -1,7 +1,6 @@
 -- Each step of a writer-preferring lock is its call's next.
-use Rattle.std.proofs.Common.{◌≡◌, ℕ, ◌+◌, ◌-◌, ◌%◌, ◌^◌, ◌<◌, ◌==◌, refl, sym, ◌∙◌, ap, subst, Bool, true, false, cond, is_some, List, [], ◌∷◌, Option, Some, None, arith}
+use Rattle.std.proofs.Common.{◌≡◌, ℕ, ◌+◌, ◌-◌, ◌%◌, ◌^◌, ◌==◌, refl, sym, ◌∙◌, subst, Bool, true, false, cond, is_some, List, [], ◌∷◌, Option, Some, None, arith}
 use Rattle.std.specs.Prelude.{nat_lt, MatchBool}
-use Rattle.std.proofs.lemmas.Bool.{eqb-true}
 use Rattle.steps_events.specs.declared.WaitAction.{WaitAction}
 use Rattle.steps_events.specs.declared.event.Word.{Word}
 use Rattle.steps_events.specs.declared.event.Word.TheVariants as words
@@ -25,7 +24,7 @@ use Rattle.steps_events.specs.Past.{PendingCall, event, latest_outcome}
 use Rattle.steps_events.specs.RwAnswers.{acts_of}
 use Rattle.steps_events.specs.Moves.{step_at, answer_fault, choose_fault, is_step}
 use Rattle.steps_events.specs.Runs.{IsPast}
-use Rattle.steps_events.specs.Sights.{is_abort, keeps_asking, spins_in, last_of}
+use Rattle.steps_events.specs.Sights.{is_abort, keeps_asking, last_of}
 use Rattle.steps_events.specs.NextStep.{StepsAs, seen_last, Loads, Exchanges}
 use Rattle.steps_events.specs.RwSteps.{gives_up, open_at, reader_looked, WritesIn}
 use Rattle.steps_events.proofs.Holds.{some_same, eqb_other}
@@ -39,8 +38,8 @@ use Rattle.steps_rw_writer.specs.declared.RwWriterPlace.{RwWriterPlace}
 use Rattle.steps_rw_writer.specs.declared.RwWriterPlace.TheVariants as places
 use Rattle.steps_rw_writer.specs.Table.{lets_readers_in, lets_writer_in, lets_mark, is_marked, is_blocked, is_mark, read_look, spins, marks_or_spins, unmarks_or_leaves, write_refused, write_look, last_look, released, rw_writer_table, rw_writer_begins, rw_writer_answered}
 use Rattle.steps_rw_writer.specs.Debts.{loads_count}
-use Rattle.steps_rw_writer.specs.Law.{is_read_in_vain, write_spins_in, reader_waits, left_unmarking, left_refused, left_looking, left_last, goes_on_anyway, LooksToWrite, SpinsOrLoads, MarksAt, UnmarksAt, RefusedAt, LookedAt, CountsOne, ExchangedFrom, WriterStep, step_before, after_wake, UnlockStep, RwWriterStep}
-use Rattle.steps_rw_writer.proofs.WordLaws.{no_mark, is_marking}
+use Rattle.steps_rw_writer.specs.Law.{is_read_in_vain, write_spins_in, reader_waits, left_unmarking, left_refused, left_looking, left_last, goes_on_anyway, LooksToWrite, SpinsOrLoads, MarksAt, UnmarksAt, RefusedAt, LookedAt, CountsOne, ExchangedFrom, WriterStep, step_before, RwWriterStep}
+use Rattle.steps_rw_writer.proofs.WordLaws.{no_mark}
 use Rattle.steps_rw_writer.proofs.PlaceLaws.{AtRwWriter, asked_nothing, offered_nothing, Sets, Clears}
 use Rattle.steps_rw_writer.proofs.SpinLaws.{HasSpunAt, spun_kept}
 use Rattle.steps_rw_writer.proofs.AnswerLaws.{HasCounted, HasWokenOne, IsLeaving, IsAnswering, answering_kept}
