@@ -1,5 +1,4 @@
 //! The running atomic: the model's texts with a whole pass, and threads that meet.
-ghost use Rattle.passes.specs.Passes.{view};
 ghost use Rattle.running_atomic.specs.AtomicShown.{IsAtomicPass, HasStayed};
 
 use crate::atomic::{Atomic, AtomicPass, Ordering};
@@ -34,7 +33,10 @@ fn sums_wrap(rt: HostRuntime) -> Result<(), Fail> {
     assert_eq!(rt; atomic.fetch_add(&rt, &mut pass, 1, ORDER), -1);
     assert_eq!(rt; atomic.load(&rt, &mut pass, ORDER), 0);
     let (atomic, mut pass) = Atomic::<u128>::new(rt.alloc(), 18446744073709551615)?;
-    assert_eq!(rt; atomic.fetch_add(&rt, &mut pass, 1, ORDER), 18446744073709551615);
+    assert_eq!(rt;
+        atomic.fetch_add(&rt, &mut pass, 1, ORDER),
+        18446744073709551615
+    );
     assert_eq!(rt; atomic.into_inner(pass), 18446744073709551616);
     Ok(())
 }
@@ -42,12 +44,24 @@ fn sums_wrap(rt: HostRuntime) -> Result<(), Fail> {
 #[test]
 fn exchanges_compare(rt: HostRuntime) -> Result<(), Fail> {
     let (atomic, mut pass) = Atomic::<u64>::new(rt.alloc(), 7)?;
-    assert_eq!(rt; atomic.compare_exchange(&rt, &mut pass, 8, 9, ORDER, ORDER), Err(7));
+    assert_eq!(rt;
+        atomic.compare_exchange(&rt, &mut pass, 8, 9, ORDER, ORDER),
+        Err(7)
+    );
     assert_eq!(rt; atomic.load(&rt, &mut pass, ORDER), 7);
-    assert_eq!(rt; atomic.compare_exchange(&rt, &mut pass, 7, 9, ORDER, ORDER), Ok(7));
+    assert_eq!(rt;
+        atomic.compare_exchange(&rt, &mut pass, 7, 9, ORDER, ORDER),
+        Ok(7)
+    );
     assert_eq!(rt; atomic.load(&rt, &mut pass, ORDER), 9);
-    assert_eq!(rt; atomic.compare_exchange_weak(&rt, &mut pass, 7, 3, ORDER, ORDER), Err(9));
-    assert_eq!(rt; atomic.compare_exchange_weak(&rt, &mut pass, 9, 3, ORDER, ORDER), Ok(9));
+    assert_eq!(rt;
+        atomic.compare_exchange_weak(&rt, &mut pass, 7, 3, ORDER, ORDER),
+        Err(9)
+    );
+    assert_eq!(rt;
+        atomic.compare_exchange_weak(&rt, &mut pass, 9, 3, ORDER, ORDER),
+        Ok(9)
+    );
     assert_eq!(rt; atomic.into_inner(pass), 3);
     Ok(())
 }
@@ -57,7 +71,10 @@ fn bits_and_extremes(rt: HostRuntime) -> Result<(), Fail> {
     let (atomic, mut pass) = Atomic::<u64>::new(rt.alloc(), 12)?;
     assert_eq!(rt; atomic.fetch_nand(&rt, &mut pass, 10, ORDER), 12);
     assert_eq!(rt; atomic.load(&rt, &mut pass, ORDER), 18446744073709551607);
-    assert_eq!(rt; atomic.fetch_and(&rt, &mut pass, 12, ORDER), 18446744073709551607);
+    assert_eq!(rt;
+        atomic.fetch_and(&rt, &mut pass, 12, ORDER),
+        18446744073709551607
+    );
     assert_eq!(rt; atomic.fetch_or(&rt, &mut pass, 3, ORDER), 4);
     assert_eq!(rt; atomic.fetch_xor(&rt, &mut pass, 5, ORDER), 7);
     assert_eq!(rt; atomic.into_inner(pass), 2);
@@ -179,12 +196,7 @@ fn stride_often<R: Wait>(
 }
 
 /// How many loads, of so many, tell a value that no number of strides makes.
-fn count_torn<R: Wait>(
-    rt: &R,
-    atomic: &Atomic<u128>,
-    pass: &mut AtomicPass,
-    times: u64,
-) -> u64
+fn count_torn<R: Wait>(rt: &R, atomic: &Atomic<u128>, pass: &mut AtomicPass, times: u64) -> u64
     requires own { IsAtomicPass atomic.now pass.old }
 {
     let mut torn = 0;
