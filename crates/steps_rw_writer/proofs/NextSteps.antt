@@ -25,7 +25,7 @@ use Rattle.steps_events.specs.RwAnswers.{acts_of}
 use Rattle.steps_events.specs.Moves.{step_at, answer_fault, choose_fault, is_step}
 use Rattle.steps_events.specs.Runs.{IsPast}
 use Rattle.steps_events.specs.Sights.{is_abort, keeps_asking, last_of}
-use Rattle.steps_events.specs.NextStep.{StepsAs, seen_last, Loads, Exchanges}
+use Rattle.steps_events.specs.NextStep.{StepsAs, step_before, seen_last, Loads, Exchanges}
 use Rattle.steps_events.specs.RwSteps.{gives_up, open_at, reader_looked, WritesIn}
 use Rattle.steps_events.proofs.Holds.{some_same, eqb_other}
 use Rattle.steps_events.proofs.Spins.{HasSpun}
@@ -38,7 +38,7 @@ use Rattle.steps_rw_writer.specs.declared.RwWriterPlace.{RwWriterPlace}
 use Rattle.steps_rw_writer.specs.declared.RwWriterPlace.TheVariants as places
 use Rattle.steps_rw_writer.specs.Table.{lets_readers_in, lets_writer_in, lets_mark, is_marked, is_blocked, is_mark, read_look, spins, marks_or_spins, unmarks_or_leaves, write_refused, write_look, last_look, released, rw_writer_table, rw_writer_begins, rw_writer_answered}
 use Rattle.steps_rw_writer.specs.Debts.{loads_count}
-use Rattle.steps_rw_writer.specs.Law.{is_read_in_vain, write_spins_in, reader_waits, left_unmarking, left_refused, left_looking, left_last, goes_on_anyway, LooksToWrite, SpinsOrLoads, MarksAt, UnmarksAt, RefusedAt, LookedAt, CountsOne, ExchangedFrom, WriterStep, step_before, RwWriterStep}
+use Rattle.steps_rw_writer.specs.Law.{is_read_in_vain, write_spins_in, reader_waits, left_unmarking, left_refused, left_looking, left_last, goes_on_anyway, LooksToWrite, SpinsOrLoads, MarksAt, UnmarksAt, RefusedAt, LookedAt, CountsOne, ExchangedFrom, WriterStep, RwWriterStep}
 use Rattle.steps_rw_writer.proofs.WordLaws.{no_mark}
 use Rattle.steps_rw_writer.proofs.PlaceLaws.{AtRwWriter, asked_nothing, offered_nothing, Sets, Clears}
 use Rattle.steps_rw_writer.proofs.SpinLaws.{HasSpunAt, spun_kept}

@@ -17,7 +17,7 @@ use Rattle.steps_events.specs.HoldCounts.{reads_in, writes_in}
 use Rattle.steps_events.specs.RwAnswers.{acts_of, AnswersByHold}
 use Rattle.steps_events.specs.Moves.{is_step}
 use Rattle.steps_events.specs.Sights.{is_sight, is_beginning, AtLastSight, HasAborted, HasMissed, OtherWroteSinceSight, sight_of, goes_on, stands_at_wait, spins_in, last_of, keeps_asking}
-use Rattle.steps_events.specs.NextStep.{StepsAs, refused_waiting, Loads, Exchanges}
+use Rattle.steps_events.specs.NextStep.{StepsAs, refused_waiting, step_before, Loads, Exchanges}
 use Rattle.steps_events.specs.RwSteps.{gives_up, reader_looked, ReadsIn, WritesIn}
 use Rattle.steps_events.specs.Asks.{SpinCount, but_last_try, AsksAfterSpinning, SpinsNoMore, Refusing, TellsRefusal, whole_call, AsksUntilAbort}
 use Rattle.steps_events.specs.Laws.{IsLocked, Keeps}
@@ -289,11 +289,6 @@ WriterStep asks spins (Some (acts.Exchange word from to found done)) act outcome
 WriterStep asks spins (Some (acts.Add word old put)) act outcome = (act ≡ acts.Woke wakes.One) × (outcome ≡ thens.GoesOn)
 WriterStep asks spins (Some (acts.Woke wake)) act outcome = (act ≡ acts.Woke wakes.All) × (outcome ≡ thens.Answers answers.Interrupted)
 WriterStep asks spins (Some other) act outcome = ⊥
-
--- the call's latest step, if it goes on from there by itself: none where it has just begun, or has asked its closure
-abbrev pub step_before : {T : Type 0} → List (Event T) → Option (Act T)
-step_before [] = None
-step_before (e ∷ own) = if is_step e.act && goes_on e.then then Some e.act else None
 
 -- a release takes 2 from the word, which ends the call unless it was 3, or stores 0
 abbrev pub Releases : {T : Type 0} → Act T → Then T → Type 0
