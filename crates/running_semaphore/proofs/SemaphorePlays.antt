@@ -6,6 +6,7 @@ use Rattle.steps_events.specs.declared.event.Word.TheVariants as words
 use Rattle.steps_events.specs.declared.event.Wake.TheVariants as wakes
 use Rattle.steps_events.specs.declared.event.Call.{Call}
 use Rattle.steps_events.specs.declared.event.Call.TheVariants as calls
+use Rattle.steps_events.specs.declared.event.Answer.{Answer}
 use Rattle.steps_events.specs.declared.event.Answer.TheVariants as answers
 use Rattle.steps_events.specs.declared.event.Then.TheVariants as thens
 use Rattle.steps_events.specs.declared.patience.Patience.{Patience}
@@ -18,13 +19,13 @@ use Rattle.steps_semaphore.specs.Table.{semaphore_intent, semaphore_table}
 use Rattle.steps_semaphore.specs.Law.{KeepsSemaphore}
 use Rattle.passes.specs.declared.wait.WaitResult.{WaitResult}
 use Rattle.passes.specs.declared.wait.WaitResult.TheVariants.{Success, Interrupted}
-use Rattle.passes.specs.Answers.{IfSuccess, IfInterrupted, IsSuccess, IsInterrupted}
+use Rattle.passes.specs.Answers.{IsSuccess, IsInterrupted}
 use Rattle.playing.specs.Slots.{Slot, Parties, all_of}
 use Rattle.playing.specs.Words.{IsNamed}
 use Rattle.playing.specs.Plays.{Coming, Going, Beginning, ComesBy, IsAt, Led, HasCalled, MayStep, Went}
 use Rattle.playing.specs.Tries.{spun, MayTry, Tried, IsGranted, IsRefused, IsToWake}
 use Rattle.running_semaphore.specs.SemaphoreParties.{Wanting, Trying, Waiting, call_of, look_of, take_of, MayWant, HasLooked, FoundNone, HasOne, HasWanted}
-use Rattle.running_semaphore.specs.SemaphoreShown.{Posts}
+use Rattle.running_semaphore.specs.SemaphoreShown.{answer_of, Posts}
 
 module _ (initial : ℕ) where
   abbrev Comes : Coming → Wanting → List Slot → Parties → Type 0
@@ -170,17 +171,11 @@ module _ (initial : ℕ) where
 
 -- the answer of a call that comes for no hold
 
-pub if_success : {H : Type 0} (b : Bool) (result : WaitResult H) (A B : Type 0) → MatchBool b (IsSuccess result) (IsInterrupted result) → MatchBool b A B → IfSuccess result (λ _. A)
-if_success true (Success h) A B is a = a
-if_success true Interrupted A B is a = tt
-if_success false (Success h) A B is b = absurd is
-if_success false Interrupted A B is b = tt
-
-pub if_interrupted : {H : Type 0} (b : Bool) (result : WaitResult H) (A B : Type 0) → MatchBool b (IsSuccess result) (IsInterrupted result) → MatchBool b A B → IfInterrupted result B
-if_interrupted true (Success h) A B is a = tt
-if_interrupted true Interrupted A B is a = absurd is
-if_interrupted false (Success h) A B is b = tt
-if_interrupted false Interrupted A B is b = b
+pub answered_so : {H : Type 0} (b : Bool) (result : WaitResult H) (Is : Answer ℕ → Type 0) → MatchBool b (IsSuccess result) (IsInterrupted result) → MatchBool b (Is answers.Success) (Is answers.Interrupted) → Is (answer_of result)
+answered_so true (Success h) Is so is = is
+answered_so true Interrupted Is so is = absurd so
+answered_so false (Success h) Is so is = absurd so
+answered_so false Interrupted Is so is = is
 
 pub where_true : (b : Bool) (A B : Type 0) → b ≡ true → A → MatchBool b A B
 where_true true A B is a = a

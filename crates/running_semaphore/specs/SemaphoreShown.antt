@@ -11,6 +11,8 @@ use Rattle.steps_semaphore.specs.Table.{semaphore_table}
 use Rattle.steps_semaphore.specs.Law.{KeepsSemaphore}
 use Rattle.passes.specs.declared.part.Part.{Part}
 use Rattle.passes.specs.declared.pass.Pass.{Pass}
+use Rattle.passes.specs.declared.wait.WaitResult.{WaitResult}
+use Rattle.passes.specs.declared.wait.WaitResult.TheVariants.{Success, Interrupted}
 use Rattle.passes.specs.Parts.{IsWhole}
 use Rattle.passes.specs.Passes.{IsSamePass, part_of, sights_of}
 use Rattle.passes.specs.Views.{looked, wrote}
@@ -77,6 +79,11 @@ pub record HasCounted (more less : ℕ) (p q : SemPass) : Type 0 where
   pub saw : (sights_of p).count ≤ (sights_of q).count
 
 -- The pass as a party of the model.
+
+-- how the model answers a call that is answered so
+abbrev pub answer_of : {H : Type 0} → WaitResult H → Answer ℕ
+answer_of (Success h) = answers.Success
+answer_of Interrupted = answers.Interrupted
 
 module _ (initial : ℕ) where
   -- There is a run of the model, which keeps the law of a semaphore of this initial value, in which a party of the pass has just been

@@ -129,7 +129,7 @@ impl<A: Allocator> Semaphore<A> {
     ghost use Rattle.tallies.specs.Shown.{object_shown, index_shown};
     ghost use Rattle.running_semaphore.specs.SemaphoreParties.{MayWant, HasWanted};
     ghost use Rattle.running_semaphore.specs.SemaphoreSteps.{took, gave};
-    ghost use Rattle.running_semaphore.specs.SemaphoreShown.{IsSemPass, initial_of, given_of, taken_of, worth_of, IsEmpty, HasTaken, HasTakenAtOnce, HasCounted, HasPlayed, HasPlayedPost, HasPlayedBoth};
+    ghost use Rattle.running_semaphore.specs.SemaphoreShown.{IsSemPass, initial_of, given_of, taken_of, worth_of, IsEmpty, HasTaken, HasTakenAtOnce, HasCounted, answer_of, HasPlayed, HasPlayedPost, HasPlayedBoth};
 
     /// A semaphore of this value, and the pass that is whole. `Err` where there was no memory; then nothing was made.
     pub fn new(alloc: A, initial: u64) -> Result<(Semaphore<A>, SemPass), AllocError>
@@ -179,8 +179,7 @@ impl<A: Allocator> Semaphore<A> {
         requires may { W.IsAlwaysCallable wait }
         ensures took { IfSuccess result (λ _. HasTaken pass.old pass.new) }
         ensures refused { IfInterrupted result (WasRefused IsEmpty 10002 pass.old pass.new) }
-        ensures played { IfSuccess result (λ _. HasPlayed (initial_of self.now) calls.Wait answers.Success pass.old pass.new) }
-        ensures gave_up { IfInterrupted result (HasPlayed (initial_of self.now) calls.Wait answers.Interrupted pass.old pass.new) }
+        ensures played { HasPlayed (initial_of self.now) calls.Wait (answer_of result) pass.old pass.new }
         ensures some { IsWhole (part_of pass.old) → 0 < worth_of pass.old → IsSuccess result }
         ensures none { IsWhole (part_of pass.old) → IfSuccess result (λ _. 0 < worth_of pass.old) }
         ensures aborted { IfInterrupted result (MayAnswerAbort W.Fn wait IsEmpty) }
@@ -196,8 +195,7 @@ impl<A: Allocator> Semaphore<A> {
         requires own { IsSemPass self.now pass.old }
         ensures took { IfSuccess result (λ _. HasTaken pass.old pass.new) }
         ensures refused { IfInterrupted result (WasRefused IsEmpty 1 pass.old pass.new) }
-        ensures played { IfSuccess result (λ _. HasPlayed (initial_of self.now) calls.TryWait answers.Success pass.old pass.new) }
-        ensures gave_up { IfInterrupted result (HasPlayed (initial_of self.now) calls.TryWait answers.Interrupted pass.old pass.new) }
+        ensures played { HasPlayed (initial_of self.now) calls.TryWait (answer_of result) pass.old pass.new }
         ensures looks { LooksOnceOrMisses (sights_of pass.old) (sights_of pass.new) }
         ensures once { IsWhole (part_of pass.old) → IfInterrupted result (HasSeen 0 pass.old pass.new) }
         ensures took_once { IsWhole (part_of pass.old) → IfSuccess result (λ _. HasTakenAtOnce pass.old pass.new) }
