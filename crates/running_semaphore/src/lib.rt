@@ -291,8 +291,7 @@ impl<A: Allocator> Semaphore<A> {
         ensures went { Went (semaphore_table (initial_of self.now)) (KeepsSemaphore (initial_of self.now)) Going (parties_of pass.old) result (parties_of pass.new) }
         ensures exact { IsWhole (part_of pass.old) → result ≡ worth_of pass.old }
     {
-        self.stage
-            .exchange::<GoesOn, Take>(pass, 0, seen, rest)
+        self.stage.exchange::<GoesOn, Take>(pass, 0, seen, rest)
     }
 
     /// An add of so many permits.
@@ -370,6 +369,10 @@ impl<A: Allocator> Attempt<u64, SemaphoreScript, SemaphorePlace, Permits> for Se
 
     #[inline(always)]
     fn attempt<E: Entry, R: Wait>(&self, rt: &R, pass: &mut SemPass) -> Result<(), u64> {
-        if self.take::<E, R>(rt, pass) { Ok(()) } else { Err(0) }
+        if self.take::<E, R>(rt, pass) {
+            Ok(())
+        } else {
+            Err(0)
+        }
     }
 }
