@@ -1,5 +1,5 @@
 -- A mutex keeps its law at every front of every run.
-use Rattle.std.proofs.Common.{◌≡◌, ◌≢◌, ◌≤◌, ℕ, zero, ◌==◌, refl, sym, ◌∙◌, ap, subst, Bool, true, false, cond, is_some, List, [], ◌∷◌, Option, Some, None, ◌↔◌, inl, inr, arith}
+use Rattle.std.proofs.Common.{◌≡◌, ◌≢◌, ◌≤◌, ℕ, zero, ◌==◌, refl, sym, ◌∙◌, ap, subst, Bool, true, false, cond, is_some, List, [], ◌∷◌, Option, Some, None, ◌↔◌, inl, inr, arith, ◌<◌}
 use Rattle.std.specs.Prelude.{MatchBool, MatchOption, not, nat_lt}
 use Rattle.std.proofs.lemmas.Bool.{eqb-true, eqb-false}
 use Rattle.steps_events.specs.declared.WaitAction.{WaitAction}
@@ -27,15 +27,16 @@ use Rattle.steps_events.specs.Runs.{IsPast}
 use Rattle.steps_events.specs.Sights.{sight_of, is_sight, keeps_asking, HasAborted, spins_in}
 use Rattle.steps_events.specs.Asks.{WhereAsked, sight_at, whole_call}
 use Rattle.steps_events.specs.Laws.{Lacks, is_refusal}
-use Rattle.steps_events.proofs.Holds.{eqb_same, hold_of_same}
+use Rattle.steps_events.proofs.NextStep.{Descends, ends_within}
+use Rattle.steps_events.proofs.Holds.{eqb_same, hold_of_same, some_same}
 use Rattle.steps_events.proofs.Steps.{by_move, tells_memory}
 use Rattle.steps_events.proofs.Parties.{IsKept, at_place}
 use Rattle.steps_events.proofs.Asks.{asked_maps, spins_no_more}
 use Rattle.steps_events.proofs.Locks.{IsLock, IsLockIntent, IsFreeOrHeld, lock_word, lock_exclusive, locked_at, free_exactly}
 use Rattle.steps_mutex.specs.declared.MutexPlace.{MutexPlace}
 use Rattle.steps_mutex.specs.declared.MutexPlace.TheVariants as places
-use Rattle.steps_mutex.specs.Table.{mutex_table, mutex_begins, mutex_intent, mutex_after, mutex_answered}
-use Rattle.steps_mutex.specs.Law.{LockCause, HasTried, answer_of, acts_of, IsLockAnswer, lock_spins, steps_on, IsLeftBy, MutexStep, KeepsMutex}
+use Rattle.steps_mutex.specs.Table.{mutex_table, mutex_begins, mutex_intent, mutex_after, mutex_answered, is_free}
+use Rattle.steps_mutex.specs.Law.{LockCause, HasTried, answer_of, acts_of, IsLockAnswer, lock_spins, steps_on, IsLeftBy, MutexStep, KeepsMutex, mutex_most}
 use Rattle.steps_events.specs.declared.patience.Patience.{Patience}
 use Rattle.steps_mutex.proofs.LockSteps.{HasTriedSo, AtLock, lock_begins, LockLeads, lock_after, lock_leads, lock_goes_on, lock_answered, lock_chosen}
 
@@ -208,6 +209,12 @@ lock_left patience own w false true true tried keeps spins = rw (tried.so.keeps,
 lock_left patience own w false true false tried keeps spins = rw (tried.so.keeps, keeps, tried.so.spun, spins) refl
 lock_left patience own w false false left tried keeps spins = rw (tried.so.keeps, keeps) refl
 
+tried_left :
+    {T : Type 0} (own : List (Event T)) (w : ℕ) (b : Bool) →
+    IsLeftBy calls.TryLock own (acts.Exchange words.State 0 1 w b) (outcome_of {T = T} {P = MutexPlace} (cond b (afters.Ends answers.Success) (afters.Ends answers.Interrupted)))
+tried_left own w true = refl
+tried_left own w false = refl
+
 try_lock_law :
     {T P : Type 0} (t : Table T P) (party : ℕ) (past : List (Event T)) (hold : Option HoldKind) (c : PendingCall T) (w : ℕ) (b : Bool) → GrantsWrite t → c.call ≡ calls.TryLock → c.own ≡ [] → hold ≡ None → (w == 0) ≡ b → IsFreeOrHeld w (holds_of t past) →
     EventLaw t party past hold (Some c) (record { act = acts.Exchange words.State 0 1 w b; outcome = outcome_of {T = T} {P = MutexPlace} (cond b (afters.Ends answers.Success) (afters.Ends answers.Interrupted)) })
@@ -273,15 +280,25 @@ lock_law {T} t party past hold c w false (afters.Ends answers.Interrupted) grant
     }
 lock_law t party past hold c w done other grants called is free e law leads steps = absurd leads
 
+-- each step is its call's next, also of a mutex inside another object
+pub next_step :
+    {T : Type 0} (place : MutexPlace) (c : PendingCall T) (hold : Option HoldKind) (memory : Word → ℕ) → AtMutex place c hold →
+    MutexStep {T = T} c.call c.own (step_at mutex_table place hold memory).act (step_at mutex_table place hold memory).outcome
+next_step places.TryLock c hold memory at = as_call calls.TryLock c.call c.own _ _ at.0 (at.2, refl, tried_left c.own (memory words.State) (memory words.State == 0))
+next_step (places.Lock patience) c hold memory at =
+    as_call calls.Lock c.call c.own _ _ at.0 (refl, lock_left patience c.own (memory words.State) (memory words.State == 0) patience.keep (nat_lt patience.spins 10000) at.1 refl refl)
+next_step places.Release c hold memory at = as_call calls.Unlock c.call c.own _ _ at.0 (rw at.2 (refl, refl))
+next_step places.Wake c hold memory at = as_call calls.Unlock c.call c.own _ _ at.0 (rw at.1 (refl, refl))
+
 pub step_law :
     {T P : Type 0} (t : Table T P) (party : ℕ) (past : List (Event T)) (c : PendingCall T) (place : MutexPlace) (hold : Option HoldKind) (memory : Word → ℕ) → GrantsWrite t → call_of party past ≡ Some c → AtMutex place c hold →
     IsFreeOrHeld (memory words.State) (holds_of t past) → EventLaw t party past hold (Some c) (step_at mutex_table place hold memory)
 step_law t party past c places.TryLock hold memory grants called at law = try_lock_law t party past hold c (memory words.State) (memory words.State == 0) grants at.0 at.2 at.1 refl law
 step_law t party past c (places.Lock patience) hold memory grants called at law =
     let w = memory words.State in
-    lock_law t party past hold c w (w == 0) (mutex_after (places.Lock patience) (Some w)) grants called at.0 at.2 refl law (lock_leads words.State patience c.own party w at.1) (as_call calls.Lock c.call c.own _ _ at.0 (refl, lock_left patience c.own w (w == 0) patience.keep (nat_lt patience.spins 10000) at.1 refl refl))
+    lock_law t party past hold c w (w == 0) (mutex_after (places.Lock patience) (Some w)) grants called at.0 at.2 refl law (lock_leads words.State patience c.own party w at.1) (next_step (places.Lock patience) c hold memory at)
 step_law t party past c places.Release hold memory grants called at law =
-    record { cause = tt; exact = another calls.Unlock c.call _ (sym at.0) (λ same. absurd cc); answers = tt; ends = refl; asks = tt; tries = tt; steps = as_call calls.Unlock c.call c.own _ _ at.0 (rw at.2 (refl, refl)) }
+    record { cause = tt; exact = another calls.Unlock c.call _ (sym at.0) (λ same. absurd cc); answers = tt; ends = refl; asks = tt; tries = tt; steps = next_step places.Release c hold memory at }
 step_law {T} t party past c places.Wake hold memory grants called at law =
     record {
       cause = tt;
@@ -290,7 +307,7 @@ step_law {T} t party past c places.Wake hold memory grants called at law =
       ends = tt;
       asks = tt;
       tries = tt;
-      steps = as_call calls.Unlock c.call c.own _ _ at.0 (rw at.1 (refl, refl));
+      steps = next_step places.Wake c hold memory at;
     }
 
 -- an act that does not see the word takes no hold
@@ -318,13 +335,48 @@ event_law {T} z parties past e run =
     (lock_word z mutex_table parties (mutex_is_lock z parties) past run.1))
     run.0.1.moved
 
+-- and a call that waits for nobody has fewer steps left at each place
+
+abbrev pub mutex_rest : MutexPlace → Option ℕ
+mutex_rest places.TryLock = Some 1
+mutex_rest (places.Lock patience) = None
+mutex_rest places.Release = Some 2
+mutex_rest places.Wake = Some 1
+
+mutex_begun : {T : Type 0} (call : Call T) (place : MutexPlace) (steps : ℕ) → mutex_begins call ≡ Some place → mutex_most call ≡ Some steps → (left : ℕ) × (mutex_rest place ≡ Some left) × (left ≤ steps)
+mutex_begun calls.TryLock place steps is most = (1, sym (ap mutex_rest (some_same places.TryLock place is)), omega (arith, some_same 1 steps most))
+mutex_begun calls.Unlock place steps is most = (2, sym (ap mutex_rest (some_same places.Release place is)), omega (arith, some_same 2 steps most))
+mutex_begun other place steps is most = absurd cc
+
+pub mutex_goes :
+    (T : Type 0) (place next : MutexPlace) (told : Option ℕ) (left : ℕ) → mutex_rest place ≡ Some left → place_after (mutex_after {T = T} place told) ≡ Some next → (fewer : ℕ) × (mutex_rest next ≡ Some fewer) × (fewer < left)
+mutex_goes T places.TryLock next told left is goes = absurd (try_lock_ends T (is_free told) next goes)
+mutex_goes T (places.Lock patience) next told left is goes = absurd cc
+mutex_goes T places.Release next told left is goes = (1, sym (ap mutex_rest (some_same places.Wake next goes)), omega (arith, some_same 2 left is))
+mutex_goes T places.Wake next told left is goes = absurd cc
+
+pub mutex_some : (place : MutexPlace) (left : ℕ) → mutex_rest place ≡ Some left → 0 < left
+mutex_some places.TryLock left is = omega (arith, some_same 1 left is)
+mutex_some (places.Lock patience) left is = absurd cc
+mutex_some places.Release left is = omega (arith, some_same 2 left is)
+mutex_some places.Wake left is = omega (arith, some_same 1 left is)
+
+pub mutex_answered_rest : (place : MutexPlace) (action : WaitAction) → mutex_rest (mutex_answered place action) ≡ mutex_rest place
+mutex_answered_rest places.TryLock action = refl
+mutex_answered_rest (places.Lock patience) action = refl
+mutex_answered_rest places.Release action = refl
+mutex_answered_rest places.Wake action = refl
+
+mutex_descends : {T : Type 0} → Descends {T = T} mutex_table mutex_most mutex_rest
+mutex_descends {T} = record { begins = mutex_begun; goes = mutex_goes T; some = mutex_some; answered = mutex_answered_rest; chosen = λ place choice. refl }
+
 pub keeps_mutex : {T : Type 0} (z : Arithmetic T) (parties : ℕ) (past : List (Event T)) → IsPast z mutex_table parties past → KeepsMutex past
 keeps_mutex z parties [] run =
     record {
       told = tt;
       exclusive = lock_exclusive 0 [] (lock_word z mutex_table parties (mutex_is_lock z parties) [] run);
       cause = tt;
-      law = record { exact = tt; answers = tt; ends = tt; asks = tt; spins = λ party. tt; tells = tt; stops = tt; tries = tt; steps = tt };
+      law = record { exact = tt; answers = tt; ends = tt; asks = tt; spins = λ party. tt; tells = tt; stops = tt; tries = tt; steps = tt; within = λ party. tt };
     }
 keeps_mutex {T} z parties (e ∷ past) run =
     let event = event_law z parties past e run in
@@ -345,6 +397,7 @@ keeps_mutex {T} z parties (e ∷ past) run =
         stops = asked_maps IsAskedSo (λ c act told. keeps_asking (whole_call c.call c.own) ≡ true) (λ c act told so. so.2) (call_of e.party past) e.act e.then event.asks;
         tries = event.tries;
         steps = event.steps;
+        within = ends_within mutex_table mutex_most mutex_rest mutex_descends z parties (e ∷ past) run;
       };
     }
 

@@ -17,7 +17,7 @@ use Rattle.steps_events.specs.HoldCounts.{reads_in, writes_in}
 use Rattle.steps_events.specs.RwAnswers.{acts_of, AnswersByHold}
 use Rattle.steps_events.specs.Moves.{is_step}
 use Rattle.steps_events.specs.Sights.{is_sight, is_beginning, AtLastSight, HasAborted, HasMissed, OtherWroteSinceSight, sight_of, goes_on, stands_at_wait, spins_in, last_of, keeps_asking}
-use Rattle.steps_events.specs.NextStep.{StepsAs, refused_waiting, Loads, Exchanges}
+use Rattle.steps_events.specs.NextStep.{StepsAs, refused_waiting, EndsWithin, step_before, Loads, Exchanges}
 use Rattle.steps_events.specs.RwSteps.{gives_up, reader_looked, ReadsIn, WritesIn}
 use Rattle.steps_events.specs.Asks.{SpinCount, but_last_try, AsksAfterSpinning, SpinsNoMore, Refusing, TellsRefusal, whole_call, AsksUntilAbort}
 use Rattle.steps_events.specs.Laws.{IsLocked, Keeps}
@@ -290,11 +290,6 @@ WriterStep asks spins (Some (acts.Add word old put)) act outcome = (act ≡ acts
 WriterStep asks spins (Some (acts.Woke wake)) act outcome = (act ≡ acts.Woke wakes.All) × (outcome ≡ thens.Answers answers.Interrupted)
 WriterStep asks spins (Some other) act outcome = ⊥
 
--- the call's latest step, if it goes on from there by itself: none where it has just begun, or has asked its closure
-abbrev pub step_before : {T : Type 0} → List (Event T) → Option (Act T)
-step_before [] = None
-step_before (e ∷ own) = if is_step e.act && goes_on e.then then Some e.act else None
-
 -- a release takes 2 from the word, which ends the call unless it was 3, or stores 0
 abbrev pub Releases : {T : Type 0} → Act T → Then T → Type 0
 Releases (acts.Add words.State old put) outcome = (put ≡ (old + (2 ^ 64 - 2)) % 2 ^ 64) × (outcome ≡ (if old == 3 then thens.GoesOn else thens.Answers answers.Done))
@@ -321,6 +316,13 @@ RwWriterStep calls.TryWriteLock own act outcome = (last_of is_step own ≡ None)
 RwWriterStep calls.WriteLock own act outcome = WriterStep (keeps_asking own) (write_spins_in true own) (step_before own) act outcome
 RwWriterStep calls.Unlock own act outcome = UnlockStep (acts_of own) act outcome
 RwWriterStep other own act outcome = ⊥
+
+-- how many steps a call makes that waits for nobody
+abbrev pub rw_writer_most : {T : Type 0} → Call T → Option ℕ
+rw_writer_most calls.TryReadLock = Some 2
+rw_writer_most calls.TryWriteLock = Some 1
+rw_writer_most calls.Unlock = Some 4
+rw_writer_most other = None
 
 -- What a writer-preferring lock keeps beside what every object does.
 pub record RwWriterLaw {T : Type 0} (past : List (Event T)) : Type 0 where
@@ -356,6 +358,8 @@ pub record RwWriterLaw {T : Type 0} (past : List (Event T)) : Type 0 where
   pub woken : ReadersAreWoken past
   -- each step is the one that follows its call's own, and leaves it by what it tells
   pub steps : StepsAs RwWriterStep past
+  -- a call that waits for nobody makes so many steps at most, and answers with the last
+  pub within : EndsWithin rw_writer_most past
 
 abbrev pub KeepsRwWriter : {T : Type 0} → List (Event T) → Type 0
 KeepsRwWriter past = Keeps rw_writer_table RwWriterCause RwWriterLaw past

@@ -11,4 +11,5 @@ pub mod RwReaderRule
 pub mod RwWriterRule
 pub mod RwWriterTally
 pub mod MutexScript
+pub mod SemaphoreScript
 pub mod Shown
