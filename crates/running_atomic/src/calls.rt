@@ -18,11 +18,14 @@ use std::alloc::{AllocError, Allocator, Global};
 use std::hint::spin_loop;
 use std::sync::Wait;
 use std::sync::atomic::Ordering;
+use std::thread;
+use steps_events::SPIN_REPETITIONS;
 use steps_events::atomic::internal::AtomicInteger;
 use steps_rw_reader::reader_enters;
 
 /// An integer that threads read and write whole, as one register. Each call acts once, under a lock inside; `load` and `shown` hold it
-/// with other readers, the others alone. A call that finds it taken tries again by itself, and wakes nobody. Orderings change nothing:
+/// with other readers, the others alone. A call that finds it taken tries again by itself, and after 10000
+/// tries yields before each; it wakes nobody. Orderings change nothing:
 /// every step is sequentially consistent.
 #[derive(Drop)]
 pub struct Atomic<T: AtomicInteger, A: Allocator = Global> {
@@ -37,6 +40,19 @@ fn content<T: AtomicInteger>(value: T) -> Content
 {
     let (low, high) = value.to_words();
     Content { low, high }
+}
+
+/// What a call does before it tries again, and how often it has then tried: it spins 10000 times, and from then on yields, so that whoever
+/// has the lock can run.
+#[inline(always)]
+fn pause(tries: u64) -> u64 {
+    if tries < SPIN_REPETITIONS {
+        spin_loop();
+        tries + 1
+    } else {
+        thread::yield_now();
+        tries
+    }
 }
 
 impl<T: AtomicInteger, A: Allocator> Atomic<T, A> {
@@ -310,6 +326,7 @@ impl<T: AtomicInteger, A: Allocator> Atomic<T, A> {
         ensures on { HasGot IsReading pass.old pass.new }
     {
         let mut seen = self.look(pass);
+        let mut tries = 0;
         for _ in rt.forever() {
             match reader_enters(seen) {
                 Some(to) => {
@@ -320,7 +337,7 @@ impl<T: AtomicInteger, A: Allocator> Atomic<T, A> {
                     seen = found;
                 }
                 None => {
-                    spin_loop();
+                    tries = pause(tries);
                     seen = self.look(pass);
                 }
             }
@@ -334,11 +351,12 @@ impl<T: AtomicInteger, A: Allocator> Atomic<T, A> {
         requires rest { (view pass.old).tally.hold ≡ Free }
         ensures on { HasGot IsSettled pass.old pass.new }
     {
+        let mut tries = 0;
         for _ in rt.forever() {
             if self.enter_write(pass) == 0 {
                 return;
             }
-            spin_loop();
+            tries = pause(tries);
         }
     }
 
