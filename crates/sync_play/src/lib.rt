@@ -14,6 +14,7 @@ pub mod command;
 pub mod fault;
 pub mod header;
 pub mod law;
+pub mod integer;
 pub mod lexer;
 pub mod player;
 pub mod print;
