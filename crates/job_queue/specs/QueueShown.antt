@@ -5,6 +5,8 @@ use Rattle.running_mutex.specs.CondShown as conds
 use Rattle.running_spin_lock.specs.SpinShown as spins
 use Rattle.running_mutex.specs.declared.condition_variable.CondPass.{CondPass}
 use Rattle.running_spin_lock.specs.declared.pass.SpinPass.{SpinPass}
+use Rattle.passes.specs.Passes as passes
+use Rattle.passes.specs.Parts.{AddUp}
 use Rattle.job_queue.specs.Locked.{HasLockedOnce}
 use Rattle.job_queue.specs.declared.pass.QueuePass.{QueuePass}
 use Rattle.job_queue.specs.declared.queue.JobQueue.{JobQueue}
@@ -37,3 +39,10 @@ pub record HasGoneInOnce (p q : QueuePass) : Type 0 where
 pub record HasGoneIn (p q : QueuePass) : Type 0 where
   pub mutex : mutexes.grants_of (mutex_in p) + 1 ≤ mutexes.grants_of (mutex_in q)
   pub state : spins.grants_of (state_in p) + 1 ≤ spins.grants_of (state_in q)
+
+-- one and other weigh together what p weighs, at each of the objects
+pub record PartsAddUp (p one other : QueuePass) : Type 0 where
+  pub mutex : AddUp (passes.part_of (mutex_in p)) (passes.part_of (mutex_in one)) (passes.part_of (mutex_in other))
+  pub waits : AddUp (passes.part_of (conds.waits_in (changed_in p))) (passes.part_of (conds.waits_in (changed_in one))) (passes.part_of (conds.waits_in (changed_in other)))
+  pub permits : AddUp (passes.part_of (conds.permits_in (changed_in p))) (passes.part_of (conds.permits_in (changed_in one))) (passes.part_of (conds.permits_in (changed_in other)))
+  pub state : AddUp (spins.part_of (state_in p)) (spins.part_of (state_in one)) (spins.part_of (state_in other))

@@ -18,7 +18,7 @@ pub struct QueuePass {
 }
 
 impl QueuePass {
-    ghost use Rattle.job_queue.specs.QueueShown.{IsQueuePass};
+    ghost use Rattle.job_queue.specs.QueueShown.{IsQueuePass, PartsAddUp};
 
     /// Two passes of the same queue. `Err`, which never comes today, would hand the pass back.
     pub fn split<T, A: Allocator>(
@@ -28,6 +28,7 @@ impl QueuePass {
         requires own { IsQueuePass of.now self }
         ensures never_refused { is_ok result ≡ true }
         ensures own { IfOk result (λ parts. IsQueuePass of.now parts.0 × IsQueuePass of.now parts.1) }
+        ensures weights { IfOk result (λ parts. PartsAddUp self parts.0 parts.1) }
     {
         let QueuePass {
             mutex,

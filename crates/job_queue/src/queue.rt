@@ -120,6 +120,7 @@ impl<T, A: Allocator> JobQueue<T, A> {
         ensures went_in { HasGoneIn pass.old pass.new }
         ensures never_empty { ¬ IsEmptyAnswer result }
         ensures aborted { IsInterrupted result → MayAnswerAbort W.Fn wait IsEmpty }
+        ensures woke { HasWoken K.Fn wake_one }
     {
         take_locked(
             &mut pass.mutex,
@@ -128,7 +129,7 @@ impl<T, A: Allocator> JobQueue<T, A> {
             &mut pass.changed,
             &mut pass.state,
             &wait,
-            &wake_one,
+            wake_one,
         )
     }
 
@@ -183,7 +184,7 @@ fn put_locked<T, A: Allocator, R: Wait, K: Fn(&WaitWord)>(
 {
     match Mutex::lock(mtx_pass, mutex, rt, |_, _| go_on()) {
         WaitResult::Success(hold) => {
-            let put = put_now(pass, rt, state, job);
+            let put = put_now(&hold, pass, rt, state, job);
             mutex.unlock(hold, |word| wake_one(word));
             put
         }
@@ -208,7 +209,7 @@ fn close_locked<T, A: Allocator, R: Wait, K: Fn(&WaitWord)>(
 {
     match Mutex::lock(mtx_pass, mutex, rt, |_, _| go_on()) {
         WaitResult::Success(hold) => {
-            close_now(pass, rt, state);
+            close_now(&hold, pass, rt, state);
             mutex.unlock(hold, |word: &WaitWord| wake_one(word));
         }
         WaitResult::Interrupted => unreachable!(),
@@ -224,11 +225,11 @@ fn take_locked<T, A: Allocator, R: Wait, W: Fn(&WaitWord, &u64) -> WaitAction, K
     cond_pass: &mut CondPass,
     pass: &mut SpinPass,
     wait: &W,
-    wake_one: &K,
+    wake_one: K,
 ) -> Taken<T>
     requires own { IsMutexPass queue.now.mutex mtx_pass.old × IsCondPass queue.now.changed cond_pass.old × IsSpinPass queue.now.state pass.old }
     requires off { holds_of mtx_pass.old ≡ 0 }
-    requires may { W.IsAlwaysCallable wait.now × K.IsAlwaysCallable wake_one.now }
+    requires may { W.IsAlwaysCallable wait.now × K.IsAlwaysCallable wake_one }
     ensures locked { HasLockedAtMost mtx_pass.old mtx_pass.new }
     ensures granted { grants_of mtx_pass.old + 1 ≤ grants_of mtx_pass.new }
     ensures waited { HasWaitedAtMost cond_pass.old cond_pass.new }
@@ -236,20 +237,21 @@ fn take_locked<T, A: Allocator, R: Wait, W: Fn(&WaitWord, &u64) -> WaitAction, K
     ensures went_in { state_grants_of pass.old + 1 ≤ state_grants_of pass.new }
     ensures never_empty { ¬ IsEmptyAnswer result }
     ensures aborted { IsInterrupted result → MayAnswerAbort W.Fn wait.now IsEmpty }
+    ensures woke { HasWoken K.Fn wake_one }
 {
     match Mutex::lock(mtx_pass, &queue.mutex, rt, |_, _| go_on()) {
         WaitResult::Success(first) => {
             let mut hold = first;
             for _ in rt.forever() {
-                match look(hold, queue, rt, cond_pass, pass, wait, wake_one) {
+                match look(hold, queue, rt, cond_pass, pass, wait, &wake_one) {
                     Looked::Again(again) => hold = again,
                     Looked::Done(taken, held) => {
-                        queue.mutex.unlock(held, |word| wake_one(word));
+                        queue.mutex.unlock(held, wake_one);
                         return taken;
                     }
                 }
             }
-            queue.mutex.unlock(hold, |word| wake_one(word));
+            queue.mutex.unlock(hold, wake_one);
             unreachable!()
         }
         WaitResult::Interrupted => unreachable!(),
@@ -284,10 +286,13 @@ fn look<'p, T, A: Allocator, R: Wait, W: Fn(&WaitWord, &u64) -> WaitAction, K: F
     ensures never_empty { IfDone result (λ taken. ¬ IsEmptyAnswer taken) }
     ensures aborted { IfDone result (λ taken. IsInterrupted taken → MayAnswerAbort W.Fn wait.now IsEmpty) }
 {
-    match take_now(pass, rt, &queue.state) {
+    match take_now(&hold, pass, rt, &queue.state) {
         Taken::Empty => match sleep_once(hold, queue, rt, cond_pass, wait, wake_one) {
             Woken::Signalled(again) => Looked::Again(again),
-            Woken::Unsignalled(again) => Looked::Done(take_last(pass, rt, &queue.state), again),
+            Woken::Unsignalled(again) => {
+                let taken = take_last(&again, pass, rt, &queue.state);
+                Looked::Done(taken, again)
+            }
         },
         taken => Looked::Done(taken, hold),
     }
@@ -329,8 +334,9 @@ fn sleep_once<'p, T, A: Allocator, R: Wait, W: Fn(&WaitWord, &u64) -> WaitAction
     }
 }
 
-/// One put, with the spin lock held.
+/// One put, with the spin lock held too. What goes to the state is lent the hold of the mutex, so that nobody goes there without it.
 fn put_now<T, A: Allocator, R: Wait>(
+    _hold: &MutexHold<'_>,
     pass: &mut SpinPass,
     rt: &R,
     state: &SpinLock<QueueState<T, A>, A>,
@@ -344,8 +350,9 @@ fn put_now<T, A: Allocator, R: Wait>(
     guard.put(job)
 }
 
-/// One take, with the spin lock held.
+/// One take, with the spin lock held too.
 fn take_now<T, A: Allocator, R: Wait>(
+    _hold: &MutexHold<'_>,
     pass: &mut SpinPass,
     rt: &R,
     state: &SpinLock<QueueState<T, A>, A>,
@@ -358,8 +365,9 @@ fn take_now<T, A: Allocator, R: Wait>(
     guard.take()
 }
 
-/// One take, with the spin lock held, of a call that gives up where there is no job.
+/// One take, with the spin lock held too, of a call that gives up where there is no job.
 fn take_last<T, A: Allocator, R: Wait>(
+    hold: &MutexHold<'_>,
     pass: &mut SpinPass,
     rt: &R,
     state: &SpinLock<QueueState<T, A>, A>,
@@ -368,14 +376,15 @@ fn take_last<T, A: Allocator, R: Wait>(
     ensures spun { HasSpunOnce pass.old pass.new }
     ensures never_empty { ¬ IsEmptyAnswer result }
 {
-    match take_now(pass, rt, state) {
+    match take_now(hold, pass, rt, state) {
         Taken::Empty => Taken::Interrupted,
         taken => taken,
     }
 }
 
-/// One close, with the spin lock held.
+/// One close, with the spin lock held too.
 fn close_now<T, A: Allocator, R: Wait>(
+    _hold: &MutexHold<'_>,
     pass: &mut SpinPass,
     rt: &R,
     state: &SpinLock<QueueState<T, A>, A>,

@@ -1,3 +1,4 @@
+mod order;
 mod queue;
 mod refusals;
 mod state;

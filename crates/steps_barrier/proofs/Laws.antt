@@ -1,7 +1,7 @@
 -- A barrier keeps its law at every front of every run.
-use Rattle.std.proofs.Common.{◌≡◌, ◌≢◌, ℕ, zero, suc, ◌+◌, ◌/◌, ◌%◌, ◌≤◌, ◌<◌, ◌^◌, ◌==◌, refl, sym, ◌∙◌, ap, subst, Bool, true, false, cond, List, [], ◌∷◌, Option, Some, ◌⊎◌, inl, inr, ◌↔◌, arith}
+use Rattle.std.proofs.Common.{◌≡◌, ◌≢◌, ℕ, zero, suc, ◌+◌, ◌/◌, ◌%◌, ◌≤◌, ◌<◌, ◌^◌, ◌==◌, refl, sym, ◌∙◌, ap, subst, Bool, true, false, cond, List, [], ◌∷◌, Option, Some, None, ◌⊎◌, inl, inr, ◌↔◌, arith}
 use Rattle.std.specs.Prelude.{MatchBool, MatchOption, nat_lt, not}
-use Rattle.std.proofs.lemmas.Bool.{eqb-true, eqb-false}
+use Rattle.std.proofs.lemmas.Bool.{eqb-true, eqb-false, eq-eqb}
 use Rattle.std.proofs.lemmas.Bool.Decides.{nat_tests}
 use Rattle.std.proofs.lemmas.Nat.{mod_below}
 use Rattle.steps_events.specs.declared.WaitAction.{WaitAction}
@@ -25,19 +25,21 @@ use Rattle.steps_events.specs.Past.{same_word, PendingCall, call_of, hold_of, wo
 use Rattle.steps_events.specs.Moves.{Move, step_at, is_step}
 use Rattle.steps_events.specs.Runs.{IsPast}
 use Rattle.steps_events.specs.Sights.{sight_of, is_sight, AtLast, spins_in, last_of}
+use Rattle.steps_events.specs.NextStep.{StepsAs}
 use Rattle.steps_events.specs.Asks.{WhereAsked, sight_at}
 use Rattle.steps_events.specs.Laws.{Lacks, is_refusal}
-use Rattle.steps_events.proofs.Holds.{eqb_other, no_holds, exclusive_unheld}
+use Rattle.steps_events.proofs.Holds.{some_same, eqb_other, no_holds, exclusive_unheld}
 use Rattle.steps_events.proofs.Steps.{by_move, tells_memory}
 use Rattle.steps_events.proofs.Spins.{spins_left, spins_spent}
 use Rattle.steps_events.proofs.Parties.{IsKept, at_place}
-use Rattle.steps_events.proofs.Asks.{asked_maps, spins_no_more}
+use Rattle.steps_events.proofs.Asks.{asked_maps, spins_no_more, both_kept}
+use Rattle.steps_events.proofs.NextStep.{steps_as}
 use Rattle.steps_events.proofs.Own.{IsToldOf, own_at_last, at_last_maps}
 use Rattle.steps_barrier.specs.declared.BarrierPlace.{BarrierPlace}
 use Rattle.steps_barrier.specs.declared.BarrierPlace.TheVariants as places
 use Rattle.steps_barrier.specs.Rounds.{epoch_of, count_of, with_arrival, is_arrival, arrivals_in, round_of, full_rounds, IsFull, CountsArrivals}
 use Rattle.steps_barrier.specs.Table.{barrier_table, barrier_begins, barrier_intent, barrier_after}
-use Rattle.steps_barrier.specs.Law.{BarrierCause, is_ok, is_wake_of_all, is_wake, since_arrival, EndsOkOrFull, looks_on, steps_on, KeepsBarrier}
+use Rattle.steps_barrier.specs.Law.{BarrierCause, is_ok, is_wake_of_all, is_wake, since_arrival, looks_on, steps_on, looked, seen_by, BarrierStep, KeepsBarrier}
 use Rattle.steps_barrier.proofs.Rounds.{count_is, epoch_is, counts_none, counts_more, later_epoch, filled_round, is_full}
 
 -- What is kept of a call at its place.
@@ -323,7 +325,6 @@ pub record EventLaw {T : Type 0} (n party : ℕ) (past : List (Event T)) (pendin
   pub exact : is_sight words.State m.act ≡ true → ((m.outcome ≡ thens.Answers answers.Full) ↔ (n ≡ 0))
   pub asks : WhereAsked IsAskedSo pending m.act m.outcome
   pub alone : MatchBool (is_wake m.act) ((is_wake_of_all m.act ≡ true) × (m.outcome ≡ thens.Answers answers.Ok) × AtLast is_arrival (λ before. arrivals_in before % n + 1 ≡ n) party past) (Unit {0})
-  pub answers : EndsOkOrFull m.outcome
   pub leaves : is_sight words.State m.act ≡ true → MatchOption pending ⊥ (λ c. 0 < arrivals_in c.own) → LeavesAt n party past m.outcome
 
 -- only a barrier of 0 refuses
@@ -338,7 +339,7 @@ look_law :
     {T : Type 0} (n m party : ℕ) (past : List (Event T)) (c : PendingCall T) (act : Act T) (v : ℕ) (below : Bool) → n < 2 ^ 32 → c.call ≡ calls.Wait → m ≡ n → arrivals_in c.own ≡ 0 → CountsArrivals n (arrivals_in past) v →
     is_arrival act ≡ false → is_wake act ≡ false → nat_lt (count_of v) m ≡ below → EventLaw n party past (Some c) (record { act = act; outcome = outcome_of {T = T} (look_after m v below) })
 look_law n m party past c act v true fits wait same first counts quiet asleep below =
-    record { cause = tt; once = rw quiet tt; passes = tt; wakes = tt; alone = rw asleep tt; exact = λ sees. (λ full. absurd cc, λ none. absurd (none_of v n (below_of v m n same below) none)); asks = tt; answers = tt; leaves = λ sees arrived. absurd (omega (arith, first, arrived)) }
+    record { cause = tt; once = rw quiet tt; passes = tt; wakes = tt; alone = rw asleep tt; exact = λ sees. (λ full. absurd cc, λ none. absurd (none_of v n (below_of v m n same below) none)); asks = tt; leaves = λ sees arrived. absurd (omega (arith, first, arrived)) }
 look_law {T} n m party past c act v false fits wait same first counts quiet asleep below =
     let none : n ≡ 0 = nobody_fits n m (arrivals_in past) v fits counts same below in
     let refuses : Event T = event party act (thens.Answers answers.Full) in
@@ -350,15 +351,14 @@ look_law {T} n m party past c act v false fits wait same first counts quiet asle
       alone = rw asleep tt;
       exact = λ sees. (λ full. none, λ is. refl);
       asks = tt;
-      answers = tt;
       leaves = λ sees arrived. absurd (omega (arith, first, arrived));
     }
 
 joined_law :
     {T : Type 0} (n party : ℕ) (past : List (Event T)) (c : PendingCall T) (seen to w : ℕ) (fills : Bool) → count_of seen < n → arrivals_in c.own ≡ 0 →
     EventLaw n party past (Some c) (record { act = acts.Exchange words.State seen to w true; outcome = outcome_of {T = T} (joined_after seen fills) })
-joined_law n party past c seen to w true below first = record { cause = tt; once = first; passes = tt; wakes = tt; alone = tt; exact = λ sees. (λ full. absurd cc, λ none. absurd (none_of seen n below none)); asks = tt; answers = tt; leaves = λ sees arrived. absurd (omega (arith, first, arrived)) }
-joined_law n party past c seen to w false below first = record { cause = tt; once = first; passes = tt; wakes = tt; alone = tt; exact = λ sees. (λ full. absurd cc, λ none. absurd (none_of seen n below none)); asks = tt; answers = tt; leaves = λ sees arrived. absurd (omega (arith, first, arrived)) }
+joined_law n party past c seen to w true below first = record { cause = tt; once = first; passes = tt; wakes = tt; alone = tt; exact = λ sees. (λ full. absurd cc, λ none. absurd (none_of seen n below none)); asks = tt; leaves = λ sees arrived. absurd (omega (arith, first, arrived)) }
+joined_law n party past c seen to w false below first = record { cause = tt; once = first; passes = tt; wakes = tt; alone = tt; exact = λ sees. (λ full. absurd cc, λ none. absurd (none_of seen n below none)); asks = tt; leaves = λ sees arrived. absurd (omega (arith, first, arrived)) }
 
 arrive_law :
     {T : Type 0} (n m party : ℕ) (past : List (Event T)) (c : PendingCall T) (seen to w : ℕ) (done : Bool) → n < 2 ^ 32 → c.call ≡ calls.Wait → m ≡ n → count_of seen < n → arrivals_in c.own ≡ 0 → CountsArrivals n (arrivals_in past) w →
@@ -383,15 +383,14 @@ stay_law z n parties fits party past run c called hold epoch spins w false left 
       alone = tt;
       exact = λ sight. (λ full. absurd cc, λ none. absurd (none_of v n below none));
       asks = tt;
-      answers = tt;
       leaves = λ sight arrived. leaves_by_epoch z n parties fits party past run c called v w at.1.1 counts (thens.Answers answers.Ok) (λ ok. other, λ other. refl);
     }
 stay_law z n parties fits party past run c called hold epoch spins w true true at counts sees spun =
     let epoch_seen : epoch_of w ≡ epoch_of at.1.0 = eqb-true (epoch_of w) epoch sees ∙ sym at.1.2 in
-    record { cause = tt; once = tt; passes = tt; wakes = tt; alone = tt; exact = λ sight. (λ full. absurd cc, λ none. absurd (none_of at.1.0 n at.1.1.3 none)); asks = tt; answers = tt; leaves = λ sight arrived. leaves_by_epoch z n parties fits party past run c called at.1.0 w at.1.1 counts thens.GoesOn (λ ok. absurd cc, λ other. absurd (other epoch_seen)) }
+    record { cause = tt; once = tt; passes = tt; wakes = tt; alone = tt; exact = λ sight. (λ full. absurd cc, λ none. absurd (none_of at.1.0 n at.1.1.3 none)); asks = tt; leaves = λ sight arrived. leaves_by_epoch z n parties fits party past run c called at.1.0 w at.1.1 counts thens.GoesOn (λ ok. absurd cc, λ other. absurd (other epoch_seen)) }
 stay_law z n parties fits party past run c called hold epoch spins w true false at counts sees spun =
     let epoch_seen : epoch_of w ≡ epoch_of at.1.0 = eqb-true (epoch_of w) epoch sees ∙ sym at.1.2 in
-    record { cause = tt; once = tt; passes = tt; wakes = tt; alone = tt; exact = λ sight. (λ full. absurd cc, λ none. absurd (none_of at.1.0 n at.1.1.3 none)); asks = (rw (has_arrived c.own _ at.1.1.2) (at.2 ∙ spins_spent spins at.3 spun), refl); answers = tt; leaves = λ sight arrived. leaves_by_epoch z n parties fits party past run c called at.1.0 w at.1.1 counts (thens.Waits w) (λ ok. absurd cc, λ other. absurd (other epoch_seen)) }
+    record { cause = tt; once = tt; passes = tt; wakes = tt; alone = tt; exact = λ sight. (λ full. absurd cc, λ none. absurd (none_of at.1.0 n at.1.1.3 none)); asks = (rw (has_arrived c.own _ at.1.1.2) (at.2 ∙ spins_spent spins at.3 spun), refl); leaves = λ sight arrived. leaves_by_epoch z n parties fits party past run c called at.1.0 w at.1.1 counts (thens.Waits w) (λ ok. absurd cc, λ other. absurd (other epoch_seen)) }
 
 step_law :
     {T : Type 0} (z : Arithmetic T) (n parties : ℕ) → n < 2 ^ 32 → (party : ℕ) (past : List (Event T)) → IsPast z (barrier_table n) parties past → (c : PendingCall T) → call_of party past ≡ Some c →
@@ -413,7 +412,6 @@ step_law z n parties fits party past run c called places.Wake hold memory at cou
       alone = (refl, refl, own_is_last z n parties fits party past run c called at.1.0 at.1.1 at.1.2);
       exact = λ sees. absurd cc;
       asks = tt;
-      answers = tt;
       leaves = λ sees arrived. absurd cc;
     }
 step_law z n parties fits party past run c called (places.Stay epoch spins) hold memory at counts =
@@ -425,16 +423,125 @@ event_law {T} z n parties fits past e run =
     by_move (barrier_table n) (call_of e.party past) (hold_of (barrier_table n) e.party past) (word_in (barrier_table n) past)
     (λ (k : Option (PendingCall T)) (m : Move T). EventLaw n e.party past k m)
     run.0.0 (record { act = e.act; outcome = e.then })
-    (λ call _. record { cause = tt; once = tt; passes = tt; wakes = tt; alone = tt; exact = λ sees. absurd cc; asks = tt; answers = tt; leaves = λ sees arrived. absurd cc })
-    (λ action _. record { cause = tt; once = tt; passes = tt; wakes = tt; alone = tt; exact = λ sees. absurd cc; asks = tt; answers = tt; leaves = λ sees arrived. absurd cc })
-    (λ choice _. record { cause = tt; once = tt; passes = tt; wakes = tt; alone = tt; exact = λ sees. absurd cc; asks = tt; answers = tt; leaves = λ sees arrived. absurd cc })
+    (λ call _. record { cause = tt; once = tt; passes = tt; wakes = tt; alone = tt; exact = λ sees. absurd cc; asks = tt; leaves = λ sees arrived. absurd cc })
+    (λ action _. record { cause = tt; once = tt; passes = tt; wakes = tt; alone = tt; exact = λ sees. absurd cc; asks = tt; leaves = λ sees arrived. absurd cc })
+    (λ choice _. record { cause = tt; once = tt; passes = tt; wakes = tt; alone = tt; exact = λ sees. absurd cc; asks = tt; leaves = λ sees arrived. absurd cc })
     (λ c place _ called stage.
     step_law z n parties fits e.party past run.1 c called place (hold_of (barrier_table n) e.party past) (word_in (barrier_table n) past)
     (at_place z (barrier_table n) parties (AtBarrier n) (barrier_kept n) past run.1 e.party c place called stage) (barrier_counts z n parties fits past run.1))
     run.0.1.moved
 
+-- Each step is its call's next.
+
+-- what its latest step saw, where it has not arrived
+abbrev HasSeen : {T : Type 0} → BarrierPlace → PendingCall T → Option HoldKind → Type 0
+HasSeen (places.Look m) c hold = seen_by (last_of is_step c.own) ≡ None
+HasSeen (places.Arrive m seen to) c hold = seen_by (last_of is_step c.own) ≡ Some seen
+HasSeen other c hold = Unit {0}
+
+begins_unseen : {T : Type 0} (n : ℕ) (call : Call T) (place : BarrierPlace) (hold : Option HoldKind) → barrier_begins n call ≡ Some place → HasSeen {T = T} place (record { call = call; own = [] }) hold
+begins_unseen {T} n calls.Wait place hold is = subst (λ p. HasSeen {T = T} p (record { call = calls.Wait; own = [] }) hold) (some_same (places.Look n) place is) refl
+begins_unseen n other place hold is = absurd cc
+
+look_seen :
+    {T : Type 0} (m v : ℕ) (c : PendingCall T) (hold : Option HoldKind) (e : Event T) (next : BarrierPlace) (below : Bool) → seen_by (last_of is_step (e ∷ c.own)) ≡ Some v → place_after {T = T} (look_after m v below) ≡ Some next →
+    HasSeen next (record { call = c.call; own = e ∷ c.own }) hold
+look_seen m v c hold e next false sees is = absurd cc
+look_seen {T} m v c hold e next true sees is = subst (λ p. HasSeen {T = T} p (record { call = c.call; own = e ∷ c.own }) hold) (some_same (places.Arrive m v (with_arrival m v)) next is) sees
+
+joined_seen :
+    {T : Type 0} (c : PendingCall T) (hold : Option HoldKind) (seen : ℕ) (e : Event T) (next : BarrierPlace) (fills : Bool) → place_after {T = T} (joined_after seen fills) ≡ Some next → HasSeen next (record { call = c.call; own = e ∷ c.own }) hold
+joined_seen {T} c hold seen e next true is = subst (λ p. HasSeen {T = T} p (record { call = c.call; own = e ∷ c.own }) hold) (some_same places.Wake next is) tt
+joined_seen {T} c hold seen e next false is = subst (λ p. HasSeen {T = T} p (record { call = c.call; own = e ∷ c.own }) hold) (some_same (places.Stay (epoch_of seen) 0) next is) tt
+
+arrive_seen :
+    {T : Type 0} (m : ℕ) (c : PendingCall T) (hold : Option HoldKind) (seen to w number : ℕ) (outcome : Then T) (next : BarrierPlace) (done : Bool) →
+    place_after {T = T} (cond done (joined_after seen (count_of seen + 1 == m)) (look_after m w (nat_lt (count_of w) m))) ≡ Some next →
+    HasSeen next (record { call = c.call; own = event number (acts.Exchange words.State seen to w done) outcome ∷ c.own }) hold
+arrive_seen m c hold seen to w number outcome next true is = joined_seen c hold seen (event number (acts.Exchange words.State seen to w true) outcome) next (count_of seen + 1 == m) is
+arrive_seen m c hold seen to w number outcome next false is = look_seen m w c hold (event number (acts.Exchange words.State seen to w false) outcome) next (nat_lt (count_of w) m) refl is
+
+stay_seen :
+    {T : Type 0} (epoch spins v : ℕ) (c : PendingCall T) (hold : Option HoldKind) (e : Event T) (next : BarrierPlace) (same left : Bool) → place_after {T = T} (stay_after epoch spins v same left) ≡ Some next →
+    HasSeen next (record { call = c.call; own = e ∷ c.own }) hold
+stay_seen epoch spins v c hold e next false left is = absurd cc
+stay_seen {T} epoch spins v c hold e next true true is = subst (λ p. HasSeen {T = T} p (record { call = c.call; own = e ∷ c.own }) hold) (some_same (places.Stay epoch (spins + 1)) next is) tt
+stay_seen {T} epoch spins v c hold e next true false is = subst (λ p. HasSeen {T = T} p (record { call = c.call; own = e ∷ c.own }) hold) (some_same (places.Stay epoch spins) next is) tt
+
+steps_seen :
+    {T : Type 0} (n : ℕ) (place : BarrierPlace) (c : PendingCall T) (hold left : Option HoldKind) (memory : Word → ℕ) (number : ℕ) (next : BarrierPlace) →
+    place_after {T = T} (barrier_after place (value_told {T = T} (carried_out (barrier_intent words.State place) memory))) ≡ Some next →
+    HasSeen next (record { call = c.call; own = event number (step_at (barrier_table n) place hold memory).act (step_at (barrier_table n) place hold memory).outcome ∷ c.own }) left
+steps_seen n (places.Look m) c hold left memory number next is =
+    look_seen m (memory words.State) c left (event number (acts.Load words.State (memory words.State)) (step_at (barrier_table n) (places.Look m) hold memory).outcome) next (nat_lt (count_of (memory words.State)) m) refl is
+steps_seen n (places.Arrive m seen to) c hold left memory number next is = arrive_seen m c left seen to (memory words.State) number (step_at (barrier_table n) (places.Arrive m seen to) hold memory).outcome next (memory words.State == seen) is
+steps_seen n places.Wake c hold left memory number next is = absurd cc
+steps_seen n (places.Stay epoch spins) c hold left memory number next is =
+    stay_seen epoch spins (memory words.State) c left (event number (acts.Load words.State (memory words.State)) (step_at (barrier_table n) (places.Stay epoch spins) hold memory).outcome) next (epoch_of (memory words.State) == epoch) (nat_lt spins 10000) is
+
+quiet_seen : {T : Type 0} (place : BarrierPlace) (c : PendingCall T) (hold : Option HoldKind) (e : Event T) → is_step e.act ≡ false → HasSeen place c hold → HasSeen place (record { call = c.call; own = e ∷ c.own }) hold
+quiet_seen (places.Look m) c hold e quiet seen = rw quiet seen
+quiet_seen (places.Arrive m seen to) c hold e quiet seen_so = rw quiet seen_so
+quiet_seen places.Wake c hold e quiet seen = tt
+quiet_seen (places.Stay epoch spins) c hold e quiet seen = tt
+
+seen_kept : {T : Type 0} (n : ℕ) → IsKept {T = T} (barrier_table n) HasSeen
+seen_kept n =
+    record {
+      begins = λ call place hold is allowed. begins_unseen n call place hold is;
+      steps = λ place c hold memory number next at free is. steps_seen n place c hold _ memory number next is;
+      answers = λ place c hold action number at stands. quiet_seen place c hold (event number (acts.Answered action) thens.GoesOn) refl at;
+      chooses = λ place c hold choice number at stands. quiet_seen place c hold (event number (acts.Chosen choice) thens.GoesOn) refl at;
+    }
+
+-- a call that has not arrived has no arrival
+no_arrival : {T : Type 0} (own : List (Event T)) → arrivals_in own ≡ 0 → last_of is_arrival own ≡ None
+no_arrival [] none = refl
+no_arrival (e ∷ own) none = by_test (is_arrival e.act) none (no_arrival own)
+  where
+    by_test : (arrives : Bool) → cond arrives 1 0 + arrivals_in own ≡ 0 → (arrivals_in own ≡ 0 → last_of is_arrival own ≡ None) → cond arrives (Some e.act) (last_of is_arrival own) ≡ None
+    by_test true none rest = absurd (omega (arith, none))
+    by_test false none rest = rest (omega (arith, none))
+
+-- how each step leaves its call, by its tests
+look_outcome : {T : Type 0} (m v : ℕ) (below : Bool) → outcome_of {T = T} (look_after m v below) ≡ cond below thens.GoesOn (thens.Answers answers.Full)
+look_outcome m v true = refl
+look_outcome m v false = refl
+
+joined_outcome : {T : Type 0} (v : ℕ) (fills : Bool) → outcome_of {T = T} (joined_after v fills) ≡ thens.GoesOn
+joined_outcome v true = refl
+joined_outcome v false = refl
+
+arrive_outcome :
+    {T : Type 0} (m seen w : ℕ) (done : Bool) → outcome_of {T = T} (cond done (joined_after seen (count_of seen + 1 == m)) (look_after m w (nat_lt (count_of w) m))) ≡ cond done thens.GoesOn (looked m w)
+arrive_outcome m seen w true = joined_outcome seen (count_of seen + 1 == m)
+arrive_outcome m seen w false = look_outcome m w (nat_lt (count_of w) m)
+
+stay_outcome : {T : Type 0} (epoch spins v : ℕ) (same left : Bool) → outcome_of {T = T} (stay_after epoch spins v same left) ≡ cond same (cond left thens.GoesOn (thens.Waits v)) (thens.Answers answers.Ok)
+stay_outcome epoch spins v true true = refl
+stay_outcome epoch spins v true false = refl
+stay_outcome epoch spins v false left = refl
+
+barrier_step :
+    {T : Type 0} (n : ℕ) (place : BarrierPlace) (c : PendingCall T) (hold : Option HoldKind) (memory : Word → ℕ) → AtBarrier n place c hold × HasSeen place c hold →
+    BarrierStep {T = T} n c.call c.own (step_at (barrier_table n) place hold memory).act (step_at (barrier_table n) place hold memory).outcome
+barrier_step n (places.Look m) c hold memory at =
+    rw (at.0.0, no_arrival c.own at.0.2, at.1) (look_outcome m (memory words.State) (nat_lt (count_of (memory words.State)) m) ∙ ap (λ k. looked k (memory words.State)) at.0.1)
+barrier_step n (places.Arrive m seen to) c hold memory at =
+    rw (at.0.0, no_arrival c.own at.0.4, at.1)
+    (refl, at.0.3, arrive_outcome m seen (memory words.State) (memory words.State == seen) ∙ ap (λ k. cond (memory words.State == seen) thens.GoesOn (looked k (memory words.State))) at.0.1)
+barrier_step n places.Wake c hold memory at = rw (at.0.0, at.0.1.1.2, eq-eqb (count_of at.0.1.0 + 1) n at.0.1.2) (refl, refl)
+barrier_step n (places.Stay epoch spins) c hold memory at =
+    rw (at.0.0, at.0.1.1.2, eqb_other (count_of at.0.1.0 + 1) n (λ is. at.0.1.3 (sym is)), at.0.1.2, at.0.2)
+    (stay_outcome epoch spins (memory words.State) (epoch_of (memory words.State) == epoch) (nat_lt spins 10000))
+
+each_steps : {T : Type 0} (z : Arithmetic T) (n parties : ℕ) (past : List (Event T)) → IsPast z (barrier_table n) parties past → StepsAs (BarrierStep n) past
+each_steps z n parties past run =
+    steps_as z (barrier_table n) parties (λ place c hold. AtBarrier n place c hold × HasSeen place c hold) (BarrierStep n)
+    (both_kept (barrier_table n) (AtBarrier n) HasSeen (barrier_kept n) (seen_kept n)) (barrier_step n) past run
+
 pub keeps_barrier : {T : Type 0} (z : Arithmetic T) (n parties : ℕ) (past : List (Event T)) → n < 2 ^ 32 → IsPast z (barrier_table n) parties past → KeepsBarrier n past
-keeps_barrier z n parties [] fits run = record { told = tt; exclusive = exclusive_unheld [] refl; cause = tt; law = record { unheld = refl; counts = barrier_counts z n parties fits [] run; nobody = nobody_arrives z n parties [] run; once = tt; passes = tt; wakes = tt; alone = tt; leaves = tt; exact = tt; asks = tt; spins = λ party. tt; tells = tt; answers = tt } }
+keeps_barrier z n parties [] fits run = record { told = tt; exclusive = exclusive_unheld [] refl; cause = tt; law = record { unheld = refl; counts = barrier_counts z n parties fits [] run; nobody = nobody_arrives z n parties [] run; once = tt; passes = tt; wakes = tt; alone = tt; leaves = tt; exact = tt; asks = tt; spins = λ party. tt; tells = tt; steps = tt } }
 keeps_barrier z n parties (e ∷ past) fits run =
     let event = event_law z n parties fits past e run in
     let unheld = no_holds (barrier_table n) (λ call from to. refl) (e ∷ past) in
@@ -455,7 +562,7 @@ keeps_barrier z n parties (e ∷ past) fits run =
         asks = asked_maps IsAskedSo (λ c act told. looks_on c.call c.own ≡ 10000) (λ c act told so. so.0) (call_of e.party past) e.act e.then event.asks;
         spins = spins_no_more z (barrier_table n) parties (AtBarrier n) steps_on (barrier_kept n) (spins_bounded n) (e ∷ past) run;
         tells = asked_maps IsAskedSo (λ c act told. sight_at words.State c.call c.own act ≡ Some told) (λ c act told so. so.1) (call_of e.party past) e.act e.then event.asks;
-        answers = event.answers;
+        steps = each_steps z n parties (e ∷ past) run;
       };
     }
 

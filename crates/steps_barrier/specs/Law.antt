@@ -1,5 +1,5 @@
 -- What a barrier keeps at every front of every run: rounds of n arrivals, each of which is full before one of its calls answers `Ok`.
-use Rattle.std.specs.Prelude.{◌≡◌, ◌≢◌, ℕ, ◌+◌, ◌%◌, ◌^◌, ◌<◌, ◌==◌, ◌↔◌, Bool, true, false, if◌then◌else◌, List, [], ◌∷◌, MatchBool, MatchOption}
+use Rattle.std.specs.Prelude.{◌≡◌, ◌≢◌, ℕ, ◌+◌, ◌%◌, ◌^◌, ◌<◌, ◌==◌, ◌↔◌, nat_lt, Bool, true, false, Option, Some, None, if◌then◌else◌, List, [], ◌∷◌, MatchBool, MatchOption}
 use Rattle.steps_events.specs.declared.event.Word.TheVariants as words
 use Rattle.steps_events.specs.declared.event.Call.{Call}
 use Rattle.steps_events.specs.declared.event.Call.TheVariants as calls
@@ -12,10 +12,11 @@ use Rattle.steps_events.specs.declared.event.Then.TheVariants as thens
 use Rattle.steps_events.specs.declared.event.Event.{Event}
 use Rattle.steps_events.specs.Past.{call_of, holds_of, word_in}
 use Rattle.steps_events.specs.Moves.{is_step}
-use Rattle.steps_events.specs.Sights.{is_sight, AtLast, spins_in}
+use Rattle.steps_events.specs.Sights.{sight_of, is_sight, AtLast, spins_in, last_of}
+use Rattle.steps_events.specs.NextStep.{StepsAs}
 use Rattle.steps_events.specs.Asks.{SpinCount, AsksAfterSpinning, SpinsNoMore, sight_at, TellsRefusal}
 use Rattle.steps_events.specs.Laws.{Keeps}
-use Rattle.steps_barrier.specs.Rounds.{is_arrival, arrivals_in, round_of, full_rounds, IsFull, CountsArrivals}
+use Rattle.steps_barrier.specs.Rounds.{epoch_of, count_of, with_arrival, is_arrival, arrivals_in, round_of, full_rounds, IsFull, CountsArrivals}
 use Rattle.steps_barrier.specs.Table.{barrier_table}
 
 -- `Wait`: n is 0.
@@ -77,18 +78,6 @@ WakesAsFiller n (e ∷ past) =
     ((is_wake_of_all e.act ≡ true) × (e.then ≡ thens.Answers answers.Ok) × AtLast is_arrival (λ before. arrivals_in before % n + 1 ≡ n) e.party past)
     (Unit {0})
 
--- `Ok` or `Full`, where it is an answer
-abbrev pub EndsOkOrFull : {T : Type 0} → Then T → Type 0
-EndsOkOrFull (thens.Answers answers.Ok) = Unit {0}
-EndsOkOrFull (thens.Answers answers.Full) = Unit {0}
-EndsOkOrFull (thens.Answers other) = ⊥
-EndsOkOrFull outcome = Unit {0}
-
--- a call comes back with `Ok` or `Full` alone: the latest event answers one of them, if it answers
-abbrev pub AnswersOkOrFull : {T : Type 0} → List (Event T) → Type 0
-AnswersOkOrFull [] = Unit {0}
-AnswersOkOrFull (e ∷ past) = EndsOkOrFull e.then
-
 -- Exact: an event that sees the word is refused exactly where n is 0.
 abbrev pub IsExactRefusal : {T : Type 0} → ℕ → List (Event T) → Type 0
 IsExactRefusal n [] = Unit {0}
@@ -110,6 +99,50 @@ looks_on call own = once_arrived (spins_in (is_sight words.State)) call own
 -- its steps of any kind after which it went on by itself
 abbrev pub steps_on : {T : Type 0} → SpinCount T
 steps_on call own = once_arrived (spins_in is_step) call own
+
+-- What a call does next, by its own steps so far, and how it is left by what that tells.
+
+-- a look of a call that has not arrived: where n have, it is refused
+abbrev pub looked : {T : Type 0} → ℕ → ℕ → Then T
+looked n v = if nat_lt (count_of v) n then thens.GoesOn else thens.Answers answers.Full
+
+-- the first step is a load
+abbrev pub LooksFirst : {T : Type 0} → ℕ → Act T → Then T → Type 0
+LooksFirst n (acts.Load words.State v) outcome = outcome ≡ looked n v
+LooksFirst n act outcome = ⊥
+
+-- an exchange of the value seen for one arrival more; where it failed, the value found is a new look
+abbrev pub ArrivesFrom : {T : Type 0} → ℕ → ℕ → Act T → Then T → Type 0
+ArrivesFrom n v (acts.Exchange words.State from to found done) outcome = (from ≡ v) × (to ≡ with_arrival n v) × (outcome ≡ (if done then thens.GoesOn else looked n found))
+ArrivesFrom n v act outcome = ⊥
+
+-- a load of a call that has arrived: at another epoch than that of its arrival it passes; else it goes on by itself until it has spun 10000 times, and
+-- then asks its closure
+abbrev pub StaysFrom : {T : Type 0} → ℕ → ℕ → Act T → Then T → Type 0
+StaysFrom v spins (acts.Load words.State w) outcome =
+    outcome ≡ (if epoch_of w == epoch_of v then (if nat_lt spins 10000 then thens.GoesOn else thens.Waits w) else thens.Answers answers.Ok)
+StaysFrom v spins act outcome = ⊥
+
+-- the call that has filled its round wakes all and passes; any other that has arrived stays
+abbrev pub HasArrivedFrom : {T : Type 0} → ℕ → ℕ → ℕ → Act T → Then T → Type 0
+HasArrivedFrom n v spins act outcome = MatchBool (count_of v + 1 == n) ((act ≡ acts.Woke wakes.All) × (outcome ≡ thens.Answers answers.Ok)) (StaysFrom v spins act outcome)
+
+-- what an act saw, and from which value an exchange was
+abbrev pub seen_by : {T : Type 0} → Option (Act T) → Option ℕ
+seen_by None = None
+seen_by (Some act) = sight_of words.State act
+
+abbrev pub from_of : {T : Type 0} → Option (Act T) → Option ℕ
+from_of (Some (acts.Exchange word from to found done)) = Some from
+from_of other = None
+
+-- the next step of a `Wait`, by whether it has arrived, and by what its latest step saw; no other call has one
+abbrev pub BarrierStep : {T : Type 0} → ℕ → Call T → List (Event T) → Act T → Then T → Type 0
+BarrierStep n calls.Wait own act outcome =
+    MatchOption (from_of (last_of is_arrival own))
+    (MatchOption (seen_by (last_of is_step own)) (LooksFirst n act outcome) (λ v. ArrivesFrom n v act outcome))
+    (λ v. HasArrivedFrom n v (spins_in (is_sight words.State) (since_arrival own)) act outcome)
+BarrierStep n other own act outcome = ⊥
 
 -- What a barrier keeps beside what every object does.
 pub record BarrierLaw {T : Type 0} (n : ℕ) (past : List (Event T)) : Type 0 where
@@ -137,8 +170,8 @@ pub record BarrierLaw {T : Type 0} (n : ℕ) (past : List (Event T)) : Type 0 wh
   pub spins : SpinsNoMore steps_on past
   -- the closure is told the whole word that the latest look saw
   pub tells : TellsRefusal (sight_at words.State) past
-  -- a call comes back with `Ok` or `Full` alone
-  pub answers : AnswersOkOrFull past
+  -- each step is the one that follows its call's own, and leaves it by what it tells
+  pub steps : StepsAs (BarrierStep n) past
 
 abbrev pub KeepsBarrier : {T : Type 0} → ℕ → List (Event T) → Type 0
 KeepsBarrier n past = Keeps (barrier_table n) (BarrierCause n) (BarrierLaw n) past

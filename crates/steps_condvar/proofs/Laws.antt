@@ -55,6 +55,7 @@ use Rattle.steps_condvar.specs.Table.{condvar_table, condvar_grant, permitted, r
 use Rattle.steps_condvar.specs.Waiters.{is_count, counts_in, since_count, is_wait, is_counted, CountsWaiters}
 use Rattle.steps_condvar.specs.Law.{wake_for, count_read, amount_for, condvar_gives, condvar_value, takes_in, HasAbortedSince, FoundNoPermit, FoundMutexHeld, IsSignalled, CondvarCause, IsWaitAnswer, WaitStep, is_read, is_post, PutsSum, NotifyStep, LockStep, CallStep, spins_of, gives_up, HasTried, KeepsCondvar, spins_on, refused_by, wait_of}
 use Rattle.steps_condvar.proofs.Counts.{CountEffect, none_wait, counts_after}
+use Rattle.steps_condvar.proofs.NextSteps.{each_steps}
 use Rattle.steps_condvar.proofs.Places.{notify, amount_is, Progress, SawNone, SignalIs, took, AtCondvar, outcome_within, condvar_kept, spins_bounded}
 
 -- A condition variable has a lock for one: its mutex.
@@ -645,7 +646,7 @@ keeps_condvar z parties [] run =
       told = tt;
       exclusive = lock_exclusive 0 [] (lock_word z condvar_table parties (condvar_is_lock z parties) [] run);
       cause = tt;
-      law = record { waiters = none_wait; permits = record { at_most = omega arith; told = tt; lowers = tt }; steps = tt; exact = tt; ends = tt; asks = tt; spins = λ party. tt; tells = tt; stops = tt; tries = tt };
+      law = record { waiters = none_wait; permits = record { at_most = omega arith; told = tt; lowers = tt }; order = tt; exact = tt; ends = tt; asks = tt; spins = λ party. tt; tells = tt; stops = tt; tries = tt; steps = tt };
     }
 keeps_condvar {T} z parties (e ∷ past) run =
     let before = condvar_tallies z parties past run.1 in
@@ -664,7 +665,7 @@ keeps_condvar {T} z parties (e ∷ past) run =
           told = (subst (λ n. IfSome (sight_of words.Value e.act) (λ v. v ≡ n)) before.0 sees, rw event.number tt);
           lowers = lowered _ _ _ _ _ (is_take words.Value e.act) before (event_effect z parties past e run);
         };
-        steps = subst (λ h. MatchOption (call_of e.party past) (Unit {0}) (λ c. CallStep c.call c.own e h)) (sym (hold_of_same condvar_table e.party e.act e.then past)) event.steps;
+        order = subst (λ h. MatchOption (call_of e.party past) (Unit {0}) (λ c. CallStep c.call c.own e h)) (sym (hold_of_same condvar_table e.party e.act e.then past)) event.steps;
         exact = event.exact;
         ends = event.ends;
         asks = asked_maps IsAskedSo (λ c act told. spins_of c.call c.own ≡ 10000) (λ c act told so. so.0) (call_of e.party past) e.act e.then event.asks;
@@ -672,6 +673,7 @@ keeps_condvar {T} z parties (e ∷ past) run =
         tells = asked_maps IsAskedSo (λ c act told. refused_by c.call c.own act ≡ Some told) (λ c act told so. so.1) (call_of e.party past) e.act e.then event.asks;
         stops = asked_maps IsAskedSo (λ c act told. keeps_asking (wait_of c.call c.own) ≡ true) (λ c act told so. so.2) (call_of e.party past) e.act e.then event.asks;
         tries = event.tries;
+        steps = each_steps z parties (e ∷ past) run;
       };
     }
 

@@ -1,6 +1,7 @@
 -- What a condition variable keeps at every front of every run: its waiter count, its permits, what each answer of a `Wait` means, a cause for each
 -- refusal, and how often a call tries.
-use Rattle.std.specs.Prelude.{◌≡◌, ℕ, zero, suc, min, ◌+◌, ◌%◌, ◌^◌, ◌==◌, ◌⊎◌, Bool, true, false, if◌then◌else◌, List, [], ◌∷◌, Option, Some, None, unwrap_or, MatchBool, MatchOption}
+use Rattle.std.specs.Prelude.{◌≡◌, ℕ, zero, suc, min, ◌+◌, ◌-◌, ◌%◌, ◌^◌, ◌==◌, ◌&&◌, nat_lt, ◌⊎◌, Bool, true, false, if◌then◌else◌, List, [], ◌∷◌, Option, Some, None, unwrap_or, MatchBool, MatchOption}
+use Rattle.steps_events.specs.declared.event.Word.{Word}
 use Rattle.steps_events.specs.declared.event.Word.TheVariants as words
 use Rattle.steps_events.specs.declared.event.Wake.{Wake}
 use Rattle.steps_events.specs.declared.event.Wake.TheVariants as wakes
@@ -19,10 +20,11 @@ use Rattle.steps_events.specs.Past.{PendingCall, call_of, hold_of, is_release, i
 use Rattle.steps_events.specs.Moves.{is_step}
 use Rattle.steps_events.specs.Sights.{sight_of, is_sight, AtLastSight, keeps_asking, spins_in, acts_in}
 use Rattle.steps_events.specs.Asks.{SpinCount, but_last_try, AsksAfterSpinning, SpinsNoMore, Refusing, TellsRefusal, WaitEvents, AsksUntilAbort}
+use Rattle.steps_events.specs.NextStep.{StepsAs, refused_waiting, step_before, Loads, Exchanges}
 use Rattle.steps_events.specs.Waits.{is_wake}
 use Rattle.steps_events.specs.Laws.{IsLocked, Keeps}
 use Rattle.steps_mutex.specs.Law as mutex
-use Rattle.steps_mutex.specs.Law.{LockCause, HasTriedAll, answer_of, acts_of, IsLockAnswer, AnswersWhereGranted, IsExactGrant}
+use Rattle.steps_mutex.specs.Law.{LockCause, HasTriedAll, answer_of, acts_of, IsLockAnswer, AnswersWhereGranted, IsExactGrant, MutexStep}
 use Rattle.steps_semaphore.specs.Permits.{permits, permits_taken, is_take, KeepsPermits}
 use Rattle.steps_semaphore.specs.Law.{is_empty_look}
 use Rattle.steps_condvar.specs.Table.{condvar_table}
@@ -214,6 +216,77 @@ abbrev pub GivesUpAfterTrying : {T : Type 0} → List (Event T) → Type 0
 GivesUpAfterTrying [] = Unit {0}
 GivesUpAfterTrying (e ∷ past) = MatchBool (gives_up e.then) (MatchOption (call_of e.party past) ⊥ (λ c. HasTried c.call (e ∷ c.own))) (Unit {0})
 
+-- What a call does next, by its own steps so far, and how it is left by what that tells.
+
+-- an add to a word, after which the call goes on
+abbrev pub Adds : {T : Type 0} → Word → ℕ → Act T → Then T → Type 0
+Adds word more (acts.Add w old put) outcome = (w ≡ word) × (put ≡ (old + more) % 2 ^ 64) × (outcome ≡ thens.GoesOn)
+Adds word more act outcome = ⊥
+
+abbrev pub goes_on_anyway : {T : Type 0} → ℕ → Then T
+goes_on_anyway v = thens.GoesOn
+
+-- a notify reads the waiter count, posts as many permits as that tells, and wakes
+abbrev pub NotifyNext : {T : Type 0} → Wake → List (Act T) → Act T → Then T → Type 0
+NotifyNext wake [] act outcome = Loads words.Waiters goes_on_anyway act outcome
+NotifyNext wake (acts.Load word waiters ∷ before) act outcome = Adds words.Value (amount_for (Some wake) waiters) act outcome
+NotifyNext wake (acts.Add word old put ∷ before) act outcome = (act ≡ acts.Woke wake) × (outcome ≡ thens.Answers answers.Done)
+NotifyNext wake other act outcome = ⊥
+
+-- how a look at the permits leaves a `Wait`: where none is there it spins, stands, told 0, or goes on to count itself out; else it goes on to take one
+abbrev pub left_waiting : {T : Type 0} → Bool → ℕ → ℕ → Then T
+left_waiting asks spins v = if (v == 0 && asks) then (if nat_lt spins 10000 then thens.GoesOn else thens.Waits 0) else thens.GoesOn
+
+abbrev pub LooksForPermit : {T : Type 0} → Bool → ℕ → Act T → Then T → Type 0
+LooksForPermit asks spins act outcome = Loads words.Value (left_waiting asks spins) act outcome
+
+-- it subtracts itself from the waiter count
+abbrev pub CountsOut : {T : Type 0} → Act T → Then T → Type 0
+CountsOut act outcome = Adds words.Waiters (2 ^ 64 - 1) act outcome
+
+-- after a look: where it saw a permit, an exchange of what it saw for one less; where it saw none it looks again, or, once its closure has answered Abort, counts itself out
+abbrev pub HasLookedAt : {T : Type 0} → Bool → ℕ → ℕ → Act T → Then T → Type 0
+HasLookedAt asks spins v act outcome =
+    MatchBool (v == 0) (MatchBool asks (LooksForPermit asks spins act outcome) (CountsOut act outcome)) (Exchanges words.Value v (v - 1) thens.GoesOn (left_waiting asks spins) act outcome)
+
+-- What follows the latest step of a `Wait` that has added itself: its unlock, and so its wake of one; that wake, or an answer of its closure, and so a look; a look; an
+-- exchange that took a permit, and so that it subtracts itself.
+abbrev pub CountedStep : {T : Type 0} → Bool → ℕ → Option (Act T) → Act T → Then T → Type 0
+CountedStep asks spins None act outcome = LooksForPermit asks spins act outcome
+CountedStep asks spins (Some (acts.Store word put)) act outcome = (act ≡ acts.Woke wakes.One) × (outcome ≡ thens.GoesOn)
+CountedStep asks spins (Some (acts.Woke wake)) act outcome = LooksForPermit asks spins act outcome
+CountedStep asks spins (Some (acts.Load word v)) act outcome = HasLookedAt asks spins v act outcome
+CountedStep asks spins (Some (acts.Exchange word from to found true)) act outcome = CountsOut act outcome
+CountedStep asks spins (Some (acts.Exchange word from to found false)) act outcome = HasLookedAt asks spins found act outcome
+CountedStep asks spins (Some other) act outcome = ⊥
+
+-- first it unlocks
+abbrev pub CountedNext : {T : Type 0} → Bool → ℕ → List (Event T) → Act T → Then T → Type 0
+CountedNext asks spins [] act outcome = (act ≡ acts.Store words.State 0) × (outcome ≡ thens.GoesOn)
+CountedNext asks spins (e ∷ since) act outcome = CountedStep asks spins (step_before (e ∷ since)) act outcome
+
+-- the answer of a `Wait` that has the mutex again, by the permits that it has taken
+abbrev pub woken_with : {T : Type 0} → ℕ → Answer T
+woken_with takes = if takes == 0 then answers.InterruptedHeld else answers.Success
+
+-- once it has subtracted itself it makes the exchange of a `Lock`
+abbrev pub LocksAgain : {T : Type 0} → ℕ → List (Event T) → Act T → Then T → Type 0
+LocksAgain takes since act outcome = Exchanges words.State 0 1 (thens.Answers (woken_with takes)) (λ found. refused_waiting since (spins_in is_failure since) 1) act outcome
+
+-- by how often it has changed the waiter count, and by its events since
+abbrev pub WaitNext : {T : Type 0} → ℕ → ℕ → List (Event T) → Act T → Then T → Type 0
+WaitNext zero takes since act outcome = Adds words.Waiters 1 act outcome
+WaitNext (suc zero) takes since act outcome = CountedNext (keeps_asking since) (spins_in is_empty_look since) since act outcome
+WaitNext (suc (suc zero)) takes since act outcome = LocksAgain takes since act outcome
+WaitNext more takes since act outcome = ⊥
+
+-- the next step of each call; of the mutex's calls, as of a mutex alone
+abbrev pub CondvarStep : {T : Type 0} → Call T → List (Event T) → Act T → Then T → Type 0
+CondvarStep calls.Wait own act outcome = WaitNext (counts_in own) (takes_in own) (since_count own) act outcome
+CondvarStep calls.NotifyOne own act outcome = NotifyNext wakes.One (acts_of own) act outcome
+CondvarStep calls.NotifyAll own act outcome = NotifyNext wakes.All (acts_of own) act outcome
+CondvarStep call own act outcome = MutexStep call own act outcome
+
 -- What a condition variable keeps beside what every object does.
 pub record CondvarLaw {T : Type 0} (past : List (Event T)) : Type 0 where
   -- the waiter count is that of the `Wait` calls between their add and their subtraction
@@ -221,7 +294,7 @@ pub record CondvarLaw {T : Type 0} (past : List (Event T)) : Type 0 where
   -- no more permits are taken than notifies have given, and each value that is told is what was given less what was taken
   pub permits : KeepsPermits words.Value condvar_gives 0 past
   -- each call does its steps in their order, and a `Wait` tells whether it was signalled and whether it has the mutex
-  pub steps : StepsInOrder past
+  pub order : StepsInOrder past
   -- `TryLock` is granted exactly where nobody holds the mutex
   pub exact : IsExactGrant condvar_table past
   -- a call that is granted the mutex answers at once
@@ -236,6 +309,8 @@ pub record CondvarLaw {T : Type 0} (past : List (Event T)) : Type 0 where
   pub stops : AsksUntilAbort wait_of past
   -- and each call that ends without the mutex has tried so often
   pub tries : GivesUpAfterTrying past
+  -- each step is the one that follows its call's own, and leaves it by what it tells
+  pub steps : StepsAs CondvarStep past
 
 abbrev pub KeepsCondvar : {T : Type 0} → List (Event T) → Type 0
 KeepsCondvar past = Keeps condvar_table CondvarCause CondvarLaw past

@@ -8,3 +8,4 @@ pub mod Spins
 pub mod Asks
 pub mod LastSights
 pub mod Own
+pub mod NextStep

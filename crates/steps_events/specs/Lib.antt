@@ -12,5 +12,6 @@ pub mod Runs
 pub mod Sights
 pub mod Asks
 pub mod NextStep
+pub mod RwSteps
 pub mod Waits
 pub mod Laws

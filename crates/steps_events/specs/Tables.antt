@@ -1,5 +1,5 @@
 -- What a primitive is: where its calls begin, what the step at each place is to do, and where a call goes on from there.
-use Rattle.std.specs.Prelude.{ℕ, Bool, false, Option, None}
+use Rattle.std.specs.Prelude.{ℕ, Bool, Option}
 use Rattle.steps_events.specs.declared.WaitAction.{WaitAction}
 use Rattle.steps_events.specs.declared.event.Word.{Word}
 use Rattle.steps_events.specs.declared.event.Call.{Call}
@@ -24,17 +24,3 @@ pub record Table (T P : Type 0) : Type 0 where
   -- where it goes on once its wait or choice closure has answered
   pub answered : P → WaitAction → P
   pub chosen : P → Option T → P
-
--- the table of an object that is not served
-abbrev pub no_calls : {T : Type 0} → Table T ⊥
-no_calls =
-    record {
-      opening = λ word. 0;
-      begins = λ call. None;
-      needs_hold = λ call. false;
-      grant = λ call from to. None;
-      intent = λ place hold. absurd place;
-      after = λ place told. absurd place;
-      answered = λ place action. place;
-      chosen = λ place choice. place;
-    }

@@ -18,23 +18,25 @@ use Rattle.steps_events.specs.Rows.{carried_out, value_told, outcome_of, place_a
 use Rattle.steps_events.specs.Past.{same_word, PendingCall, call_of, hold_of, word_in, word_after, event}
 use Rattle.steps_events.specs.Moves.{Move, step_at, is_step}
 use Rattle.steps_events.specs.Runs.{IsPast}
-use Rattle.steps_events.specs.Sights.{AtLast, last_of}
+use Rattle.steps_events.specs.Sights.{AtLast, is_exchange, last_of}
 use Rattle.steps_events.specs.Waits.{stands, is_wake}
 use Rattle.steps_events.specs.Laws.{IsTold, Lacks, is_refusal}
 use Rattle.steps_events.proofs.Holds.{some_same, no_holds, exclusive_unheld}
 use Rattle.steps_events.proofs.Steps.{by_move, tells_memory}
 use Rattle.steps_events.proofs.Parties.{IsKept, IsAtPlace, at_place, each_call}
+use Rattle.steps_events.proofs.NextStep.{steps_as}
 use Rattle.steps_events.proofs.Own.{IsCallAfter, call_was}
 use Rattle.steps_once.specs.declared.OncePlace.{OncePlace}
 use Rattle.steps_once.specs.declared.OncePlace.TheVariants as onces
 use Rattle.steps_once.specs.Table.{found_after}
-use Rattle.steps_once.specs.Closures.{is_begin, is_end, is_load, begins_in, ends_in}
+use Rattle.steps_once.specs.Closures.{is_begin, is_end, is_load, begins_in, ends_in, has_tried, RunsOnce}
 use Rattle.steps_once.proofs.Laws.{AtOnce, seen_after, begin_after, closure_intent, has_begun}
+use Rattle.steps_once.proofs.ClosureSteps.{IsLed, look_led, stay_led, begin_led, miss_led, quiet_led, looked, look_runs, stay_runs, begin_runs, end_runs, complete_runs}
 use Rattle.steps_once.proofs.Closures.{is_miss, missed_since, IsClosureIntent, RunsOneClosure, at_most_one, complete_ended, closure_front, stays_complete, tells_state, own_began}
 use Rattle.steps_lazy.specs.declared.LazyPlace.{LazyPlace}
 use Rattle.steps_lazy.specs.declared.LazyPlace.TheVariants as places
 use Rattle.steps_lazy.specs.Table.{lazy_table, lazy_begins, lazy_intent, reads_next, lazy_after}
-use Rattle.steps_lazy.specs.Law.{LazyCause, is_read, shows_end, IsNextStep, OnlyForces, KeepsLazy}
+use Rattle.steps_lazy.specs.Law.{LazyCause, is_read, shows_end, has_shown, LazyStep, OnlyForces, KeepsLazy}
 
 -- What is kept of a call at its place.
 
@@ -49,25 +51,20 @@ IsAt (places.Once onces.IsCompleted) c hold = ⊥
 IsAt (places.Once place) c hold = AtOnce place c hold
 IsAt places.Read c hold = has_seen_end c.own ≡ true
 
-abbrev pub is_at_read : LazyPlace → Bool
-is_at_read (places.Once place) = false
-is_at_read places.Read = true
-
--- of its latest step, where that leads
-abbrev pub IsLed : {T : Type 0} → LazyPlace → Option (Act T) → Type 0
-IsLed place last =
-    MatchOption last (place ≡ places.Once onces.Look)
-    (λ before. (is_begin before ≡ true → place ≡ places.Once onces.Run) × (is_end before ≡ true → place ≡ places.Once onces.Complete) × (shows_end before ≡ is_at_read place))
+-- of its latest steps, where those lead
+abbrev pub IsWhereLed : {T : Type 0} → LazyPlace → List (Event T) → Type 0
+IsWhereLed (places.Once place) own = IsLed place own × (has_shown (last_of is_step own) ≡ false)
+IsWhereLed places.Read own = has_shown (last_of is_step own) ≡ true
 
 pub record AtLazy {T : Type 0} (place : LazyPlace) (c : PendingCall T) (hold : Option HoldKind) : Type 0 where
   pub call : c.call ≡ calls.Force
   pub own : IsAt place c hold
-  pub led : IsLed place (last_of is_step c.own)
+  pub led : IsWhereLed place c.own
 
 -- Where a call begins.
 
 begins_at : {T : Type 0} (call : Call T) (place : LazyPlace) (hold : Option HoldKind) → lazy_begins call ≡ Some place → AtLazy {T = T} place (record { call = call; own = [] }) hold
-begins_at {T} calls.Force place hold is = subst (λ p. AtLazy {T = T} p (record { call = calls.Force; own = [] }) hold) (some_same (places.Once onces.Look) place is) (record { call = refl; own = refl; led = refl })
+begins_at {T} calls.Force place hold is = subst (λ p. AtLazy {T = T} p (record { call = calls.Force; own = [] }) hold) (some_same (places.Once onces.Look) place is) (record { call = refl; own = refl; led = ((refl, refl), refl) })
 begins_at other place hold is = absurd cc
 
 -- Where a step leads.
@@ -75,14 +72,14 @@ begins_at other place hold is = absurd cc
 -- a look at this word, by whether it saw 2
 look_leads :
     {T : Type 0} (c : PendingCall T) (hold : Option HoldKind) (w number : ℕ) (outcome : Then T) (on : OncePlace) (next : LazyPlace) (complete : Bool) → c.call ≡ calls.Force →
-    IsAt (places.Once on) (record { call = c.call; own = event number (acts.Load words.State w) outcome ∷ c.own }) hold → (w == 2) ≡ complete → place_after {T = T} (reads_next (seen_after on complete)) ≡ Some next →
-    AtLazy next (record { call = c.call; own = event number (acts.Load words.State w) outcome ∷ c.own }) hold
-look_leads {T} c hold w number outcome on next true force here sees is =
+    IsAt (places.Once on) (record { call = c.call; own = event number (acts.Load words.State w) outcome ∷ c.own }) hold → (w == 2) ≡ complete → (complete ≡ false → IsLed on (event number (acts.Load words.State w) outcome ∷ c.own)) →
+    place_after {T = T} (reads_next (seen_after on complete)) ≡ Some next → AtLazy next (record { call = c.call; own = event number (acts.Load words.State w) outcome ∷ c.own }) hold
+look_leads {T} c hold w number outcome on next true force here sees led is =
     subst (λ p. AtLazy {T = T} p (record { call = c.call; own = event number (acts.Load words.State w) outcome ∷ c.own }) hold) (some_same places.Read next is)
-    (record { call = force; own = rw sees refl; led = (λ no. absurd cc, λ no. absurd cc, sees) })
-look_leads {T} c hold w number outcome on next false force here sees is =
+    (record { call = force; own = rw sees refl; led = sees })
+look_leads {T} c hold w number outcome on next false force here sees led is =
     subst (λ p. AtLazy {T = T} p (record { call = c.call; own = event number (acts.Load words.State w) outcome ∷ c.own }) hold) (some_same (places.Once on) next is)
-    (record { call = force; own = here; led = (λ no. absurd cc, λ no. absurd cc, sees) })
+    (record { call = force; own = here; led = (led refl, sees) })
 
 -- the exchange, by whether it was done
 exchange_leads :
@@ -90,25 +87,25 @@ exchange_leads :
     AtLazy next (record { call = c.call; own = event number (acts.Exchange words.State 0 1 w done) outcome ∷ c.own }) hold
 exchange_leads {T} c hold w number outcome next true force is =
     subst (λ p. AtLazy {T = T} p (record { call = c.call; own = event number (acts.Exchange words.State 0 1 w true) outcome ∷ c.own }) hold) (some_same (places.Once onces.Run) next is)
-    (record { call = force; own = refl; led = (λ _. refl, λ no. absurd cc, refl) })
+    (record { call = force; own = refl; led = (begin_led c.own w number outcome, refl) })
 exchange_leads {T} c hold w number outcome next false force is =
     subst (λ p. AtLazy {T = T} p (record { call = c.call; own = event number (acts.Exchange words.State 0 1 w false) outcome ∷ c.own }) hold) (some_same (places.Once onces.Stay) next is)
-    (record { call = force; own = refl; led = (λ no. absurd cc, λ no. absurd cc, refl) })
+    (record { call = force; own = refl; led = (miss_led c.own w number outcome, refl) })
 
 steps_at :
     {T : Type 0} (v : T) (place : LazyPlace) (c : PendingCall T) (hold left : Option HoldKind) (memory : Word → ℕ) (number : ℕ) (next : LazyPlace) → AtLazy place c hold →
     place_after {T = T} (lazy_after v place (value_told {T = T} (carried_out (lazy_intent v words.State place) memory))) ≡ Some next →
     AtLazy next (record { call = c.call; own = event number (step_at (lazy_table v) place hold memory).act (step_at (lazy_table v) place hold memory).outcome ∷ c.own }) left
 steps_at v (places.Once onces.IsCompleted) c hold left memory number next at is = absurd at.own
-steps_at v (places.Once onces.Look) c hold left memory number next at is = look_leads c left (memory words.State) number _ onces.Begin next (memory words.State == 2) at.call tt refl is
+steps_at v (places.Once onces.Look) c hold left memory number next at is = look_leads c left (memory words.State) number _ onces.Begin next (memory words.State == 2) at.call tt refl (λ sees. look_led c.own (memory words.State) number (step_at (lazy_table v) (places.Once onces.Look) hold memory).outcome sees at.led.0.1) is
 steps_at v (places.Once onces.Begin) c hold left memory number next at is = exchange_leads c left (memory words.State) number _ next (memory words.State == 0) at.call is
 steps_at {T} v (places.Once onces.Run) c hold left memory number next at is =
     subst (λ p. AtLazy {T = T} p (record { call = c.call; own = event number acts.Ended thens.GoesOn ∷ c.own }) left) (some_same (places.Once onces.Complete) next is)
-    (record { call = at.call; own = omega arith; led = (λ no. absurd cc, λ _. refl, refl) })
+    (record { call = at.call; own = omega arith; led = (refl, refl) })
 steps_at {T} v (places.Once onces.Complete) c hold left memory number next at is =
     subst (λ p. AtLazy {T = T} p (record { call = c.call; own = event number (acts.Store words.State 2) thens.GoesOn ∷ c.own }) left) (some_same places.Read next is)
-    (record { call = at.call; own = refl; led = (λ no. absurd cc, λ no. absurd cc, refl) })
-steps_at v (places.Once onces.Stay) c hold left memory number next at is = look_leads c left (memory words.State) number _ onces.Stay next (memory words.State == 2) at.call at.own refl is
+    (record { call = at.call; own = refl; led = refl })
+steps_at v (places.Once onces.Stay) c hold left memory number next at is = look_leads c left (memory words.State) number _ onces.Stay next (memory words.State == 2) at.call at.own refl (λ sees. stay_led c.own (memory words.State) number (step_at (lazy_table v) (places.Once onces.Stay) hold memory).outcome sees at.led.0.1) is
 steps_at v places.Read c hold left memory number next at is = absurd cc
 
 -- no call of a lazy value stands, but an answer of a closure would change nothing
@@ -124,13 +121,17 @@ stays_here (places.Once onces.Complete) c hold e quiet misses begins ends shows 
 stays_here (places.Once onces.Stay) c hold e quiet misses begins ends shows at = rw misses at
 stays_here places.Read c hold e quiet misses begins ends shows at = rw shows at
 
+stays_led : {T : Type 0} (place : LazyPlace) (own : List (Event T)) (e : Event T) → is_step e.act ≡ false → is_exchange e.act ≡ false → IsWhereLed place own → IsWhereLed place (e ∷ own)
+stays_led (places.Once place) own e quiet misses led = (quiet_led place own e quiet misses led.0, rw quiet led.1)
+stays_led places.Read own e quiet misses led = rw quiet led
+
 pub lazy_kept : {T : Type 0} (v : T) → IsKept (lazy_table v) AtLazy
 lazy_kept v =
     record {
       begins = λ call place hold is allowed. begins_at call place hold is;
       steps = λ place c hold memory number next at free is. steps_at v place c hold _ memory number next at is;
-      answers = λ place c hold action number at waits. record { call = at.call; own = stays_here place c hold (event number (acts.Answered action) thens.GoesOn) refl refl refl refl refl at.own; led = at.led };
-      chooses = λ place c hold choice number at waits. record { call = at.call; own = stays_here place c hold (event number (acts.Chosen choice) thens.GoesOn) refl refl refl refl refl at.own; led = at.led };
+      answers = λ place c hold action number at waits. record { call = at.call; own = stays_here place c hold (event number (acts.Answered action) thens.GoesOn) refl refl refl refl refl at.own; led = stays_led place c.own (event number (acts.Answered action) thens.GoesOn) refl refl at.led };
+      chooses = λ place c hold choice number at waits. record { call = at.call; own = stays_here place c hold (event number (acts.Chosen choice) thens.GoesOn) refl refl refl refl refl at.own; led = stays_led place c.own (event number (acts.Chosen choice) thens.GoesOn) refl refl at.led };
     }
 
 -- A lazy value runs one closure.
@@ -181,28 +182,12 @@ two_since {T} z v parties (e ∷ past) run party c called seen = by_call (two_si
 pub record EventLaw {T : Type 0} (v : T) (party : ℕ) (past : List (Event T)) (pending : Option (PendingCall T)) (m : Move T) : Type 0 where
   pub cause : MatchBool (is_refusal m.outcome) (MatchOption pending ⊥ (λ c. LazyCause c.call party (event party m.act m.outcome ∷ past))) (Unit {0})
   pub own : MatchBool (is_end m.act) (AtLast is_begin (λ before. begins_in before ≡ 0) party past) (Unit {0})
-  pub runs :
-      MatchBool (is_step m.act)
-      (MatchOption pending ⊥ (λ c. MatchOption (last_of is_step c.own) (is_load m.act ≡ true) (λ before. IsNextStep (is_begin before) (is_end before) (shows_end before) m.act)))
-      (Unit {0})
   pub waits : MatchBool (is_load m.act) (MatchOption pending ⊥ (λ c. IfSome (last_of is_step c.own) (λ before. 1 ≤ begins_in past))) (Unit {0})
   pub answers :
       MatchBool (is_read m.act)
       ((m.act ≡ acts.ReadCell v) × (m.outcome ≡ thens.Answers (answers.Value v)) × (word_in (lazy_table v) past words.State ≡ 2) × (ends_in past ≡ 1))
       (m.outcome ≡ thens.GoesOn)
   pub spins : (stands m.outcome ≡ false) × (is_wake m.act ≡ false)
-
--- the step at a place follows the call's step before
-in_order :
-    {T : Type 0} (place : LazyPlace) (last : Option (Act T)) (act : Act T) → IsLed place last → (place ≡ places.Once onces.Look → is_load act ≡ true) → (place ≡ places.Once onces.Run → act ≡ acts.Ended) → (place ≡ places.Once onces.Complete → act ≡ acts.Store words.State 2) →
-    is_read act ≡ is_at_read place → MatchOption last (is_load act ≡ true) (λ before. IsNextStep (is_begin before) (is_end before) (shows_end before) act)
-in_order place None act led looks ends puts reads = looks led
-in_order {T} place (Some before) act led looks ends puts reads = by_test (is_begin before) (is_end before) led
-  where
-    by_test : (begun ended : Bool) → (begun ≡ true → place ≡ places.Once onces.Run) × (ended ≡ true → place ≡ places.Once onces.Complete) × (shows_end before ≡ is_at_read place) → IsNextStep {T = T} begun ended (shows_end before) act
-    by_test true ended led = ends (led.0 refl)
-    by_test false true led = puts (led.1 refl)
-    by_test false false led = reads ∙ sym led.2
 
 -- a step in the once inside goes on
 goes_on_at : (T : Type 0) (place : OncePlace) (found : ℕ) → outcome_of {T = T} (reads_next (found_after place found)) ≡ thens.GoesOn
@@ -229,35 +214,32 @@ goes_on_at T onces.Stay found = by_test (found == 2)
 goes_on_law :
     {T : Type 0} (v : T) (party : ℕ) (past : List (Event T)) (c : PendingCall T) (act : Act T) (outcome : Then T) → outcome ≡ thens.GoesOn → is_read act ≡ false → is_wake act ≡ false →
     MatchBool (is_end act) (AtLast is_begin (λ before. begins_in before ≡ 0) party past) (Unit {0}) →
-    MatchBool (is_step act) (MatchOption (last_of is_step c.own) (is_load act ≡ true) (λ before. IsNextStep (is_begin before) (is_end before) (shows_end before) act)) (Unit {0}) →
     MatchBool (is_load act) (IfSome (last_of is_step c.own) (λ before. 1 ≤ begins_in past)) (Unit {0}) → EventLaw v party past (Some c) (record { act = act; outcome = outcome })
-goes_on_law {T} v party past c act outcome goes reads wakes ends runs waits =
+goes_on_law {T} v party past c act outcome goes reads wakes ends waits =
     subst (λ (o : Then T). EventLaw v party past (Some c) (record { act = act; outcome = o })) (sym goes)
-    (record { cause = tt; own = ends; runs = runs; waits = waits; answers = rw reads refl; spins = (refl, wakes) })
+    (record { cause = tt; own = ends; waits = waits; answers = rw reads refl; spins = (refl, wakes) })
 
 step_law :
     {T : Type 0} (z : Arithmetic T) (v : T) (parties party : ℕ) (past : List (Event T)) → IsPast z (lazy_table v) parties past → (c : PendingCall T) → call_of party past ≡ Some c →
     (place : LazyPlace) (hold : Option HoldKind) → AtLazy place c hold → EventLaw v party past (Some c) (step_at (lazy_table v) place hold (word_in (lazy_table v) past))
 step_law z v parties party past run c called (places.Once onces.IsCompleted) hold at = absurd at.own
 step_law {T} z v parties party past run c called (places.Once onces.Look) hold at =
-    goes_on_law v party past c _ _ (goes_on_at T onces.Look _) refl refl tt (in_order (places.Once onces.Look) (last_of is_step c.own) (acts.Load words.State (word_in (lazy_table v) past words.State)) at.led (λ _. refl) (λ no. absurd cc) (λ no. absurd cc) refl) (rw at.own tt)
+    goes_on_law v party past c _ _ (goes_on_at T onces.Look _) refl refl tt (rw at.own tt)
 step_law {T} z v parties party past run c called (places.Once onces.Begin) hold at =
-    goes_on_law v party past c _ _ (goes_on_at T onces.Begin _) refl refl tt (in_order (places.Once onces.Begin) (last_of is_step c.own) (acts.Exchange words.State 0 1 (word_in (lazy_table v) past words.State) (word_in (lazy_table v) past words.State == 0)) at.led (λ no. absurd cc) (λ no. absurd cc) (λ no. absurd cc) refl) tt
+    goes_on_law v party past c _ _ (goes_on_at T onces.Begin _) refl refl tt tt
 step_law {T} z v parties party past run c called (places.Once onces.Run) hold at =
     let front = closure_front z (lazy_table v) parties (runs_one z v parties) past run in
-    goes_on_law v party past c _ _ (goes_on_at T onces.Run 0) refl refl (own_began z (lazy_table v) parties party past run c called at.own (at_most_one _ _ _ front.state).0)
-    (in_order (places.Once onces.Run) (last_of is_step c.own) _ at.led (λ no. absurd cc) (λ _. refl) (λ no. absurd cc) refl) tt
+    goes_on_law v party past c _ _ (goes_on_at T onces.Run 0) refl refl (own_began z (lazy_table v) parties party past run c called at.own (at_most_one _ _ _ front.state).0) tt
 step_law {T} z v parties party past run c called (places.Once onces.Complete) hold at =
-    goes_on_law v party past c _ _ (goes_on_at T onces.Complete 0) refl refl tt (in_order (places.Once onces.Complete) (last_of is_step c.own) _ at.led (λ no. absurd cc) (λ no. absurd cc) (λ _. refl) refl) tt
+    goes_on_law v party past c _ _ (goes_on_at T onces.Complete 0) refl refl tt tt
 step_law {T} z v parties party past run c called (places.Once onces.Stay) hold at =
-    goes_on_law v party past c _ _ (goes_on_at T onces.Stay _) refl refl tt (in_order (places.Once onces.Stay) (last_of is_step c.own) (acts.Load words.State (word_in (lazy_table v) past words.State)) at.led (λ _. refl) (λ no. absurd cc) (λ no. absurd cc) refl) (has_begun (last_of is_step c.own) (missed_since z (lazy_table v) parties (runs_one z v parties) past run party c called at.own))
+    goes_on_law v party past c _ _ (goes_on_at T onces.Stay _) refl refl tt (has_begun (last_of is_step c.own) (missed_since z (lazy_table v) parties (runs_one z v parties) past run party c called at.own))
 step_law z v parties party past run c called places.Read hold at =
     let two = two_since z v parties past run party c called at.own in
     let front = closure_front z (lazy_table v) parties (runs_one z v parties) past run in
     record {
       cause = tt;
       own = tt;
-      runs = in_order places.Read (last_of is_step c.own) (acts.ReadCell v) at.led (λ no. absurd cc) (λ no. absurd cc) (λ no. absurd cc) refl;
       waits = tt;
       answers = (refl, refl, two, complete_ended _ _ _ front.state two);
       spins = (refl, refl);
@@ -268,12 +250,39 @@ event_law :
 event_law {T} z v parties past e run =
     by_move (lazy_table v) (call_of e.party past) (hold_of (lazy_table v) e.party past) (word_in (lazy_table v) past) (λ (k : Option (PendingCall T)) (m : Move T). EventLaw v e.party past k m)
     run.0.0 (record { act = e.act; outcome = e.then })
-    (λ call _. record { cause = tt; own = tt; runs = tt; waits = tt; answers = refl; spins = (refl, refl) })
-    (λ action _. record { cause = tt; own = tt; runs = tt; waits = tt; answers = refl; spins = (refl, refl) })
-    (λ choice _. record { cause = tt; own = tt; runs = tt; waits = tt; answers = refl; spins = (refl, refl) })
+    (λ call _. record { cause = tt; own = tt; waits = tt; answers = refl; spins = (refl, refl) })
+    (λ action _. record { cause = tt; own = tt; waits = tt; answers = refl; spins = (refl, refl) })
+    (λ choice _. record { cause = tt; own = tt; waits = tt; answers = refl; spins = (refl, refl) })
     (λ c place _ called stage.
     step_law z v parties e.party past run.1 c called place (hold_of (lazy_table v) e.party past) (at_place z (lazy_table v) parties AtLazy (lazy_kept v) past run.1 e.party c place called stage))
     run.0.1.moved
+
+-- each step is its call's next
+
+-- a look goes on, whatever it saw
+looked_on : {T : Type 0} (w : ℕ) → looked {T = T} thens.GoesOn w ≡ thens.GoesOn
+looked_on {T} w = by_test (w == 2)
+  where
+    by_test : (b : Bool) → ◌≡◌ {A = Then T} (cond b thens.GoesOn thens.GoesOn) thens.GoesOn
+    by_test true = refl
+    by_test false = refl
+
+look_on : {T : Type 0} (own : List (Event T)) (w : ℕ) → IsLed onces.Look own → RunsOnce thens.GoesOn (has_tried own) (last_of is_step own) (acts.Load words.State w) thens.GoesOn
+look_on {T} own w led = subst (λ (o : Then T). RunsOnce thens.GoesOn (has_tried own) (last_of is_step own) (acts.Load words.State w) o) (looked_on w) (look_runs thens.GoesOn own w led)
+
+stay_on : {T : Type 0} (own : List (Event T)) (w : ℕ) → IsLed onces.Stay own → RunsOnce thens.GoesOn (has_tried own) (last_of is_step own) (acts.Load words.State w) thens.GoesOn
+stay_on {T} own w led = subst (λ (o : Then T). RunsOnce thens.GoesOn (has_tried own) (last_of is_step own) (acts.Load words.State w) o) (looked_on w) (stay_runs thens.GoesOn own w led)
+
+lazy_step :
+    {T : Type 0} (v : T) (place : LazyPlace) (c : PendingCall T) (hold : Option HoldKind) (memory : Word → ℕ) → AtLazy place c hold →
+    LazyStep v c.call c.own (step_at (lazy_table v) place hold memory).act (step_at (lazy_table v) place hold memory).outcome
+lazy_step v (places.Once onces.IsCompleted) c hold memory at = absurd at.own
+lazy_step {T} v (places.Once onces.Look) c hold memory at = rw (at.call, at.led.1, goes_on_at T onces.Look (memory words.State)) (look_on c.own (memory words.State) at.led.0)
+lazy_step {T} v (places.Once onces.Begin) c hold memory at = rw (at.call, at.led.1, goes_on_at T onces.Begin (memory words.State)) (begin_runs thens.GoesOn c.own (memory words.State) (memory words.State == 0) at.led.0)
+lazy_step v (places.Once onces.Run) c hold memory at = rw (at.call, at.led.1) (end_runs thens.GoesOn c.own at.led.0)
+lazy_step v (places.Once onces.Complete) c hold memory at = rw (at.call, at.led.1) (complete_runs thens.GoesOn c.own at.led.0)
+lazy_step {T} v (places.Once onces.Stay) c hold memory at = rw (at.call, at.led.1, goes_on_at T onces.Stay (memory words.State)) (stay_on c.own (memory words.State) at.led.0)
+lazy_step v places.Read c hold memory at = rw (at.call, at.led) (refl, refl)
 
 only_forces : {T : Type 0} (z : Arithmetic T) (v : T) (parties : ℕ) (past : List (Event T)) (e : Event T) → IsPast z (lazy_table v) parties past → OnlyForces (e ∷ past)
 only_forces {T} z v parties past e run = by_call (call_of e.party past) (each_call z (lazy_table v) parties AtLazy (lazy_kept v) past run e.party)
@@ -285,7 +294,7 @@ only_forces {T} z v parties past e run = by_call (call_of e.party past) (each_ca
 pub keeps_lazy : {T : Type 0} (z : Arithmetic T) (v : T) (parties : ℕ) (past : List (Event T)) → IsPast z (lazy_table v) parties past → KeepsLazy v past
 keeps_lazy z v parties [] run =
     let front = closure_front z (lazy_table v) parties (runs_one z v parties) [] run in
-    record { told = tt; exclusive = exclusive_unheld [] refl; cause = tt; law = record { unheld = refl; one = omega arith; ends = omega arith; own = tt; runs = tt; waits = tt; answers = tt; calls = tt; stays = tt; spins = tt; state = tells_state (lazy_table v) [] front.state } }
+    record { told = tt; exclusive = exclusive_unheld [] refl; cause = tt; law = record { unheld = refl; one = omega arith; ends = omega arith; own = tt; steps = tt; waits = tt; answers = tt; calls = tt; stays = tt; spins = tt; state = tells_state (lazy_table v) [] front.state } }
 keeps_lazy z v parties (e ∷ past) run =
     let event = event_law z v parties past e run in
     let front = closure_front z (lazy_table v) parties (runs_one z v parties) (e ∷ past) run in
@@ -301,7 +310,7 @@ keeps_lazy z v parties (e ∷ past) run =
             one = most.0;
             ends = most.2;
             own = event.own;
-            runs = event.runs;
+            steps = steps_as z (lazy_table v) parties AtLazy (LazyStep v) (lazy_kept v) (lazy_step v) (e ∷ past) run;
             waits = event.waits;
             answers = event.answers;
             calls = only_forces z v parties past e run.1;

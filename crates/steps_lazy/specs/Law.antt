@@ -1,19 +1,21 @@
 -- What a lazy value keeps at every front of every run: one closure runs, once, and every answer is its value, read after its end.
-use Rattle.std.specs.Prelude.{◌≡◌, ◌≤◌, ℕ, ◌==◌, Bool, true, false, List, [], ◌∷◌, MatchBool, MatchOption}
+use Rattle.std.specs.Prelude.{◌≡◌, ◌≤◌, ℕ, ◌==◌, Bool, true, false, List, [], ◌∷◌, Option, Some, None, MatchBool, MatchOption}
 use Rattle.steps_events.specs.declared.event.Word.TheVariants as words
 use Rattle.steps_events.specs.declared.event.Act.{Act}
 use Rattle.steps_events.specs.declared.event.Act.TheVariants as acts
 use Rattle.steps_events.specs.declared.event.Answer.TheVariants as answers
 use Rattle.steps_events.specs.declared.event.Call.{Call}
 use Rattle.steps_events.specs.declared.event.Call.TheVariants as calls
+use Rattle.steps_events.specs.declared.event.Then.{Then}
 use Rattle.steps_events.specs.declared.event.Then.TheVariants as thens
 use Rattle.steps_events.specs.declared.event.Event.{Event}
 use Rattle.steps_events.specs.Past.{call_of, holds_of, word_in}
 use Rattle.steps_events.specs.Moves.{is_step}
 use Rattle.steps_events.specs.Sights.{last_of}
+use Rattle.steps_events.specs.NextStep.{StepsAs}
 use Rattle.steps_events.specs.Waits.{OnlySpins}
 use Rattle.steps_events.specs.Laws.{Keeps}
-use Rattle.steps_once.specs.Closures.{is_begin, is_end, is_load, begins_in, ends_in, EndsItsOwn, WaitsForAnother, StaysTwo, TellsState}
+use Rattle.steps_once.specs.Closures.{begins_in, ends_in, EndsItsOwn, WaitsForAnother, StaysTwo, TellsState, has_tried, RunsOnce}
 use Rattle.steps_lazy.specs.Table.{lazy_table}
 
 -- no call of a lazy value is refused
@@ -39,7 +41,7 @@ abbrev pub OnlyForces : {T : Type 0} → List (Event T) → Type 0
 OnlyForces [] = Unit {0}
 OnlyForces (e ∷ past) = MatchOption (call_of e.party past) (Unit {0}) (λ c. c.call ≡ calls.Force)
 
--- The order of a call's steps.
+-- The steps.
 
 -- it saw the word at 2, or put it there
 abbrev pub shows_end : {T : Type 0} → Act T → Bool
@@ -47,18 +49,19 @@ shows_end (acts.Load words.State seen) = seen == 2
 shows_end (acts.Store words.State put) = put == 2
 shows_end act = false
 
--- what follows a step of a call, by whether that began its closure, ended it, or showed its end: its end; the store of 2; a read of the cell, which follows nothing else
-abbrev pub IsNextStep : {T : Type 0} → Bool → Bool → Bool → Act T → Type 0
-IsNextStep begun ended shown act =
-    MatchBool begun (act ≡ acts.Ended) (MatchBool ended (act ≡ acts.Store words.State 2) (is_read act ≡ shown))
+-- the call's latest step has shown the end
+abbrev pub has_shown : {T : Type 0} → Option (Act T) → Bool
+has_shown None = false
+has_shown (Some before) = shows_end before
 
--- so the latest event, if it is a step, follows its call's step before; the first of a call is a look
-abbrev pub RunsInOrder : {T : Type 0} → List (Event T) → Type 0
-RunsInOrder [] = Unit {0}
-RunsInOrder (e ∷ past) =
-    MatchBool (is_step e.act)
-    (MatchOption (call_of e.party past) ⊥ (λ c. MatchOption (last_of is_step c.own) (is_load e.act ≡ true) (λ before. IsNextStep (is_begin before) (is_end before) (shows_end before) e.act)))
-    (Unit {0})
+-- The next step of a `Force`, by its own before, where the closure gives v: once a step has shown the end, a read of the cell, which answers what it reads; until then the
+-- step of a once, which never ends the call. No other call has one.
+abbrev pub LazyStep : {T : Type 0} → T → Call T → List (Event T) → Act T → Then T → Type 0
+LazyStep v calls.Force own act outcome =
+    MatchBool (has_shown (last_of is_step own))
+    ((act ≡ acts.ReadCell v) × (outcome ≡ thens.Answers (answers.Value v)))
+    (RunsOnce thens.GoesOn (has_tried own) (last_of is_step own) act outcome)
+LazyStep v other own act outcome = ⊥
 
 -- What a lazy value keeps beside what every object does.
 pub record LazyLaw {T : Type 0} (v : T) (past : List (Event T)) : Type 0 where
@@ -70,8 +73,8 @@ pub record LazyLaw {T : Type 0} (v : T) (past : List (Event T)) : Type 0 where
   pub ends : ends_in past ≤ begins_in past
   -- it ends in the call that began it
   pub own : EndsItsOwn past
-  -- a call looks first; the one that begins the closure ends it at its next step, then stores 2, and then reads the cell; any other reads where it has just seen 2
-  pub runs : RunsInOrder past
+  -- each step is the one that follows its call's own, and leaves it by what it tells
+  pub steps : StepsAs (LazyStep v) past
   -- a call waits only for a closure that has begun
   pub waits : WaitsForAnother past
   -- every answer is v, read from the cell after the closure's end; an event that reads nothing answers nothing

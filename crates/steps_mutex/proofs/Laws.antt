@@ -208,6 +208,12 @@ lock_left patience own w false true true tried keeps spins = rw (tried.so.keeps,
 lock_left patience own w false true false tried keeps spins = rw (tried.so.keeps, keeps, tried.so.spun, spins) refl
 lock_left patience own w false false left tried keeps spins = rw (tried.so.keeps, keeps) refl
 
+tried_left :
+    {T : Type 0} (own : List (Event T)) (w : ℕ) (b : Bool) →
+    IsLeftBy calls.TryLock own (acts.Exchange words.State 0 1 w b) (outcome_of {T = T} {P = MutexPlace} (cond b (afters.Ends answers.Success) (afters.Ends answers.Interrupted)))
+tried_left own w true = refl
+tried_left own w false = refl
+
 try_lock_law :
     {T P : Type 0} (t : Table T P) (party : ℕ) (past : List (Event T)) (hold : Option HoldKind) (c : PendingCall T) (w : ℕ) (b : Bool) → GrantsWrite t → c.call ≡ calls.TryLock → c.own ≡ [] → hold ≡ None → (w == 0) ≡ b → IsFreeOrHeld w (holds_of t past) →
     EventLaw t party past hold (Some c) (record { act = acts.Exchange words.State 0 1 w b; outcome = outcome_of {T = T} {P = MutexPlace} (cond b (afters.Ends answers.Success) (afters.Ends answers.Interrupted)) })
@@ -273,15 +279,25 @@ lock_law {T} t party past hold c w false (afters.Ends answers.Interrupted) grant
     }
 lock_law t party past hold c w done other grants called is free e law leads steps = absurd leads
 
+-- each step is its call's next, also of a mutex inside another object
+pub next_step :
+    {T : Type 0} (place : MutexPlace) (c : PendingCall T) (hold : Option HoldKind) (memory : Word → ℕ) → AtMutex place c hold →
+    MutexStep {T = T} c.call c.own (step_at mutex_table place hold memory).act (step_at mutex_table place hold memory).outcome
+next_step places.TryLock c hold memory at = as_call calls.TryLock c.call c.own _ _ at.0 (at.2, refl, tried_left c.own (memory words.State) (memory words.State == 0))
+next_step (places.Lock patience) c hold memory at =
+    as_call calls.Lock c.call c.own _ _ at.0 (refl, lock_left patience c.own (memory words.State) (memory words.State == 0) patience.keep (nat_lt patience.spins 10000) at.1 refl refl)
+next_step places.Release c hold memory at = as_call calls.Unlock c.call c.own _ _ at.0 (rw at.2 (refl, refl))
+next_step places.Wake c hold memory at = as_call calls.Unlock c.call c.own _ _ at.0 (rw at.1 (refl, refl))
+
 pub step_law :
     {T P : Type 0} (t : Table T P) (party : ℕ) (past : List (Event T)) (c : PendingCall T) (place : MutexPlace) (hold : Option HoldKind) (memory : Word → ℕ) → GrantsWrite t → call_of party past ≡ Some c → AtMutex place c hold →
     IsFreeOrHeld (memory words.State) (holds_of t past) → EventLaw t party past hold (Some c) (step_at mutex_table place hold memory)
 step_law t party past c places.TryLock hold memory grants called at law = try_lock_law t party past hold c (memory words.State) (memory words.State == 0) grants at.0 at.2 at.1 refl law
 step_law t party past c (places.Lock patience) hold memory grants called at law =
     let w = memory words.State in
-    lock_law t party past hold c w (w == 0) (mutex_after (places.Lock patience) (Some w)) grants called at.0 at.2 refl law (lock_leads words.State patience c.own party w at.1) (as_call calls.Lock c.call c.own _ _ at.0 (refl, lock_left patience c.own w (w == 0) patience.keep (nat_lt patience.spins 10000) at.1 refl refl))
+    lock_law t party past hold c w (w == 0) (mutex_after (places.Lock patience) (Some w)) grants called at.0 at.2 refl law (lock_leads words.State patience c.own party w at.1) (next_step (places.Lock patience) c hold memory at)
 step_law t party past c places.Release hold memory grants called at law =
-    record { cause = tt; exact = another calls.Unlock c.call _ (sym at.0) (λ same. absurd cc); answers = tt; ends = refl; asks = tt; tries = tt; steps = as_call calls.Unlock c.call c.own _ _ at.0 (rw at.2 (refl, refl)) }
+    record { cause = tt; exact = another calls.Unlock c.call _ (sym at.0) (λ same. absurd cc); answers = tt; ends = refl; asks = tt; tries = tt; steps = next_step places.Release c hold memory at }
 step_law {T} t party past c places.Wake hold memory grants called at law =
     record {
       cause = tt;
@@ -290,7 +306,7 @@ step_law {T} t party past c places.Wake hold memory grants called at law =
       ends = tt;
       asks = tt;
       tries = tt;
-      steps = as_call calls.Unlock c.call c.own _ _ at.0 (rw at.1 (refl, refl));
+      steps = next_step places.Wake c hold memory at;
     }
 
 -- an act that does not see the word takes no hold

@@ -1,7 +1,7 @@
 -- A once keeps its law at every front of every run.
 use Rattle.std.proofs.Common.{◌≡◌, ℕ, ◌≤◌, ◌==◌, refl, sym, ◌∙◌, ap, subst, Bool, true, false, cond, List, [], ◌∷◌, Option, Some, None, arith}
 use Rattle.std.specs.Prelude.{IfSome, MatchBool, MatchOption, not}
-use Rattle.std.proofs.lemmas.Bool.{eqb-true, eq-eqb}
+use Rattle.std.proofs.lemmas.Bool.{eqb-true}
 use Rattle.steps_events.specs.declared.WaitAction.{WaitAction}
 use Rattle.steps_events.specs.declared.event.Word.{Word}
 use Rattle.steps_events.specs.declared.event.Word.TheVariants as words
@@ -9,7 +9,6 @@ use Rattle.steps_events.specs.declared.event.Call.{Call}
 use Rattle.steps_events.specs.declared.event.Call.TheVariants as calls
 use Rattle.steps_events.specs.declared.event.Act.{Act}
 use Rattle.steps_events.specs.declared.event.Act.TheVariants as acts
-use Rattle.steps_events.specs.declared.event.Answer.{Answer}
 use Rattle.steps_events.specs.declared.event.Answer.TheVariants as answers
 use Rattle.steps_events.specs.declared.event.Event.{Event}
 use Rattle.steps_events.specs.declared.event.Then.{Then}
@@ -22,18 +21,22 @@ use Rattle.steps_events.specs.Rows.{carried_out, value_told, outcome_of, place_a
 use Rattle.steps_events.specs.Past.{same_word, PendingCall, call_of, hold_of, word_in, word_after, event}
 use Rattle.steps_events.specs.Moves.{Move, step_at, is_step}
 use Rattle.steps_events.specs.Runs.{IsPast}
-use Rattle.steps_events.specs.Sights.{AtLast, acts_in, last_of}
+use Rattle.steps_events.specs.Sights.{AtLast, last_of}
+use Rattle.steps_events.specs.NextStep.{StepsAs}
 use Rattle.steps_events.specs.Waits.{stands, is_wake}
 use Rattle.steps_events.specs.Laws.{Lacks, is_refusal}
-use Rattle.steps_events.proofs.Holds.{some_same, eqb_other, no_holds, exclusive_unheld}
-use Rattle.steps_events.proofs.Steps.{by_move, carried_is_step, tells_memory}
+use Rattle.steps_events.proofs.Holds.{some_same, no_holds, exclusive_unheld}
+use Rattle.steps_events.proofs.Steps.{by_move, tells_memory}
 use Rattle.steps_events.proofs.Parties.{IsKept, at_place}
+use Rattle.steps_events.proofs.Asks.{both_kept}
+use Rattle.steps_events.proofs.NextStep.{steps_as}
 use Rattle.steps_events.proofs.Own.{own_among}
 use Rattle.steps_once.specs.declared.OncePlace.{OncePlace}
 use Rattle.steps_once.specs.declared.OncePlace.TheVariants as places
 use Rattle.steps_once.specs.Table.{once_table, once_begins, once_intent, found_after, once_after}
 use Rattle.steps_once.specs.Closures.{is_begin, is_end, is_load, begins_in, ends_in}
-use Rattle.steps_once.specs.Law.{OnceCause, is_look, IsNextStep, RunsInOrder, IsAnswerOf, answer_of, tells_end, flag_of, IsLeftAt, load_of, is_done, KeepsOnce}
+use Rattle.steps_once.proofs.ClosureSteps.{IsLed, look_led, stay_led, begin_led, miss_led, quiet_led, look_runs, stay_runs, begin_runs, end_runs, complete_runs}
+use Rattle.steps_once.specs.Law.{OnceCause, OnceStep, tells_end, flag_of, is_done, KeepsOnce}
 use Rattle.steps_once.proofs.Closures.{is_running, has_missed, missed_since, IsClosureIntent, RunsOneClosure, IsState, at_most_one, complete_ended, closure_front, stays_complete, tells_state, own_began}
 
 -- What is kept of a call at its place.
@@ -174,110 +177,67 @@ its_call_kept =
       chooses = λ place c hold choice number at stands. at;
     }
 
--- What a call's step before was, at each place.
+-- What it has made at each place.
 
--- its latest step, by whether it began a closure, or ended one
-abbrev pub HasMade : {T : Type 0} → Bool → Bool → List (Event T) → Type 0
-HasMade {T} begun ended own = (before : Act T) × (last_of is_step own ≡ Some before) × (is_begin before ≡ begun) × (is_end before ≡ ended)
+abbrev IsWhereLed : {T : Type 0} → OncePlace → PendingCall T → Option HoldKind → Type 0
+IsWhereLed place c hold = IsLed place c.own
 
-abbrev pub IsWhereLed : {T : Type 0} → OncePlace → PendingCall T → Option HoldKind → Type 0
-IsWhereLed places.IsCompleted c hold = last_of is_step c.own ≡ None
-IsWhereLed places.Look c hold = (last_of is_step c.own ≡ None) × (acts_in is_step c.own ≡ 0)
-IsWhereLed places.Begin c hold = HasMade false false c.own × (acts_in is_step c.own ≡ 1)
-IsWhereLed places.Run c hold = HasMade true false c.own
-IsWhereLed places.Complete c hold = HasMade false true c.own
-IsWhereLed places.Stay c hold = HasMade false false c.own × (2 ≤ acts_in is_step c.own)
+begins_led : {T : Type 0} (call : Call T) (place : OncePlace) → once_begins call ≡ Some place → IsLed {T = T} place []
+begins_led {T} calls.IsCompleted place is = subst (λ p. IsLed {T = T} p []) (some_same places.IsCompleted place is) refl
+begins_led {T} calls.CallOnce place is = subst (λ p. IsLed {T = T} p []) (some_same places.Look place is) (refl, refl)
+begins_led other place is = absurd cc
 
-begins_led : {T : Type 0} (call : Call T) (place : OncePlace) (hold : Option HoldKind) → once_begins call ≡ Some place → IsWhereLed {T = T} place (record { call = call; own = [] }) hold
-begins_led {T} calls.IsCompleted place hold is = subst (λ p. IsWhereLed {T = T} p (record { call = calls.IsCompleted; own = [] }) hold) (some_same places.IsCompleted place is) refl
-begins_led {T} calls.CallOnce place hold is = subst (λ p. IsWhereLed {T = T} p (record { call = calls.CallOnce; own = [] }) hold) (some_same places.Look place is) (refl, refl)
-begins_led other place hold is = absurd cc
+-- where a look leads, by whether it saw 2
+seen_leads :
+    {T : Type 0} (own : List (Event T)) (on next : OncePlace) (complete : Bool) (e : Event T) → (complete ≡ false → IsLed on (e ∷ own)) → place_after {T = T} (seen_after on complete) ≡ Some next → IsLed next (e ∷ own)
+seen_leads own on next true e led is = absurd cc
+seen_leads {T} own on next false e led is = subst (λ p. IsLed {T = T} p (e ∷ own)) (some_same on next is) (led refl)
 
--- where a step leads
-look_leads : {T : Type 0} (c : PendingCall T) (hold : Option HoldKind) (w number : ℕ) (outcome : Then T) (next : OncePlace) (complete : Bool) → acts_in is_step c.own ≡ 0 → place_after {T = T} (seen_after places.Begin complete) ≡ Some next →
-    IsWhereLed next (record { call = c.call; own = event number (acts.Load words.State w) outcome ∷ c.own }) hold
-look_leads c hold w number outcome next true first is = absurd cc
-look_leads {T} c hold w number outcome next false first is =
-    subst (λ p. IsWhereLed {T = T} p (record { call = c.call; own = event number (acts.Load words.State w) outcome ∷ c.own }) hold) (some_same places.Begin next is)
-    ((acts.Load words.State w, refl, refl, refl), omega (arith, first))
-
-exchange_leads : {T : Type 0} (c : PendingCall T) (hold : Option HoldKind) (w number : ℕ) (outcome : Then T) (next : OncePlace) (done : Bool) → acts_in is_step c.own ≡ 1 → place_after {T = T} (begin_after done) ≡ Some next →
-    IsWhereLed next (record { call = c.call; own = event number (acts.Exchange words.State 0 1 w done) outcome ∷ c.own }) hold
-exchange_leads {T} c hold w number outcome next true second is =
-    subst (λ p. IsWhereLed {T = T} p (record { call = c.call; own = event number (acts.Exchange words.State 0 1 w true) outcome ∷ c.own }) hold) (some_same places.Run next is)
-    (acts.Exchange words.State 0 1 w true, refl, refl, refl)
-exchange_leads {T} c hold w number outcome next false second is =
-    subst (λ p. IsWhereLed {T = T} p (record { call = c.call; own = event number (acts.Exchange words.State 0 1 w false) outcome ∷ c.own }) hold) (some_same places.Stay next is)
-    ((acts.Exchange words.State 0 1 w false, refl, refl, refl), omega (arith, second))
-
-stay_leads : {T : Type 0} (c : PendingCall T) (hold : Option HoldKind) (w number : ℕ) (outcome : Then T) (next : OncePlace) (complete : Bool) → 2 ≤ acts_in is_step c.own → place_after {T = T} (seen_after places.Stay complete) ≡ Some next →
-    IsWhereLed next (record { call = c.call; own = event number (acts.Load words.State w) outcome ∷ c.own }) hold
-stay_leads c hold w number outcome next true later is = absurd cc
-stay_leads {T} c hold w number outcome next false later is =
-    subst (λ p. IsWhereLed {T = T} p (record { call = c.call; own = event number (acts.Load words.State w) outcome ∷ c.own }) hold) (some_same places.Stay next is)
-    ((acts.Load words.State w, refl, refl, refl), omega (arith, later))
+-- and the exchange, by whether it was done
+begin_leads :
+    {T : Type 0} (own : List (Event T)) (w number : ℕ) (outcome : Then T) (next : OncePlace) (done : Bool) → place_after {T = T} (begin_after done) ≡ Some next → IsLed next (event number (acts.Exchange words.State 0 1 w done) outcome ∷ own)
+begin_leads {T} own w number outcome next true is = subst (λ p. IsLed {T = T} p (event number (acts.Exchange words.State 0 1 w true) outcome ∷ own)) (some_same places.Run next is) (begin_led own w number outcome)
+begin_leads {T} own w number outcome next false is = subst (λ p. IsLed {T = T} p (event number (acts.Exchange words.State 0 1 w false) outcome ∷ own)) (some_same places.Stay next is) (miss_led own w number outcome)
 
 step_leads :
-    {T : Type 0} (place : OncePlace) (c : PendingCall T) (hold left : Option HoldKind) (memory : Word → ℕ) (number : ℕ) (next : OncePlace) → IsWhereLed place c hold →
+    {T : Type 0} (place : OncePlace) (c : PendingCall T) (hold : Option HoldKind) (memory : Word → ℕ) (number : ℕ) (next : OncePlace) → IsLed place c.own →
     place_after {T = T} (once_after place (value_told {T = T} (carried_out (once_intent words.State place) memory))) ≡ Some next →
-    IsWhereLed next (record { call = c.call; own = event number (step_at once_table place hold memory).act (step_at once_table place hold memory).outcome ∷ c.own }) left
-step_leads places.IsCompleted c hold left memory number next led is = absurd cc
-step_leads places.Look c hold left memory number next led is = look_leads c left (memory words.State) number _ next (memory words.State == 2) led.1 is
-step_leads places.Begin c hold left memory number next led is = exchange_leads c left (memory words.State) number _ next (memory words.State == 0) led.1 is
-step_leads {T} places.Run c hold left memory number next led is =
-    subst (λ p. IsWhereLed {T = T} p (record { call = c.call; own = event number acts.Ended thens.GoesOn ∷ c.own }) left) (some_same places.Complete next is) (acts.Ended, refl, refl, refl)
-step_leads places.Complete c hold left memory number next led is = absurd cc
-step_leads places.Stay c hold left memory number next led is = stay_leads c left (memory words.State) number _ next (memory words.State == 2) led.1 is
+    IsLed next (event number (step_at once_table place hold memory).act (step_at once_table place hold memory).outcome ∷ c.own)
+step_leads places.IsCompleted c hold memory number next led is = absurd cc
+step_leads places.Look c hold memory number next led is = seen_leads c.own places.Begin next (memory words.State == 2) _ (λ sees. look_led c.own (memory words.State) number (step_at once_table places.Look hold memory).outcome sees led.1) is
+step_leads places.Begin c hold memory number next led is = begin_leads c.own (memory words.State) number _ next (memory words.State == 0) is
+step_leads {T} places.Run c hold memory number next led is = subst (λ p. IsLed {T = T} p (event number acts.Ended thens.GoesOn ∷ c.own)) (some_same places.Complete next is) refl
+step_leads places.Complete c hold memory number next led is = absurd cc
+step_leads places.Stay c hold memory number next led is = seen_leads c.own places.Stay next (memory words.State == 2) _ (λ sees. stay_led c.own (memory words.State) number (step_at once_table places.Stay hold memory).outcome sees led.1) is
 
--- an answer of a closure is no step
-answer_led : {T : Type 0} (place : OncePlace) (c : PendingCall T) (hold : Option HoldKind) (e : Event T) → is_step e.act ≡ false → IsWhereLed place c hold → IsWhereLed place (record { call = c.call; own = e ∷ c.own }) hold
-answer_led places.IsCompleted c hold e quiet led = rw quiet led
-answer_led places.Look c hold e quiet led = rw quiet (led.0, omega (arith, led.1))
-answer_led places.Begin c hold e quiet led = rw quiet (led.0, omega (arith, led.1))
-answer_led places.Run c hold e quiet led = rw quiet led
-answer_led places.Complete c hold e quiet led = rw quiet led
-answer_led places.Stay c hold e quiet led = rw quiet (led.0, omega (arith, led.1))
-
-pub led_kept : {T : Type 0} → IsKept {T = T} once_table IsWhereLed
+led_kept : {T : Type 0} → IsKept {T = T} once_table IsWhereLed
 led_kept =
     record {
-      begins = λ call place hold is allowed. begins_led call place hold is;
-      steps = λ place c hold memory number next at free is. step_leads place c hold _ memory number next at is;
-      answers = λ place c hold action number at stands. answer_led place c hold (event number (acts.Answered action) thens.GoesOn) refl at;
-      chooses = λ place c hold choice number at stands. answer_led place c hold (event number (acts.Chosen choice) thens.GoesOn) refl at;
+      begins = λ call place hold is allowed. begins_led call place is;
+      steps = λ place c hold memory number next at free is. step_leads place c hold memory number next at is;
+      answers = λ place c hold action number at stands. quiet_led place c.own (event number (acts.Answered action) thens.GoesOn) refl refl at;
+      chooses = λ place c hold choice number at stands. quiet_led place c.own (event number (acts.Chosen choice) thens.GoesOn) refl refl at;
     }
 
--- so its next step follows that
+-- So its step there is its next.
 
--- how a step that was made goes on
-abbrev GoesOnFrom : {T : Type 0} → List (Event T) → Act T → Then T → Type 0
-GoesOnFrom own act outcome = MatchOption (last_of is_step own) (is_look act ≡ true) (λ before. IsNextStep (is_begin before) (is_end before) (acts_in is_step own == 1) act outcome)
+seen_outcome : {T : Type 0} (on : OncePlace) (complete : Bool) → outcome_of {T = T} (seen_after on complete) ≡ cond complete (thens.Answers answers.Done) thens.GoesOn
+seen_outcome on true = refl
+seen_outcome on false = refl
 
-step_runs :
-    {T : Type 0} (c : PendingCall T) (place : OncePlace) (hold : Option HoldKind) (memory : Word → ℕ) → IsWhereLed place c hold →
-    GoesOnFrom {T = T} c.own (step_at once_table place hold memory).act (step_at once_table place hold memory).outcome
-step_runs c places.IsCompleted hold memory led = rw led refl
-step_runs c places.Look hold memory led = rw led.0 refl
-step_runs c places.Begin hold memory led = rw (led.0.1, led.0.2, led.0.3, led.1) refl
-step_runs c places.Run hold memory led = rw (led.1, led.2) refl
-step_runs c places.Complete hold memory led = rw (led.1, led.2, led.3) (refl, refl)
-step_runs c places.Stay hold memory led = rw (led.0.1, led.0.2, led.0.3, eqb_other (acts_in is_step c.own) 1 (λ one. absurd (omega (arith, one, led.1)))) refl
+begin_outcome : {T : Type 0} (done : Bool) → outcome_of {T = T} (begin_after done) ≡ thens.GoesOn
+begin_outcome true = refl
+begin_outcome false = refl
 
-abbrev MoveRuns : {T : Type 0} → Option (PendingCall T) → Move T → Type 0
-MoveRuns {T} pending m = MatchBool (is_step m.act) (MatchOption pending ⊥ (λ c. GoesOnFrom {T = T} c.own m.act m.outcome)) (Unit {0})
-
-move_runs : {T : Type 0} (c : PendingCall T) (place : OncePlace) (hold : Option HoldKind) (memory : Word → ℕ) → IsWhereLed place c hold → MoveRuns (Some c) (step_at once_table place hold memory)
-move_runs c place hold memory led = rw (carried_is_step (once_intent words.State place) memory) (step_runs c place hold memory led)
-
-runs_in_order : {T : Type 0} (z : Arithmetic T) (parties : ℕ) (past : List (Event T)) → IsPast z once_table parties past → RunsInOrder past
-runs_in_order z parties [] run = tt
-runs_in_order {T} z parties (e ∷ past) run =
-    by_move once_table (call_of e.party past) (hold_of once_table e.party past) (word_in once_table past) (λ (k : Option (PendingCall T)) (m : Move T). MoveRuns k m)
-    run.0.0 (record { act = e.act; outcome = e.then })
-    (λ call _. tt) (λ action _. tt) (λ choice _. tt)
-    (λ c place _ called stage.
-    move_runs c place (hold_of once_table e.party past) (word_in once_table past) (at_place z once_table parties IsWhereLed led_kept past run.1 e.party c place called stage))
-    run.0.1.moved
+once_step :
+    {T : Type 0} (place : OncePlace) (c : PendingCall T) (hold : Option HoldKind) (memory : Word → ℕ) → IsItsCall place c hold × IsLed place c.own →
+    OnceStep {T = T} c.call c.own (step_at once_table place hold memory).act (step_at once_table place hold memory).outcome
+once_step places.IsCompleted c hold memory at = rw at.0 (at.1, refl)
+once_step places.Look c hold memory at = rw (at.0, seen_outcome places.Begin (memory words.State == 2)) (look_runs (thens.Answers answers.Done) c.own (memory words.State) at.1)
+once_step places.Begin c hold memory at = rw (at.0, begin_outcome (memory words.State == 0)) (begin_runs (thens.Answers answers.Done) c.own (memory words.State) (memory words.State == 0) at.1)
+once_step places.Run c hold memory at = rw at.0 (end_runs (thens.Answers answers.Done) c.own at.1)
+once_step places.Complete c hold memory at = rw at.0 (complete_runs (thens.Answers answers.Done) c.own at.1)
+once_step places.Stay c hold memory at = rw (at.0, seen_outcome places.Stay (memory words.State == 2)) (stay_runs (thens.Answers answers.Done) c.own (memory words.State) at.1)
 
 -- A once runs one closure.
 
@@ -302,37 +262,23 @@ pub record EventLaw {T : Type 0} (party : ℕ) (past : List (Event T)) (w : ℕ)
   pub cause : MatchBool (is_refusal m.outcome) (MatchOption pending ⊥ (λ c. OnceCause c.call party (event party m.act m.outcome ∷ past))) (Unit {0})
   pub own : MatchBool (is_end m.act) (AtLast is_begin (λ before. begins_in before ≡ 0) party past) (Unit {0})
   pub waits : MatchBool (is_load m.act) (MatchOption pending ⊥ (λ c. IfSome (last_of is_step c.own) (λ before. 1 ≤ begins_in past))) (Unit {0})
-  pub suits : IfSome (answer_of m.outcome) (λ answer. MatchOption pending ⊥ (λ c. IsAnswerOf c.call answer))
   pub answers : MatchBool (tells_end m.outcome) (ends_in past ≡ 1) (Unit {0})
   pub tells : IfSome (flag_of m.outcome) (λ flag. flag ≡ (w == 2))
-  pub leaves : IfSome (load_of m.act) (λ seen. MatchOption pending ⊥ (λ c. IsLeftAt c.call seen m.outcome))
   pub done : MatchBool (is_done m.outcome) (word_after words.State m.act w ≡ 2) (Unit {0})
   pub spins : (stands m.outcome ≡ false) × (is_wake m.act ≡ false)
 
--- an answer of the call whose place it is
-suits_at : {T : Type 0} (c : PendingCall T) (place : OncePlace) (answer : Answer T) → c.call ≡ call_at place → IsAnswerOf (call_at place) answer → IsAnswerOf c.call answer
-suits_at {T} c place answer its suits = subst (λ (call : Call T). IsAnswerOf call answer) (sym its) suits
-
--- and how its load leaves it
-left_at : {T : Type 0} (c : PendingCall T) (place : OncePlace) (seen : ℕ) (outcome : Then T) → c.call ≡ call_at place → IsLeftAt (call_at place) seen outcome → IsLeftAt c.call seen outcome
-left_at {T} c place seen outcome its left = subst (λ (call : Call T). IsLeftAt call seen outcome) (sym its) left
-
--- a look that saw another value goes on
-goes_on_unless_2 : {T : Type 0} (w : ℕ) → (w == 2) ≡ false → IsLeftAt {T = T} calls.CallOnce w thens.GoesOn
-goes_on_unless_2 w sees = (λ is. absurd cc, λ is. let no : true ≡ false = sym (eq-eqb w 2 is) ∙ sees in absurd cc)
-
 -- of a load
 flag_law :
-    {T : Type 0} (party : ℕ) (past : List (Event T)) (c : PendingCall T) (w : ℕ) (flag : Bool) → c.call ≡ calls.IsCompleted → last_of is_step c.own ≡ None → IsState w (begins_in past) (ends_in past) → (w == 2) ≡ flag →
+    {T : Type 0} (party : ℕ) (past : List (Event T)) (c : PendingCall T) (w : ℕ) (flag : Bool) → last_of is_step c.own ≡ None → IsState w (begins_in past) (ends_in past) → (w == 2) ≡ flag →
     EventLaw party past w (Some c) (record { act = acts.Load words.State w; outcome = thens.Answers (answers.Flag flag) })
-flag_law party past c w true its first state sees = record { cause = tt; own = tt; waits = rw first tt; suits = suits_at c places.IsCompleted _ its (true, refl); answers = complete_ended _ _ _ state (eqb-true w 2 sees); tells = sym sees; leaves = left_at c places.IsCompleted w _ its (ap (λ flag. thens.Answers (answers.Flag flag)) (sym sees)); done = tt; spins = (refl, refl) }
-flag_law party past c w false its first state sees = record { cause = tt; own = tt; waits = rw first tt; suits = suits_at c places.IsCompleted _ its (false, refl); answers = tt; tells = sym sees; leaves = left_at c places.IsCompleted w _ its (ap (λ flag. thens.Answers (answers.Flag flag)) (sym sees)); done = tt; spins = (refl, refl) }
+flag_law party past c w true first state sees = record { cause = tt; own = tt; waits = rw first tt; answers = complete_ended _ _ _ state (eqb-true w 2 sees); tells = sym sees; done = tt; spins = (refl, refl) }
+flag_law party past c w false first state sees = record { cause = tt; own = tt; waits = rw first tt; answers = tt; tells = sym sees; done = tt; spins = (refl, refl) }
 
 seen_law :
-    {T : Type 0} (party : ℕ) (past : List (Event T)) (c : PendingCall T) (w : ℕ) (on : OncePlace) (complete : Bool) → c.call ≡ calls.CallOnce → IfSome (last_of is_step c.own) (λ before. 1 ≤ begins_in past) → IsState w (begins_in past) (ends_in past) → (w == 2) ≡ complete →
+    {T : Type 0} (party : ℕ) (past : List (Event T)) (c : PendingCall T) (w : ℕ) (on : OncePlace) (complete : Bool) → IfSome (last_of is_step c.own) (λ before. 1 ≤ begins_in past) → IsState w (begins_in past) (ends_in past) → (w == 2) ≡ complete →
     EventLaw party past w (Some c) (record { act = acts.Load words.State w; outcome = outcome_of {T = T} (seen_after on complete) })
-seen_law party past c w on true its waits state sees = record { cause = tt; own = tt; waits = waits; suits = suits_at c places.Look _ its refl; answers = complete_ended _ _ _ state (eqb-true w 2 sees); tells = tt; leaves = left_at c places.Look w _ its (λ _. eqb-true w 2 sees, λ _. refl); done = eqb-true w 2 sees; spins = (refl, refl) }
-seen_law party past c w on false its waits state sees = record { cause = tt; own = tt; waits = waits; suits = tt; answers = tt; tells = tt; leaves = left_at c places.Look w _ its (goes_on_unless_2 w sees); done = tt; spins = (refl, refl) }
+seen_law party past c w on true waits state sees = record { cause = tt; own = tt; waits = waits; answers = complete_ended _ _ _ state (eqb-true w 2 sees); tells = tt; done = eqb-true w 2 sees; spins = (refl, refl) }
+seen_law party past c w on false waits state sees = record { cause = tt; own = tt; waits = waits; answers = tt; tells = tt; done = tt; spins = (refl, refl) }
 
 -- whatever its step before was
 pub has_begun : {T : Type 0} {begins : ℕ} (last : Option (Act T)) → 1 ≤ begins → IfSome last (λ before. 1 ≤ begins)
@@ -342,21 +288,21 @@ has_begun (Some before) begun = begun
 begin_law :
     {T : Type 0} (party : ℕ) (past : List (Event T)) (c : PendingCall T) (w : ℕ) (done : Bool) →
     EventLaw party past w (Some c) (record { act = acts.Exchange words.State 0 1 w done; outcome = outcome_of {T = T} (begin_after done) })
-begin_law party past c w true = record { cause = tt; own = tt; waits = tt; suits = tt; answers = tt; tells = tt; leaves = tt; done = tt; spins = (refl, refl) }
-begin_law party past c w false = record { cause = tt; own = tt; waits = tt; suits = tt; answers = tt; tells = tt; leaves = tt; done = tt; spins = (refl, refl) }
+begin_law party past c w true = record { cause = tt; own = tt; waits = tt; answers = tt; tells = tt; done = tt; spins = (refl, refl) }
+begin_law party past c w false = record { cause = tt; own = tt; waits = tt; answers = tt; tells = tt; done = tt; spins = (refl, refl) }
 
 step_law :
     {T : Type 0} (z : Arithmetic T) (parties party : ℕ) (past : List (Event T)) → IsPast z once_table parties past → (c : PendingCall T) → call_of party past ≡ Some c →
-    (place : OncePlace) (hold : Option HoldKind) (memory : Word → ℕ) → AtOnce place c hold → c.call ≡ call_at place → IsState (memory words.State) (begins_in past) (ends_in past) →
+    (place : OncePlace) (hold : Option HoldKind) (memory : Word → ℕ) → AtOnce place c hold → IsState (memory words.State) (begins_in past) (ends_in past) →
     EventLaw party past (memory words.State) (Some c) (step_at once_table place hold memory)
-step_law z parties party past run c called places.IsCompleted hold memory at its state = flag_law party past c (memory words.State) (memory words.State == 2) its at state refl
-step_law z parties party past run c called places.Look hold memory at its state = seen_law party past c (memory words.State) places.Begin (memory words.State == 2) its (rw at tt) state refl
-step_law z parties party past run c called places.Begin hold memory at its state = begin_law party past c (memory words.State) (memory words.State == 0)
-step_law z parties party past run c called places.Run hold memory at its state =
-    record { cause = tt; own = own_began z once_table parties party past run c called at (at_most_one _ _ _ state).0; waits = tt; suits = tt; answers = tt; tells = tt; leaves = tt; done = tt; spins = (refl, refl) }
-step_law z parties party past run c called places.Complete hold memory at its state =
-    record { cause = tt; own = tt; waits = tt; suits = suits_at c places.Complete _ its refl; answers = omega (arith, at, own_among is_end past party c called, (at_most_one _ _ _ state).1); tells = tt; leaves = tt; done = refl; spins = (refl, refl) }
-step_law z parties party past run c called places.Stay hold memory at its state = seen_law party past c (memory words.State) places.Stay (memory words.State == 2) its (has_begun (last_of is_step c.own) (missed_since z once_table parties (runs_one z parties) past run party c called at)) state refl
+step_law z parties party past run c called places.IsCompleted hold memory at state = flag_law party past c (memory words.State) (memory words.State == 2) at state refl
+step_law z parties party past run c called places.Look hold memory at state = seen_law party past c (memory words.State) places.Begin (memory words.State == 2) (rw at tt) state refl
+step_law z parties party past run c called places.Begin hold memory at state = begin_law party past c (memory words.State) (memory words.State == 0)
+step_law z parties party past run c called places.Run hold memory at state =
+    record { cause = tt; own = own_began z once_table parties party past run c called at (at_most_one _ _ _ state).0; waits = tt; answers = tt; tells = tt; done = tt; spins = (refl, refl) }
+step_law z parties party past run c called places.Complete hold memory at state =
+    record { cause = tt; own = tt; waits = tt; answers = omega (arith, at, own_among is_end past party c called, (at_most_one _ _ _ state).1); tells = tt; done = refl; spins = (refl, refl) }
+step_law z parties party past run c called places.Stay hold memory at state = seen_law party past c (memory words.State) places.Stay (memory words.State == 2) (has_begun (last_of is_step c.own) (missed_since z once_table parties (runs_one z parties) past run party c called at)) state refl
 
 event_law :
     {T : Type 0} (z : Arithmetic T) (parties : ℕ) (past : List (Event T)) (e : Event T) → IsPast z once_table parties (e ∷ past) →
@@ -365,18 +311,22 @@ event_law {T} z parties past e run =
     by_move once_table (call_of e.party past) (hold_of once_table e.party past) (word_in once_table past)
     (λ (k : Option (PendingCall T)) (m : Move T). EventLaw e.party past (word_in once_table past words.State) k m)
     run.0.0 (record { act = e.act; outcome = e.then })
-    (λ call _. record { cause = tt; own = tt; waits = tt; suits = tt; answers = tt; tells = tt; leaves = tt; done = tt; spins = (refl, refl) })
-    (λ action _. record { cause = tt; own = tt; waits = tt; suits = tt; answers = tt; tells = tt; leaves = tt; done = tt; spins = (refl, refl) })
-    (λ choice _. record { cause = tt; own = tt; waits = tt; suits = tt; answers = tt; tells = tt; leaves = tt; done = tt; spins = (refl, refl) })
+    (λ call _. record { cause = tt; own = tt; waits = tt; answers = tt; tells = tt; done = tt; spins = (refl, refl) })
+    (λ action _. record { cause = tt; own = tt; waits = tt; answers = tt; tells = tt; done = tt; spins = (refl, refl) })
+    (λ choice _. record { cause = tt; own = tt; waits = tt; answers = tt; tells = tt; done = tt; spins = (refl, refl) })
     (λ c place _ called stage.
     step_law z parties e.party past run.1 c called place (hold_of once_table e.party past) (word_in once_table past)
-    (at_place z once_table parties AtOnce once_kept past run.1 e.party c place called stage) (at_place z once_table parties IsItsCall its_call_kept past run.1 e.party c place called stage)
+    (at_place z once_table parties AtOnce once_kept past run.1 e.party c place called stage)
     (closure_front z once_table parties (runs_one z parties) past run.1).state)
     run.0.1.moved
 
+each_steps : {T : Type 0} (z : Arithmetic T) (parties : ℕ) (past : List (Event T)) → IsPast z once_table parties past → StepsAs OnceStep past
+each_steps z parties past run =
+    steps_as z once_table parties (λ place c hold. IsItsCall place c hold × IsWhereLed place c hold) OnceStep (both_kept once_table IsItsCall IsWhereLed its_call_kept led_kept) once_step past run
+
 pub keeps_once : {T : Type 0} (z : Arithmetic T) (parties : ℕ) (past : List (Event T)) → IsPast z once_table parties past → KeepsOnce past
 keeps_once z parties [] run =
-    record { told = tt; exclusive = exclusive_unheld [] refl; cause = tt; law = record { unheld = refl; one = omega arith; ends = omega arith; own = tt; runs = tt; waits = tt; suits = tt; answers = tt; tells = tt; leaves = tt; done = tt; stays = tt; spins = tt; state = tells_state once_table [] (closure_front z once_table parties (runs_one z parties) [] run).state } }
+    record { told = tt; exclusive = exclusive_unheld [] refl; cause = tt; law = record { unheld = refl; one = omega arith; ends = omega arith; own = tt; steps = tt; waits = tt; answers = tt; tells = tt; done = tt; stays = tt; spins = tt; state = tells_state once_table [] (closure_front z once_table parties (runs_one z parties) [] run).state } }
 keeps_once z parties (e ∷ past) run =
     let event = event_law z parties past e run in
     let front = closure_front z once_table parties (runs_one z parties) (e ∷ past) run in
@@ -386,7 +336,7 @@ keeps_once z parties (e ∷ past) run =
       told = tells_memory z once_table parties (e ∷ past) run;
       exclusive = exclusive_unheld _ unheld;
       cause = event.cause;
-      law = record { unheld = unheld; one = most.0; ends = most.2; own = event.own; runs = runs_in_order z parties (e ∷ past) run; waits = event.waits; suits = event.suits; answers = event.answers; tells = event.tells; leaves = event.leaves; done = event.done; stays = stays_complete z once_table parties (runs_one z parties) past e run; spins = event.spins; state = tells_state once_table (e ∷ past) front.state };
+      law = record { unheld = unheld; one = most.0; ends = most.2; own = event.own; steps = each_steps z parties (e ∷ past) run; waits = event.waits; answers = event.answers; tells = event.tells; done = event.done; stays = stays_complete z once_table parties (runs_one z parties) past e run; spins = event.spins; state = tells_state once_table (e ∷ past) front.state };
     }
 
 -- a once has no other word

@@ -1,2 +1,3 @@
 pub mod Closures
+pub mod ClosureSteps
 pub mod Laws

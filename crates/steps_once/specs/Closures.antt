@@ -1,13 +1,15 @@
 -- A closure that runs once: where it begins and ends, and what the word tells of it, at any table whose word is a once's.
-use Rattle.std.specs.Prelude.{◌≡◌, ◌≤◌, ℕ, ◌↔◌, Bool, true, false, List, [], ◌∷◌, IfSome, MatchBool, MatchOption}
+use Rattle.std.specs.Prelude.{◌≡◌, ◌≤◌, ℕ, ◌==◌, ◌↔◌, Bool, true, false, if◌then◌else◌, List, [], ◌∷◌, Option, Some, None, is_some, IfSome, MatchBool, MatchOption}
 use Rattle.steps_events.specs.declared.event.Word.TheVariants as words
 use Rattle.steps_events.specs.declared.event.Act.{Act}
 use Rattle.steps_events.specs.declared.event.Act.TheVariants as acts
 use Rattle.steps_events.specs.declared.event.Event.{Event}
+use Rattle.steps_events.specs.declared.event.Then.{Then}
+use Rattle.steps_events.specs.declared.event.Then.TheVariants as thens
 use Rattle.steps_events.specs.Tables.{Table}
 use Rattle.steps_events.specs.Past.{call_of, word_in}
 use Rattle.steps_events.specs.Moves.{is_step}
-use Rattle.steps_events.specs.Sights.{AtLast, is_done_exchange, acts_in, last_of}
+use Rattle.steps_events.specs.Sights.{AtLast, is_done_exchange, is_exchange, acts_in, last_of}
 
 -- a closure begins with an exchange that is done
 abbrev pub is_begin : {T : Type 0} → Act T → Bool
@@ -48,3 +50,29 @@ pub record TellsState {T P : Type 0} (t : Table T P) (past : List (Event T)) : T
   pub begun : (word_in t past words.State ≡ 0) ↔ (begins_in past ≡ 0)
   pub ended : word_in t past words.State ≡ 2 → ends_in past ≡ 1
   pub known : word_in t past words.State ≤ 2
+
+-- The steps of a call that brings a closure, by its own before.
+
+-- a look: a call that saw 2 is left so, and any other goes on
+abbrev pub LooksForTwo : {T : Type 0} → Then T → Act T → Then T → Type 0
+LooksForTwo complete (acts.Load words.State seen) outcome = outcome ≡ (if seen == 2 then complete else thens.GoesOn)
+LooksForTwo complete act outcome = ⊥
+
+-- the exchange of 0 for 1, after which the call goes on
+abbrev pub TriesToBegin : {T : Type 0} → Act T → Then T → Type 0
+TriesToBegin (acts.Exchange words.State from to found done) outcome = (from ≡ 0) × (to ≡ 1) × (outcome ≡ thens.GoesOn)
+TriesToBegin act outcome = ⊥
+
+-- the call has made its exchange
+abbrev pub has_tried : {T : Type 0} → List (Event T) → Bool
+has_tried own = is_some (last_of is_exchange own)
+
+-- What follows the latest step: nothing, and so a look; a look, and so the exchange, if the call has not yet made it, and else another look; the
+-- exchange, and so the closure's end where it was done, and a look where it failed; that end, and so the store of 2, which completes the call.
+abbrev pub RunsOnce : {T : Type 0} → Then T → Bool → Option (Act T) → Act T → Then T → Type 0
+RunsOnce complete tried None act outcome = LooksForTwo complete act outcome
+RunsOnce complete tried (Some (acts.Load word seen)) act outcome = MatchBool tried (LooksForTwo complete act outcome) (TriesToBegin act outcome)
+RunsOnce complete tried (Some (acts.Exchange word from to found true)) act outcome = (act ≡ acts.Ended) × (outcome ≡ thens.GoesOn)
+RunsOnce complete tried (Some (acts.Exchange word from to found false)) act outcome = LooksForTwo complete act outcome
+RunsOnce complete tried (Some acts.Ended) act outcome = (act ≡ acts.Store words.State 2) × (outcome ≡ complete)
+RunsOnce complete tried (Some other) act outcome = ⊥

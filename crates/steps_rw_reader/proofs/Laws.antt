@@ -96,7 +96,7 @@ try_read_leads {T} c hold v number next true try free sees is =
 try_read_leads c hold v number next false try free sees is = absurd cc
 
 -- how `ReadLock` goes on after a look, by whether a reader may enter
-abbrev read_after : {T : Type 0} → Patience → ℕ → Bool → After T RwReaderPlace
+abbrev pub read_after : {T : Type 0} → Patience → ℕ → Bool → After T RwReaderPlace
 read_after patience v b = cond b (afters.At (places.Read v (v + 1) patience)) (within places.ReadLook (refused patience v))
 
 read_leads :

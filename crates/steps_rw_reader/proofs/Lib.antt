@@ -1,3 +1,4 @@
 pub mod ReaderLocks
 pub mod Laws
+pub mod NextSteps
 pub mod AnswerLaws

@@ -1,6 +1,6 @@
 -- What a reader-preferring lock keeps at every front of every run: one writer or only readers, which its word counts, a cause for each
 -- refusal, and when a call asks its wait closure.
-use Rattle.std.specs.Prelude.{◌≡◌, ℕ, ◌+◌, ◌-◌, ◌%◌, ◌^◌, ◌<◌, ◌==◌, ◌↔◌, ◌⊎◌, Bool, true, false, not, if◌then◌else◌, List, [], ◌∷◌, MatchOption}
+use Rattle.std.specs.Prelude.{◌≡◌, ℕ, ◌+◌, ◌-◌, ◌%◌, ◌^◌, ◌<◌, ◌==◌, ◌↔◌, ◌⊎◌, Bool, true, false, not, if◌then◌else◌, List, [], ◌∷◌, None, MatchOption}
 use Rattle.steps_events.specs.declared.event.Word.TheVariants as words
 use Rattle.steps_events.specs.declared.event.Wake.TheVariants as wakes
 use Rattle.steps_events.specs.declared.event.Call.{Call}
@@ -8,6 +8,7 @@ use Rattle.steps_events.specs.declared.event.Call.TheVariants as calls
 use Rattle.steps_events.specs.declared.event.Act.{Act}
 use Rattle.steps_events.specs.declared.event.Act.TheVariants as acts
 use Rattle.steps_events.specs.declared.event.Answer.TheVariants as answers
+use Rattle.steps_events.specs.declared.event.Then.{Then}
 use Rattle.steps_events.specs.declared.event.Then.TheVariants as thens
 use Rattle.steps_events.specs.declared.event.Event.{Event}
 use Rattle.steps_events.specs.declared.hold.HoldKind.TheVariants as kinds
@@ -15,7 +16,9 @@ use Rattle.steps_events.specs.Past.{Hold, call_of, holds_of, word_in}
 use Rattle.steps_events.specs.HoldCounts.{reads_in, writes_in}
 use Rattle.steps_events.specs.RwAnswers.{AnswersByHold}
 use Rattle.steps_events.specs.Moves.{is_step}
-use Rattle.steps_events.specs.Sights.{is_sight, AtLastSight, HasAborted, HasMissed, spins_in}
+use Rattle.steps_events.specs.Sights.{is_sight, AtLastSight, HasAborted, HasMissed, spins_in, last_of}
+use Rattle.steps_events.specs.NextStep.{StepsAs, refused_waiting}
+use Rattle.steps_events.specs.RwSteps.{gives_up, reader_looked, ReadsIn, WritesIn}
 use Rattle.steps_events.specs.Asks.{SpinCount, AsksAfterSpinning, SpinsNoMore, sight_at, TellsRefusal, whole_call, AsksUntilAbort}
 use Rattle.steps_events.specs.Laws.{IsLocked, Keeps}
 use Rattle.steps_rw_reader.specs.Table.{lets_readers_in, rw_reader_table}
@@ -82,6 +85,27 @@ HasUnlocked (acts.Woke wakes.One ∷ acts.Add words.State old put ∷ []) = put 
 HasUnlocked (acts.Woke wakes.One ∷ acts.Store words.State put ∷ []) = put ≡ 0
 HasUnlocked done = ⊥
 
+-- What a call does next, by its own steps so far, and how it is left by what that tells.
+
+-- a release takes 1 from the word, or stores 0
+abbrev pub Releases : {T : Type 0} → Act T → Then T → Type 0
+Releases (acts.Add words.State old put) outcome = (put ≡ (old + (2 ^ 64 - 1)) % 2 ^ 64) × (outcome ≡ thens.GoesOn)
+Releases (acts.Store words.State put) outcome = (put ≡ 0) × (outcome ≡ thens.GoesOn)
+Releases act outcome = ⊥
+
+-- a refused call with a wait closure, which is told the value seen
+abbrev pub waits : {T : Type 0} → List (Event T) → ℕ → Then T
+waits own v = refused_waiting own (spins_in is_in_vain own) v
+
+-- the next step of each call; no other has one
+abbrev pub RwReaderStep : {T : Type 0} → Call T → List (Event T) → Act T → Then T → Type 0
+RwReaderStep calls.TryReadLock own act outcome = ReadsIn lets_readers_in 1 gives_up gives_up own act outcome
+RwReaderStep calls.ReadLock own act outcome = ReadsIn lets_readers_in 1 (waits own) (reader_looked lets_readers_in (waits own)) own act outcome
+RwReaderStep calls.TryWriteLock own act outcome = (last_of is_step own ≡ None) × WritesIn 0 gives_up act outcome
+RwReaderStep calls.WriteLock own act outcome = WritesIn 0 (waits own) act outcome
+RwReaderStep calls.Unlock own act outcome = MatchOption (last_of is_step own) (Releases act outcome) (λ before. (act ≡ acts.Woke wakes.One) × (outcome ≡ thens.Answers answers.Done))
+RwReaderStep other own act outcome = ⊥
+
 -- What a reader-preferring lock keeps beside what every object does.
 pub record RwReaderLaw {T : Type 0} (past : List (Event T)) : Type 0 where
   -- the word is the number of read holds, or 2^64 - 1 with one write hold and no other
@@ -98,6 +122,8 @@ pub record RwReaderLaw {T : Type 0} (past : List (Event T)) : Type 0 where
   pub tells : TellsRefusal (sight_at words.State) past
   -- and asked no more once it has answered Abort
   pub stops : AsksUntilAbort whole_call past
+  -- each step is the one that follows its call's own, and leaves it by what it tells
+  pub steps : StepsAs RwReaderStep past
 
 abbrev pub KeepsRwReader : {T : Type 0} → List (Event T) → Type 0
 KeepsRwReader past = Keeps rw_reader_table RwReaderCause RwReaderLaw past

@@ -36,27 +36,27 @@ use Rattle.steps_rw_writer.proofs.PlaceLaws.{AtRwWriter, rw_writer_kept, asked_n
 
 -- What a call that leaves has done, newest first.
 
-abbrev HasFreed : {T : Type 0} → Leaver → List (Act T) → Type 0
+abbrev pub HasFreed : {T : Type 0} → Leaver → List (Act T) → Type 0
 HasFreed leavers.Reader done = done ≡ acts.Add words.State 3 ((3 + (2 ^ 64 - 2)) % 2 ^ 64) ∷ []
 HasFreed leavers.Writer done = done ≡ acts.Store words.State 0 ∷ []
 HasFreed leavers.GivenUp done = Unit {0}
 
-abbrev HasCounted : {T : Type 0} → Leaver → List (Act T) → Type 0
+abbrev pub HasCounted : {T : Type 0} → Leaver → List (Act T) → Type 0
 HasCounted {T} who done = (count : ℕ) × (before : List (Act T)) × HasFreed who before × (done ≡ acts.Add words.Counter count ((count + 1) % 2 ^ 64) ∷ before)
 
-abbrev HasWokenOne : {T : Type 0} → Leaver → List (Act T) → Type 0
+abbrev pub HasWokenOne : {T : Type 0} → Leaver → List (Act T) → Type 0
 HasWokenOne leavers.Reader done = ⊥
 HasWokenOne {T} who done = (before : List (Act T)) × HasCounted who before × (done ≡ acts.Woke wakes.One ∷ before)
 
 -- and at each place where it leaves it has no hold any more, and asks nobody
-abbrev IsLeaving : {T : Type 0} → RwWriterPlace → List (Event T) → Option HoldKind → Type 0
+abbrev pub IsLeaving : {T : Type 0} → RwWriterPlace → List (Event T) → Option HoldKind → Type 0
 IsLeaving places.Release own hold = own ≡ []
 IsLeaving (places.Count who) own hold = (hold ≡ None) × (latest_outcome own ≡ thens.GoesOn) × HasFreed who (acts_of own)
 IsLeaving (places.WakeOne who) own hold = (hold ≡ None) × (latest_outcome own ≡ thens.GoesOn) × HasCounted who (acts_of own)
 IsLeaving (places.WakeAll who) own hold = (hold ≡ None) × (latest_outcome own ≡ thens.GoesOn) × HasWokenOne who (acts_of own)
 IsLeaving other own hold = Unit {0}
 
-abbrev IsAnswering : {T : Type 0} → RwWriterPlace → PendingCall T → Option HoldKind → Type 0
+abbrev pub IsAnswering : {T : Type 0} → RwWriterPlace → PendingCall T → Option HoldKind → Type 0
 IsAnswering place c hold = AtRwWriter place c hold × IsLeaving place c.own hold
 
 -- A locking call goes on within itself, or is refused.
@@ -218,7 +218,7 @@ chosen_leaving (places.WakeOne who) own hold choice number leaving stands = absu
 chosen_leaving (places.WakeAll who) own hold choice number leaving stands = absurd (offered_nothing own leaving.1 stands)
 chosen_leaving other own hold choice number leaving stands = tt
 
-answering_kept : {T : Type 0} → IsKept {T = T} rw_writer_table IsAnswering
+pub answering_kept : {T : Type 0} → IsKept {T = T} rw_writer_table IsAnswering
 answering_kept {T} =
     record {
       begins = λ call place hold is allowed. (rw_writer_kept.begins call place hold is allowed, begins_leaving {T = T} call place hold is);

@@ -8,5 +8,6 @@ pub mod WakeLaws
 pub mod SpinLaws
 pub mod MarkLaws
 pub mod AnswerLaws
+pub mod NextSteps
 pub mod AskLaws
 pub mod Causes

@@ -1,6 +1,6 @@
 -- What a writer-preferring lock keeps at every front of every run: one writer or only readers, which its word counts beside the mark; a mark
 -- of a call that is under way, which keeps readers out; a cause for each refusal; and when a wait closure is asked, and what it is told.
-use Rattle.std.specs.Prelude.{◌≡◌, ◌≢◌, ℕ, ◌+◌, ◌*◌, ◌-◌, ◌%◌, ◌^◌, ◌<◌, ◌==◌, ◌↔◌, ◌⊎◌, ◌&&◌, ◌||◌, not, Bool, true, false, if◌then◌else◌, List, [], ◌∷◌, Option, Some, None, MatchBool, MatchOption}
+use Rattle.std.specs.Prelude.{◌≡◌, ◌≢◌, ℕ, ◌+◌, ◌*◌, ◌-◌, ◌%◌, ◌^◌, ◌<◌, ◌==◌, nat_lt, ◌↔◌, ◌⊎◌, ◌&&◌, ◌||◌, not, Bool, true, false, if◌then◌else◌, List, [], ◌∷◌, Option, Some, None, MatchBool, MatchOption}
 use Rattle.steps_events.specs.declared.event.Word.TheVariants as words
 use Rattle.steps_events.specs.declared.event.Wake.TheVariants as wakes
 use Rattle.steps_events.specs.declared.event.Call.{Call}
@@ -8,16 +8,20 @@ use Rattle.steps_events.specs.declared.event.Call.TheVariants as calls
 use Rattle.steps_events.specs.declared.event.Act.{Act}
 use Rattle.steps_events.specs.declared.event.Act.TheVariants as acts
 use Rattle.steps_events.specs.declared.event.Answer.TheVariants as answers
+use Rattle.steps_events.specs.declared.event.Then.{Then}
 use Rattle.steps_events.specs.declared.event.Then.TheVariants as thens
 use Rattle.steps_events.specs.declared.event.Event.{Event}
 use Rattle.steps_events.specs.declared.hold.HoldKind.TheVariants as kinds
 use Rattle.steps_events.specs.Past.{Hold, call_of, holds_of, word_in, is_failure}
 use Rattle.steps_events.specs.HoldCounts.{reads_in, writes_in}
-use Rattle.steps_events.specs.RwAnswers.{AnswersByHold}
-use Rattle.steps_events.specs.Sights.{is_sight, is_beginning, AtLastSight, HasAborted, HasMissed, OtherWroteSinceSight, sight_of, goes_on, stands_at_wait, spins_in, last_of}
+use Rattle.steps_events.specs.RwAnswers.{acts_of, AnswersByHold}
+use Rattle.steps_events.specs.Moves.{is_step}
+use Rattle.steps_events.specs.Sights.{is_sight, is_beginning, AtLastSight, HasAborted, HasMissed, OtherWroteSinceSight, sight_of, goes_on, stands_at_wait, spins_in, last_of, keeps_asking}
+use Rattle.steps_events.specs.NextStep.{StepsAs, refused_waiting, step_before, Loads, Exchanges}
+use Rattle.steps_events.specs.RwSteps.{gives_up, reader_looked, ReadsIn, WritesIn}
 use Rattle.steps_events.specs.Asks.{SpinCount, but_last_try, AsksAfterSpinning, SpinsNoMore, Refusing, TellsRefusal, whole_call, AsksUntilAbort}
 use Rattle.steps_events.specs.Laws.{IsLocked, Keeps}
-use Rattle.steps_rw_writer.specs.Table.{lets_readers_in, lets_writer_in, lets_mark, is_mark, rw_writer_table}
+use Rattle.steps_rw_writer.specs.Table.{lets_readers_in, lets_writer_in, lets_mark, is_marked, is_blocked, is_mark, rw_writer_table}
 use Rattle.steps_rw_writer.specs.Marks.{setter_of, is_marked_after, has_marked}
 use Rattle.steps_rw_writer.specs.Debts.{loads_count, is_blocked_after, NoWakeIsLost, PaysNext, ReadersAreWoken}
 
@@ -213,6 +217,106 @@ HasUnlocked (acts.Woke wakes.One ∷ acts.Add words.Counter count next ∷ acts.
 HasUnlocked (acts.Woke wakes.All ∷ acts.Woke wakes.One ∷ acts.Add words.Counter count next ∷ acts.Store words.State put ∷ []) = (put ≡ 0) × (next ≡ (count + 1) % 2 ^ 64)
 HasUnlocked done = ⊥
 
+-- What a call does next, by its own steps so far, and how it is left by what that tells.
+
+-- a refused reader, which is told the value seen
+abbrev pub reader_waits : {T : Type 0} → List (Event T) → ℕ → Then T
+reader_waits own v = refused_waiting own (spins_in is_read_in_vain own) v
+
+-- How what it saw leaves a writer. One that gives up goes on only to take the mark away.
+abbrev pub left_unmarking : {T : Type 0} → ℕ → Then T
+left_unmarking v = if is_marked v then thens.GoesOn else thens.Answers answers.Interrupted
+
+-- one that may not enter goes on as long as it keeps on asking
+abbrev pub left_refused : {T : Type 0} → Bool → ℕ → Then T
+left_refused asks v = if asks then thens.GoesOn else left_unmarking v
+
+-- after a look it goes on also where it may enter
+abbrev pub left_looking : {T : Type 0} → Bool → ℕ → Then T
+left_looking asks v = if lets_writer_in v then thens.GoesOn else left_refused asks v
+
+-- and after its last look it stands where the lock is blocked, and is told the count
+abbrev pub left_last : {T : Type 0} → Bool → ℕ → ℕ → Then T
+left_last asks count v = if is_blocked v then thens.Waits count else left_looking asks v
+
+abbrev pub goes_on_anyway : {T : Type 0} → ℕ → Then T
+goes_on_anyway v = thens.GoesOn
+
+-- What a writer does. It looks;
+abbrev pub LooksToWrite : {T : Type 0} → Bool → Act T → Then T → Type 0
+LooksToWrite asks act outcome = Loads words.State (left_looking asks) act outcome
+
+-- or spins, which is to look again, and after 10000 spins to load the counter;
+abbrev pub SpinsOrLoads : {T : Type 0} → Bool → ℕ → Act T → Then T → Type 0
+SpinsOrLoads asks spins act outcome = MatchBool (nat_lt spins 10000) (LooksToWrite asks act outcome) (Loads words.Counter goes_on_anyway act outcome)
+
+-- or sets the mark where it may, and else spins;
+abbrev pub MarksAt : {T : Type 0} → Bool → ℕ → ℕ → Act T → Then T → Type 0
+MarksAt asks spins v act outcome = MatchBool (lets_mark v) (Exchanges words.State v (v + 1) thens.GoesOn (left_looking asks) act outcome) (SpinsOrLoads asks spins act outcome)
+
+-- or takes the mark away where one is set;
+abbrev pub UnmarksAt : {T : Type 0} → ℕ → Act T → Then T → Type 0
+UnmarksAt v act outcome = MatchBool (is_marked v) (Exchanges words.State v (v - 1) thens.GoesOn left_unmarking act outcome) ⊥
+
+-- where it may not enter it marks or spins as long as it keeps on asking, and then unmarks
+abbrev pub RefusedAt : {T : Type 0} → Bool → ℕ → ℕ → Act T → Then T → Type 0
+RefusedAt asks spins v act outcome = MatchBool asks (MarksAt asks spins v act outcome) (UnmarksAt v act outcome)
+
+-- after a look at this value
+abbrev pub LookedAt : {T : Type 0} → Bool → ℕ → ℕ → Act T → Then T → Type 0
+LookedAt asks spins v act outcome = MatchBool (lets_writer_in v) (WritesIn v (left_refused asks) act outcome) (RefusedAt asks spins v act outcome)
+
+-- the counter's add
+abbrev pub CountsOne : {T : Type 0} → Act T → Then T → Type 0
+CountsOne (acts.Add words.Counter old put) outcome = (put ≡ (old + 1) % 2 ^ 64) × (outcome ≡ thens.GoesOn)
+CountsOne act outcome = ⊥
+
+-- After an exchange. One that set the mark: it spins. One that took it away: it counts. One that failed: to enter, it is refused by what it found; to set the mark,
+-- that is a look; to take it away, which only one does that has been told to give up, the same again.
+abbrev pub ExchangedFrom : {T : Type 0} → Bool → ℕ → ℕ → ℕ → ℕ → Bool → Act T → Then T → Type 0
+ExchangedFrom asks spins from to found true act outcome = MatchBool (is_mark from to) (SpinsOrLoads asks spins act outcome) (CountsOne act outcome)
+ExchangedFrom asks spins from to found false act outcome =
+    MatchBool (to == 2 ^ 64 - 1) (RefusedAt asks spins found act outcome)
+    (MatchBool (is_mark from to) (LookedAt asks spins found act outcome) (MatchBool asks ⊥ (UnmarksAt found act outcome)))
+
+-- What follows a writer's latest step, by whether it keeps on asking and by its spins before: nothing, and so a look; the counter's load, and so its last look; a look; an
+-- exchange; and of one that has taken the mark away the counter's add, a wake of one, and a wake of all.
+abbrev pub WriterStep : {T : Type 0} → Bool → ℕ → Option (Act T) → Act T → Then T → Type 0
+WriterStep asks spins None act outcome = LooksToWrite asks act outcome
+WriterStep asks spins (Some (acts.Load words.Counter count)) act outcome = Loads words.State (left_last asks count) act outcome
+WriterStep asks spins (Some (acts.Load word v)) act outcome = LookedAt asks spins v act outcome
+WriterStep asks spins (Some (acts.Exchange word from to found done)) act outcome = ExchangedFrom asks spins from to found done act outcome
+WriterStep asks spins (Some (acts.Add word old put)) act outcome = (act ≡ acts.Woke wakes.One) × (outcome ≡ thens.GoesOn)
+WriterStep asks spins (Some (acts.Woke wake)) act outcome = (act ≡ acts.Woke wakes.All) × (outcome ≡ thens.Answers answers.Interrupted)
+WriterStep asks spins (Some other) act outcome = ⊥
+
+-- a release takes 2 from the word, which ends the call unless it was 3, or stores 0
+abbrev pub Releases : {T : Type 0} → Act T → Then T → Type 0
+Releases (acts.Add words.State old put) outcome = (put ≡ (old + (2 ^ 64 - 2)) % 2 ^ 64) × (outcome ≡ (if old == 3 then thens.GoesOn else thens.Answers answers.Done))
+Releases (acts.Store words.State put) outcome = (put ≡ 0) × (outcome ≡ thens.GoesOn)
+Releases act outcome = ⊥
+
+-- the wake of one ends the call of a reader; after that of the writer's comes that of all
+abbrev pub after_wake : {T : Type 0} → List (Act T) → Then T
+after_wake (acts.Store word put ∷ before) = thens.GoesOn
+after_wake before = thens.Answers answers.Done
+
+-- an `Unlock` releases, counts, wakes one, and wakes all
+abbrev pub UnlockStep : {T : Type 0} → List (Act T) → Act T → Then T → Type 0
+UnlockStep [] act outcome = Releases act outcome
+UnlockStep (acts.Add words.Counter old put ∷ before) act outcome = (act ≡ acts.Woke wakes.One) × (outcome ≡ after_wake before)
+UnlockStep (acts.Woke wake ∷ before) act outcome = (act ≡ acts.Woke wakes.All) × (outcome ≡ thens.Answers answers.Done)
+UnlockStep (released ∷ before) act outcome = CountsOne act outcome
+
+-- the next step of each call; no other has one
+abbrev pub RwWriterStep : {T : Type 0} → Call T → List (Event T) → Act T → Then T → Type 0
+RwWriterStep calls.TryReadLock own act outcome = ReadsIn lets_readers_in 2 gives_up gives_up own act outcome
+RwWriterStep calls.ReadLock own act outcome = ReadsIn lets_readers_in 2 (reader_waits own) (reader_looked lets_readers_in (reader_waits own)) own act outcome
+RwWriterStep calls.TryWriteLock own act outcome = (last_of is_step own ≡ None) × WritesIn 0 gives_up act outcome
+RwWriterStep calls.WriteLock own act outcome = WriterStep (keeps_asking own) (write_spins_in true own) (step_before own) act outcome
+RwWriterStep calls.Unlock own act outcome = UnlockStep (acts_of own) act outcome
+RwWriterStep other own act outcome = ⊥
+
 -- What a writer-preferring lock keeps beside what every object does.
 pub record RwWriterLaw {T : Type 0} (past : List (Event T)) : Type 0 where
   -- the word is twice the number of read holds and the mark, or 2^64 - 1 with one write hold and no other
@@ -245,6 +349,8 @@ pub record RwWriterLaw {T : Type 0} (past : List (Event T)) : Type 0 where
   pub pays : PaysNext past
   -- while a reader stands that saw an odd word, whoever makes the word even owes a wake of all until it has made it
   pub woken : ReadersAreWoken past
+  -- each step is the one that follows its call's own, and leaves it by what it tells
+  pub steps : StepsAs RwWriterStep past
 
 abbrev pub KeepsRwWriter : {T : Type 0} → List (Event T) → Type 0
 KeepsRwWriter past = Keeps rw_writer_table RwWriterCause RwWriterLaw past

@@ -16,35 +16,36 @@ use Rattle.steps_events.specs.declared.row.After.{After}
 use Rattle.steps_events.specs.declared.row.After.TheVariants as afters
 use Rattle.steps_events.specs.Arithmetic.{Arithmetic}
 use Rattle.steps_events.specs.Rows.{carried_out, value_told, outcome_of, place_after}
-use Rattle.steps_events.specs.Past.{Hold, same_word, PendingCall, call_of, holds_of, hold_of, hold_among, word_in, event, is_failure, failures_in}
-use Rattle.steps_events.specs.Moves.{Move, step_at, hold_fault, is_step}
+use Rattle.steps_events.specs.Past.{Hold, same_word, PendingCall, call_of, holds_of, hold_of, hold_among, word_in, latest_outcome, event, is_failure, failures_in}
+use Rattle.steps_events.specs.Moves.{Move, step_at, hold_fault, answer_fault, choose_fault, is_step}
 use Rattle.steps_events.specs.Runs.{IsPast}
 use Rattle.steps_events.specs.Waits.{stands, is_wake}
 use Rattle.steps_events.specs.Laws.{Lacks, is_refusal}
 use Rattle.steps_events.proofs.Holds.{eqb_same, some_same}
 use Rattle.steps_events.proofs.Steps.{by_move, tells_memory}
 use Rattle.steps_events.proofs.Parties.{IsKept, at_place}
+use Rattle.steps_events.proofs.NextStep.{steps_as}
 use Rattle.steps_events.proofs.Locks.{IsLock, IsLockIntent, IsFreeOrHeld, holds_after, lock_word, lock_exclusive}
 use Rattle.steps_spin.specs.declared.SpinPlace.{SpinPlace}
 use Rattle.steps_spin.specs.declared.SpinPlace.TheVariants as places
 use Rattle.steps_spin.specs.Table.{spin_table, spin_begins, spin_intent, spin_after}
-use Rattle.steps_spin.specs.Law.{SpinCause, is_unheld, IsLeft, IsItsStep, IsHandedOn, CountsHolds, KeepsSpin}
+use Rattle.steps_spin.specs.Law.{SpinCause, is_unheld, IsLeft, SpinStep, SwapsOne, IsHandedOn, CountsHolds, KeepsSpin}
 
--- What is kept of a call at its place: which call it is, and of `Unlock` that its party has a hold.
+-- What is kept of a call at its place: which call it is, of one that makes a single step that it has made none, and of `Unlock` that its party has a hold.
 
 abbrev pub AtSpin : {T : Type 0} → SpinPlace → PendingCall T → Option HoldKind → Type 0
-AtSpin places.TryLock c hold = c.call ≡ calls.TryLock
+AtSpin places.TryLock c hold = (c.call ≡ calls.TryLock) × (c.own ≡ [])
 AtSpin places.Lock c hold = (c.call ≡ calls.Lock) ⊎ (c.call ≡ calls.BlockingLock)
-AtSpin places.Release c hold = (c.call ≡ calls.Unlock) × (is_some hold ≡ true)
+AtSpin places.Release c hold = (c.call ≡ calls.Unlock) × (is_some hold ≡ true) × (c.own ≡ [])
 
 begins_at :
     {T : Type 0} (call : Call T) (place : SpinPlace) (hold : Option HoldKind) → spin_begins call ≡ Some place → hold_fault {T = T} spin_table call hold ≡ None →
     AtSpin {T = T} place (record { call = call; own = [] }) hold
-begins_at {T} calls.TryLock place hold is allowed = subst (λ p. AtSpin {T = T} p (record { call = calls.TryLock; own = [] }) hold) (some_same places.TryLock place is) refl
+begins_at {T} calls.TryLock place hold is allowed = subst (λ p. AtSpin {T = T} p (record { call = calls.TryLock; own = [] }) hold) (some_same places.TryLock place is) (refl, refl)
 begins_at {T} calls.Lock place hold is allowed = subst (λ p. AtSpin {T = T} p (record { call = calls.Lock; own = [] }) hold) (some_same places.Lock place is) (inl refl)
 begins_at {T} calls.BlockingLock place hold is allowed = subst (λ p. AtSpin {T = T} p (record { call = calls.BlockingLock; own = [] }) hold) (some_same places.Lock place is) (inr refl)
 begins_at {T} calls.Unlock place None is allowed = absurd cc
-begins_at {T} calls.Unlock place (Some kind) is allowed = subst (λ p. AtSpin {T = T} p (record { call = calls.Unlock; own = [] }) (Some kind)) (some_same places.Release place is) (refl, refl)
+begins_at {T} calls.Unlock place (Some kind) is allowed = subst (λ p. AtSpin {T = T} p (record { call = calls.Unlock; own = [] }) (Some kind)) (some_same places.Release place is) (refl, refl, refl)
 begins_at other place hold is allowed = absurd cc
 
 -- how a call goes on after its swap, by whether that found the lock free
@@ -70,19 +71,26 @@ steps_at {T} places.TryLock c hold left memory e next at is = absurd (tried_ends
 steps_at {T} places.Lock c hold left memory e next at is = subst (λ p. AtSpin {T = T} p (record { call = c.call; own = e ∷ c.own }) left) (swaps_again T (memory words.State == 0) next is) at
 steps_at places.Release c hold left memory e next at is = absurd cc
 
--- no call of a spin lock stands, but an answer would change nothing
-stays_at : {T : Type 0} (place : SpinPlace) (c : PendingCall T) (hold : Option HoldKind) (e : Event T) → AtSpin place c hold → AtSpin {T = T} place (record { call = c.call; own = e ∷ c.own }) hold
-stays_at places.TryLock c hold e at = at
-stays_at places.Lock c hold e at = at
-stays_at places.Release c hold e at = at
+-- no call of a spin lock stands; that of a waiting one would change nothing
+answered_at :
+    {T : Type 0} (place : SpinPlace) (c : PendingCall T) (hold : Option HoldKind) (e : Event T) → AtSpin place c hold → (c.own ≡ [] → ⊥) → AtSpin {T = T} place (record { call = c.call; own = e ∷ c.own }) hold
+answered_at places.TryLock c hold e at first = absurd (first at.1)
+answered_at places.Lock c hold e at first = at
+answered_at places.Release c hold e at first = absurd (first at.2)
+
+stands_later : {T : Type 0} (own : List (Event T)) → answer_fault (latest_outcome own) ≡ None → own ≡ [] → ⊥
+stands_later {T} own waits is = let no : answer_fault (latest_outcome {T = T} []) ≡ None = rw is at waits in absurd cc
+
+chooses_later : {T : Type 0} (own : List (Event T)) → choose_fault (latest_outcome own) ≡ None → own ≡ [] → ⊥
+chooses_later {T} own stands is = let no : choose_fault (latest_outcome {T = T} []) ≡ None = rw is at stands in absurd cc
 
 pub spin_kept : {T : Type 0} → IsKept {T = T} spin_table AtSpin
 spin_kept =
     record {
       begins = begins_at;
       steps = λ place c hold memory number next at free is. steps_at place c hold _ memory _ next at is;
-      answers = λ place c hold action number at waits. stays_at place c hold _ at;
-      chooses = λ place c hold choice number at waits. stays_at place c hold _ at;
+      answers = λ place c hold action number at waits. answered_at place c hold _ at (stands_later c.own waits);
+      chooses = λ place c hold choice number at stands. answered_at place c hold _ at (chooses_later c.own stands);
     }
 
 -- A spin lock is a lock for one.
@@ -92,7 +100,7 @@ swap_grants {T} c (inl is) = ap (λ (k : Call T). spin_table.grant k 0 1) is
 swap_grants {T} c (inr is) = ap (λ (k : Call T). spin_table.grant k 0 1) is
 
 lock_intent : {T : Type 0} (place : SpinPlace) (c : PendingCall T) (hold : Option HoldKind) → AtSpin place c hold → IsLockIntent {T = T} (spin_table.grant c.call 0 1) hold (spin_table.intent place hold)
-lock_intent {T} places.TryLock c hold at = (refl, ap (λ (k : Call T). spin_table.grant k 0 1) at)
+lock_intent {T} places.TryLock c hold at = (refl, ap (λ (k : Call T). spin_table.grant k 0 1) at.0)
 lock_intent places.Lock c hold at = (refl, swap_grants c at)
 lock_intent places.Release c hold at = (refl, at.1)
 
@@ -112,7 +120,6 @@ IsHeld past = IsFreeOrHeld (word_in spin_table past words.State) (holds_of spin_
 pub record EventLaw {T : Type 0} (party : ℕ) (past : List (Event T)) (pending : Option (PendingCall T)) (m : Move T) : Type 0 where
   pub cause : MatchBool (is_refusal m.outcome) (MatchOption pending ⊥ (λ c. SpinCause c.call party (event party m.act m.outcome ∷ past))) (Unit {0})
   pub leaves : MatchBool (is_step m.act) (MatchOption pending ⊥ (λ c. IsLeft c.call (is_unheld (holds_of spin_table past)) m.outcome)) (Unit {0})
-  pub steps : MatchBool (is_step m.act) (MatchOption pending ⊥ (λ c. IsItsStep c.call m.act)) (Unit {0})
   pub hands_on : IsHandedOn party m.outcome (holds_of spin_table past) (holds_after spin_table party pending m.act (holds_of spin_table past))
   pub spins : (stands m.outcome ≡ false) × (is_wake m.act ≡ false)
   pub exchanges : is_failure m.act ≡ false
@@ -120,25 +127,25 @@ pub record EventLaw {T : Type 0} (party : ℕ) (past : List (Event T)) (pending 
 try_lock_law :
     {T : Type 0} (party : ℕ) (past : List (Event T)) (c : PendingCall T) (w : ℕ) (free : Bool) → c.call ≡ calls.TryLock → (w == 0) ≡ free → IsFreeOrHeld w (holds_of spin_table past) →
     EventLaw party past (Some c) (record { act = acts.Swap words.State w 1; outcome = outcome_of {T = T} {P = SpinPlace} (tried free) })
-try_lock_law party past c zero true is e (inl none) = record { cause = tt; leaves = rw (is, none.1) refl; steps = rw is (0, refl); hands_on = (none.1, rw (is, none.1) refl); spins = (refl, refl); exchanges = refl }
+try_lock_law party past c zero true is e (inl none) = record { cause = tt; leaves = rw (is, none.1) refl; hands_on = (none.1, rw (is, none.1) refl); spins = (refl, refl); exchanges = refl }
 try_lock_law party past c zero true is e (inr held) = absurd (omega (arith, held.1))
 try_lock_law party past c zero false is e law = absurd cc
 try_lock_law party past c (suc w) true is e law = absurd (omega (arith, eqb-true (suc w) 0 e))
 try_lock_law party past c (suc w) false is e (inl none) = absurd (omega (arith, none.0))
 try_lock_law party past c (suc w) false is e (inr held) =
-    record { cause = rw (is, eqb_same party) (rw held.2 (omega arith)); leaves = rw (is, held.2) refl; steps = rw is (suc w, refl); hands_on = refl; spins = (refl, refl); exchanges = refl }
+    record { cause = rw (is, eqb_same party) (rw held.2 (omega arith)); leaves = rw (is, held.2) refl; hands_on = refl; spins = (refl, refl); exchanges = refl }
 
 lock_law :
     {T : Type 0} (party : ℕ) (past : List (Event T)) (c : PendingCall T) (w : ℕ) (free : Bool) → (c.call ≡ calls.Lock) ⊎ (c.call ≡ calls.BlockingLock) → (w == 0) ≡ free → IsFreeOrHeld w (holds_of spin_table past) →
     EventLaw party past (Some c) (record { act = acts.Swap words.State w 1; outcome = outcome_of {T = T} {P = SpinPlace} (swapped free) })
-lock_law party past c zero true (inl is) e (inl none) = record { cause = tt; leaves = rw (is, none.1) refl; steps = rw is (0, refl); hands_on = (none.1, rw (is, none.1) refl); spins = (refl, refl); exchanges = refl }
-lock_law party past c zero true (inr is) e (inl none) = record { cause = tt; leaves = rw (is, none.1) refl; steps = rw is (0, refl); hands_on = (none.1, rw (is, none.1) refl); spins = (refl, refl); exchanges = refl }
+lock_law party past c zero true (inl is) e (inl none) = record { cause = tt; leaves = rw (is, none.1) refl; hands_on = (none.1, rw (is, none.1) refl); spins = (refl, refl); exchanges = refl }
+lock_law party past c zero true (inr is) e (inl none) = record { cause = tt; leaves = rw (is, none.1) refl; hands_on = (none.1, rw (is, none.1) refl); spins = (refl, refl); exchanges = refl }
 lock_law party past c zero true is e (inr held) = absurd (omega (arith, held.1))
 lock_law party past c zero false is e law = absurd cc
 lock_law party past c (suc w) true is e law = absurd (omega (arith, eqb-true (suc w) 0 e))
 lock_law party past c (suc w) false is e (inl none) = absurd (omega (arith, none.0))
-lock_law party past c (suc w) false (inl is) e (inr held) = record { cause = tt; leaves = rw (is, held.2) refl; steps = rw is (suc w, refl); hands_on = refl; spins = (refl, refl); exchanges = refl }
-lock_law party past c (suc w) false (inr is) e (inr held) = record { cause = tt; leaves = rw (is, held.2) refl; steps = rw is (suc w, refl); hands_on = refl; spins = (refl, refl); exchanges = refl }
+lock_law party past c (suc w) false (inl is) e (inr held) = record { cause = tt; leaves = rw (is, held.2) refl; hands_on = refl; spins = (refl, refl); exchanges = refl }
+lock_law party past c (suc w) false (inr is) e (inr held) = record { cause = tt; leaves = rw (is, held.2) refl; hands_on = refl; spins = (refl, refl); exchanges = refl }
 
 -- who has a hold is the one holder
 only_holder : (w party : ℕ) (holds : List Hold) → IsFreeOrHeld w holds → is_some (hold_among party holds) ≡ true → ◌≡◌ {A = List Hold} holds ((party, kinds.Write) ∷ [])
@@ -152,12 +159,12 @@ only_holder w party holds (inr held) has = held.2 ∙ by_test (held.0 == party) 
 unlock_law :
     {T : Type 0} (party : ℕ) (past : List (Event T)) (c : PendingCall T) → c.call ≡ calls.Unlock → holds_of spin_table past ≡ (party, kinds.Write) ∷ [] →
     EventLaw party past (Some c) (record { act = acts.Store words.State 0; outcome = thens.Answers answers.Done })
-unlock_law party past c is mine = record { cause = tt; leaves = rw is refl; steps = rw is refl; hands_on = (mine, rw (mine, eqb_same party) refl); spins = (refl, refl); exchanges = refl }
+unlock_law party past c is mine = record { cause = tt; leaves = rw is refl; hands_on = (mine, rw (mine, eqb_same party) refl); spins = (refl, refl); exchanges = refl }
 
 step_law :
     {T : Type 0} (party : ℕ) (past : List (Event T)) (c : PendingCall T) (place : SpinPlace) (memory : Word → ℕ) → AtSpin place c (hold_of spin_table party past) →
     IsFreeOrHeld (memory words.State) (holds_of spin_table past) → EventLaw party past (Some c) (step_at spin_table place (hold_of spin_table party past) memory)
-step_law party past c places.TryLock memory at law = try_lock_law party past c (memory words.State) (memory words.State == 0) at refl law
+step_law party past c places.TryLock memory at law = try_lock_law party past c (memory words.State) (memory words.State == 0) at.0 refl law
 step_law party past c places.Lock memory at law = lock_law party past c (memory words.State) (memory words.State == 0) at refl law
 step_law party past c places.Release memory at law = unlock_law party past c at.0 (only_holder (memory words.State) party (holds_of spin_table past) law at.1)
 
@@ -165,12 +172,26 @@ event_law : {T : Type 0} (z : Arithmetic T) (parties : ℕ) (past : List (Event 
 event_law {T} z parties past e run =
     by_move spin_table (call_of e.party past) (hold_of spin_table e.party past) (word_in spin_table past) (λ (k : Option (PendingCall T)) (m : Move T). EventLaw e.party past k m)
     run.0.0 (record { act = e.act; outcome = e.then })
-    (λ call _. record { cause = tt; leaves = tt; steps = tt; hands_on = refl; spins = (refl, refl); exchanges = refl })
-    (λ action _. record { cause = tt; leaves = tt; steps = tt; hands_on = refl; spins = (refl, refl); exchanges = refl })
-    (λ choice _. record { cause = tt; leaves = tt; steps = tt; hands_on = refl; spins = (refl, refl); exchanges = refl })
+    (λ call _. record { cause = tt; leaves = tt; hands_on = refl; spins = (refl, refl); exchanges = refl })
+    (λ action _. record { cause = tt; leaves = tt; hands_on = refl; spins = (refl, refl); exchanges = refl })
+    (λ choice _. record { cause = tt; leaves = tt; hands_on = refl; spins = (refl, refl); exchanges = refl })
     (λ c place _ called stage.
     step_law e.party past c place (word_in spin_table past) (at_place z spin_table parties AtSpin spin_kept past run.1 e.party c place called stage) (lock_word z spin_table parties (spin_is_lock z parties) past run.1))
     run.0.1.moved
+
+-- each step is its call's next
+
+swaps_one : {T : Type 0} (refused : After T SpinPlace) (w : ℕ) (free : Bool) → (w == 0) ≡ free → SwapsOne {T = T} (outcome_of refused) (acts.Swap words.State w 1) (outcome_of (cond free (afters.Ends answers.Success) refused))
+swaps_one refused w true e = (refl, rw e refl)
+swaps_one refused w false e = (refl, rw e refl)
+
+spin_step :
+    {T : Type 0} (place : SpinPlace) (c : PendingCall T) (hold : Option HoldKind) (memory : Word → ℕ) → AtSpin place c hold →
+    SpinStep {T = T} c.call c.own (step_at spin_table place hold memory).act (step_at spin_table place hold memory).outcome
+spin_step places.TryLock c hold memory at = rw at.0 (at.1, swaps_one (afters.Ends answers.Interrupted) (memory words.State) (memory words.State == 0) refl)
+spin_step places.Lock c hold memory (inl is) = rw is (swaps_one (afters.At places.Lock) (memory words.State) (memory words.State == 0) refl)
+spin_step places.Lock c hold memory (inr is) = rw is (swaps_one (afters.At places.Lock) (memory words.State) (memory words.State == 0) refl)
+spin_step places.Release c hold memory at = rw at.0 (at.2, refl, refl)
 
 -- no exchange fails: there is none
 never_fails : {T : Type 0} (z : Arithmetic T) (parties : ℕ) (past : List (Event T)) → IsPast z spin_table parties past → failures_in past ≡ 0
@@ -196,7 +217,7 @@ keeps_spin z parties (e ∷ past) run =
       told = tells_memory z spin_table parties (e ∷ past) run;
       exclusive = lock_exclusive _ (holds_of spin_table (e ∷ past)) held;
       cause = event.cause;
-      law = record { leaves = event.leaves; steps = event.steps; hands_on = event.hands_on; spins = event.spins; word = counts_holds (e ∷ past) held; failed = never_fails z parties (e ∷ past) run };
+      law = record { leaves = event.leaves; steps = steps_as z spin_table parties AtSpin SpinStep spin_kept spin_step (e ∷ past) run; hands_on = event.hands_on; spins = event.spins; word = counts_holds (e ∷ past) held; failed = never_fails z parties (e ∷ past) run };
     }
 
 -- a spin lock has no other word

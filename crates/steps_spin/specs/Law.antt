@@ -1,5 +1,5 @@
 -- What a spin lock keeps at every front of every run: one holder, who has the lock after each answer, and that a call which waits only spins.
-use Rattle.std.specs.Prelude.{◌≡◌, ◌≤◌, ℕ, Bool, true, false, if◌then◌else◌, List, [], ◌∷◌, length, MatchBool, MatchOption}
+use Rattle.std.specs.Prelude.{◌≡◌, ◌≤◌, ℕ, ◌==◌, Bool, true, false, if◌then◌else◌, List, [], ◌∷◌, length, MatchBool, MatchOption}
 use Rattle.steps_events.specs.declared.event.Word.TheVariants as words
 use Rattle.steps_events.specs.declared.event.Act.{Act}
 use Rattle.steps_events.specs.declared.event.Act.TheVariants as acts
@@ -13,6 +13,7 @@ use Rattle.steps_events.specs.declared.hold.HoldKind.TheVariants as kinds
 use Rattle.steps_events.specs.Past.{Hold, call_of, holds_of, word_in, failures_in}
 use Rattle.steps_events.specs.Moves.{is_step}
 use Rattle.steps_events.specs.Sights.{AtLastSight}
+use Rattle.steps_events.specs.NextStep.{StepsAs}
 use Rattle.steps_events.specs.Waits.{OnlySpins}
 use Rattle.steps_events.specs.Laws.{IsLocked, Keeps}
 use Rattle.steps_spin.specs.Table.{spin_table}
@@ -43,16 +44,20 @@ LeavesByHolds [] = Unit {0}
 LeavesByHolds (e ∷ past) =
     MatchBool (is_step e.act) (MatchOption (call_of e.party past) ⊥ (λ c. IsLeft c.call (is_unheld (holds_of spin_table past)) e.then)) (Unit {0})
 
--- What a step does.
+-- What a call does next, by its own steps so far, and how it is left by what that tells.
 
--- a swap of 1 into the word, by a locking call; a store of 0, by `Unlock`
-abbrev pub IsItsStep : {T : Type 0} → Call T → Act T → Type 0
-IsItsStep calls.Unlock act = act ≡ acts.Store words.State 0
-IsItsStep call act = (old : ℕ) × (act ≡ acts.Swap words.State old 1)
+-- a swap of 1 into the word: it leaves a call that found 0 with the lock, and any other so
+abbrev pub SwapsOne : {T : Type 0} → Then T → Act T → Then T → Type 0
+SwapsOne refused (acts.Swap words.State old put) outcome = (put ≡ 1) × (outcome ≡ (if old == 0 then thens.Answers answers.Success else refused))
+SwapsOne refused act outcome = ⊥
 
-abbrev pub StepsAsItsCall : {T : Type 0} → List (Event T) → Type 0
-StepsAsItsCall [] = Unit {0}
-StepsAsItsCall (e ∷ past) = MatchBool (is_step e.act) (MatchOption (call_of e.party past) ⊥ (λ c. IsItsStep c.call e.act)) (Unit {0})
+-- The next step of each call; no other has one. `TryLock` swaps once, `Lock` and `BlockingLock` until they found 0, and `Unlock` stores 0.
+abbrev pub SpinStep : {T : Type 0} → Call T → List (Event T) → Act T → Then T → Type 0
+SpinStep calls.TryLock own act outcome = (own ≡ []) × SwapsOne (thens.Answers answers.Interrupted) act outcome
+SpinStep calls.Lock own act outcome = SwapsOne thens.GoesOn act outcome
+SpinStep calls.BlockingLock own act outcome = SwapsOne thens.GoesOn act outcome
+SpinStep calls.Unlock own act outcome = (own ≡ []) × (act ≡ acts.Store words.State 0) × (outcome ≡ thens.Answers answers.Done)
+SpinStep other own act outcome = ⊥
 
 -- Who has the lock: `Success` takes it from nobody, `Done` gives it back, and nothing else changes who has it.
 abbrev pub IsHandedOn : {T : Type 0} → ℕ → Then T → List Hold → List Hold → Type 0
@@ -73,8 +78,8 @@ pub record CountsHolds {T : Type 0} (past : List (Event T)) : Type 0 where
 pub record SpinLaw {T : Type 0} (past : List (Event T)) : Type 0 where
   -- a locking call has the lock at once exactly where nobody held it; where somebody did, `TryLock` gives up, and the others go on for as long
   pub leaves : LeavesByHolds past
-  -- each step of a locking call is a swap of 1, and that of `Unlock` a store of 0
-  pub steps : StepsAsItsCall past
+  -- each step is the one that follows its call's own, and leaves it by what it tells
+  pub steps : StepsAs SpinStep past
   -- `Success` takes the lock from nobody, `Done` gives it back, and nothing else changes who has it
   pub hands_on : HandsOn past
   -- a call that waits only spins: none stands at a closure, and none wakes

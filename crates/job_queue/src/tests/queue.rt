@@ -78,3 +78,26 @@ fn one_thread(rt: HostRuntime) -> Result<(), Fail> {
     assert_eq!(rt; woken.load(Ordering::SeqCst), 2);
     Ok(())
 }
+
+/// How many jobs the queue takes in until it answers `Full`, with their tickets in order; `None` where it answers something else.
+fn room_in<R: Wait>(rt: &R, queue: &JobQueue<u64>, pass: &mut QueuePass) -> Option<u64>
+    requires own { IsQueuePass queue.now pass.old }
+{
+    for job in 0..100u64 {
+        match queue.put(rt, pass, job, |_| ()) {
+            Ok(ticket) if ticket == job => (),
+            Err(PutFault::Full(back)) if back == job => return Some(job),
+            _ => return None,
+        }
+    }
+    None
+}
+
+#[test]
+fn a_queue_has_room_for_its_capacity(rt: HostRuntime) -> Result<(), Fail> {
+    for (capacity, room) in [(0, 0), (1, 1), (3, 3), (40, 40)] {
+        let (queue, mut pass) = JobQueue::new(rt.alloc(), capacity)?;
+        assert_eq!(rt; room_in(&rt, &queue, &mut pass), Some(room));
+    }
+    Ok(())
+}

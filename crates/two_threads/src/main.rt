@@ -1,0 +1,89 @@
+//! Two threads and a mutex: both add to one number, each by a load and a store of its own, which only a lock keeps together.
+#![tactic(auto)]
+
+ghost use Rattle.std.specs.Prelude.{◌≡◌};
+ghost use Rattle.running_mutex.specs.MutexShown.{IsMutexPass, IsAlone, HasStayed, holds_of};
+
+use iceoryx2_pal_concurrency_sync::strategy::mutex::{Mutex, MutexPass};
+use iceoryx2_pal_concurrency_sync::{WaitAction, WaitResult};
+use std::sync::Wait;
+use std::sync::atomic::{AtomicU64, Ordering};
+use std::thread::Threads;
+use std::{io, thread};
+
+fn main(rt: HostRuntime) -> io::Result<()> {
+    let number = AtomicU64::new(0);
+    let (mutex, pass) = Mutex::new(rt.alloc())?;
+    let mut pass = add_in_two_threads(&rt, &mutex, pass, &number);
+    // The two parts are the whole pass again, and with that a free mutex is granted: by proof.
+    let WaitResult::Success(hold) = Mutex::try_lock(&mut pass, &mutex) else {
+        unreachable!()
+    };
+    let sum = number.load(Ordering::SeqCst);
+    mutex.unlock(hold, |_| ());
+    println!(rt; "{sum}")
+}
+
+/// Splits the pass, hands each thread a part, and joins the parts.
+fn add_in_two_threads<R: Threads + Wait + Sync>(
+    rt: &R,
+    mutex: &Mutex,
+    pass: MutexPass,
+    number: &AtomicU64,
+) -> MutexPass
+    requires own { IsMutexPass mutex.now pass }
+    requires alone { IsAlone pass }
+    ensures own { IsMutexPass mutex.now result }
+    ensures alone { IsAlone result }
+{
+    let Ok((one, two)) = pass.split(mutex) else {
+        unreachable!()
+    };
+    let (one, two) = thread::join(
+        rt,
+        || -> MutexPass
+            requires { IsMutexPass mutex.now one × (holds_of one ≡ 0) }
+            ensures { HasStayed one result }
+        { add_often(rt, mutex, one, number) },
+        || -> MutexPass
+            requires { IsMutexPass mutex.now two × (holds_of two ≡ 0) }
+            ensures { HasStayed two result }
+        { add_often(rt, mutex, two, number) },
+    );
+    let Ok(pass) = MutexPass::join(one, two, mutex) else {
+        unreachable!()
+    };
+    pass
+}
+
+/// Adds 1 to the number, a thousand times.
+fn add_often<R: Wait>(rt: &R, mutex: &Mutex, mut pass: MutexPass, number: &AtomicU64) -> MutexPass
+    requires own { IsMutexPass mutex.now pass }
+    requires off { holds_of pass ≡ 0 }
+    ensures stayed { HasStayed pass result }
+{
+    for _ in 0..1000u64 {
+        add_once(rt, mutex, &mut pass, number);
+    }
+    pass
+}
+
+/// Locks, adds 1, and unlocks. A wait closure that always goes on is never interrupted: by proof.
+fn add_once<R: Wait>(rt: &R, mutex: &Mutex, pass: &mut MutexPass, number: &AtomicU64)
+    requires own { IsMutexPass mutex.now pass.old }
+    requires off { holds_of pass.old ≡ 0 }
+    ensures stayed { HasStayed pass.old pass.new }
+{
+    let locked = Mutex::lock(pass, mutex, rt, |_, _| {
+        thread::yield_now();
+        WaitAction::Continue
+    });
+    match locked {
+        WaitResult::Success(hold) => {
+            let found = number.load(Ordering::SeqCst);
+            number.store(found.wrapping_add(1), Ordering::SeqCst);
+            mutex.unlock(hold, |_| ());
+        }
+        WaitResult::Interrupted => unreachable!(),
+    }
+}
