@@ -27,7 +27,6 @@ use Rattle.sync_draw.specs.declared.story.Step.{Step}
 use Rattle.sync_draw.specs.Story.{Shown, shown_of, shown_at, number_at_end, left_out, HasOutput}
 use Rattle.sync_draw.specs.Title.{title_words}
 
-
 -- one more of what is made of a list
 pub one_more : {A B C : Type 0} (f : A → C) (g : B → C) (made made' : List A) (from : List B) (i : ℕ) (a : A) (b : B) → i < length from → b ≡ get_or from i b → map f made ≡ map g (take i from) → made' ≡ made ++ a ∷ [] → f a ≡ g b →
     map f made' ≡ map g (take (i + 1) from)

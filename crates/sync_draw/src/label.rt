@@ -119,7 +119,11 @@ fn say_seen<T: Copy>(
 }
 
 /// What a step did, in the object's terms.
-fn say_act<T: TextInteger>(out: &mut String, object: &Object<T>, act: &Act<T>) -> Result<(), AllocError> {
+fn say_act<T: TextInteger>(
+    out: &mut String,
+    object: &Object<T>,
+    act: &Act<T>,
+) -> Result<(), AllocError> {
     match *act {
         Act::Begun(_) => Ok(()),
         Act::Load { word, seen } => {
@@ -178,7 +182,11 @@ fn say_change<T: Copy>(
 }
 
 /// What a step did, and how often.
-pub fn label_of<T: TextInteger>(alloc: Global, object: &Object<T>, step: &Step<T>) -> Result<String, AllocError> {
+pub fn label_of<T: TextInteger>(
+    alloc: Global,
+    object: &Object<T>,
+    step: &Step<T>,
+) -> Result<String, AllocError> {
     let mut out = String::new(alloc);
     say_act(&mut out, object, &step.event.act)?;
     if step.count > 1 {

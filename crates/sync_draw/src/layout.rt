@@ -176,7 +176,11 @@ fn put_of<T: Copy>(act: &Act<T>, word: Word) -> Option<u64> {
 }
 
 /// What a word held, from the opening on.
-fn segments_of<T: Copy>(alloc: Global, story: &Story<T>, word: Word) -> Result<Vec<Segment>, AllocError> {
+fn segments_of<T: Copy>(
+    alloc: Global,
+    story: &Story<T>,
+    word: Word,
+) -> Result<Vec<Segment>, AllocError> {
     let value = story.opening.get(word);
     let mut segments = Vec::new(alloc);
     let mut last = colour_of(value, None);
@@ -249,7 +253,11 @@ fn bands_of<T: Copy>(alloc: Global, story: &Story<T>, left: u32) -> Result<Vec<B
 }
 
 /// How wide the box of a call has to be for this step.
-fn step_width<T: TextInteger>(alloc: Global, object: &Object<T>, step: &Step<T>) -> Result<u32, AllocError> {
+fn step_width<T: TextInteger>(
+    alloc: Global,
+    object: &Object<T>,
+    step: &Step<T>,
+) -> Result<u32, AllocError> {
     let outcome = outcome_of(alloc, &step.event.then)?;
     let outcome_width = text_width(&outcome);
     let said_width = match (&step.event.act, &step.line) {
@@ -264,7 +272,11 @@ fn step_width<T: TextInteger>(alloc: Global, object: &Object<T>, step: &Step<T>)
 }
 
 /// How wide the boxes of a party are. `None` where it makes no step.
-fn box_width<T: TextInteger>(alloc: Global, story: &Story<T>, party: usize) -> Result<Option<u32>, AllocError> {
+fn box_width<T: TextInteger>(
+    alloc: Global,
+    story: &Story<T>,
+    party: usize,
+) -> Result<Option<u32>, AllocError> {
     let mut width = None;
     for step in &story.steps {
         if step.event.party == party {
@@ -276,7 +288,11 @@ fn box_width<T: TextInteger>(alloc: Global, story: &Story<T>, party: usize) -> R
 }
 
 /// The calls of a party.
-fn calls_of<T: Copy>(alloc: Global, steps: &[Step<T>], party: usize) -> Result<Vec<Span>, AllocError> {
+fn calls_of<T: Copy>(
+    alloc: Global,
+    steps: &[Step<T>],
+    party: usize,
+) -> Result<Vec<Span>, AllocError> {
     let mut calls = Vec::new(alloc);
     let mut open = None;
     for step in steps {
@@ -303,7 +319,11 @@ fn calls_of<T: Copy>(alloc: Global, steps: &[Step<T>], party: usize) -> Result<V
 }
 
 /// Where the calls of a party stand at a closure.
-fn stands_of<T: Copy>(alloc: Global, steps: &[Step<T>], party: usize) -> Result<Vec<Span>, AllocError> {
+fn stands_of<T: Copy>(
+    alloc: Global,
+    steps: &[Step<T>],
+    party: usize,
+) -> Result<Vec<Span>, AllocError> {
     let mut stands = Vec::new(alloc);
     let mut open = None;
     for step in steps {
@@ -328,7 +348,11 @@ fn stands_of<T: Copy>(alloc: Global, steps: &[Step<T>], party: usize) -> Result<
 }
 
 /// The holds of a party.
-fn holds_of<T: Copy>(alloc: Global, steps: &[Step<T>], party: usize) -> Result<Vec<Hold>, AllocError> {
+fn holds_of<T: Copy>(
+    alloc: Global,
+    steps: &[Step<T>],
+    party: usize,
+) -> Result<Vec<Hold>, AllocError> {
     let mut holds = Vec::new(alloc);
     let mut open: Option<(HoldKind, u32)> = None;
     for step in steps {
@@ -360,7 +384,11 @@ fn holds_of<T: Copy>(alloc: Global, steps: &[Step<T>], party: usize) -> Result<V
 }
 
 /// What the refused calls of a party saw last.
-fn sights_of<T: Copy>(alloc: Global, steps: &[Step<T>], party: usize) -> Result<Vec<u32>, AllocError> {
+fn sights_of<T: Copy>(
+    alloc: Global,
+    steps: &[Step<T>],
+    party: usize,
+) -> Result<Vec<u32>, AllocError> {
     let mut sights = Vec::new(alloc);
     let mut seen = None;
     for step in steps {
@@ -401,7 +429,11 @@ fn lane_of<T: Copy>(
 }
 
 /// The lanes, from this place on: one for each party that makes a step.
-fn lanes_of<T: TextInteger>(alloc: Global, story: &Story<T>, left: u32) -> Result<Vec<Lane>, AllocError> {
+fn lanes_of<T: TextInteger>(
+    alloc: Global,
+    story: &Story<T>,
+    left: u32,
+) -> Result<Vec<Lane>, AllocError> {
     let mut lanes = Vec::new(alloc);
     let mut left = left;
     for party in 0..story.parties {

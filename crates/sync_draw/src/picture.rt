@@ -408,7 +408,11 @@ fn idle_count<T: TextInteger>(story: &Story<T>, layout: &Layout) -> usize {
 }
 
 /// What the picture leaves out; nothing where it leaves nothing out.
-fn left_out<T: TextInteger>(alloc: Global, story: &Story<T>, layout: &Layout) -> Result<String, AllocError> {
+fn left_out<T: TextInteger>(
+    alloc: Global,
+    story: &Story<T>,
+    layout: &Layout,
+) -> Result<String, AllocError> {
     let mut note = String::new(alloc);
     let idle = idle_count(story, layout);
     if idle > 0 {
@@ -452,7 +456,11 @@ fn draw_notes<T: TextInteger>(
 }
 
 /// Draws what the steps stand on.
-fn draw_ground<T: TextInteger>(alloc: Global, story: &Story<T>, layout: &Layout) -> Result<Markup, AllocError> {
+fn draw_ground<T: TextInteger>(
+    alloc: Global,
+    story: &Story<T>,
+    layout: &Layout,
+) -> Result<Markup, AllocError> {
     let mut picture = Markup::new(alloc);
     picture.say("\n")?;
     let name = Opening::new(alloc, Tag::Title)?.saying(story.title.as_str())?;
@@ -484,7 +492,11 @@ fn draw_ground<T: TextInteger>(alloc: Global, story: &Story<T>, layout: &Layout)
 }
 
 /// Draws what stands below the steps.
-fn draw_foot<T: TextInteger>(alloc: Global, story: &Story<T>, layout: &Layout) -> Result<Markup, AllocError> {
+fn draw_foot<T: TextInteger>(
+    alloc: Global,
+    story: &Story<T>,
+    layout: &Layout,
+) -> Result<Markup, AllocError> {
     let mut picture = Markup::new(alloc);
     draw_notes(alloc, &mut picture, story, layout)?;
     draw_legend(alloc, &mut picture, layout.bottom() + NOTES_HEIGHT)?;

@@ -5,6 +5,7 @@ use Rattle.steps_events.specs.declared.event.Object.{Object}
 use Rattle.sync_play.specs.declared.command.Form.{Form}
 use Rattle.sync_play.specs.Command.{find, verbs, calls_of, task_if, task_of}
 use Rattle.sync_play.specs.Numerals.{Numerals}
+
 module _ {T : Type 0} (numerals : Numerals T) where
   found_step : (b : Bool) (form found : Form T) (rest more : Option (Form T)) → (rest ≡ Some found → more ≡ Some found) → cond b (Some form) rest ≡ Some found → cond b (Some form) more ≡ Some found
   found_step true form found rest more h e = e

@@ -34,7 +34,6 @@ use Rattle.sync_play.proofs.PlayerLaws.{event_is, event_refused, run_length, run
 use Rattle.sync_play.proofs.TextLaws.{after_both, asks_wrongly, asks_command, line_then, line_fails, text_is_empty, header_fails, header_is}
 use Rattle.sync_play.specs.Numerals.{Numerals, ReadsValues}
 
-
 -- A step that may fail fails at first, or afterwards.
 
 pub fails : {A B E : Type 0} (r : Result A E) (f : A → Result B E) (fault : E) → (r >>= f) ≡ Err fault → (r ≡ Err fault) ⊎ ((x : A) × (r ≡ Ok x) × (f x ≡ Err fault))

@@ -8,6 +8,7 @@ use Rattle.steps_events.specs.Runs.{after}
 use Rattle.steps_events.proofs.Parties.{HavePlaces, next_has_places, gives_event}
 use Rattle.sync_steps.specs.Objects.{table_of}
 use Rattle.sync_steps.specs.Runs.{fault_of, move_of, IsNext, IsRun}
+
 module _ {T : Type 0} (z : Arithmetic T) where
   abbrev Ev : Type 0
   Ev = Event T

@@ -40,7 +40,6 @@ use Rattle.sync_play.proofs.TextLaws.{after_both}
 use Rattle.sync_play.specs.Numerals.{Numerals, ReadsValues}
 use Rattle.sync_play.specs.NumeralLaws.{number_at_most}
 
-
 -- Steps that may fail, with any kind of fault.
 
 abbrev ok_in : {A E : Type 0} → A → Result A E

@@ -25,6 +25,7 @@ use Rattle.sync_play.specs.WalkOutput.{events_in, output_unless, output_in, outp
 use Rattle.sync_play.proofs.TextLaws.{after_both}
 use Rattle.sync_play.proofs.WalksAreOutputs.{walks_print}
 use Rattle.sync_play.specs.Numerals.{Numerals}
+
 module _ {T : Type 0} (z : Arithmetic T) (numerals : Numerals T) where
   abbrev Ev : Type 0
   Ev = Event T

@@ -12,7 +12,6 @@ use Rattle.sync_play.specs.declared.fault.LineFault.{LineFault}
 use Rattle.sync_play.specs.Fault.{◌>>=◌, line_fault_of}
 use Rattle.sync_play.specs.Player.{event_of, events_of}
 
-
 -- these events, and then the others
 abbrev pub with_front : {A : Type 0} → List A → Result (List A) LineFault → Result (List A) LineFault
 with_front front rest = rest >>= λ others. Ok (front ++ others)

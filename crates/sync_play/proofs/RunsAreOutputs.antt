@@ -21,6 +21,7 @@ use Rattle.sync_play.specs.Lexer.{words_of}
 use Rattle.sync_play.proofs.PlayerLaws.{event_is, run_is}
 use Rattle.sync_play.proofs.TextLaws.{after_both, asks_none, asks_command, line_then, lines_end, header_is}
 use Rattle.sync_play.specs.Numerals.{Numerals}
+
 module _ {T : Type 0} (z : Arithmetic T) (numerals : Numerals T) where
   abbrev Ev : Type 0
   Ev = Event T

@@ -18,7 +18,6 @@ use Rattle.sync_play.specs.Print.{printed, last_line}
 use Rattle.sync_play.specs.Text.{line_events, output_after, typed_output}
 use Rattle.sync_play.specs.Numerals.{Numerals}
 
-
 pub after_both : {T : Type 0} (events more past : List (Event T)) → after (events ++ more) past ≡ after more (after events past)
 after_both [] more past = refl
 after_both (e ∷ events) more past = after_both events more (e ∷ past)

@@ -38,7 +38,6 @@ module _ {T : Type 0} (z : Arithmetic T) where
   abbrev Ev : Type 0
   Ev = Event T
 
-
   -- So many equal events of steps.
 
   go_step : (o : Object T) (parties line steps : ℕ) (past : List Ev) (party : ℕ) (e : Ev) (others : List Ev → Walk T) → event_of z o parties past party inputs.Go ≡ Ok e →

@@ -23,7 +23,6 @@ use Rattle.sync_play.specs.WalkOutput.{events_in, output_unless, output_in, outp
 use Rattle.sync_play.specs.Walk.{Walk, step_then, event_then, go_walk, run_walk, task_walk, or_nothing, line_walk, lines_walk, opened, opened_by}
 use Rattle.sync_play.specs.Numerals.{Numerals}
 
-
 abbrev Out : Type 0
 Out = Result (List ℕ) FaultyLine
 

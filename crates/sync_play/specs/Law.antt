@@ -25,6 +25,7 @@ use Rattle.sync_play.specs.Player.{steps_of}
 use Rattle.sync_play.specs.Print.{printed, last_line}
 use Rattle.sync_play.specs.Text.{output_of}
 use Rattle.sync_play.specs.Numerals.{Numerals, u64_numerals}
+
 -- the last event answered its call or stands at a closure, and none before it did
 abbrev pub EndsFirstAtLast : {T : Type 0} → List (Event T) → Type 0
 EndsFirstAtLast [] = ⊥

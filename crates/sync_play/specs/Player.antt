@@ -15,6 +15,7 @@ use Rattle.sync_play.specs.declared.command.Task.TheVariants as tasks
 use Rattle.sync_play.specs.declared.fault.LineFault.{LineFault}
 use Rattle.sync_play.specs.declared.fault.LineFault.TheVariants as faults
 use Rattle.sync_play.specs.Fault.{◌>>=◌, line_fault_of}
+
 abbrev pub event_by : {T : Type 0} → ℕ → Option (Move T) → Result (Event T) LineFault
 event_by party (Some move) = Ok (record { party = party; act = move.act; «then» = move.outcome })
 event_by party None = Err faults.Idle

@@ -16,6 +16,7 @@ use Rattle.sync_play.specs.Lexer.{lines_of, words_of}
 use Rattle.sync_play.specs.Player.{command_events}
 use Rattle.sync_play.specs.Print.{printed, last_line}
 use Rattle.sync_play.specs.Numerals.{Numerals, u64_numerals}
+
 module _ {T : Type 0} (z : Arithmetic T) (numerals : Numerals T) where
   -- a line without words asks nothing
   abbrev pub events_asked : Object T → ℕ → List (Event T) → Option (Command T) → Result (List (Event T)) LineFault

@@ -24,6 +24,7 @@ use Rattle.sync_play.specs.declared.walk.Step.{Step}
 use Rattle.sync_play.specs.declared.walk.Stride.{Stride}
 use Rattle.sync_play.specs.declared.fault.FaultyLine.{FaultyLine}
 use Rattle.sync_play.specs.declared.walk.Rest.{Rest}
+
 -- the steps, in order, and the line with a fault that ends them early, if there is one
 pub record Walk (T : Type 0) : Type 0 where
   pub steps : List (Step T)
@@ -92,7 +93,6 @@ module _ {T : Type 0} (z : Arithmetic T) where
   abbrev pub line_walk : Object T → ℕ → ℕ → List (Event T) → Result (Command T) LineFault → (List (Event T) → Walk T) → Walk T
   line_walk o parties line past (Ok command) others = task_walk o parties line past command.party command.task others
   line_walk o parties line past (Err fault) others = stopped line fault
-
 
   -- Strides: equal steps in a row.
 

@@ -14,6 +14,7 @@ use Rattle.sync_play.specs.Text.{typed_output}
 use Rattle.sync_play.specs.declared.fault.FaultyLine.{FaultyLine}
 use Rattle.sync_play.specs.declared.walk.Step.{Step}
 use Rattle.sync_play.specs.Walk.{Walk, opened, lines_walk}
+
 abbrev pub events_in : {T : Type 0} → List (Step T) → List (Event T)
 events_in steps = map (λ step. step.event) steps
 

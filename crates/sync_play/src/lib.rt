@@ -13,8 +13,8 @@
 pub mod command;
 pub mod fault;
 pub mod header;
-pub mod law;
 pub mod integer;
+pub mod law;
 pub mod lexer;
 pub mod player;
 pub mod print;

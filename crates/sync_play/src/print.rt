@@ -51,7 +51,11 @@ fn print_wake(out: &mut String, party: usize, wake: Wake) -> Result<(), AllocErr
 
 /// How the call of a party stands then.
 #[inline(never)]
-fn print_then<T: TextInteger>(out: &mut String, party: usize, then: Then<T>) -> Result<(), AllocError>
+fn print_then<T: TextInteger>(
+    out: &mut String,
+    party: usize,
+    then: Then<T>,
+) -> Result<(), AllocError>
     ensures { OnOk result (string_bytes out.new ≡ string_bytes out.old ++ then_line T.numerals party then) }
 {
     let number = party as u128 + 1;
@@ -121,10 +125,7 @@ pub fn print_further_words<T: TextInteger>(
 }
 
 /// Prints the last line: the words of the object, and how many exchanges failed.
-pub fn print_last<T: TextInteger>(
-    out: &mut String,
-    machine: &Machine<T>,
-) -> Result<(), AllocError>
+pub fn print_last<T: TextInteger>(out: &mut String, machine: &Machine<T>) -> Result<(), AllocError>
     ensures { (o : AnObject T) (parties : ℕ) (past : List (AnEvent T)) → StandsAt T.arithmetic o parties past machine.now →
         OnOk result (string_bytes out.new ≡ string_bytes out.old ++ last_line T.arithmetic T.numerals o past) }
 {

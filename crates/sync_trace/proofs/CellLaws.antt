@@ -9,6 +9,7 @@ use Rattle.sync_steps.specs.Runs.{word_in}
 use Rattle.sync_play.specs.Print.{further_words}
 use Rattle.sync_trace.specs.Cells.{words_text}
 use Rattle.sync_play.specs.Numerals.{Numerals}
+
 module _ {T : Type 0} (z : Arithmetic T) (numerals : Numerals T) where
   pub words_printed :
       {A E : Type 0} (result : Result A E) (o : Object T) (past : List (Event T)) (word : ℕ) (old first all : List ℕ) → word ≡ word_in z o past words.State → first ≡ old ++ decimal word →

@@ -20,6 +20,7 @@ use Rattle.sync_play.specs.declared.walk.Step.{Step}
 use Rattle.sync_play.specs.Walk.{after_times}
 use Rattle.sync_trace.specs.Cells.{Texts, act_words, standing_words, words_text, with_holder, holders, or_dash, cells_at}
 use Rattle.sync_play.specs.Numerals.{Numerals}
+
 module _ {T : Type 0} (z : Arithmetic T) (numerals : Numerals T) where
   abbrev Ev : Type 0
   Ev = Event T

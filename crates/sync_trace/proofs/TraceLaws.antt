@@ -25,6 +25,7 @@ use Rattle.sync_trace.specs.Table.{table}
 use Rattle.sync_trace.proofs.QuietLaws.{cells_again, cells_after}
 use Rattle.sync_trace.specs.Trace.{rows_with, HasAdded, RowsAndFault, rows_of_walk, rows_of_opened, rows_of, AreRowsOf, HasPlayed, Written, typed_trace}
 use Rattle.sync_play.specs.Numerals.{Numerals}
+
 module _ {T : Type 0} (z : Arithmetic T) (numerals : Numerals T) where
   abbrev Ev : Type 0
   Ev = Event T

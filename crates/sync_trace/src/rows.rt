@@ -38,11 +38,7 @@ fn read_same<T>(a: &Cells<T>, b: &Cells<T>) -> bool
 }
 
 /// Adds the next steps, as many as read like this: to the last row where it reads the same, and else in a row of their own.
-pub fn add<T: Copy>(
-    rows: &mut Vec<Row<T>>,
-    cells: Cells<T>,
-    times: u64,
-) -> Result<(), AllocError>
+pub fn add<T: Copy>(rows: &mut Vec<Row<T>>, cells: Cells<T>, times: u64) -> Result<(), AllocError>
     requires { 0 < times }
     ensures { OnOk result (meaning.entries rows.new.items ≡ meaning.added_often times (texts_of cells) (meaning.entries rows.old.items)) }
 {

@@ -149,7 +149,12 @@ fn print_head(out: &mut String, widths: &Widths) -> Result<(), AllocError>
     print_line(out, widths, &head)
 }
 
-fn print_row<T>(alloc: Global, out: &mut String, widths: &Widths, row: &Row<T>) -> Result<(), AllocError>
+fn print_row<T>(
+    alloc: Global,
+    out: &mut String,
+    widths: &Widths,
+    row: &Row<T>,
+) -> Result<(), AllocError>
     ensures { OnOk result (string_bytes out.new ≡ string_bytes out.old ++ meaning.row_line widths.now (entry_of row.now)) }
 {
     let steps = steps_text(alloc, row)?;
