@@ -1,7 +1,6 @@
 -- What a word writes is a value of the type.
-use Rattle.std.proofs.Common.{◌≡◌, refl, ℕ, ◌-◌, ◌<◌, ◌≤◌, ◌^◌, Bool, true, false, ◌&&◌, cond, leb, List, Option, Some, None, Ok, Err, subst, arith}
+use Rattle.std.proofs.Common.{◌≡◌, refl, ℕ, ◌-◌, ◌<◌, ◌≤◌, Bool, true, false, ◌&&◌, cond, leb, List, Option, Some, None, Ok, Err, subst, arith}
 use Rattle.std.proofs.lemmas.Bool.{leb-true}
-use Rattle.steps_events.specs.Arithmetic.{IsValue}
 use Rattle.steps_events.specs.Integers.{span, arithmetic_of, unsigned}
 use Rattle.steps_events.specs.IntegerLaws.{unsigned_value}
 use Rattle.sync_play.specs.declared.fault.LineFault.{LineFault}

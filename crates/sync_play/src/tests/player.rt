@@ -8,7 +8,9 @@ use sync_steps::steps::{Machine, Object};
 
 #[test]
 fn a_header_is_read(rt: HostRuntime) -> Result<(), Fail> {
-    let header = Header::<u64>::parse(b"semaphore 64 5").ok().ok_or("it is one")?;
+    let header = Header::<u64>::parse(b"semaphore 64 5")
+        .ok()
+        .ok_or("it is one")?;
     assert!(rt; matches!(header.object, Object::Semaphore(5)));
     assert_eq!(rt; header.parties, 64);
     Ok(())

@@ -1,4 +1,4 @@
-use Rattle.std.proofs.Common.{◌∙◌, ap, refl, rules, arith, ◌+◌, ℕ}
+use Rattle.std.proofs.Common.{◌∙◌, ap, refl, rules, arith, ◌+◌}
 use Rattle.std.proofs.Math.Nat.{le_refl}
 use Rattle.steps_events.specs.declared.event.Object.{Object}
 use Rattle.sync_play.specs.Lexer.{lines_of, words_of}
