@@ -1,5 +1,5 @@
 //! Traces a schedule text.
-ghost use Rattle.std.specs.Prelude.{◌≡◌, ◌+◌, ◌^◌, ◌<◌, ℕ, List, length, IfOk};
+ghost use Rattle.std.specs.Prelude.{◌≡◌, ◌+◌, ◌^◌, ◌<◌, List, length, IfOk};
 ghost use Rattle.sync_steps.specs.Machine.{StandsAt};
 ghost use Rattle.steps_events.specs.declared.event.Event.{Event as AnEvent};
 ghost use Rattle.sync_play.specs.Lexer.{lines_of};

@@ -1,4 +1,4 @@
-use Rattle.std.proofs.Common.{◌≡◌, ◌≤◌, ℕ, List}
+use Rattle.std.proofs.Common.{◌≡◌, ◌≤◌, List}
 use Rattle.std.specs.Prelude.{string_bytes}
 use Rattle.steps_events.specs.declared.event.Event.{Event}
 use Rattle.sync_steps.specs.Machine.{StandsAt}

@@ -1,4 +1,4 @@
-use Rattle.std.proofs.Common.{◌+◌, ◌^◌, ◌<◌, ℕ, List, length}
+use Rattle.std.proofs.Common.{◌+◌, ◌^◌, ◌<◌, List, length}
 use Rattle.steps_events.specs.declared.event.Event.{Event}
 use Rattle.sync_steps.specs.Machine.{StandsAt}
 use Rattle.sync_play.specs.Walk.{most_steps}
