@@ -6,12 +6,25 @@ use Rattle.steps_events.specs.declared.WaitAction.{WaitAction}
 use Rattle.passes.specs.declared.part.Part.{Part}
 use Rattle.passes.specs.declared.pass.Pass.{Pass}
 use Rattle.passes.specs.Sights.{HasLooked, HasOnlyRead, HasWritten}
+use Rattle.passes.specs.Views.{looked, missed, wrote}
 use Rattle.passes.specs.Passes.{part_of, sights_of, IsSamePass}
 use Rattle.passes.specs.Answers.{HasAsked}
 use Rattle.playing.specs.declared.played.Played.{Played}
-use Rattle.playing.specs.Passes.{counts_of}
+use Rattle.playing.specs.Passes.{counts_of, counted}
 
 module _ {M Q C : Type 0} where
+  -- the word was seen to be this, and nothing else changed
+  abbrev pub HasSeen : ℕ → Pass (Played M Q C) → Pass (Played M Q C) → Type 0
+  HasSeen n p q = IsSamePass p q × (counted q ≡ looked (counted p) n)
+
+  -- an exchange from a value found another, and nothing else changed
+  abbrev pub HasMissed : ℕ → ℕ → Pass (Played M Q C) → Pass (Played M Q C) → Type 0
+  HasMissed from n p q = IsSamePass p q × (counted q ≡ missed (counted p) from n)
+
+  -- a write was done that made the counts this, and nothing else changed
+  abbrev pub HasDone : (C → C) → Pass (Played M Q C) → Pass (Played M Q C) → Type 0
+  HasDone f p q = IsSamePass p q × (counted q ≡ wrote (counted p) (f (counts_of p)))
+
   -- nothing was counted, and nothing changed but what was seen
   pub record HasOnlySeen (p q : Pass (Played M Q C)) : Type 0 where
     pub same : IsSamePass p q

@@ -48,7 +48,11 @@ pub trait Attempt<K, M: Script<K, P>, P, C> {
     ghost looks_once: { Part → C → Type 0 };
 
     /// Tries once. `Err` with the value that refused it, which is the one seen last.
-    fn attempt<E: Entry>(&self, pass: &mut Pass<Played<M, P, C>>) -> Result<(), u64>
+    fn attempt<E: Entry, R: Wait>(
+        &self,
+        rt: &R,
+        pass: &mut Pass<Played<M, P, C>>,
+    ) -> Result<(), u64>
         requires own { object_of pass.old ≡ object self.now }
         requires comes { MayTry (M.table (key self.now)) (M.law (key self.now)) call place E.coming (parties_of pass.old) }
         ensures moved { IfOk result (λ _. HasMoved moves pass.old pass.new) }
@@ -86,7 +90,8 @@ pub fn ask<
 
 /// Further tries, as many as a call makes by itself, until one is not refused. `seen` is the value that refused the first.
 #[tactic(auto, using(crate::proofs::Attempts::moved_later, crate::proofs::Attempts::seen_twice))]
-fn spin<K, M: Script<K, P>, P, C, B: Attempt<K, M, P, C>>(
+fn spin<K, M: Script<K, P>, P, C, B: Attempt<K, M, P, C>, R: Wait>(
+    rt: &R,
     by: &B,
     pass: &mut Pass<Played<M, P, C>>,
     seen: u64,
@@ -104,7 +109,7 @@ fn spin<K, M: Script<K, P>, P, C, B: Attempt<K, M, P, C>>(
     let mut last = seen;
     for _ in 0..SPIN_REPETITIONS {
         spin_loop();
-        match by.attempt::<GoesOn>(pass) {
+        match by.attempt::<GoesOn, R>(rt, pass) {
             Ok(()) => return Ok(()),
             Err(found) => last = found,
         }
@@ -139,11 +144,11 @@ fn ask_and_try<
     let mut last = told;
     for _ in rt.forever() {
         match ask(by, pass, word, last, wait) {
-            WaitAction::Continue => match by.attempt::<Continued>(pass) {
+            WaitAction::Continue => match by.attempt::<Continued, R>(rt, pass) {
                 Ok(()) => return true,
                 Err(found) => last = found,
             },
-            WaitAction::Abort => match by.attempt::<Aborted>(pass) {
+            WaitAction::Abort => match by.attempt::<Aborted, R>(rt, pass) {
                 Ok(()) => return true,
                 Err(_) => return false,
             },
@@ -177,7 +182,7 @@ pub fn try_again<
     ensures asked { result ≡ false → B.looks_once (part_of pass.old) (counts_of pass.old) → HasAsked W.Fn wait.now B.refuses 10000 pass.old pass.new }
     ensures over { OnceRefused (M.table (B.key by.now)) (M.law (B.key by.now)) B.call B.place seen (parties_of pass.old) (λ done. MatchBool result (IsGranted (M.table (B.key by.now)) (M.law (B.key by.now)) B.call B.place B.takes done (parties_of pass.new)) (HasGivenUp (M.table (B.key by.now)) (M.law (B.key by.now)) B.call B.place done (parties_of pass.new))) }
 {
-    match spin(by, pass, seen) {
+    match spin(rt, by, pass, seen) {
         Ok(()) => true,
         Err(last) => ask_and_try(rt, by, pass, word, last, wait),
     }

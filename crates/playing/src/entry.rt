@@ -1,10 +1,18 @@
 //! How a pass comes to a step.
+ghost use Rattle.std.specs.Prelude.{ℕ};
 
 /// How a pass comes to a step.
 pub trait Entry {
     ghost use Rattle.playing.specs.Plays.{Coming};
 
     ghost coming: { Coming };
+}
+
+/// How a pass comes to an add, by how much that adds: a call may begin with it that names the number.
+pub trait AddEntry {
+    ghost use Rattle.playing.specs.Plays.{Coming};
+
+    ghost coming: { ℕ → Coming };
 }
 
 /// A call goes on by itself.

@@ -12,7 +12,7 @@ mod tests;
 mod wait;
 
 pub use attempt::{Attempt, ask, try_again};
-pub use entry::{Aborted, Continued, Entry, GoesOn};
+pub use entry::{Aborted, AddEntry, Continued, Entry, GoesOn};
 pub use played::{Parties, Played};
 pub use script::Script;
 pub use stage::Stage;

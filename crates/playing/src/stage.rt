@@ -2,7 +2,7 @@
 ghost use Rattle.std.specs.Prelude.{◌≡◌, ◌<◌, ◌+◌, ◌-◌, ◌%◌, ◌^◌, ◌==◌, [], length, IfOk};
 ghost use prog.Atomic.{either};
 
-use crate::entry::Entry;
+use crate::entry::{AddEntry, Entry};
 use crate::played::Played;
 use crate::script::Script;
 use passes::{Deed, Origin, Pass, Rule, Word, Words};
@@ -23,6 +23,21 @@ impl<K, P, M: Script<K, P>, C: Rule<(), K>, E: Entry, D: Deed<K, C>> Deed<K, Pla
     ghost use Rattle.playing.specs.Passes.{Stepped};
 
     ghost tells = { λ key first second before found after. Stepped (M.table key) (M.law key) E.coming (D.tells key first second) before found after };
+}
+
+/// An add that its table has.
+struct AddStep<M, P, E, D> {
+    of: PhantomData<M>,
+    at: PhantomData<P>,
+    by: PhantomData<E>,
+    tells: PhantomData<D>,
+}
+
+impl<K, P, M: Script<K, P>, C: Rule<(), K>, E: AddEntry, D: Deed<K, C>> Deed<K, Played<M, P, C>>
+    for AddStep<M, P, E, D> {
+    ghost use Rattle.playing.specs.Passes.{Stepped};
+
+    ghost tells = { λ key more second before found after. Stepped (M.table key) (M.law key) (E.coming more) (D.tells key more second) before found after };
 }
 
 /// The words of an object that plays a model. A pass makes the step that the table has at the place of its call, and no other.
@@ -147,7 +162,7 @@ impl<K, M: Script<K, P>, P, C: Rule<(), K>, A: Allocator> Stage<K, M, P, C, A> {
 
     /// The add that the table has, which wraps. It answers what it found.
     #[inline(always)]
-    pub fn add<E: Entry, D: Deed<K, C>>(
+    pub fn add<E: AddEntry, D: Deed<K, C>>(
         &self,
         pass: &mut Pass<Played<M, P, C>>,
         word: usize,
@@ -155,14 +170,15 @@ impl<K, M: Script<K, P>, P, C: Rule<(), K>, A: Allocator> Stage<K, M, P, C, A> {
     ) -> u64
         requires own { IsPassOf self.now pass.old }
         requires inside { word < count_of self.now }
-        requires may { MayStep (M.table (key_of self.now)) (M.law (key_of self.now)) M.names E.coming word (λ w. intents.Add w more) (parties_of pass.old) }
+        requires may { MayStep (M.table (key_of self.now)) (M.law (key_of self.now)) M.names (E.coming more) word (λ w. intents.Add w more) (parties_of pass.old) }
         requires update { Updates C.none C.add (C.agrees (key_of self.now)) (counted pass.old) word (λ n. (n + more) % 2 ^ 64) (D.tells (key_of self.now) more 0 (counted pass.old)) }
         ensures same { IsSamePass pass.old pass.new }
-        ensures went { Went (M.table (key_of self.now)) (M.law (key_of self.now)) E.coming (parties_of pass.old) result (parties_of pass.new) }
-        ensures alone { IsWhole (part_of pass.old) → WentAlone (M.table (key_of self.now)) (M.law (key_of self.now)) E.coming (parties_of pass.old) result }
+        ensures went { Went (M.table (key_of self.now)) (M.law (key_of self.now)) (E.coming more) (parties_of pass.old) result (parties_of pass.new) }
+        ensures alone { IsWhole (part_of pass.old) → WentAlone (M.table (key_of self.now)) (M.law (key_of self.now)) (E.coming more) (parties_of pass.old) result }
         ensures told { D.tells (key_of self.now) more 0 (counted pass.old) result (counted pass.new) }
     {
-        self.words.fetch_add::<Step<M, P, E, D>>(pass, word, more)
+        self.words
+            .fetch_add::<AddStep<M, P, E, D>>(pass, word, more)
     }
 
     /// The subtraction that the table has, which wraps. It answers what it found.

@@ -9,7 +9,7 @@ ghost use Rattle.playing.specs.Stages.{IsPassOf, count_of};
 ghost use Rattle.playing.specs.Plays.{HasCalled};
 ghost use Rattle.playing.specs.Counter.{counter_table, KeepsNothing};
 
-use crate::entry::Entry;
+use crate::entry::{AddEntry, Entry};
 use crate::played::Played;
 use crate::script::Script;
 use crate::stage::Stage;
@@ -84,13 +84,13 @@ impl Entry for Looks {
     ghost coming = { Beginning calls.Value };
 }
 
-struct AddsSeven;
+struct Adds;
 
-impl Entry for AddsSeven {
+impl AddEntry for Adds {
     ghost use Rattle.steps_events.specs.declared.event.Call.TheVariants as calls;
     ghost use Rattle.playing.specs.Plays.{Beginning};
 
-    ghost coming = { Beginning (calls.Post 7) };
+    ghost coming = { λ more. Beginning (calls.Post more) };
 }
 
 struct Subtracts;
@@ -131,7 +131,7 @@ fn count(counter: &Counter, pass: &mut CounterPass) -> u64
     ensures same { IsSamePass pass.old pass.new }
     ensures looked { (before : Parties) × HasCalled counter_table KeepsNothing calls.Value (answers.Number result) None before (parties_of pass.new) }
 {
-    counter.add::<AddsSeven, Untold>(pass, 0, 7);
+    counter.add::<Adds, Untold>(pass, 0, 7);
     counter.subtract::<Subtracts, Untold>(pass, 0, 1);
     counter.load::<Looks, Untold>(pass, 0)
 }

@@ -7,16 +7,16 @@ use Rattle.passes.specs.declared.part.Part.{Part}
 use Rattle.passes.specs.declared.pass.Pass.{Pass}
 use Rattle.passes.specs.Parts.{IsWhole}
 use Rattle.passes.specs.Sights.{HasLooked}
-use Rattle.passes.specs.Passes.{IsSamePass, part_of, sights_of, HasSeen, HasDone, WasRefused}
+use Rattle.passes.specs.Passes.{IsSamePass, part_of, sights_of, HasSeen, HasDone}
 use Rattle.passes.specs.Answers.{MayAnswerAbort, HasAsked}
 use Rattle.passes.specs.declared.wait.WaitResult.{WaitResult}
 use Rattle.passes.specs.declared.wait.WaitResult.TheVariants.{Success, Interrupted}
 use Rattle.passes.specs.Objects.{IsPassOf}
 use Rattle.playing.specs.Passes.{counts_of}
-use Rattle.playing.specs.Counts.{HasMoved}
+use Rattle.playing.specs.Counts.{HasMoved, WasRefused}
+use Rattle.playing.specs.Counts as counts
 use Rattle.tallies.specs.declared.mutex.Holds.{Holds}
-use Rattle.tallies.specs.declared.semaphore.Permits.{Permits}
-use Rattle.running_semaphore.specs.SemaphoreShown.{IsSemPass, IsEmpty}
+use Rattle.running_semaphore.specs.SemaphoreShown.{SemPass, IsSemPass, IsEmpty}
 use Rattle.running_semaphore.specs.SemaphoreSteps.{gave}
 use Rattle.running_mutex.specs.declared.condition_variable.Waits.{Waits}
 use Rattle.running_mutex.specs.declared.condition_variable.CondPass.{CondPass}
@@ -33,7 +33,7 @@ use Rattle.running_mutex.specs.CondRule.{one_more}
 abbrev pub waits_in : CondPass → Pass Waits
 waits_in p = p.waits
 
-abbrev pub permits_in : CondPass → Pass Permits
+abbrev pub permits_in : CondPass → SemPass
 permits_in p = p.permits
 
 abbrev pub IsCondPass : {A : Type 0} → ConditionVariable A → CondPass → Type 0
@@ -42,7 +42,7 @@ IsCondPass c p = IsPassOf c.number_of_waiters (waits_in p) × IsSemPass c.semaph
 -- so many were seen to wait, in one look; so many permits were given; and nothing else changed
 pub record HasGiven (permits waiting : ℕ) (p q : CondPass) : Type 0 where
   pub saw : HasSeen waiting (waits_in p) (waits_in q)
-  pub gave : HasDone (gave permits) (permits_in p) (permits_in q)
+  pub gave : counts.HasDone (gave permits) (permits_in p) (permits_in q)
 
 -- it was seen once how many wait, as many permits were given as are for them, and nothing else changed
 pub record HasNotified (for : ℕ → ℕ) (p q : CondPass) : Type 0 where

@@ -120,6 +120,7 @@ impl CondPass {
     ghost use Rattle.passes.specs.Parts.{AddUp};
     ghost use Rattle.passes.specs.Passes.{view, part_of};
     ghost use Rattle.passes.specs.Views.{left_view, right_view};
+    ghost use Rattle.playing.specs.Passes.{core_played};
     ghost use Rattle.tallies.specs.SemaphoreRule.{no_permits};
     ghost use Rattle.running_mutex.specs.CondRule.{no_waits};
     ghost use Rattle.running_mutex.specs.CondShown.{IsCondPass, waits_in, permits_in};
@@ -134,7 +135,7 @@ impl CondPass {
         ensures never_refused { is_ok result ≡ true }
         ensures own { IfOk result (λ parts. IsCondPass of.now parts.0 × IsCondPass of.now parts.1) }
         ensures first { IfOk result (λ parts. (view (waits_in parts.0) ≡ left_view (view (waits_in self))) × (view (permits_in parts.0) ≡ left_view (view (permits_in self)))) }
-        ensures second { IfOk result (λ parts. (view (waits_in parts.1) ≡ right_view (λ _. no_waits) (view (waits_in self))) × (view (permits_in parts.1) ≡ right_view (λ _. no_permits) (view (permits_in self)))) }
+        ensures second { IfOk result (λ parts. (view (waits_in parts.1) ≡ right_view (λ _. no_waits) (view (waits_in self))) × (view (permits_in parts.1) ≡ right_view (core_played (λ _. no_permits)) (view (permits_in self)))) }
         ensures weights { IfOk result (λ parts. AddUp (part_of (waits_in self)) (part_of (waits_in parts.0)) (part_of (waits_in parts.1)) × AddUp (part_of (permits_in self)) (part_of (permits_in parts.0)) (part_of (permits_in parts.1))) }
     {
         let CondPass { waits, permits } = self;
@@ -167,6 +168,8 @@ impl<A: Allocator> ConditionVariable<A> {
     ghost use Rattle.passes.specs.Objects.{IsPassOf};
     ghost use Rattle.passes.specs.Passes.{view, part_of, IsSamePass, HasDone};
     ghost use Rattle.passes.specs.Views.{first_view};
+    ghost use Rattle.playing.specs.Slots.{no_parties};
+    ghost use Rattle.playing.specs.Passes.{played};
     ghost use Rattle.tallies.specs.SemaphoreRule.{first_permits};
     ghost use Rattle.running_mutex.specs.CondRule.{no_waits, Loaded, went_in, went_out};
     ghost use Rattle.running_semaphore.specs.SemaphoreShown.{worth_of, HasTaken};
@@ -178,7 +181,7 @@ impl<A: Allocator> ConditionVariable<A> {
     where
         A: Copy,
         ensures own { IfOk result (λ made. IsCondPass made.0 made.1) }
-        ensures first { IfOk result (λ made. (view (waits_in made.1) ≡ first_view no_waits) × (view (permits_in made.1) ≡ first_view (first_permits 0))) }
+        ensures first { IfOk result (λ made. (view (waits_in made.1) ≡ first_view no_waits) × (view (permits_in made.1) ≡ first_view (played no_parties (first_permits 0)))) }
     {
         let (number_of_waiters, waits) = Words::new(alloc, &[0], &())?;
         let (semaphore, permits) = Semaphore::new(alloc, 0)?;

@@ -339,7 +339,8 @@ impl<A: Allocator> Attempt<(), MutexScript, MutexPlace, Holds> for Mutex<A> {
     ghost answers = { λ _ _ _. refl };
 
     #[inline(always)]
-    fn attempt<E: Entry>(&self, pass: &mut MutexPass) -> Result<(), u64> {
+    fn attempt<E: Entry, R: Wait>(&self, rt: &R, pass: &mut MutexPass) -> Result<(), u64> {
+        let _rt = rt;
         if self.exchange::<E>(pass) {
             Ok(())
         } else {

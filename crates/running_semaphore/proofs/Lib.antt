@@ -1,1 +1,2 @@
 pub mod SemaphoreKeeps
+pub mod SemaphorePlays

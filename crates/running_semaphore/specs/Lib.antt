@@ -1,2 +1,3 @@
+pub mod SemaphoreParties
 pub mod SemaphoreSteps
 pub mod SemaphoreShown

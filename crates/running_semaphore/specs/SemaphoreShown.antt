@@ -1,30 +1,55 @@
 -- What contracts see of a semaphore and its pass, and what a call changes in a pass.
-use Rattle.std.specs.Prelude.{◌≡◌, ℕ, ◌+◌, ◌<◌, ◌≤◌}
+use Rattle.std.specs.Prelude.{◌≡◌, ℕ, ◌+◌, ◌<◌, ◌≤◌, ◌%◌, ◌^◌, None}
+use Rattle.steps_events.specs.declared.event.Call.{Call}
+use Rattle.steps_events.specs.declared.event.Call.TheVariants as calls
+use Rattle.steps_events.specs.declared.event.Answer.{Answer}
+use Rattle.steps_events.specs.declared.event.Answer.TheVariants as answers
+use Rattle.steps_events.specs.declared.event.Then.TheVariants as thens
+use Rattle.steps_semaphore.specs.declared.SemaphorePlace.{SemaphorePlace}
+use Rattle.steps_semaphore.specs.declared.SemaphorePlace.TheVariants as places
+use Rattle.steps_semaphore.specs.Table.{semaphore_table}
+use Rattle.steps_semaphore.specs.Law.{KeepsSemaphore}
 use Rattle.passes.specs.declared.part.Part.{Part}
 use Rattle.passes.specs.declared.pass.Pass.{Pass}
+use Rattle.passes.specs.declared.wait.WaitResult.{WaitResult}
+use Rattle.passes.specs.declared.wait.WaitResult.TheVariants.{Success, Interrupted}
 use Rattle.passes.specs.Parts.{IsWhole}
-use Rattle.passes.specs.Passes.{IsSamePass, view, part_of, sights_of, tally_of, HasMoved}
+use Rattle.passes.specs.Passes.{IsSamePass, part_of, sights_of}
 use Rattle.passes.specs.Views.{looked, wrote}
-use Rattle.passes.specs.Objects.{IsPassOf}
+use Rattle.playing.specs.declared.played.Played.{Played}
+use Rattle.playing.specs.Slots.{Parties, all_of}
+use Rattle.playing.specs.Plays.{HasCalled, IsAt}
+use Rattle.playing.specs.Passes.{parties_of, counts_of, counted}
+use Rattle.playing.specs.Counts.{HasMoved}
+use Rattle.playing.specs.Stages.{IsPassOf, key_of}
 use Rattle.tallies.specs.declared.semaphore.Permits.{Permits}
-use Rattle.running_semaphore.specs.declared.Semaphore.{Semaphore}
+use Rattle.tallies.specs.declared.semaphore.SemaphoreScript.{SemaphoreScript}
 use Rattle.tallies.specs.SemaphoreRule.{value_of}
+use Rattle.running_semaphore.specs.declared.Semaphore.{Semaphore}
 use Rattle.running_semaphore.specs.SemaphoreSteps.{took}
 
-abbrev pub IsSemPass : {A : Type 0} → Semaphore A → Pass Permits → Type 0
-IsSemPass s p = IsPassOf s.words p
+-- the pass of a semaphore
+abbrev pub SemPass : Type 0
+SemPass = Pass (Played SemaphoreScript SemaphorePlace Permits)
+
+abbrev pub IsSemPass : {A : Type 0} → Semaphore A → SemPass → Type 0
+IsSemPass s p = IsPassOf s.stage p
+
+-- the value that the semaphore was made with
+abbrev pub initial_of : {A : Type 0} → Semaphore A → ℕ
+initial_of s = key_of s.stage % 2 ^ 64
 
 -- the initial value, if the pass was made with the semaphore, and all that its owner posted
-abbrev pub given_of : Pass Permits → ℕ
-given_of p = (tally_of p).given
+abbrev pub given_of : SemPass → ℕ
+given_of p = (counts_of p).given
 
 -- how many permits its owner took
-abbrev pub taken_of : Pass Permits → ℕ
-taken_of p = (tally_of p).taken
+abbrev pub taken_of : SemPass → ℕ
+taken_of p = (counts_of p).taken
 
 -- the value that the pass's tally comes to, where no other pass has counted anything
-abbrev pub worth_of : Pass Permits → ℕ
-worth_of p = value_of (tally_of p)
+abbrev pub worth_of : SemPass → ℕ
+worth_of p = value_of (counts_of p)
 
 -- the value at which no permit is taken
 abbrev pub IsEmpty : ℕ → Type 0
@@ -38,17 +63,41 @@ pub record Takes (part : Part) (t u : Permits) (last : ℕ) : Type 0 where
   pub alone : IsWhole part → last ≡ value_of t
 
 -- one permit was taken, and nothing else changed but what was seen on the way
-abbrev pub HasTaken : Pass Permits → Pass Permits → Type 0
+abbrev pub HasTaken : SemPass → SemPass → Type 0
 HasTaken = HasMoved Takes
 
 -- one look saw what the pass's tally came to, one permit was taken from it, and nothing else changed
-abbrev pub HasTakenAtOnce : Pass Permits → Pass Permits → Type 0
-HasTakenAtOnce p q = IsSamePass p q × (view q ≡ wrote (looked (view p) (worth_of p)) (took (tally_of p)))
+abbrev pub HasTakenAtOnce : SemPass → SemPass → Type 0
+HasTakenAtOnce p q = IsSamePass p q × (counted q ≡ wrote (looked (counted p) (worth_of p)) (took (counts_of p)))
 
 -- So much was given and taken, and nothing else changed but what was seen on the way. A helper, a loop and a closure carry this one fact.
-pub record HasCounted (more less : ℕ) (p q : Pass Permits) : Type 0 where
+pub record HasCounted (more less : ℕ) (p q : SemPass) : Type 0 where
   pub same : IsSamePass p q
   pub given : given_of q ≡ given_of p + more
   pub taken : taken_of q ≡ taken_of p + less
   pub part : part_of q ≡ part_of p
   pub saw : (sights_of p).count ≤ (sights_of q).count
+
+-- The pass as a party of the model.
+
+-- how the model answers a call that is answered so
+abbrev pub answer_of : {H : Type 0} → WaitResult H → Answer ℕ
+answer_of (Success h) = answers.Success
+answer_of Interrupted = answers.Interrupted
+
+module _ (initial : ℕ) where
+  -- There is a run of the model, which keeps the law of a semaphore of this initial value, in which a party of the pass has just been
+  -- answered so by this call. It is the one call that the pass has made since, as a party that is new.
+  abbrev pub HasPlayed : Call ℕ → Answer ℕ → SemPass → SemPass → Type 0
+  HasPlayed call answer p q = HasCalled (semaphore_table initial) (KeepsSemaphore initial) call answer None (parties_of p) (parties_of q)
+
+  -- As a party that is new the pass has begun a `Post` of so many and added them, in a run that keeps the semaphore's law; and is to wake one.
+  abbrev pub Posts : ℕ → Parties → Parties → Type 0
+  Posts value p q = IsAt (semaphore_table initial) (KeepsSemaphore initial) (calls.Post value) places.Wake thens.GoesOn None (all_of p) q
+
+  abbrev pub HasPlayedPost : ℕ → SemPass → SemPass → Type 0
+  HasPlayedPost value p q = Posts value (parties_of p) (parties_of q)
+
+  -- it has made a `Wait` that took a permit, and then a `Post` of one
+  abbrev pub HasPlayedBoth : SemPass → SemPass → Type 0
+  HasPlayedBoth p q = (held : Parties) × HasCalled (semaphore_table initial) (KeepsSemaphore initial) calls.Wait answers.Success None (parties_of p) held × Posts 1 held (parties_of q)

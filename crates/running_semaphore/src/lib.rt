@@ -4,39 +4,41 @@
 #![tactic(auto)]
 
 ghost use Rattle.std.specs.Prelude.{◌≡◌, ◌<◌, ◌≤◌, IfOk};
-ghost use Rattle.passes.specs.Objects.{count_of};
+ghost use Rattle.playing.specs.Passes.{parties_of, counts_of};
+ghost use Rattle.playing.specs.Stages.{count_of};
 
-use passes::{Attempt, Deed, Origin, Pass, WaitResult, Words, success_if, try_again, wake};
+use passes::{Deed, Origin, Pass, WaitResult, success_if};
+use playing::{AddEntry, Attempt, Entry, GoesOn, Stage, try_again};
 use std::alloc::{AllocError, Allocator, Global};
 use std::ops::Deref;
 use std::sync::Wait;
 use steps_events::WaitAction;
-use steps_semaphore::taken;
-use tallies::{Permits, WaitWord};
+use steps_semaphore::{SemaphorePlace, taken};
+use tallies::{Permits, PlayedSemaphore, SemaphoreScript, WaitWord};
 
 /// A counting semaphore.
 #[derive(Drop)]
 pub struct Semaphore<A: Allocator = Global> {
-    words: Words<u64, Permits, A>,
-    ghost one_word: { count_of words ≡ 1 },
+    stage: Stage<u64, SemaphoreScript, SemaphorePlace, Permits, A>,
+    ghost one_word: { count_of stage ≡ 1 },
 }
 
 /// What the passes of a semaphore come from, at which they are split and joined.
 impl<A: Allocator> Deref for Semaphore<A> {
-    ghost use Rattle.passes.specs.Objects.{origin};
+    ghost use Rattle.playing.specs.Stages.{origin};
 
-    type Target = Origin<u64, Permits, A>;
+    type Target = Origin<u64, PlayedSemaphore, A>;
 
     #[inline(always)]
-    fn deref(&self) -> &Origin<u64, Permits, A>
-        ensures { result.now ≡ origin self.now.words }
+    fn deref(&self) -> &Origin<u64, PlayedSemaphore, A>
+        ensures { result.now ≡ origin self.now.stage }
     {
-        &self.words
+        &self.stage
     }
 }
 
 /// The right to call a semaphore, and what its owner did and saw there.
-pub type SemPass = Pass<Permits>;
+pub type SemPass = Pass<PlayedSemaphore>;
 
 /// A load.
 struct Look;
@@ -65,36 +67,90 @@ impl Deed<u64, Permits> for Give {
     ghost tells = { λ _ more _ before _. Added more before };
 }
 
+/// A `Value` begins.
+struct ValueBegins;
+
+impl Entry for ValueBegins {
+    ghost use Rattle.steps_events.specs.declared.event.Call.TheVariants as calls;
+    ghost use Rattle.playing.specs.Plays.{Beginning};
+
+    ghost coming = { Beginning calls.Value };
+}
+
+/// A `Post` begins, of as many as it adds.
+struct PostBegins;
+
+impl AddEntry for PostBegins {
+    ghost use Rattle.steps_events.specs.declared.event.Call.TheVariants as calls;
+    ghost use Rattle.playing.specs.Plays.{Beginning};
+
+    ghost coming = { λ more. Beginning (calls.Post more) };
+}
+
+/// A `TryWait` begins.
+struct TryWaitBegins;
+
+impl Entry for TryWaitBegins {
+    ghost use Rattle.steps_events.specs.declared.event.Call.TheVariants as calls;
+    ghost use Rattle.playing.specs.Plays.{Beginning};
+
+    ghost coming = { Beginning calls.TryWait };
+}
+
+/// A `Wait` begins.
+struct WaitBegins;
+
+impl Entry for WaitBegins {
+    ghost use Rattle.steps_events.specs.declared.event.Call.TheVariants as calls;
+    ghost use Rattle.playing.specs.Plays.{Beginning};
+
+    ghost coming = { Beginning calls.Wait };
+}
+
 impl<A: Allocator> Semaphore<A> {
-    ghost use Rattle.std.specs.Prelude.{true, false, ◌+◌, ◌-◌, ◌≢◌, MatchBool};
+    ghost use Rattle.std.specs.Prelude.{true, false, ◌+◌, ◌-◌, ◌≢◌, [], ◌∷◌, MatchBool};
+    ghost use Rattle.steps_events.specs.declared.event.Word.TheVariants as words;
+    ghost use Rattle.steps_events.specs.declared.event.Call.TheVariants as calls;
+    ghost use Rattle.steps_events.specs.declared.event.Answer.TheVariants as answers;
+    ghost use Rattle.steps_events.specs.declared.row.Intent.TheVariants as intents;
+    ghost use Rattle.steps_semaphore.specs.Table.{semaphore_table};
+    ghost use Rattle.steps_semaphore.specs.Law.{KeepsSemaphore};
     ghost use Rattle.passes.specs.Answers.{IfSuccess, IfInterrupted, IsSuccess, MayAnswerAbort, HasAsked, HasWoken};
     ghost use Rattle.passes.specs.Parts.{IsWhole};
     ghost use Rattle.passes.specs.Sights.{LooksOnceOrMisses};
     ghost use Rattle.passes.specs.Views.{first_view};
-    ghost use Rattle.passes.specs.Passes.{view, part_of, sights_of, HasSeen, HasMissed, HasDone, WasRefused};
+    ghost use Rattle.passes.specs.Passes.{view, part_of, sights_of};
+    ghost use Rattle.playing.specs.Slots.{no_parties};
+    ghost use Rattle.playing.specs.Plays.{Going, MayStep, Went};
+    ghost use Rattle.playing.specs.Passes.{played};
+    ghost use Rattle.playing.specs.Counts.{HasSeen, HasMissed, HasDone, WasRefused};
+    ghost use Rattle.playing.specs.Stages.{id_of};
     ghost use Rattle.tallies.specs.SemaphoreRule.{first_permits};
+    ghost use Rattle.tallies.specs.Shown.{object_shown, index_shown};
+    ghost use Rattle.running_semaphore.specs.SemaphoreParties.{MayWant, HasWanted};
     ghost use Rattle.running_semaphore.specs.SemaphoreSteps.{took, gave};
-    ghost use Rattle.running_semaphore.specs.SemaphoreShown.{IsSemPass, given_of, taken_of, worth_of, IsEmpty, HasTaken, HasTakenAtOnce, HasCounted};
+    ghost use Rattle.running_semaphore.specs.SemaphoreShown.{IsSemPass, initial_of, given_of, taken_of, worth_of, IsEmpty, HasTaken, HasTakenAtOnce, HasCounted, answer_of, HasPlayed, HasPlayedPost, HasPlayedBoth};
 
     /// A semaphore of this value, and the pass that is whole. `Err` where there was no memory; then nothing was made.
     pub fn new(alloc: A, initial: u64) -> Result<(Semaphore<A>, SemPass), AllocError>
         ensures own { IfOk result (λ made. IsSemPass made.0 made.1) }
-        ensures first { IfOk result (λ made. view made.1 ≡ first_view (first_permits initial)) }
+        ensures initial { IfOk result (λ made. initial_of made.0 ≡ initial) }
+        ensures first { IfOk result (λ made. view made.1 ≡ first_view (played no_parties (first_permits initial))) }
     {
-        let (words, pass) = Words::new(alloc, &[initial], &initial)?;
-        Ok((Semaphore { words }, pass))
+        let (stage, pass) = Stage::new(alloc, &[initial], &initial)?;
+        Ok((Semaphore { stage }, pass))
     }
 
     /// How many permits are there to take. Another party may post or take right after.
-    #[tactic(auto, using(crate::proofs::SemaphoreKeeps::loads))]
     #[inline(always)]
     pub fn value(&self, pass: &mut SemPass) -> u64
         requires own { IsSemPass self.now pass.old }
         ensures saw { HasSeen result pass.old pass.new }
+        ensures played { HasPlayed (initial_of self.now) calls.Value (answers.Number result) pass.old pass.new }
         ensures exact { IsWhole (part_of pass.old) → result ≡ worth_of pass.old }
         ensures enough { IsWhole (part_of pass.old) → taken_of pass.old ≤ given_of pass.old }
     {
-        self.words.load::<Look>(pass, 0)
+        self.look::<ValueBegins>(pass)
     }
 
     /// Adds so many permits, wrapping at 2^64, and then calls the wake closure once, also for 0.
@@ -103,10 +159,11 @@ impl<A: Allocator> Semaphore<A> {
         requires own { IsSemPass self.now pass.old }
         requires may { W.IsAlwaysCallable wakeup }
         ensures given { HasDone (gave value) pass.old pass.new }
+        ensures played { HasPlayedPost (initial_of self.now) value pass.old pass.new }
         ensures woke { HasWoken W.Fn wakeup }
     {
         self.add(pass, value);
-        wake(&wakeup, &self.word());
+        self.stage.wake(pass, &self.word(), &wakeup);
     }
 
     /// Takes a permit: looks, up to 10000 times more where it sees none, and then calls the wait closure before each further look.
@@ -122,6 +179,7 @@ impl<A: Allocator> Semaphore<A> {
         requires may { W.IsAlwaysCallable wait }
         ensures took { IfSuccess result (λ _. HasTaken pass.old pass.new) }
         ensures refused { IfInterrupted result (WasRefused IsEmpty 10002 pass.old pass.new) }
+        ensures played { HasPlayed (initial_of self.now) calls.Wait (answer_of result) pass.old pass.new }
         ensures some { IsWhole (part_of pass.old) → 0 < worth_of pass.old → IsSuccess result }
         ensures none { IsWhole (part_of pass.old) → IfSuccess result (λ _. 0 < worth_of pass.old) }
         ensures aborted { IfInterrupted result (MayAnswerAbort W.Fn wait IsEmpty) }
@@ -137,13 +195,14 @@ impl<A: Allocator> Semaphore<A> {
         requires own { IsSemPass self.now pass.old }
         ensures took { IfSuccess result (λ _. HasTaken pass.old pass.new) }
         ensures refused { IfInterrupted result (WasRefused IsEmpty 1 pass.old pass.new) }
+        ensures played { HasPlayed (initial_of self.now) calls.TryWait (answer_of result) pass.old pass.new }
         ensures looks { LooksOnceOrMisses (sights_of pass.old) (sights_of pass.new) }
         ensures once { IsWhole (part_of pass.old) → IfInterrupted result (HasSeen 0 pass.old pass.new) }
         ensures took_once { IsWhole (part_of pass.old) → IfSuccess result (λ _. HasTakenAtOnce pass.old pass.new) }
         ensures some { IsWhole (part_of pass.old) → 0 < worth_of pass.old → IsSuccess result }
         ensures none { IsWhole (part_of pass.old) → IfSuccess result (λ _. 0 < worth_of pass.old) }
     {
-        success_if(self.take(rt, pass))
+        success_if(self.take::<TryWaitBegins, R>(rt, pass))
     }
 
     /// Takes a permit as `wait` does, calls `act`, and posts the permit again. `Interrupted` where `wait` is; then `act` was not called.
@@ -159,6 +218,8 @@ impl<A: Allocator> Semaphore<A> {
         requires may { W.IsAlwaysCallable wait × K.IsAlwaysCallable wakeup × F.IsAlwaysCallable act }
         ensures lent { IfSuccess result (λ _. HasCounted 1 1 pass.old pass.new) }
         ensures refused { IfInterrupted result (WasRefused IsEmpty 10002 pass.old pass.new) }
+        ensures played { IfSuccess result (λ _. HasPlayedBoth (initial_of self.now) pass.old pass.new) }
+        ensures gave_up { IfInterrupted result (HasPlayed (initial_of self.now) calls.Wait answers.Interrupted pass.old pass.new) }
         ensures some { IsWhole (part_of pass.old) → 0 < worth_of pass.old → IsSuccess result }
         ensures none { IsWhole (part_of pass.old) → IfSuccess result (λ _. 0 < worth_of pass.old) }
         ensures acted { IfSuccess result (λ x. F.post act x) }
@@ -183,8 +244,8 @@ impl<A: Allocator> Semaphore<A> {
         ensures exact { IsWhole (part_of pass) → result ≡ worth_of pass }
         ensures enough { IsWhole (part_of pass) → taken_of pass ≤ given_of pass }
     {
-        let Semaphore { words } = self;
-        words.close(pass, 0)
+        let Semaphore { stage } = self;
+        stage.close(pass, 0)
     }
 
     /// What `wait` does, and whether a permit was taken.
@@ -198,11 +259,25 @@ impl<A: Allocator> Semaphore<A> {
         requires own { IsSemPass self.now pass.old }
         requires may { W.IsAlwaysCallable wait.now }
         ensures entered { MatchBool result (HasTaken pass.old pass.new) (WasRefused IsEmpty 10002 pass.old pass.new) }
+        ensures played { MatchBool result (HasPlayed (initial_of self.now) calls.Wait answers.Success pass.old pass.new) (HasPlayed (initial_of self.now) calls.Wait answers.Interrupted pass.old pass.new) }
         ensures exact { IsWhole (part_of pass.old) → MatchBool result (0 < worth_of pass.old) (worth_of pass.old ≡ 0) }
         ensures aborted { result ≡ false → MayAnswerAbort W.Fn wait.now IsEmpty }
         ensures asked { IsWhole (part_of pass.old) → result ≡ false → HasAsked W.Fn wait.now IsEmpty 10001 pass.old pass.new }
     {
-        self.take(rt, pass) || try_again(rt, self, pass, &self.word(), 0, wait)
+        self.take::<WaitBegins, R>(rt, pass) || try_again(rt, self, pass, &self.word(), 0, wait)
+    }
+
+    /// A load of the value.
+    #[inline(always)]
+    fn look<E: Entry>(&self, pass: &mut SemPass) -> u64
+        requires own { IsSemPass self.now pass.old }
+        requires may { MayStep (semaphore_table (initial_of self.now)) (KeepsSemaphore (initial_of self.now)) (words.State ∷ []) E.coming 0 (λ w. intents.Load w) (parties_of pass.old) }
+        ensures saw { HasSeen result pass.old pass.new }
+        ensures went { Went (semaphore_table (initial_of self.now)) (KeepsSemaphore (initial_of self.now)) E.coming (parties_of pass.old) result (parties_of pass.new) }
+        ensures exact { IsWhole (part_of pass.old) → result ≡ worth_of pass.old }
+        ensures enough { IsWhole (part_of pass.old) → taken_of pass.old ≤ given_of pass.old }
+    {
+        self.stage.load::<E, Look>(pass, 0)
     }
 
     /// An exchange of the value seen for one less, and the value that it found.
@@ -210,33 +285,37 @@ impl<A: Allocator> Semaphore<A> {
     fn exchange(&self, pass: &mut SemPass, seen: u64, rest: u64) -> u64
         requires own { IsSemPass self.now pass.old }
         requires less { (0 < seen) × (rest ≡ seen - 1) }
+        requires may { MayStep (semaphore_table (initial_of self.now)) (KeepsSemaphore (initial_of self.now)) (words.State ∷ []) Going 0 (λ w. intents.Exchange w seen rest) (parties_of pass.old) }
         ensures done { result ≡ seen → HasDone took pass.old pass.new }
         ensures failed { result ≢ seen → HasMissed seen result pass.old pass.new }
+        ensures went { Went (semaphore_table (initial_of self.now)) (KeepsSemaphore (initial_of self.now)) Going (parties_of pass.old) result (parties_of pass.new) }
         ensures exact { IsWhole (part_of pass.old) → result ≡ worth_of pass.old }
     {
-        self.words.compare_exchange::<Take>(pass, 0, seen, rest)
+        self.stage.exchange::<GoesOn, Take>(pass, 0, seen, rest)
     }
 
     /// An add of so many permits.
-    #[tactic(auto, using(crate::proofs::SemaphoreKeeps::adds))]
     #[inline(always)]
     fn add(&self, pass: &mut SemPass, value: u64)
         requires own { IsSemPass self.now pass.old }
         ensures given { HasDone (gave value) pass.old pass.new }
+        ensures played { HasPlayedPost (initial_of self.now) value pass.old pass.new }
     {
-        self.words.fetch_add::<Give>(pass, 0, value);
+        self.stage.add::<PostBegins, Give>(pass, 0, value);
     }
 
     /// Looks, and takes a permit while there is one. False at a look that gave 0.
     #[inline(always)]
-    fn take<R: Wait>(&self, rt: &R, pass: &mut SemPass) -> bool
+    fn take<E: Entry, R: Wait>(&self, rt: &R, pass: &mut SemPass) -> bool
         requires own { IsSemPass self.now pass.old }
+        requires comes { MayWant (initial_of self.now) E.coming (parties_of pass.old) }
         ensures takes { MatchBool result (HasTaken pass.old pass.new) (WasRefused IsEmpty 1 pass.old pass.new) }
+        ensures wanted { HasWanted (initial_of self.now) E.coming result (parties_of pass.old) (parties_of pass.new) }
         ensures looks { LooksOnceOrMisses (sights_of pass.old) (sights_of pass.new) }
         ensures once { IsWhole (part_of pass.old) → MatchBool result (HasTakenAtOnce pass.old pass.new) (HasSeen 0 pass.old pass.new) }
         ensures exact { IsWhole (part_of pass.old) → MatchBool result (0 < worth_of pass.old) (worth_of pass.old ≡ 0) }
     {
-        let mut seen = self.value(pass);
+        let mut seen = self.look::<E>(pass);
         for _ in rt.forever() {
             let Some(rest) = taken(seen) else {
                 return false;
@@ -252,18 +331,33 @@ impl<A: Allocator> Semaphore<A> {
 
     /// The semaphore's word, as closures see it.
     #[inline(always)]
-    fn word(&self) -> WaitWord<'_> {
-        WaitWord::from(self.words.word(0))
+    fn word(&self) -> WaitWord<'_>
+        ensures object { object_shown result ≡ id_of self.now.stage }
+        ensures index { index_shown result ≡ 0 }
+    {
+        WaitWord::from(self.stage.word(0))
     }
 }
 
 /// A look of `wait`, and its exchanges.
-impl<A: Allocator> Attempt<Permits> for Semaphore<A> {
+impl<A: Allocator> Attempt<u64, SemaphoreScript, SemaphorePlace, Permits> for Semaphore<A> {
+    ghost use Rattle.std.specs.Prelude.{None};
+    ghost use Rattle.std.proofs.Common.{refl};
+    ghost use Rattle.steps_events.specs.declared.event.Call.TheVariants as calls;
+    ghost use Rattle.steps_semaphore.specs.declared.SemaphorePlace.TheVariants as places;
     ghost use Rattle.passes.specs.Parts.{IsWhole};
-    ghost use Rattle.passes.specs.Objects.{id_of};
+    ghost use Rattle.playing.specs.Stages.{id_of, key_of};
     ghost use Rattle.running_semaphore.specs.SemaphoreShown.{IsEmpty, Takes};
 
-    ghost object = { λ s. id_of s.words };
+    ghost object = { λ s. id_of s.stage };
+
+    ghost key = { λ s. key_of s.stage };
+
+    ghost call = { calls.Wait };
+
+    ghost place = { places.Look };
+
+    ghost takes = { None };
 
     ghost moves = { Takes };
 
@@ -271,8 +365,14 @@ impl<A: Allocator> Attempt<Permits> for Semaphore<A> {
 
     ghost looks_once = { λ part _. IsWhole part };
 
+    ghost answers = { λ _ _ _. refl };
+
     #[inline(always)]
-    fn attempt<R: Wait>(&self, rt: &R, pass: &mut SemPass) -> Result<(), u64> {
-        if self.take(rt, pass) { Ok(()) } else { Err(0) }
+    fn attempt<E: Entry, R: Wait>(&self, rt: &R, pass: &mut SemPass) -> Result<(), u64> {
+        if self.take::<E, R>(rt, pass) {
+            Ok(())
+        } else {
+            Err(0)
+        }
     }
 }

@@ -25,7 +25,7 @@ use Rattle.steps_events.specs.Past.{same_word, PendingCall, call_of, hold_of, wo
 use Rattle.steps_events.specs.Moves.{Move, step_at, is_step}
 use Rattle.steps_events.specs.Runs.{IsPast}
 use Rattle.steps_events.specs.Sights.{sight_of, is_sight, AtLast, spins_in, last_of}
-use Rattle.steps_events.specs.NextStep.{StepsAs}
+use Rattle.steps_events.specs.NextStep.{StepsAs, seen_last}
 use Rattle.steps_events.specs.Asks.{WhereAsked, sight_at}
 use Rattle.steps_events.specs.Laws.{Lacks, is_refusal}
 use Rattle.steps_events.proofs.Holds.{some_same, eqb_other, no_holds, exclusive_unheld}
@@ -39,7 +39,7 @@ use Rattle.steps_barrier.specs.declared.BarrierPlace.{BarrierPlace}
 use Rattle.steps_barrier.specs.declared.BarrierPlace.TheVariants as places
 use Rattle.steps_barrier.specs.Rounds.{epoch_of, count_of, with_arrival, is_arrival, arrivals_in, round_of, full_rounds, IsFull, CountsArrivals}
 use Rattle.steps_barrier.specs.Table.{barrier_table, barrier_begins, barrier_intent, barrier_after}
-use Rattle.steps_barrier.specs.Law.{BarrierCause, is_ok, is_wake_of_all, is_wake, since_arrival, looks_on, steps_on, looked, seen_by, BarrierStep, KeepsBarrier}
+use Rattle.steps_barrier.specs.Law.{BarrierCause, is_ok, is_wake_of_all, is_wake, since_arrival, looks_on, steps_on, looked, BarrierStep, KeepsBarrier}
 use Rattle.steps_barrier.proofs.Rounds.{count_is, epoch_is, counts_none, counts_more, later_epoch, filled_round, is_full}
 
 -- What is kept of a call at its place.
@@ -435,8 +435,8 @@ event_law {T} z n parties fits past e run =
 
 -- what its latest step saw, where it has not arrived
 abbrev HasSeen : {T : Type 0} → BarrierPlace → PendingCall T → Option HoldKind → Type 0
-HasSeen (places.Look m) c hold = seen_by (last_of is_step c.own) ≡ None
-HasSeen (places.Arrive m seen to) c hold = seen_by (last_of is_step c.own) ≡ Some seen
+HasSeen (places.Look m) c hold = seen_last words.State c.own ≡ None
+HasSeen (places.Arrive m seen to) c hold = seen_last words.State c.own ≡ Some seen
 HasSeen other c hold = Unit {0}
 
 begins_unseen : {T : Type 0} (n : ℕ) (call : Call T) (place : BarrierPlace) (hold : Option HoldKind) → barrier_begins n call ≡ Some place → HasSeen {T = T} place (record { call = call; own = [] }) hold
@@ -444,7 +444,7 @@ begins_unseen {T} n calls.Wait place hold is = subst (λ p. HasSeen {T = T} p (r
 begins_unseen n other place hold is = absurd cc
 
 look_seen :
-    {T : Type 0} (m v : ℕ) (c : PendingCall T) (hold : Option HoldKind) (e : Event T) (next : BarrierPlace) (below : Bool) → seen_by (last_of is_step (e ∷ c.own)) ≡ Some v → place_after {T = T} (look_after m v below) ≡ Some next →
+    {T : Type 0} (m v : ℕ) (c : PendingCall T) (hold : Option HoldKind) (e : Event T) (next : BarrierPlace) (below : Bool) → seen_last words.State (e ∷ c.own) ≡ Some v → place_after {T = T} (look_after m v below) ≡ Some next →
     HasSeen next (record { call = c.call; own = e ∷ c.own }) hold
 look_seen m v c hold e next false sees is = absurd cc
 look_seen {T} m v c hold e next true sees is = subst (λ p. HasSeen {T = T} p (record { call = c.call; own = e ∷ c.own }) hold) (some_same (places.Arrive m v (with_arrival m v)) next is) sees
@@ -526,14 +526,14 @@ barrier_step :
     {T : Type 0} (n : ℕ) (place : BarrierPlace) (c : PendingCall T) (hold : Option HoldKind) (memory : Word → ℕ) → AtBarrier n place c hold × HasSeen place c hold →
     BarrierStep {T = T} n c.call c.own (step_at (barrier_table n) place hold memory).act (step_at (barrier_table n) place hold memory).outcome
 barrier_step n (places.Look m) c hold memory at =
-    rw (at.0.0, no_arrival c.own at.0.2, at.1) (look_outcome m (memory words.State) (nat_lt (count_of (memory words.State)) m) ∙ ap (λ k. looked k (memory words.State)) at.0.1)
+    rw (at.0.0, no_arrival c.own at.0.2, at.1) (refl, look_outcome m (memory words.State) (nat_lt (count_of (memory words.State)) m) ∙ ap (λ k. looked k (memory words.State)) at.0.1)
 barrier_step n (places.Arrive m seen to) c hold memory at =
     rw (at.0.0, no_arrival c.own at.0.4, at.1)
-    (refl, at.0.3, arrive_outcome m seen (memory words.State) (memory words.State == seen) ∙ ap (λ k. cond (memory words.State == seen) thens.GoesOn (looked k (memory words.State))) at.0.1)
+    (refl, refl, at.0.3, arrive_outcome m seen (memory words.State) (memory words.State == seen) ∙ ap (λ k. cond (memory words.State == seen) thens.GoesOn (looked k (memory words.State))) at.0.1)
 barrier_step n places.Wake c hold memory at = rw (at.0.0, at.0.1.1.2, eq-eqb (count_of at.0.1.0 + 1) n at.0.1.2) (refl, refl)
 barrier_step n (places.Stay epoch spins) c hold memory at =
     rw (at.0.0, at.0.1.1.2, eqb_other (count_of at.0.1.0 + 1) n (λ is. at.0.1.3 (sym is)), at.0.1.2, at.0.2)
-    (stay_outcome epoch spins (memory words.State) (epoch_of (memory words.State) == epoch) (nat_lt spins 10000))
+    (refl, stay_outcome epoch spins (memory words.State) (epoch_of (memory words.State) == epoch) (nat_lt spins 10000))
 
 each_steps : {T : Type 0} (z : Arithmetic T) (n parties : ℕ) (past : List (Event T)) → IsPast z (barrier_table n) parties past → StepsAs (BarrierStep n) past
 each_steps z n parties past run =

@@ -12,8 +12,8 @@ use Rattle.steps_events.specs.declared.event.Then.TheVariants as thens
 use Rattle.steps_events.specs.declared.event.Event.{Event}
 use Rattle.steps_events.specs.Past.{call_of, holds_of, word_in}
 use Rattle.steps_events.specs.Moves.{is_step}
-use Rattle.steps_events.specs.Sights.{sight_of, is_sight, AtLast, spins_in, last_of}
-use Rattle.steps_events.specs.NextStep.{StepsAs}
+use Rattle.steps_events.specs.Sights.{is_sight, AtLast, spins_in, last_of}
+use Rattle.steps_events.specs.NextStep.{StepsAs, seen_last, Loads, Exchanges}
 use Rattle.steps_events.specs.Asks.{SpinCount, AsksAfterSpinning, SpinsNoMore, sight_at, TellsRefusal}
 use Rattle.steps_events.specs.Laws.{Keeps}
 use Rattle.steps_barrier.specs.Rounds.{epoch_of, count_of, with_arrival, is_arrival, arrivals_in, round_of, full_rounds, IsFull, CountsArrivals}
@@ -106,32 +106,21 @@ steps_on call own = once_arrived (spins_in is_step) call own
 abbrev pub looked : {T : Type 0} → ℕ → ℕ → Then T
 looked n v = if nat_lt (count_of v) n then thens.GoesOn else thens.Answers answers.Full
 
--- the first step is a load
-abbrev pub LooksFirst : {T : Type 0} → ℕ → Act T → Then T → Type 0
-LooksFirst n (acts.Load words.State v) outcome = outcome ≡ looked n v
-LooksFirst n act outcome = ⊥
+-- a look of a call that arrived from v and has spun so often: at another epoch than that of its arrival it passes; else it goes on by itself until it has spun
+-- 10000 times, and then asks its closure
+abbrev pub stayed : {T : Type 0} → ℕ → ℕ → ℕ → Then T
+stayed v spins w = if epoch_of w == epoch_of v then (if nat_lt spins 10000 then thens.GoesOn else thens.Waits w) else thens.Answers answers.Ok
 
--- an exchange of the value seen for one arrival more; where it failed, the value found is a new look
-abbrev pub ArrivesFrom : {T : Type 0} → ℕ → ℕ → Act T → Then T → Type 0
-ArrivesFrom n v (acts.Exchange words.State from to found done) outcome = (from ≡ v) × (to ≡ with_arrival n v) × (outcome ≡ (if done then thens.GoesOn else looked n found))
-ArrivesFrom n v act outcome = ⊥
-
--- a load of a call that has arrived: at another epoch than that of its arrival it passes; else it goes on by itself until it has spun 10000 times, and
--- then asks its closure
-abbrev pub StaysFrom : {T : Type 0} → ℕ → ℕ → Act T → Then T → Type 0
-StaysFrom v spins (acts.Load words.State w) outcome =
-    outcome ≡ (if epoch_of w == epoch_of v then (if nat_lt spins 10000 then thens.GoesOn else thens.Waits w) else thens.Answers answers.Ok)
-StaysFrom v spins act outcome = ⊥
-
--- the call that has filled its round wakes all and passes; any other that has arrived stays
+-- the call that has filled its round wakes all and passes; any other that has arrived looks
 abbrev pub HasArrivedFrom : {T : Type 0} → ℕ → ℕ → ℕ → Act T → Then T → Type 0
-HasArrivedFrom n v spins act outcome = MatchBool (count_of v + 1 == n) ((act ≡ acts.Woke wakes.All) × (outcome ≡ thens.Answers answers.Ok)) (StaysFrom v spins act outcome)
+HasArrivedFrom n v spins act outcome = MatchBool (count_of v + 1 == n) ((act ≡ acts.Woke wakes.All) × (outcome ≡ thens.Answers answers.Ok)) (Loads words.State (stayed v spins) act outcome)
 
--- what an act saw, and from which value an exchange was
-abbrev pub seen_by : {T : Type 0} → Option (Act T) → Option ℕ
-seen_by None = None
-seen_by (Some act) = sight_of words.State act
+-- before that it looks, and then exchanges what it saw for one arrival more; where that failed, what it found is a look
+abbrev pub Arrives : {T : Type 0} → ℕ → Option ℕ → Act T → Then T → Type 0
+Arrives n None act outcome = Loads words.State (looked n) act outcome
+Arrives n (Some v) act outcome = Exchanges words.State v (with_arrival n v) thens.GoesOn (looked n) act outcome
 
+-- the value from which an exchange was
 abbrev pub from_of : {T : Type 0} → Option (Act T) → Option ℕ
 from_of (Some (acts.Exchange word from to found done)) = Some from
 from_of other = None
@@ -140,7 +129,7 @@ from_of other = None
 abbrev pub BarrierStep : {T : Type 0} → ℕ → Call T → List (Event T) → Act T → Then T → Type 0
 BarrierStep n calls.Wait own act outcome =
     MatchOption (from_of (last_of is_arrival own))
-    (MatchOption (seen_by (last_of is_step own)) (LooksFirst n act outcome) (λ v. ArrivesFrom n v act outcome))
+    (Arrives n (seen_last words.State own) act outcome)
     (λ v. HasArrivedFrom n v (spins_in (is_sight words.State) (since_arrival own)) act outcome)
 BarrierStep n other own act outcome = ⊥
 

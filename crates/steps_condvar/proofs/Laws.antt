@@ -55,7 +55,7 @@ use Rattle.steps_condvar.specs.Table.{condvar_table, condvar_grant, permitted, r
 use Rattle.steps_condvar.specs.Waiters.{is_count, counts_in, since_count, is_wait, is_counted, CountsWaiters}
 use Rattle.steps_condvar.specs.Law.{wake_for, count_read, amount_for, condvar_gives, condvar_value, takes_in, HasAbortedSince, FoundNoPermit, FoundMutexHeld, IsSignalled, CondvarCause, IsWaitAnswer, WaitStep, is_read, is_post, PutsSum, NotifyStep, LockStep, CallStep, spins_of, gives_up, HasTried, KeepsCondvar, spins_on, refused_by, wait_of}
 use Rattle.steps_condvar.proofs.Counts.{CountEffect, none_wait, counts_after}
-use Rattle.steps_condvar.proofs.NextSteps.{each_steps}
+use Rattle.steps_condvar.proofs.NextSteps.{each_steps, each_ends}
 use Rattle.steps_condvar.proofs.Places.{notify, amount_is, Progress, SawNone, SignalIs, took, AtCondvar, outcome_within, condvar_kept, spins_bounded}
 
 -- A condition variable has a lock for one: its mutex.
@@ -646,7 +646,7 @@ keeps_condvar z parties [] run =
       told = tt;
       exclusive = lock_exclusive 0 [] (lock_word z condvar_table parties (condvar_is_lock z parties) [] run);
       cause = tt;
-      law = record { waiters = none_wait; permits = record { at_most = omega arith; told = tt; lowers = tt }; order = tt; exact = tt; ends = tt; asks = tt; spins = λ party. tt; tells = tt; stops = tt; tries = tt; steps = tt };
+      law = record { waiters = none_wait; permits = record { at_most = omega arith; told = tt; lowers = tt }; order = tt; exact = tt; ends = tt; asks = tt; spins = λ party. tt; tells = tt; stops = tt; tries = tt; steps = tt; within = λ party. tt };
     }
 keeps_condvar {T} z parties (e ∷ past) run =
     let before = condvar_tallies z parties past run.1 in
@@ -674,6 +674,7 @@ keeps_condvar {T} z parties (e ∷ past) run =
         stops = asked_maps IsAskedSo (λ c act told. keeps_asking (wait_of c.call c.own) ≡ true) (λ c act told so. so.2) (call_of e.party past) e.act e.then event.asks;
         tries = event.tries;
         steps = each_steps z parties (e ∷ past) run;
+        within = each_ends z parties (e ∷ past) run;
       };
     }
 

@@ -1,6 +1,6 @@
 -- Each step of a condition variable is its call's next.
-use Rattle.std.proofs.Common.{◌≡◌, ℕ, ◌+◌, ◌-◌, ◌%◌, ◌^◌, ◌==◌, ◌&&◌, refl, sym, ◌∙◌, ap, subst, Bool, true, false, cond, List, [], ◌∷◌, Option, Some, None}
-use Rattle.std.specs.Prelude.{nat_lt, MatchBool}
+use Rattle.std.proofs.Common.{◌≡◌, ℕ, ◌+◌, ◌-◌, ◌%◌, ◌^◌, ◌==◌, ◌&&◌, refl, sym, ◌∙◌, ap, subst, Bool, true, false, cond, List, [], ◌∷◌, Option, Some, None, ◌≤◌, ◌<◌, arith}
+use Rattle.std.specs.Prelude.{nat_lt, unwrap_or, MatchBool}
 use Rattle.steps_events.specs.declared.WaitAction.{WaitAction}
 use Rattle.steps_events.specs.declared.event.Word.{Word}
 use Rattle.steps_events.specs.declared.event.Word.TheVariants as words
@@ -24,26 +24,26 @@ use Rattle.steps_events.specs.Past.{PendingCall, event, latest_outcome, is_failu
 use Rattle.steps_events.specs.Moves.{step_at, answer_fault, choose_fault, is_step}
 use Rattle.steps_events.specs.Runs.{IsPast}
 use Rattle.steps_events.specs.Sights.{is_abort, keeps_asking, spins_in}
-use Rattle.steps_events.specs.NextStep.{StepsAs, refused_waiting, step_before, Exchanges}
+use Rattle.steps_events.specs.NextStep.{StepsAs, EndsWithin, refused_waiting, step_before, Exchanges}
 use Rattle.steps_events.proofs.Holds.{some_same}
 use Rattle.steps_events.proofs.Spins.{HasSpun}
-use Rattle.steps_events.proofs.NextStep.{steps_as, refused_left}
+use Rattle.steps_events.proofs.NextStep.{steps_as, refused_left, Descends, ends_within}
 use Rattle.steps_events.proofs.Parties.{IsKept}
 use Rattle.steps_mutex.specs.declared.MutexPlace.{MutexPlace}
 use Rattle.steps_mutex.specs.declared.MutexPlace.TheVariants as locks
 use Rattle.steps_mutex.specs.Table.{mutex_intent, mutex_after}
 use Rattle.steps_mutex.specs.Law.{acts_of, MutexStep}
 use Rattle.steps_mutex.proofs.Laws as mutex
-use Rattle.steps_mutex.proofs.Laws.{AtMutex, not_asked, not_chosen}
+use Rattle.steps_mutex.proofs.Laws.{AtMutex, mutex_rest, not_asked, not_chosen}
 use Rattle.steps_semaphore.specs.declared.SemaphorePlace.TheVariants as permits
 use Rattle.steps_semaphore.specs.Table.{look}
 use Rattle.steps_semaphore.specs.Law.{is_empty_look}
 use Rattle.steps_condvar.specs.declared.CondvarPlace.{CondvarPlace}
 use Rattle.steps_condvar.specs.declared.CondvarPlace.TheVariants as places
-use Rattle.steps_condvar.specs.Table.{condvar_after, condvar_answered, condvar_table, permits_for, permitted, relocked}
+use Rattle.steps_condvar.specs.Table.{condvar_begins, condvar_after, condvar_answered, condvar_table, permits_for, permitted, relocked}
 use Rattle.steps_condvar.specs.Waiters.{counts_in, since_count}
-use Rattle.steps_condvar.specs.Law.{takes_in, left_waiting, LooksForPermit, CountsOut, CountedStep, CountedNext, woken_with, NotifyNext, CondvarStep}
-use Rattle.steps_condvar.proofs.Places.{AtCondvar, condvar_kept, notify, took, amount_is, outcome_within}
+use Rattle.steps_condvar.specs.Law.{takes_in, left_waiting, LooksForPermit, CountsOut, CountedStep, CountedNext, woken_with, NotifyNext, condvar_most, CondvarStep}
+use Rattle.steps_condvar.proofs.Places.{AtCondvar, condvar_kept, within_goes_on, notify, took, amount_is, outcome_within}
 
 -- What the step at a place of a counted `Wait` is, by whether it keeps on asking and how often it has spun.
 abbrev Does : {T : Type 0} → CondvarPlace → Bool → ℕ → Act T → Then T → Type 0
@@ -343,3 +343,49 @@ next_step (places.Relock signalled other) c hold memory so = absurd so.0.4
 
 pub each_steps : {T : Type 0} (z : Arithmetic T) (parties : ℕ) (past : List (Event T)) → IsPast z condvar_table parties past → StepsAs CondvarStep past
 each_steps z parties past run = steps_as z condvar_table parties IsReady CondvarStep ready_kept next_step past run
+
+-- A call that waits for nobody has fewer steps left at each place.
+
+abbrev rest_at : CondvarPlace → Option ℕ
+rest_at (places.Mutex place) = mutex_rest place
+rest_at (places.Read wake) = Some 3
+rest_at (places.Post wake amount) = Some 2
+rest_at (places.Wake wake) = Some 1
+rest_at other = None
+
+begun_at : {T : Type 0} (call : Call T) (place : CondvarPlace) (steps : ℕ) → condvar_begins call ≡ Some place → condvar_most call ≡ Some steps → (left : ℕ) × (rest_at place ≡ Some left) × (left ≤ steps)
+begun_at calls.NotifyOne place steps is most = (3, sym (ap rest_at (some_same (places.Read wakes.One) place is)), omega (arith, some_same 3 steps most))
+begun_at calls.NotifyAll place steps is most = (3, sym (ap rest_at (some_same (places.Read wakes.All) place is)), omega (arith, some_same 3 steps most))
+begun_at calls.TryLock place steps is most = (1, sym (ap rest_at (some_same (places.Mutex locks.TryLock) place is)), omega (arith, some_same 1 steps most))
+begun_at calls.Unlock place steps is most = (2, sym (ap rest_at (some_same (places.Mutex locks.Release) place is)), omega (arith, some_same 2 steps most))
+begun_at other place steps is most = absurd cc
+
+goes_at :
+    (T : Type 0) (place next : CondvarPlace) (told : Option ℕ) (left : ℕ) → rest_at place ≡ Some left → place_after (condvar_after {T = T} place told) ≡ Some next → (fewer : ℕ) × (rest_at next ≡ Some fewer) × (fewer < left)
+goes_at T (places.Mutex place) next told left is goes =
+    let on = within_goes_on places.Mutex (mutex_after {T = T} place told) next goes in
+    let fewer = mutex.mutex_goes T place on.0 told left is on.1 in
+    (fewer.0, sym (ap rest_at on.2) ∙ fewer.1, fewer.2)
+goes_at T (places.Read wake) next told left is goes = (2, sym (ap rest_at (some_same (places.Post wake (permits_for wake (unwrap_or told 0))) next goes)), omega (arith, some_same 3 left is))
+goes_at T (places.Post wake amount) next told left is goes = (1, sym (ap rest_at (some_same (places.Wake wake) next goes)), omega (arith, some_same 2 left is))
+goes_at T (places.Wake wake) next told left is goes = absurd cc
+goes_at T other next told left is goes = absurd cc
+
+some_at : (place : CondvarPlace) (left : ℕ) → rest_at place ≡ Some left → 0 < left
+some_at (places.Mutex place) left is = mutex.mutex_some place left is
+some_at (places.Read wake) left is = omega (arith, some_same 3 left is)
+some_at (places.Post wake amount) left is = omega (arith, some_same 2 left is)
+some_at (places.Wake wake) left is = omega (arith, some_same 1 left is)
+some_at other left is = absurd cc
+
+answered_at : (place : CondvarPlace) (action : WaitAction) → rest_at (condvar_answered place action) ≡ rest_at place
+answered_at (places.Mutex place) action = mutex.mutex_answered_rest place action
+answered_at (places.Permit place) action = refl
+answered_at (places.Relock signalled place) action = refl
+answered_at other action = refl
+
+descends : {T : Type 0} → Descends {T = T} condvar_table condvar_most rest_at
+descends {T} = record { begins = begun_at; goes = goes_at T; some = some_at; answered = answered_at; chosen = λ place choice. refl }
+
+pub each_ends : {T : Type 0} (z : Arithmetic T) (parties : ℕ) (past : List (Event T)) → IsPast z condvar_table parties past → EndsWithin condvar_most past
+each_ends z parties past run = ends_within condvar_table condvar_most rest_at descends z parties past run

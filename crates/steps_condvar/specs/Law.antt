@@ -20,11 +20,11 @@ use Rattle.steps_events.specs.Past.{PendingCall, call_of, hold_of, is_release, i
 use Rattle.steps_events.specs.Moves.{is_step}
 use Rattle.steps_events.specs.Sights.{sight_of, is_sight, AtLastSight, keeps_asking, spins_in, acts_in}
 use Rattle.steps_events.specs.Asks.{SpinCount, but_last_try, AsksAfterSpinning, SpinsNoMore, Refusing, TellsRefusal, WaitEvents, AsksUntilAbort}
-use Rattle.steps_events.specs.NextStep.{StepsAs, refused_waiting, step_before, Loads, Exchanges}
+use Rattle.steps_events.specs.NextStep.{StepsAs, refused_waiting, EndsWithin, step_before, Loads, Exchanges}
 use Rattle.steps_events.specs.Waits.{is_wake}
 use Rattle.steps_events.specs.Laws.{IsLocked, Keeps}
 use Rattle.steps_mutex.specs.Law as mutex
-use Rattle.steps_mutex.specs.Law.{LockCause, HasTriedAll, answer_of, acts_of, IsLockAnswer, AnswersWhereGranted, IsExactGrant, MutexStep}
+use Rattle.steps_mutex.specs.Law.{LockCause, HasTriedAll, answer_of, acts_of, IsLockAnswer, AnswersWhereGranted, IsExactGrant, MutexStep, mutex_most}
 use Rattle.steps_semaphore.specs.Permits.{permits, permits_taken, is_take, KeepsPermits}
 use Rattle.steps_semaphore.specs.Law.{is_empty_look}
 use Rattle.steps_condvar.specs.Table.{condvar_table}
@@ -287,6 +287,12 @@ CondvarStep calls.NotifyOne own act outcome = NotifyNext wakes.One (acts_of own)
 CondvarStep calls.NotifyAll own act outcome = NotifyNext wakes.All (acts_of own) act outcome
 CondvarStep call own act outcome = MutexStep call own act outcome
 
+-- how many steps a call makes that waits for nobody
+abbrev pub condvar_most : {T : Type 0} → Call T → Option ℕ
+condvar_most calls.NotifyOne = Some 3
+condvar_most calls.NotifyAll = Some 3
+condvar_most call = mutex_most call
+
 -- What a condition variable keeps beside what every object does.
 pub record CondvarLaw {T : Type 0} (past : List (Event T)) : Type 0 where
   -- the waiter count is that of the `Wait` calls between their add and their subtraction
@@ -311,6 +317,8 @@ pub record CondvarLaw {T : Type 0} (past : List (Event T)) : Type 0 where
   pub tries : GivesUpAfterTrying past
   -- each step is the one that follows its call's own, and leaves it by what it tells
   pub steps : StepsAs CondvarStep past
+  -- a call that waits for nobody makes so many steps at most, and answers with the last
+  pub within : EndsWithin condvar_most past
 
 abbrev pub KeepsCondvar : {T : Type 0} → List (Event T) → Type 0
 KeepsCondvar past = Keeps condvar_table CondvarCause CondvarLaw past

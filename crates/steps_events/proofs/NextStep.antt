@@ -1,6 +1,7 @@
 -- That each step of a run is its call's next, from the step at each place.
-use Rattle.std.proofs.Common.{◌≡◌, ℕ, ◌+◌, refl, Bool, true, false, cond, List, [], ◌∷◌, Option, Some}
+use Rattle.std.proofs.Common.{◌≡◌, ◌∙◌, ℕ, ◌+◌, ◌≤◌, ◌<◌, refl, Bool, true, false, cond, List, [], ◌∷◌, Option, Some, None, arith}
 use Rattle.std.specs.Prelude.{nat_lt, MatchBool, MatchOption}
+use Rattle.steps_events.specs.declared.WaitAction.{WaitAction}
 use Rattle.steps_events.specs.declared.event.Word.{Word}
 use Rattle.steps_events.specs.declared.event.Call.{Call}
 use Rattle.steps_events.specs.declared.event.Act.{Act}
@@ -11,16 +12,16 @@ use Rattle.steps_events.specs.declared.hold.HoldKind.{HoldKind}
 use Rattle.steps_events.specs.declared.patience.Patience.{Patience}
 use Rattle.steps_events.specs.declared.row.After.TheVariants as afters
 use Rattle.steps_events.specs.Arithmetic.{Arithmetic}
-use Rattle.steps_events.specs.Rows.{outcome_of, within, refused}
+use Rattle.steps_events.specs.Rows.{carried_out, value_told, outcome_of, place_after, within, refused}
 use Rattle.steps_events.specs.Tables.{Table}
 use Rattle.steps_events.specs.Past.{PendingCall, call_of, hold_of, word_in}
 use Rattle.steps_events.specs.Moves.{Move, stage_of, step_at, is_step}
 use Rattle.steps_events.specs.Runs.{IsPast}
-use Rattle.steps_events.specs.Sights.{spins_in}
-use Rattle.steps_events.specs.NextStep.{StepsAs, refused_waiting}
+use Rattle.steps_events.specs.Sights.{acts_in, spins_in}
+use Rattle.steps_events.specs.NextStep.{StepsAs, refused_waiting, EndsWithin}
 use Rattle.steps_events.proofs.Steps.{by_move, carried_is_step}
 use Rattle.steps_events.proofs.Spins.{HasSpun}
-use Rattle.steps_events.proofs.Parties.{IsKept, at_place}
+use Rattle.steps_events.proofs.Parties.{IsKept, IsAtPlace, at_place, each_call}
 
 module _ {T P : Type 0} (z : Arithmetic T) (t : Table T P) (parties : ℕ) (At : P → PendingCall T → Option HoldKind → Type 0) (Next : Call T → List (Event T) → Act T → Then T → Type 0) where
   -- this is so of each call under way, by its place
@@ -64,3 +65,41 @@ refused_left {T} {P} in_vain wrap patience seen own so = by_tests patience.keep 
     by_tests true true keeps spins = rw (so.keeps, keeps, so.spun, spins) refl
     by_tests true false keeps spins = rw (so.keeps, keeps, so.spun, spins) refl
     by_tests false left keeps spins = rw (so.keeps, keeps) refl
+
+-- A call that waits for nobody ends within so many steps, where fewer of them are left at each place than at the one before.
+
+pub record Descends {T P : Type 0} (t : Table T P) (most : Call T → Option ℕ) (rest : P → Option ℕ) : Type 0 where
+  pub begins : (call : Call T) (place : P) (steps : ℕ) → t.begins call ≡ Some place → most call ≡ Some steps → (left : ℕ) × (rest place ≡ Some left) × (left ≤ steps)
+  pub goes : (place next : P) (told : Option ℕ) (left : ℕ) → rest place ≡ Some left → place_after (t.after place told) ≡ Some next → (fewer : ℕ) × (rest next ≡ Some fewer) × (fewer < left)
+  pub some : (place : P) (left : ℕ) → rest place ≡ Some left → 0 < left
+  pub answered : (place : P) (action : WaitAction) → rest (t.answered place action) ≡ rest place
+  pub chosen : (place : P) (choice : Option T) → rest (t.chosen place choice) ≡ rest place
+
+module _ {T P : Type 0} (t : Table T P) (most : Call T → Option ℕ) (rest : P → Option ℕ) (down : Descends t most rest) where
+  -- what is left and what was made are no more than the call may make
+  abbrev IsOnItsWay : P → PendingCall T → Option HoldKind → Type 0
+  IsOnItsWay place c hold = (steps : ℕ) → most c.call ≡ Some steps → (left : ℕ) × (rest place ≡ Some left) × (acts_in is_step c.own + left ≤ steps)
+
+  way_kept : IsKept t IsOnItsWay
+  way_kept =
+      record {
+        begins = λ call place hold is allowed steps most_is. let here = down.begins call place steps is most_is in (here.0, here.1, omega (arith, here.2));
+        steps = λ place c hold memory number next on free is steps most_is.
+            let here = on steps most_is in
+            let act : Act T = carried_out (t.intent place hold) memory in
+            let fewer = down.goes place next (value_told act) here.0 here.1 is in
+            (fewer.0, fewer.1, rw (carried_is_step (t.intent place hold) memory) (omega (arith, here.2, fewer.2)));
+        answers = λ place c hold action number on waits steps most_is. let here = on steps most_is in (here.0, down.answered place action ∙ here.1, omega (arith, here.2));
+        chooses = λ place c hold choice number on stands steps most_is. let here = on steps most_is in (here.0, down.chosen place choice ∙ here.1, omega (arith, here.2));
+      }
+
+  pub ends_within : (z : Arithmetic T) (parties : ℕ) (past : List (Event T)) → IsPast z t parties past → EndsWithin most past
+  ends_within z parties past run party = by_call (call_of party past) (each_call z t parties IsOnItsWay way_kept past run party)
+    where
+      by_call : (pending : Option (PendingCall T)) → IsAtPlace t IsOnItsWay pending (hold_of t party past) → MatchOption pending (Unit {0}) (λ c. MatchOption (most c.call) (Unit {0}) (λ steps. acts_in is_step c.own < steps))
+      by_call None at = tt
+      by_call (Some c) at = by_most (most c.call) refl
+        where
+          by_most : (steps : Option ℕ) → most c.call ≡ steps → MatchOption steps (Unit {0}) (λ n. acts_in is_step c.own < n)
+          by_most None is = tt
+          by_most (Some n) is = let here = at.2 n is in omega (arith, here.2, down.some at.0 here.0 here.1)

@@ -1,6 +1,6 @@
 -- A step of a call is the one that what its call has seen asks for. Which that is, and how it leaves the call, each object says for itself, of
 -- events alone: by the call, its own events so far, the act, and what comes of it.
-use Rattle.std.specs.Prelude.{◌≡◌, ℕ, nat_lt, ◌&&◌, if◌then◌else◌, List, [], ◌∷◌, Option, Some, None, MatchBool, MatchOption}
+use Rattle.std.specs.Prelude.{◌≡◌, ◌<◌, ℕ, nat_lt, ◌&&◌, if◌then◌else◌, List, [], ◌∷◌, Option, Some, None, MatchBool, MatchOption}
 use Rattle.steps_events.specs.declared.event.Call.{Call}
 use Rattle.steps_events.specs.declared.event.Word.{Word}
 use Rattle.steps_events.specs.declared.event.Act.{Act}
@@ -11,7 +11,7 @@ use Rattle.steps_events.specs.declared.event.Then.{Then}
 use Rattle.steps_events.specs.declared.event.Then.TheVariants as thens
 use Rattle.steps_events.specs.Past.{call_of}
 use Rattle.steps_events.specs.Moves.{is_step}
-use Rattle.steps_events.specs.Sights.{sight_of, keeps_asking, goes_on, last_of}
+use Rattle.steps_events.specs.Sights.{sight_of, keeps_asking, goes_on, acts_in, last_of}
 
 -- the latest event, where it is a step of a call, is that call's next
 abbrev pub StepsAs : {T : Type 0} → (Call T → List (Event T) → Act T → Then T → Type 0) → List (Event T) → Type 0
@@ -46,3 +46,8 @@ Loads word left act outcome = ⊥
 abbrev pub Exchanges : {T : Type 0} → Word → ℕ → ℕ → Then T → (ℕ → Then T) → Act T → Then T → Type 0
 Exchanges word old new taken missed (acts.Exchange w from to found done) outcome = (w ≡ word) × (from ≡ old) × (to ≡ new) × (outcome ≡ (if done then taken else missed found))
 Exchanges word old new taken missed act outcome = ⊥
+
+-- How long a call may last. One that waits for nobody answers with its last step, whatever the others do: while it is under way it has made fewer than it may make
+-- in all. How many these are, each object says by call, and nothing of one that may wait.
+abbrev pub EndsWithin : {T : Type 0} → (Call T → Option ℕ) → List (Event T) → Type 0
+EndsWithin most past = (party : ℕ) → MatchOption (call_of party past) (Unit {0}) (λ c. MatchOption (most c.call) (Unit {0}) (λ steps. acts_in is_step c.own < steps))

@@ -1,5 +1,5 @@
 -- A mutex keeps its law at every front of every run.
-use Rattle.std.proofs.Common.{◌≡◌, ◌≢◌, ◌≤◌, ℕ, zero, ◌==◌, refl, sym, ◌∙◌, ap, subst, Bool, true, false, cond, is_some, List, [], ◌∷◌, Option, Some, None, ◌↔◌, inl, inr, arith}
+use Rattle.std.proofs.Common.{◌≡◌, ◌≢◌, ◌≤◌, ℕ, zero, ◌==◌, refl, sym, ◌∙◌, ap, subst, Bool, true, false, cond, is_some, List, [], ◌∷◌, Option, Some, None, ◌↔◌, inl, inr, arith, ◌<◌}
 use Rattle.std.specs.Prelude.{MatchBool, MatchOption, not, nat_lt}
 use Rattle.std.proofs.lemmas.Bool.{eqb-true, eqb-false}
 use Rattle.steps_events.specs.declared.WaitAction.{WaitAction}
@@ -27,15 +27,16 @@ use Rattle.steps_events.specs.Runs.{IsPast}
 use Rattle.steps_events.specs.Sights.{sight_of, is_sight, keeps_asking, HasAborted, spins_in}
 use Rattle.steps_events.specs.Asks.{WhereAsked, sight_at, whole_call}
 use Rattle.steps_events.specs.Laws.{Lacks, is_refusal}
-use Rattle.steps_events.proofs.Holds.{eqb_same, hold_of_same}
+use Rattle.steps_events.proofs.NextStep.{Descends, ends_within}
+use Rattle.steps_events.proofs.Holds.{eqb_same, hold_of_same, some_same}
 use Rattle.steps_events.proofs.Steps.{by_move, tells_memory}
 use Rattle.steps_events.proofs.Parties.{IsKept, at_place}
 use Rattle.steps_events.proofs.Asks.{asked_maps, spins_no_more}
 use Rattle.steps_events.proofs.Locks.{IsLock, IsLockIntent, IsFreeOrHeld, lock_word, lock_exclusive, locked_at, free_exactly}
 use Rattle.steps_mutex.specs.declared.MutexPlace.{MutexPlace}
 use Rattle.steps_mutex.specs.declared.MutexPlace.TheVariants as places
-use Rattle.steps_mutex.specs.Table.{mutex_table, mutex_begins, mutex_intent, mutex_after, mutex_answered}
-use Rattle.steps_mutex.specs.Law.{LockCause, HasTried, answer_of, acts_of, IsLockAnswer, lock_spins, steps_on, IsLeftBy, MutexStep, KeepsMutex}
+use Rattle.steps_mutex.specs.Table.{mutex_table, mutex_begins, mutex_intent, mutex_after, mutex_answered, is_free}
+use Rattle.steps_mutex.specs.Law.{LockCause, HasTried, answer_of, acts_of, IsLockAnswer, lock_spins, steps_on, IsLeftBy, MutexStep, KeepsMutex, mutex_most}
 use Rattle.steps_events.specs.declared.patience.Patience.{Patience}
 use Rattle.steps_mutex.proofs.LockSteps.{HasTriedSo, AtLock, lock_begins, LockLeads, lock_after, lock_leads, lock_goes_on, lock_answered, lock_chosen}
 
@@ -334,13 +335,48 @@ event_law {T} z parties past e run =
     (lock_word z mutex_table parties (mutex_is_lock z parties) past run.1))
     run.0.1.moved
 
+-- and a call that waits for nobody has fewer steps left at each place
+
+abbrev pub mutex_rest : MutexPlace → Option ℕ
+mutex_rest places.TryLock = Some 1
+mutex_rest (places.Lock patience) = None
+mutex_rest places.Release = Some 2
+mutex_rest places.Wake = Some 1
+
+mutex_begun : {T : Type 0} (call : Call T) (place : MutexPlace) (steps : ℕ) → mutex_begins call ≡ Some place → mutex_most call ≡ Some steps → (left : ℕ) × (mutex_rest place ≡ Some left) × (left ≤ steps)
+mutex_begun calls.TryLock place steps is most = (1, sym (ap mutex_rest (some_same places.TryLock place is)), omega (arith, some_same 1 steps most))
+mutex_begun calls.Unlock place steps is most = (2, sym (ap mutex_rest (some_same places.Release place is)), omega (arith, some_same 2 steps most))
+mutex_begun other place steps is most = absurd cc
+
+pub mutex_goes :
+    (T : Type 0) (place next : MutexPlace) (told : Option ℕ) (left : ℕ) → mutex_rest place ≡ Some left → place_after (mutex_after {T = T} place told) ≡ Some next → (fewer : ℕ) × (mutex_rest next ≡ Some fewer) × (fewer < left)
+mutex_goes T places.TryLock next told left is goes = absurd (try_lock_ends T (is_free told) next goes)
+mutex_goes T (places.Lock patience) next told left is goes = absurd cc
+mutex_goes T places.Release next told left is goes = (1, sym (ap mutex_rest (some_same places.Wake next goes)), omega (arith, some_same 2 left is))
+mutex_goes T places.Wake next told left is goes = absurd cc
+
+pub mutex_some : (place : MutexPlace) (left : ℕ) → mutex_rest place ≡ Some left → 0 < left
+mutex_some places.TryLock left is = omega (arith, some_same 1 left is)
+mutex_some (places.Lock patience) left is = absurd cc
+mutex_some places.Release left is = omega (arith, some_same 2 left is)
+mutex_some places.Wake left is = omega (arith, some_same 1 left is)
+
+pub mutex_answered_rest : (place : MutexPlace) (action : WaitAction) → mutex_rest (mutex_answered place action) ≡ mutex_rest place
+mutex_answered_rest places.TryLock action = refl
+mutex_answered_rest (places.Lock patience) action = refl
+mutex_answered_rest places.Release action = refl
+mutex_answered_rest places.Wake action = refl
+
+mutex_descends : {T : Type 0} → Descends {T = T} mutex_table mutex_most mutex_rest
+mutex_descends {T} = record { begins = mutex_begun; goes = mutex_goes T; some = mutex_some; answered = mutex_answered_rest; chosen = λ place choice. refl }
+
 pub keeps_mutex : {T : Type 0} (z : Arithmetic T) (parties : ℕ) (past : List (Event T)) → IsPast z mutex_table parties past → KeepsMutex past
 keeps_mutex z parties [] run =
     record {
       told = tt;
       exclusive = lock_exclusive 0 [] (lock_word z mutex_table parties (mutex_is_lock z parties) [] run);
       cause = tt;
-      law = record { exact = tt; answers = tt; ends = tt; asks = tt; spins = λ party. tt; tells = tt; stops = tt; tries = tt; steps = tt };
+      law = record { exact = tt; answers = tt; ends = tt; asks = tt; spins = λ party. tt; tells = tt; stops = tt; tries = tt; steps = tt; within = λ party. tt };
     }
 keeps_mutex {T} z parties (e ∷ past) run =
     let event = event_law z parties past e run in
@@ -361,6 +397,7 @@ keeps_mutex {T} z parties (e ∷ past) run =
         stops = asked_maps IsAskedSo (λ c act told. keeps_asking (whole_call c.call c.own) ≡ true) (λ c act told so. so.2) (call_of e.party past) e.act e.then event.asks;
         tries = event.tries;
         steps = event.steps;
+        within = ends_within mutex_table mutex_most mutex_rest mutex_descends z parties (e ∷ past) run;
       };
     }
 

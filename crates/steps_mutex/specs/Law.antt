@@ -18,7 +18,7 @@ use Rattle.steps_events.specs.Tables.{Table}
 use Rattle.steps_events.specs.Past.{call_of, holds_of, hold_of, hold_taken, is_failure, failures_in}
 use Rattle.steps_events.specs.Moves.{is_step}
 use Rattle.steps_events.specs.Sights.{is_sight, AtLastSight, HasAborted, spins_in, stands_in, exchanges_in}
-use Rattle.steps_events.specs.NextStep.{StepsAs, refused_waiting}
+use Rattle.steps_events.specs.NextStep.{StepsAs, refused_waiting, EndsWithin}
 use Rattle.steps_events.specs.Asks.{SpinCount, AsksAfterSpinning, SpinsNoMore, sight_at, TellsRefusal, whole_call, AsksUntilAbort}
 use Rattle.steps_events.specs.Laws.{IsLocked, is_refusal, Keeps}
 use Rattle.steps_mutex.specs.Table.{mutex_table}
@@ -123,6 +123,12 @@ MutexStep calls.TryLock own act outcome = (own ≡ []) × (is_lock_try act ≡ t
 MutexStep calls.Lock own act outcome = (is_lock_try act ≡ true) × IsLeftBy calls.Lock own act outcome
 MutexStep other own act outcome = ⊥
 
+-- how many steps a call makes that waits for nobody
+abbrev pub mutex_most : {T : Type 0} → Call T → Option ℕ
+mutex_most calls.TryLock = Some 1
+mutex_most calls.Unlock = Some 2
+mutex_most other = None
+
 -- What a mutex keeps beside what every object does.
 pub record MutexLaw {T : Type 0} (past : List (Event T)) : Type 0 where
   -- `TryLock` is granted exactly where nobody holds the mutex
@@ -143,6 +149,8 @@ pub record MutexLaw {T : Type 0} (past : List (Event T)) : Type 0 where
   pub tries : GivesUpAfterTrying past
   -- each step is the one that follows its call's own, and leaves it by what it tells
   pub steps : StepsAs MutexStep past
+  -- a call that waits for nobody makes so many steps at most, and answers with the last
+  pub within : EndsWithin mutex_most past
 
 abbrev pub KeepsMutex : {T : Type 0} → List (Event T) → Type 0
 KeepsMutex past = Keeps mutex_table MutexCause MutexLaw past

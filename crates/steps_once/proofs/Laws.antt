@@ -1,5 +1,5 @@
 -- A once keeps its law at every front of every run.
-use Rattle.std.proofs.Common.{◌≡◌, ℕ, ◌≤◌, ◌==◌, refl, sym, ◌∙◌, ap, subst, Bool, true, false, cond, List, [], ◌∷◌, Option, Some, None, arith}
+use Rattle.std.proofs.Common.{◌≡◌, ℕ, ◌≤◌, ◌==◌, refl, sym, ◌∙◌, ap, subst, Bool, true, false, cond, List, [], ◌∷◌, Option, Some, None, arith, ◌<◌}
 use Rattle.std.specs.Prelude.{IfSome, MatchBool, MatchOption, not}
 use Rattle.std.proofs.lemmas.Bool.{eqb-true}
 use Rattle.steps_events.specs.declared.WaitAction.{WaitAction}
@@ -29,14 +29,14 @@ use Rattle.steps_events.proofs.Holds.{some_same, no_holds, exclusive_unheld}
 use Rattle.steps_events.proofs.Steps.{by_move, tells_memory}
 use Rattle.steps_events.proofs.Parties.{IsKept, at_place}
 use Rattle.steps_events.proofs.Asks.{both_kept}
-use Rattle.steps_events.proofs.NextStep.{steps_as}
+use Rattle.steps_events.proofs.NextStep.{steps_as, Descends, ends_within}
 use Rattle.steps_events.proofs.Own.{own_among}
 use Rattle.steps_once.specs.declared.OncePlace.{OncePlace}
 use Rattle.steps_once.specs.declared.OncePlace.TheVariants as places
 use Rattle.steps_once.specs.Table.{once_table, once_begins, once_intent, found_after, once_after}
 use Rattle.steps_once.specs.Closures.{is_begin, is_end, is_load, begins_in, ends_in}
 use Rattle.steps_once.proofs.ClosureSteps.{IsLed, look_led, stay_led, begin_led, miss_led, quiet_led, look_runs, stay_runs, begin_runs, end_runs, complete_runs}
-use Rattle.steps_once.specs.Law.{OnceCause, OnceStep, tells_end, flag_of, is_done, KeepsOnce}
+use Rattle.steps_once.specs.Law.{OnceCause, OnceStep, tells_end, flag_of, is_done, KeepsOnce, once_most}
 use Rattle.steps_once.proofs.Closures.{is_running, has_missed, missed_since, IsClosureIntent, RunsOneClosure, IsState, at_most_one, complete_ended, closure_front, stays_complete, tells_state, own_began}
 
 -- What is kept of a call at its place.
@@ -324,9 +324,30 @@ each_steps : {T : Type 0} (z : Arithmetic T) (parties : ℕ) (past : List (Event
 each_steps z parties past run =
     steps_as z once_table parties (λ place c hold. IsItsCall place c hold × IsWhereLed place c hold) OnceStep (both_kept once_table IsItsCall IsWhereLed its_call_kept led_kept) once_step past run
 
+-- An `IsCompleted` has one step.
+
+abbrev once_rest : OncePlace → Option ℕ
+once_rest places.IsCompleted = Some 1
+once_rest other = None
+
+once_begun : {T : Type 0} (call : Call T) (place : OncePlace) (steps : ℕ) → once_begins call ≡ Some place → once_most call ≡ Some steps → (left : ℕ) × (once_rest place ≡ Some left) × (left ≤ steps)
+once_begun calls.IsCompleted place steps is most = (1, sym (ap once_rest (some_same places.IsCompleted place is)), omega (arith, some_same 1 steps most))
+once_begun other place steps is most = absurd cc
+
+once_goes : (T : Type 0) (place next : OncePlace) (told : Option ℕ) (left : ℕ) → once_rest place ≡ Some left → place_after (once_after {T = T} place told) ≡ Some next → (fewer : ℕ) × (once_rest next ≡ Some fewer) × (fewer < left)
+once_goes T places.IsCompleted next told left is goes = absurd cc
+once_goes T other next told left is goes = absurd cc
+
+once_some : (place : OncePlace) (left : ℕ) → once_rest place ≡ Some left → 0 < left
+once_some places.IsCompleted left is = omega (arith, some_same 1 left is)
+once_some other left is = absurd cc
+
+once_descends : {T : Type 0} → Descends {T = T} once_table once_most once_rest
+once_descends {T} = record { begins = once_begun; goes = once_goes T; some = once_some; answered = λ place action. refl; chosen = λ place choice. refl }
+
 pub keeps_once : {T : Type 0} (z : Arithmetic T) (parties : ℕ) (past : List (Event T)) → IsPast z once_table parties past → KeepsOnce past
 keeps_once z parties [] run =
-    record { told = tt; exclusive = exclusive_unheld [] refl; cause = tt; law = record { unheld = refl; one = omega arith; ends = omega arith; own = tt; steps = tt; waits = tt; answers = tt; tells = tt; done = tt; stays = tt; spins = tt; state = tells_state once_table [] (closure_front z once_table parties (runs_one z parties) [] run).state } }
+    record { told = tt; exclusive = exclusive_unheld [] refl; cause = tt; law = record { unheld = refl; one = omega arith; ends = omega arith; own = tt; steps = tt; within = λ party. tt; waits = tt; answers = tt; tells = tt; done = tt; stays = tt; spins = tt; state = tells_state once_table [] (closure_front z once_table parties (runs_one z parties) [] run).state } }
 keeps_once z parties (e ∷ past) run =
     let event = event_law z parties past e run in
     let front = closure_front z once_table parties (runs_one z parties) (e ∷ past) run in
@@ -336,7 +357,7 @@ keeps_once z parties (e ∷ past) run =
       told = tells_memory z once_table parties (e ∷ past) run;
       exclusive = exclusive_unheld _ unheld;
       cause = event.cause;
-      law = record { unheld = unheld; one = most.0; ends = most.2; own = event.own; steps = each_steps z parties (e ∷ past) run; waits = event.waits; answers = event.answers; tells = event.tells; done = event.done; stays = stays_complete z once_table parties (runs_one z parties) past e run; spins = event.spins; state = tells_state once_table (e ∷ past) front.state };
+      law = record { unheld = unheld; one = most.0; ends = most.2; own = event.own; steps = each_steps z parties (e ∷ past) run; within = ends_within once_table once_most once_rest once_descends z parties (e ∷ past) run; waits = event.waits; answers = event.answers; tells = event.tells; done = event.done; stays = stays_complete z once_table parties (runs_one z parties) past e run; spins = event.spins; state = tells_state once_table (e ∷ past) front.state };
     }
 
 -- a once has no other word

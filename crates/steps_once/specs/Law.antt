@@ -12,7 +12,7 @@ use Rattle.steps_events.specs.declared.event.Event.{Event}
 use Rattle.steps_events.specs.Past.{holds_of, word_in}
 use Rattle.steps_events.specs.Moves.{is_step}
 use Rattle.steps_events.specs.Sights.{last_of}
-use Rattle.steps_events.specs.NextStep.{StepsAs}
+use Rattle.steps_events.specs.NextStep.{StepsAs, EndsWithin}
 use Rattle.steps_events.specs.Waits.{OnlySpins}
 use Rattle.steps_events.specs.Laws.{Keeps}
 use Rattle.steps_once.specs.Closures.{begins_in, ends_in, EndsItsOwn, WaitsForAnother, StaysTwo, TellsState, has_tried, RunsOnce}
@@ -34,6 +34,11 @@ abbrev pub OnceStep : {T : Type 0} → Call T → List (Event T) → Act T → T
 OnceStep calls.IsCompleted own act outcome = (last_of is_step own ≡ None) × AsksForTwo act outcome
 OnceStep calls.CallOnce own act outcome = RunsOnce (thens.Answers answers.Done) (has_tried own) (last_of is_step own) act outcome
 OnceStep other own act outcome = ⊥
+
+-- how many steps a call makes that waits for nobody
+abbrev pub once_most : {T : Type 0} → Call T → Option ℕ
+once_most calls.IsCompleted = Some 1
+once_most other = None
 
 -- The answers.
 
@@ -77,6 +82,8 @@ pub record OnceLaw {T : Type 0} (past : List (Event T)) : Type 0 where
   pub own : EndsItsOwn past
   -- each step is the one that follows its call's own, and leaves it by what it tells
   pub steps : StepsAs OnceStep past
+  -- a call that waits for nobody makes so many steps at most, and answers with the last
+  pub within : EndsWithin once_most past
   -- a call waits only for a closure that has begun
   pub waits : WaitsForAnother past
   -- `Done` and `true` come after its end

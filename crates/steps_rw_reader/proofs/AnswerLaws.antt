@@ -35,7 +35,7 @@ use Rattle.steps_rw_reader.specs.declared.RwReaderPlace.TheVariants as places
 use Rattle.steps_rw_reader.specs.Table.{lets_readers_in, try_read_look, read_look, rw_reader_table, rw_reader_begins, rw_reader_answered, rw_reader_grant}
 use Rattle.steps_rw_reader.specs.Law.{HasUnlocked, lock_spins, steps_in_vain, KeepsRwReader}
 use Rattle.steps_rw_reader.proofs.ReaderLocks.{reader_lock_word, reader_lock_exclusive}
-use Rattle.steps_rw_reader.proofs.NextSteps.{each_steps}
+use Rattle.steps_rw_reader.proofs.NextSteps.{each_steps, each_ends}
 use Rattle.steps_rw_reader.proofs.Laws.{AtRwReader, rw_reader_kept, asked_nothing, offered_nothing, rw_reader_is_lock, spins_bounded, IsAskedSo, event_law}
 
 -- Before its release an `Unlock` has done nothing; before its wake, all but that, and it has no hold any more and asks nobody.
@@ -188,7 +188,7 @@ answers_at_every_front {T} z parties past run =
 pub keeps_rw_reader : {T : Type 0} (z : Arithmetic T) (parties : ℕ) (past : List (Event T)) → IsPast z rw_reader_table parties past → KeepsRwReader past
 keeps_rw_reader z parties [] run =
     let word = reader_lock_word z rw_reader_table parties (rw_reader_is_lock z parties) [] run in
-    record { told = tt; exclusive = reader_lock_exclusive 0 [] word.counts; cause = tt; law = record { counts = word.counts; exact = tt; answers = tt; asks = tt; spins = λ party. tt; tells = tt; stops = tt; steps = tt } }
+    record { told = tt; exclusive = reader_lock_exclusive 0 [] word.counts; cause = tt; law = record { counts = word.counts; exact = tt; answers = tt; asks = tt; spins = λ party. tt; tells = tt; stops = tt; steps = tt; within = λ party. tt } }
 keeps_rw_reader z parties (e ∷ past) run =
     let event = event_law z parties past e run in
     let word = reader_lock_word z rw_reader_table parties (rw_reader_is_lock z parties) (e ∷ past) run in
@@ -205,5 +205,6 @@ keeps_rw_reader z parties (e ∷ past) run =
         tells = asked_maps IsAskedSo (λ c act told. sight_at words.State c.call c.own act ≡ Some told) (λ c act told so. so.1) (call_of e.party past) e.act e.then event.asks;
         stops = asked_maps IsAskedSo (λ c act told. keeps_asking (whole_call c.call c.own) ≡ true) (λ c act told so. so.2) (call_of e.party past) e.act e.then event.asks;
         steps = each_steps z parties (e ∷ past) run;
+        within = each_ends z parties (e ∷ past) run;
       };
     }

@@ -1,6 +1,6 @@
 -- Each step of a reader-preferring lock is its call's next.
-use Rattle.std.proofs.Common.{◌≡◌, ℕ, ◌+◌, ◌==◌, refl, sym, subst, Bool, true, false, cond, is_some, List, [], ◌∷◌, Option, Some, None}
-use Rattle.std.specs.Prelude.{nat_lt, MatchOption}
+use Rattle.std.proofs.Common.{◌≡◌, ℕ, ◌+◌, ◌==◌, refl, sym, subst, Bool, true, false, cond, is_some, List, [], ◌∷◌, Option, Some, None, ap, ◌≤◌, ◌<◌, arith}
+use Rattle.std.specs.Prelude.{nat_lt, unwrap_or, MatchOption}
 use Rattle.steps_events.specs.declared.WaitAction.{WaitAction}
 use Rattle.steps_events.specs.declared.event.Word.{Word}
 use Rattle.steps_events.specs.declared.event.Word.TheVariants as words
@@ -23,17 +23,17 @@ use Rattle.steps_events.specs.Past.{PendingCall, event}
 use Rattle.steps_events.specs.Moves.{step_at, is_step}
 use Rattle.steps_events.specs.Runs.{IsPast}
 use Rattle.steps_events.specs.Sights.{last_of}
-use Rattle.steps_events.specs.NextStep.{StepsAs, seen_last}
+use Rattle.steps_events.specs.NextStep.{StepsAs, seen_last, EndsWithin}
 use Rattle.steps_events.specs.RwSteps.{gives_up, open_at, reader_looked}
 use Rattle.steps_events.proofs.Holds.{some_same}
 use Rattle.steps_events.proofs.Spins.{HasSpun}
 use Rattle.steps_events.proofs.Asks.{both_kept}
-use Rattle.steps_events.proofs.NextStep.{steps_as, refused_left}
+use Rattle.steps_events.proofs.NextStep.{steps_as, refused_left, Descends, ends_within}
 use Rattle.steps_events.proofs.Parties.{IsKept}
 use Rattle.steps_rw_reader.specs.declared.RwReaderPlace.{RwReaderPlace}
 use Rattle.steps_rw_reader.specs.declared.RwReaderPlace.TheVariants as places
-use Rattle.steps_rw_reader.specs.Table.{lets_readers_in, read_look, rw_reader_table, rw_reader_begins, rw_reader_answered}
-use Rattle.steps_rw_reader.specs.Law.{is_in_vain, waits, RwReaderStep}
+use Rattle.steps_rw_reader.specs.Table.{lets_readers_in, read_look, rw_reader_table, rw_reader_begins, rw_reader_after, rw_reader_answered}
+use Rattle.steps_rw_reader.specs.Law.{is_in_vain, waits, rw_reader_most, RwReaderStep}
 use Rattle.steps_rw_reader.proofs.Laws.{AtRwReader, rw_reader_kept, read_after}
 
 -- What the latest step of a call told, at each place.
@@ -208,3 +208,51 @@ next_step places.Wake c hold memory so = as_call calls.Unlock c.call c.own _ _ s
 pub each_steps : {T : Type 0} (z : Arithmetic T) (parties : ℕ) (past : List (Event T)) → IsPast z rw_reader_table parties past → StepsAs RwReaderStep past
 each_steps z parties past run =
     steps_as z rw_reader_table parties (λ place c hold. AtRwReader place c hold × HasSeen place c hold) RwReaderStep (both_kept rw_reader_table AtRwReader HasSeen rw_reader_kept seen_kept) next_step past run
+
+-- A call that waits for nobody has fewer steps left at each place.
+
+abbrev rest_at : RwReaderPlace → Option ℕ
+rest_at places.TryReadLook = Some 2
+rest_at (places.TryRead seen to) = Some 1
+rest_at places.TryWrite = Some 1
+rest_at places.Release = Some 2
+rest_at places.Wake = Some 1
+rest_at other = None
+
+begun_at : {T : Type 0} (call : Call T) (place : RwReaderPlace) (steps : ℕ) → rw_reader_begins call ≡ Some place → rw_reader_most call ≡ Some steps → (left : ℕ) × (rest_at place ≡ Some left) × (left ≤ steps)
+begun_at calls.TryReadLock place steps is most = (2, sym (ap rest_at (some_same places.TryReadLook place is)), omega (arith, some_same 2 steps most))
+begun_at calls.TryWriteLock place steps is most = (1, sym (ap rest_at (some_same places.TryWrite place is)), omega (arith, some_same 1 steps most))
+begun_at calls.Unlock place steps is most = (2, sym (ap rest_at (some_same places.Release place is)), omega (arith, some_same 2 steps most))
+begun_at other place steps is most = absurd cc
+
+look_goes : (T : Type 0) (v : ℕ) (next : RwReaderPlace) (b : Bool) → place_after {T = T} (cond b (afters.At (places.TryRead v (v + 1))) (afters.Ends answers.Interrupted)) ≡ Some next → rest_at next ≡ Some 1
+look_goes T v next true goes = sym (ap rest_at (some_same (places.TryRead v (v + 1)) next goes))
+look_goes T v next false goes = absurd cc
+
+goes_at :
+    (T : Type 0) (place next : RwReaderPlace) (told : Option ℕ) (left : ℕ) → rest_at place ≡ Some left → place_after (rw_reader_after {T = T} place told) ≡ Some next → (fewer : ℕ) × (rest_at next ≡ Some fewer) × (fewer < left)
+goes_at T places.TryReadLook next told left is goes = (1, look_goes T (unwrap_or told 0) next (lets_readers_in (unwrap_or told 0)) goes, omega (arith, some_same 2 left is))
+goes_at T (places.TryRead seen to) next told left is goes = absurd (tried_once T (unwrap_or told 0 == seen) next goes)
+goes_at T places.TryWrite next told left is goes = absurd (tried_once T (unwrap_or told 0 == 0) next goes)
+goes_at T places.Release next told left is goes = (1, sym (ap rest_at (some_same places.Wake next goes)), omega (arith, some_same 2 left is))
+goes_at T places.Wake next told left is goes = absurd cc
+goes_at T other next told left is goes = absurd cc
+
+some_at : (place : RwReaderPlace) (left : ℕ) → rest_at place ≡ Some left → 0 < left
+some_at places.TryReadLook left is = omega (arith, some_same 2 left is)
+some_at (places.TryRead seen to) left is = omega (arith, some_same 1 left is)
+some_at places.TryWrite left is = omega (arith, some_same 1 left is)
+some_at places.Release left is = omega (arith, some_same 2 left is)
+some_at places.Wake left is = omega (arith, some_same 1 left is)
+some_at other left is = absurd cc
+
+answered_at : (place : RwReaderPlace) (action : WaitAction) → rest_at (rw_reader_answered place action) ≡ rest_at place
+answered_at (places.ReadLook patience) action = refl
+answered_at (places.Write patience) action = refl
+answered_at other action = refl
+
+descends : {T : Type 0} → Descends {T = T} rw_reader_table rw_reader_most rest_at
+descends {T} = record { begins = begun_at; goes = goes_at T; some = some_at; answered = answered_at; chosen = λ place choice. refl }
+
+pub each_ends : {T : Type 0} (z : Arithmetic T) (parties : ℕ) (past : List (Event T)) → IsPast z rw_reader_table parties past → EndsWithin rw_reader_most past
+each_ends z parties past run = ends_within rw_reader_table rw_reader_most rest_at descends z parties past run

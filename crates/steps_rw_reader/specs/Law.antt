@@ -1,6 +1,6 @@
 -- What a reader-preferring lock keeps at every front of every run: one writer or only readers, which its word counts, a cause for each
 -- refusal, and when a call asks its wait closure.
-use Rattle.std.specs.Prelude.{◌≡◌, ℕ, ◌+◌, ◌-◌, ◌%◌, ◌^◌, ◌<◌, ◌==◌, ◌↔◌, ◌⊎◌, Bool, true, false, not, if◌then◌else◌, List, [], ◌∷◌, None, MatchOption}
+use Rattle.std.specs.Prelude.{◌≡◌, ℕ, ◌+◌, ◌-◌, ◌%◌, ◌^◌, ◌<◌, ◌==◌, ◌↔◌, ◌⊎◌, Bool, true, false, not, if◌then◌else◌, List, [], ◌∷◌, Option, Some, None, MatchOption}
 use Rattle.steps_events.specs.declared.event.Word.TheVariants as words
 use Rattle.steps_events.specs.declared.event.Wake.TheVariants as wakes
 use Rattle.steps_events.specs.declared.event.Call.{Call}
@@ -17,7 +17,7 @@ use Rattle.steps_events.specs.HoldCounts.{reads_in, writes_in}
 use Rattle.steps_events.specs.RwAnswers.{AnswersByHold}
 use Rattle.steps_events.specs.Moves.{is_step}
 use Rattle.steps_events.specs.Sights.{is_sight, AtLastSight, HasAborted, HasMissed, spins_in, last_of}
-use Rattle.steps_events.specs.NextStep.{StepsAs, refused_waiting}
+use Rattle.steps_events.specs.NextStep.{StepsAs, refused_waiting, EndsWithin}
 use Rattle.steps_events.specs.RwSteps.{gives_up, reader_looked, ReadsIn, WritesIn}
 use Rattle.steps_events.specs.Asks.{SpinCount, AsksAfterSpinning, SpinsNoMore, sight_at, TellsRefusal, whole_call, AsksUntilAbort}
 use Rattle.steps_events.specs.Laws.{IsLocked, Keeps}
@@ -106,6 +106,13 @@ RwReaderStep calls.WriteLock own act outcome = WritesIn 0 (waits own) act outcom
 RwReaderStep calls.Unlock own act outcome = MatchOption (last_of is_step own) (Releases act outcome) (λ before. (act ≡ acts.Woke wakes.One) × (outcome ≡ thens.Answers answers.Done))
 RwReaderStep other own act outcome = ⊥
 
+-- how many steps a call makes that waits for nobody
+abbrev pub rw_reader_most : {T : Type 0} → Call T → Option ℕ
+rw_reader_most calls.TryReadLock = Some 2
+rw_reader_most calls.TryWriteLock = Some 1
+rw_reader_most calls.Unlock = Some 2
+rw_reader_most other = None
+
 -- What a reader-preferring lock keeps beside what every object does.
 pub record RwReaderLaw {T : Type 0} (past : List (Event T)) : Type 0 where
   -- the word is the number of read holds, or 2^64 - 1 with one write hold and no other
@@ -124,6 +131,8 @@ pub record RwReaderLaw {T : Type 0} (past : List (Event T)) : Type 0 where
   pub stops : AsksUntilAbort whole_call past
   -- each step is the one that follows its call's own, and leaves it by what it tells
   pub steps : StepsAs RwReaderStep past
+  -- a call that waits for nobody makes so many steps at most, and answers with the last
+  pub within : EndsWithin rw_reader_most past
 
 abbrev pub KeepsRwReader : {T : Type 0} → List (Event T) → Type 0
 KeepsRwReader past = Keeps rw_reader_table RwReaderCause RwReaderLaw past

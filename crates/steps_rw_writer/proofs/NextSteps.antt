@@ -1,6 +1,6 @@
 -- Each step of a writer-preferring lock is its call's next.
-use Rattle.std.proofs.Common.{◌≡◌, ℕ, ◌+◌, ◌-◌, ◌%◌, ◌^◌, ◌==◌, refl, sym, ◌∙◌, subst, Bool, true, false, cond, is_some, List, [], ◌∷◌, Option, Some, None, arith}
-use Rattle.std.specs.Prelude.{nat_lt, MatchBool}
+use Rattle.std.proofs.Common.{◌≡◌, ℕ, ◌+◌, ◌-◌, ◌%◌, ◌^◌, ◌==◌, refl, sym, ◌∙◌, subst, Bool, true, false, cond, is_some, List, [], ◌∷◌, Option, Some, None, arith, ap, ◌≤◌, ◌<◌}
+use Rattle.std.specs.Prelude.{nat_lt, unwrap_or, MatchBool}
 use Rattle.steps_events.specs.declared.WaitAction.{WaitAction}
 use Rattle.steps_events.specs.declared.event.Word.{Word}
 use Rattle.steps_events.specs.declared.event.Word.TheVariants as words
@@ -25,20 +25,20 @@ use Rattle.steps_events.specs.RwAnswers.{acts_of}
 use Rattle.steps_events.specs.Moves.{step_at, answer_fault, choose_fault, is_step}
 use Rattle.steps_events.specs.Runs.{IsPast}
 use Rattle.steps_events.specs.Sights.{is_abort, keeps_asking, last_of}
-use Rattle.steps_events.specs.NextStep.{StepsAs, step_before, seen_last, Loads, Exchanges}
+use Rattle.steps_events.specs.NextStep.{StepsAs, EndsWithin, step_before, seen_last, Loads, Exchanges}
 use Rattle.steps_events.specs.RwSteps.{gives_up, open_at, reader_looked, WritesIn}
 use Rattle.steps_events.proofs.Holds.{some_same, eqb_other}
 use Rattle.steps_events.proofs.Spins.{HasSpun}
 use Rattle.steps_events.proofs.Asks.{both_kept}
-use Rattle.steps_events.proofs.NextStep.{steps_as, refused_left}
+use Rattle.steps_events.proofs.NextStep.{steps_as, refused_left, Descends, ends_within}
 use Rattle.steps_events.proofs.Parties.{IsKept}
 use Rattle.steps_rw_writer.specs.declared.Leaver.{Leaver}
 use Rattle.steps_rw_writer.specs.declared.Leaver.TheVariants as leavers
 use Rattle.steps_rw_writer.specs.declared.RwWriterPlace.{RwWriterPlace}
 use Rattle.steps_rw_writer.specs.declared.RwWriterPlace.TheVariants as places
-use Rattle.steps_rw_writer.specs.Table.{lets_readers_in, lets_writer_in, lets_mark, is_marked, is_blocked, is_mark, read_look, spins, marks_or_spins, unmarks_or_leaves, write_refused, write_look, last_look, released, rw_writer_table, rw_writer_begins, rw_writer_answered}
+use Rattle.steps_rw_writer.specs.Table.{lets_readers_in, lets_writer_in, lets_mark, is_marked, is_blocked, is_mark, read_look, spins, marks_or_spins, unmarks_or_leaves, write_refused, write_look, last_look, released, rw_writer_table, rw_writer_begins, rw_writer_after, rw_writer_answered}
 use Rattle.steps_rw_writer.specs.Debts.{loads_count}
-use Rattle.steps_rw_writer.specs.Law.{is_read_in_vain, write_spins_in, reader_waits, left_unmarking, left_refused, left_looking, left_last, goes_on_anyway, LooksToWrite, SpinsOrLoads, MarksAt, UnmarksAt, RefusedAt, LookedAt, CountsOne, ExchangedFrom, WriterStep, RwWriterStep}
+use Rattle.steps_rw_writer.specs.Law.{is_read_in_vain, write_spins_in, reader_waits, left_unmarking, left_refused, left_looking, left_last, goes_on_anyway, LooksToWrite, SpinsOrLoads, MarksAt, UnmarksAt, RefusedAt, LookedAt, CountsOne, ExchangedFrom, WriterStep, rw_writer_most, RwWriterStep}
 use Rattle.steps_rw_writer.proofs.WordLaws.{no_mark}
 use Rattle.steps_rw_writer.proofs.PlaceLaws.{AtRwWriter, asked_nothing, offered_nothing, Sets, Clears}
 use Rattle.steps_rw_writer.proofs.SpinLaws.{HasSpunAt, spun_kept}
@@ -577,3 +577,74 @@ next_step (places.WakeAll who) c hold memory so = wake_all_step who c hold memor
 
 pub each_steps : {T : Type 0} (z : Arithmetic T) (parties : ℕ) (past : List (Event T)) → IsPast z rw_writer_table parties past → StepsAs RwWriterStep past
 each_steps z parties past run = steps_as z rw_writer_table parties IsReady RwWriterStep ready_kept next_step past run
+
+-- A call that waits for nobody has fewer steps left at each place.
+
+abbrev rest_at : RwWriterPlace → Option ℕ
+rest_at places.TryReadLook = Some 2
+rest_at (places.TryRead seen to) = Some 1
+rest_at places.TryWrite = Some 1
+rest_at places.Release = Some 4
+rest_at (places.Count leavers.Reader) = Some 2
+rest_at (places.Count leavers.Writer) = Some 3
+rest_at (places.WakeOne leavers.Reader) = Some 1
+rest_at (places.WakeOne leavers.Writer) = Some 2
+rest_at (places.WakeAll leavers.Reader) = Some 1
+rest_at (places.WakeAll leavers.Writer) = Some 1
+rest_at other = None
+
+begun_at : {T : Type 0} (call : Call T) (place : RwWriterPlace) (steps : ℕ) → rw_writer_begins call ≡ Some place → rw_writer_most call ≡ Some steps → (left : ℕ) × (rest_at place ≡ Some left) × (left ≤ steps)
+begun_at calls.TryReadLock place steps is most = (2, sym (ap rest_at (some_same places.TryReadLook place is)), omega (arith, some_same 2 steps most))
+begun_at calls.TryWriteLock place steps is most = (1, sym (ap rest_at (some_same places.TryWrite place is)), omega (arith, some_same 1 steps most))
+begun_at calls.Unlock place steps is most = (4, sym (ap rest_at (some_same places.Release place is)), omega (arith, some_same 4 steps most))
+begun_at other place steps is most = absurd cc
+
+look_goes : (T : Type 0) (v : ℕ) (next : RwWriterPlace) (b : Bool) → place_after {T = T} (cond b (afters.At (places.TryRead v (v + 2))) (afters.Ends answers.Interrupted)) ≡ Some next → rest_at next ≡ Some 1
+look_goes T v next true goes = sym (ap rest_at (some_same (places.TryRead v (v + 2)) next goes))
+look_goes T v next false goes = absurd cc
+
+release_goes : (T : Type 0) (next : RwWriterPlace) (told : Option ℕ) → place_after {T = T} (released told) ≡ Some next → (fewer : ℕ) × (rest_at next ≡ Some fewer) × (fewer < 4)
+release_goes T next None goes = (3, sym (ap rest_at (some_same (places.Count leavers.Writer) next goes)), omega arith)
+release_goes T next (Some old) goes = by_test (old == 3) goes
+  where
+    by_test : (b : Bool) → place_after {T = T} (cond b (afters.At (places.Count leavers.Reader)) (afters.Ends answers.Done)) ≡ Some next → (fewer : ℕ) × (rest_at next ≡ Some fewer) × (fewer < 4)
+    by_test true goes = (2, sym (ap rest_at (some_same (places.Count leavers.Reader) next goes)), omega arith)
+    by_test false goes = absurd cc
+
+goes_at :
+    (T : Type 0) (place next : RwWriterPlace) (told : Option ℕ) (left : ℕ) → rest_at place ≡ Some left → place_after (rw_writer_after {T = T} place told) ≡ Some next → (fewer : ℕ) × (rest_at next ≡ Some fewer) × (fewer < left)
+goes_at T places.TryReadLook next told left is goes = (1, look_goes T (unwrap_or told 0) next (lets_readers_in (unwrap_or told 0)) goes, omega (arith, some_same 2 left is))
+goes_at T (places.TryRead seen to) next told left is goes = absurd (tried_once T (unwrap_or told 0 == seen) next goes)
+goes_at T places.TryWrite next told left is goes = absurd (tried_once T (unwrap_or told 0 == 0) next goes)
+goes_at T places.Release next told left is goes = let fewer = release_goes T next told goes in (fewer.0, fewer.1, omega (arith, some_same 4 left is, fewer.2))
+goes_at T (places.Count leavers.Reader) next told left is goes = (1, sym (ap rest_at (some_same (places.WakeOne leavers.Reader) next goes)), omega (arith, some_same 2 left is))
+goes_at T (places.Count leavers.Writer) next told left is goes = (2, sym (ap rest_at (some_same (places.WakeOne leavers.Writer) next goes)), omega (arith, some_same 3 left is))
+goes_at T (places.WakeOne leavers.Reader) next told left is goes = absurd cc
+goes_at T (places.WakeOne leavers.Writer) next told left is goes = (1, sym (ap rest_at (some_same (places.WakeAll leavers.Writer) next goes)), omega (arith, some_same 2 left is))
+goes_at T (places.WakeAll leavers.Reader) next told left is goes = absurd cc
+goes_at T (places.WakeAll leavers.Writer) next told left is goes = absurd cc
+goes_at T other next told left is goes = absurd cc
+
+some_at : (place : RwWriterPlace) (left : ℕ) → rest_at place ≡ Some left → 0 < left
+some_at places.TryReadLook left is = omega (arith, some_same 2 left is)
+some_at (places.TryRead seen to) left is = omega (arith, some_same 1 left is)
+some_at places.TryWrite left is = omega (arith, some_same 1 left is)
+some_at places.Release left is = omega (arith, some_same 4 left is)
+some_at (places.Count leavers.Reader) left is = omega (arith, some_same 2 left is)
+some_at (places.Count leavers.Writer) left is = omega (arith, some_same 3 left is)
+some_at (places.WakeOne leavers.Reader) left is = omega (arith, some_same 1 left is)
+some_at (places.WakeOne leavers.Writer) left is = omega (arith, some_same 2 left is)
+some_at (places.WakeAll leavers.Reader) left is = omega (arith, some_same 1 left is)
+some_at (places.WakeAll leavers.Writer) left is = omega (arith, some_same 1 left is)
+some_at other left is = absurd cc
+
+answered_at : (place : RwWriterPlace) (action : WaitAction) → rest_at (rw_writer_answered place action) ≡ rest_at place
+answered_at (places.ReadLook patience) action = refl
+answered_at (places.WriteLook patience) action = refl
+answered_at other action = refl
+
+descends : {T : Type 0} → Descends {T = T} rw_writer_table rw_writer_most rest_at
+descends {T} = record { begins = begun_at; goes = goes_at T; some = some_at; answered = answered_at; chosen = λ place choice. refl }
+
+pub each_ends : {T : Type 0} (z : Arithmetic T) (parties : ℕ) (past : List (Event T)) → IsPast z rw_writer_table parties past → EndsWithin rw_writer_most past
+each_ends z parties past run = ends_within rw_writer_table rw_writer_most rest_at descends z parties past run

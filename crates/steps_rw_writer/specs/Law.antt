@@ -17,7 +17,7 @@ use Rattle.steps_events.specs.HoldCounts.{reads_in, writes_in}
 use Rattle.steps_events.specs.RwAnswers.{acts_of, AnswersByHold}
 use Rattle.steps_events.specs.Moves.{is_step}
 use Rattle.steps_events.specs.Sights.{is_sight, is_beginning, AtLastSight, HasAborted, HasMissed, OtherWroteSinceSight, sight_of, goes_on, stands_at_wait, spins_in, last_of, keeps_asking}
-use Rattle.steps_events.specs.NextStep.{StepsAs, refused_waiting, step_before, Loads, Exchanges}
+use Rattle.steps_events.specs.NextStep.{StepsAs, refused_waiting, EndsWithin, step_before, Loads, Exchanges}
 use Rattle.steps_events.specs.RwSteps.{gives_up, reader_looked, ReadsIn, WritesIn}
 use Rattle.steps_events.specs.Asks.{SpinCount, but_last_try, AsksAfterSpinning, SpinsNoMore, Refusing, TellsRefusal, whole_call, AsksUntilAbort}
 use Rattle.steps_events.specs.Laws.{IsLocked, Keeps}
@@ -317,6 +317,13 @@ RwWriterStep calls.WriteLock own act outcome = WriterStep (keeps_asking own) (wr
 RwWriterStep calls.Unlock own act outcome = UnlockStep (acts_of own) act outcome
 RwWriterStep other own act outcome = ⊥
 
+-- how many steps a call makes that waits for nobody
+abbrev pub rw_writer_most : {T : Type 0} → Call T → Option ℕ
+rw_writer_most calls.TryReadLock = Some 2
+rw_writer_most calls.TryWriteLock = Some 1
+rw_writer_most calls.Unlock = Some 4
+rw_writer_most other = None
+
 -- What a writer-preferring lock keeps beside what every object does.
 pub record RwWriterLaw {T : Type 0} (past : List (Event T)) : Type 0 where
   -- the word is twice the number of read holds and the mark, or 2^64 - 1 with one write hold and no other
@@ -351,6 +358,8 @@ pub record RwWriterLaw {T : Type 0} (past : List (Event T)) : Type 0 where
   pub woken : ReadersAreWoken past
   -- each step is the one that follows its call's own, and leaves it by what it tells
   pub steps : StepsAs RwWriterStep past
+  -- a call that waits for nobody makes so many steps at most, and answers with the last
+  pub within : EndsWithin rw_writer_most past
 
 abbrev pub KeepsRwWriter : {T : Type 0} → List (Event T) → Type 0
 KeepsRwWriter past = Keeps rw_writer_table RwWriterCause RwWriterLaw past

@@ -24,9 +24,10 @@ use Rattle.steps_events.specs.Rows.{carried_out, value_told, outcome_of, place_a
 use Rattle.steps_events.specs.Past.{same_word, PendingCall, call_of, hold_of, word_in, word_after, latest_outcome, event}
 use Rattle.steps_events.specs.Moves.{Move, step_at, answer_fault, is_step}
 use Rattle.steps_events.specs.Runs.{IsPast}
-use Rattle.steps_events.specs.Sights.{sight_of, is_sight, keeps_asking, HasAborted, last_of, spins_in}
+use Rattle.steps_events.specs.Sights.{sight_of, is_sight, keeps_asking, HasAborted, last_of}
 use Rattle.steps_events.specs.Asks.{WhereAsked, sight_at, whole_call}
 use Rattle.steps_events.specs.Laws.{is_apart, Lacks, is_refusal}
+use Rattle.steps_events.proofs.NextStep.{Descends, ends_within}
 use Rattle.steps_events.proofs.Holds.{some_same, eqb_same, no_holds, exclusive_unheld}
 use Rattle.steps_events.proofs.Steps.{by_move, tells_memory}
 use Rattle.steps_events.proofs.Spins.{begun_spun, HasSpun}
@@ -36,7 +37,7 @@ use Rattle.steps_semaphore.specs.declared.SemaphorePlace.{SemaphorePlace}
 use Rattle.steps_semaphore.specs.declared.SemaphorePlace.TheVariants as places
 use Rattle.steps_semaphore.specs.Table.{semaphore_table, semaphore_begins, semaphore_intent, semaphore_after, semaphore_answered}
 use Rattle.steps_semaphore.specs.Permits.{permits_given, permits_taken, is_take, number_answered}
-use Rattle.steps_semaphore.specs.Law.{permits_posted, semaphore_gives, semaphore_value, SemaphoreCause, is_empty_look, wait_spins, permits_seen, look_of, is_look_or_take, refused_as, IsLeftBy, IsPostStep, WantsPermit, SemaphoreStep, KeepsSemaphore}
+use Rattle.steps_semaphore.specs.Law.{permits_posted, semaphore_gives, semaphore_value, SemaphoreCause, is_empty_look, wait_spins, permits_seen, look_of, refused_as, IsLeftBy, IsPostStep, SemaphoreStep, KeepsSemaphore, semaphore_most}
 use Rattle.steps_semaphore.proofs.Permits.{Effect, Tallies, tallies_first, tallies_after, lowered}
 use Rattle.steps_semaphore.proofs.WaitSteps.{one_less, AtWait, WaitLeads, wait_leads, wait_goes_on, wait_effect, wait_answered, wait_chosen}
 
@@ -354,9 +355,42 @@ semaphore_tallies z initial parties fits (e ∷ past) run =
     let before = semaphore_tallies z initial parties fits past run.1 in
     tallies_after _ _ _ _ _ (is_take words.State e.act) before (event_law z initial parties past e run before.0).effect
 
+-- A call that waits for nobody has fewer steps left at each place.
+
+abbrev semaphore_rest : SemaphorePlace → Option ℕ
+semaphore_rest places.Value = Some 1
+semaphore_rest (places.Post n) = Some 2
+semaphore_rest places.Wake = Some 1
+semaphore_rest other = None
+
+semaphore_begun : {T : Type 0} (call : Call T) (place : SemaphorePlace) (steps : ℕ) → semaphore_begins call ≡ Some place → semaphore_most call ≡ Some steps → (left : ℕ) × (semaphore_rest place ≡ Some left) × (left ≤ steps)
+semaphore_begun calls.Value place steps is most = (1, sym (ap semaphore_rest (some_same places.Value place is)), omega (arith, some_same 1 steps most))
+semaphore_begun (calls.Post n) place steps is most = (2, sym (ap semaphore_rest (some_same (places.Post n) place is)), omega (arith, some_same 2 steps most))
+semaphore_begun other place steps is most = absurd cc
+
+semaphore_goes :
+    (T : Type 0) (place next : SemaphorePlace) (told : Option ℕ) (left : ℕ) → semaphore_rest place ≡ Some left → place_after (semaphore_after {T = T} place told) ≡ Some next → (fewer : ℕ) × (semaphore_rest next ≡ Some fewer) × (fewer < left)
+semaphore_goes T places.Value next told left is goes = absurd cc
+semaphore_goes T (places.Post n) next told left is goes = (1, sym (ap semaphore_rest (some_same places.Wake next goes)), omega (arith, some_same 2 left is))
+semaphore_goes T places.Wake next told left is goes = absurd cc
+semaphore_goes T other next told left is goes = absurd cc
+
+semaphore_some : (place : SemaphorePlace) (left : ℕ) → semaphore_rest place ≡ Some left → 0 < left
+semaphore_some places.Value left is = omega (arith, some_same 1 left is)
+semaphore_some (places.Post n) left is = omega (arith, some_same 2 left is)
+semaphore_some places.Wake left is = omega (arith, some_same 1 left is)
+semaphore_some other left is = absurd cc
+
+semaphore_answered_rest : (place : SemaphorePlace) (action : WaitAction) → semaphore_rest (semaphore_answered place action) ≡ semaphore_rest place
+semaphore_answered_rest (places.Look patience) action = refl
+semaphore_answered_rest other action = refl
+
+semaphore_descends : {T : Type 0} (initial : ℕ) → Descends {T = T} (semaphore_table initial) semaphore_most semaphore_rest
+semaphore_descends {T} initial = record { begins = semaphore_begun; goes = semaphore_goes T; some = semaphore_some; answered = semaphore_answered_rest; chosen = λ place choice. refl }
+
 pub keeps_semaphore : {T : Type 0} (z : Arithmetic T) (initial parties : ℕ) (past : List (Event T)) → initial < 2 ^ 64 → IsPast z (semaphore_table initial) parties past → KeepsSemaphore initial past
 keeps_semaphore z initial parties [] fits run =
-    record { told = tt; exclusive = exclusive_unheld [] refl; cause = tt; law = record { unheld = refl; permits = record { at_most = omega arith; told = tt; lowers = tt }; asks = tt; spins = λ party. tt; tells = tt; stops = tt; steps = tt } }
+    record { told = tt; exclusive = exclusive_unheld [] refl; cause = tt; law = record { unheld = refl; permits = record { at_most = omega arith; told = tt; lowers = tt }; asks = tt; spins = λ party. tt; tells = tt; stops = tt; steps = tt; within = λ party. tt } }
 keeps_semaphore z initial parties (e ∷ past) fits run =
     let before = semaphore_tallies z initial parties fits past run.1 in
     let after = semaphore_tallies z initial parties fits (e ∷ past) run in
@@ -378,6 +412,7 @@ keeps_semaphore z initial parties (e ∷ past) fits run =
         tells = asked_maps IsAskedSo (λ c act told. sight_at words.State c.call c.own act ≡ Some told) (λ c act told so. so.1) (call_of e.party past) e.act e.then event.asks;
         stops = asked_maps IsAskedSo (λ c act told. keeps_asking (whole_call c.call c.own) ≡ true) (λ c act told so. so.2) (call_of e.party past) e.act e.then event.asks;
         steps = event.steps;
+        within = ends_within (semaphore_table initial) semaphore_most semaphore_rest (semaphore_descends initial) z parties (e ∷ past) run;
       };
     }
 

@@ -1,5 +1,5 @@
 -- What a semaphore keeps at every front of every run: its permits, a cause for each refusal, and when a call asks its wait closure.
-use Rattle.std.specs.Prelude.{◌≡◌, ℕ, ◌+◌, ◌-◌, ◌%◌, ◌^◌, ◌==◌, ◌&&◌, nat_lt, Bool, true, false, if◌then◌else◌, List, [], ◌∷◌, Option, Some, None, unwrap_or, MatchBool, MatchOption}
+use Rattle.std.specs.Prelude.{◌≡◌, ℕ, ◌+◌, ◌-◌, ◌%◌, ◌^◌, ◌==◌, ◌&&◌, Bool, true, false, if◌then◌else◌, List, [], Option, Some, None, unwrap_or, MatchBool}
 use Rattle.steps_events.specs.declared.event.Word.TheVariants as words
 use Rattle.steps_events.specs.declared.event.Call.{Call}
 use Rattle.steps_events.specs.declared.event.Call.TheVariants as calls
@@ -10,10 +10,10 @@ use Rattle.steps_events.specs.declared.event.Wake.TheVariants as wakes
 use Rattle.steps_events.specs.declared.event.Answer.TheVariants as answers
 use Rattle.steps_events.specs.declared.event.Then.{Then}
 use Rattle.steps_events.specs.declared.event.Then.TheVariants as thens
-use Rattle.steps_events.specs.Past.{PendingCall, call_of, holds_of}
+use Rattle.steps_events.specs.Past.{PendingCall, holds_of}
 use Rattle.steps_events.specs.Moves.{is_step}
-use Rattle.steps_events.specs.Sights.{AtLastSight, HasAborted, spins_in, keeps_asking, last_of}
-use Rattle.steps_events.specs.NextStep.{StepsAs, refused_waiting}
+use Rattle.steps_events.specs.Sights.{AtLastSight, HasAborted, spins_in, last_of}
+use Rattle.steps_events.specs.NextStep.{StepsAs, refused_waiting, EndsWithin}
 use Rattle.steps_events.specs.Asks.{SpinCount, AsksAfterSpinning, SpinsNoMore, sight_at, TellsRefusal, whole_call, AsksUntilAbort}
 use Rattle.steps_events.specs.Laws.{Keeps}
 use Rattle.steps_semaphore.specs.Table.{semaphore_table}
@@ -118,6 +118,12 @@ SemaphoreStep calls.TryWait own act outcome = WantsPermit calls.TryWait own act 
 SemaphoreStep calls.Wait own act outcome = WantsPermit calls.Wait own act outcome
 SemaphoreStep other own act outcome = ⊥
 
+-- how many steps a call makes that waits for nobody; a `TryWait` may see permits, and miss them, again and again
+abbrev pub semaphore_most : {T : Type 0} → Call T → Option ℕ
+semaphore_most calls.Value = Some 1
+semaphore_most (calls.Post n) = Some 2
+semaphore_most other = None
+
 -- What a semaphore keeps beside what every object does.
 pub record SemaphoreLaw {T : Type 0} (initial : ℕ) (past : List (Event T)) : Type 0 where
   -- nobody holds a semaphore
@@ -134,6 +140,8 @@ pub record SemaphoreLaw {T : Type 0} (initial : ℕ) (past : List (Event T)) : T
   pub stops : AsksUntilAbort whole_call past
   -- each step is the one that follows what its call saw last, and leaves it by what it tells
   pub steps : StepsAs SemaphoreStep past
+  -- a call that waits for nobody makes so many steps at most, and answers with the last
+  pub within : EndsWithin semaphore_most past
 
 abbrev pub KeepsSemaphore : {T : Type 0} → ℕ → List (Event T) → Type 0
 KeepsSemaphore initial past = Keeps (semaphore_table initial) (SemaphoreCause initial) (SemaphoreLaw initial) past

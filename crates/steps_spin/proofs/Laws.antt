@@ -1,5 +1,5 @@
 -- A spin lock keeps its law at every front of every run.
-use Rattle.std.proofs.Common.{◌≡◌, ℕ, zero, suc, ◌==◌, refl, sym, ◌∙◌, ap, subst, Bool, true, false, cond, is_some, List, [], ◌∷◌, length, Option, Some, None, ◌⊎◌, inl, inr, arith}
+use Rattle.std.proofs.Common.{◌≡◌, ℕ, zero, suc, ◌==◌, refl, sym, ◌∙◌, ap, subst, Bool, true, false, cond, is_some, List, [], ◌∷◌, length, Option, Some, None, ◌⊎◌, inl, inr, arith, ◌≤◌, ◌<◌}
 use Rattle.std.specs.Prelude.{MatchBool, MatchOption, not}
 use Rattle.std.proofs.lemmas.Bool.{eqb-true}
 use Rattle.steps_events.specs.declared.event.Word.{Word}
@@ -24,12 +24,12 @@ use Rattle.steps_events.specs.Laws.{Lacks, is_refusal}
 use Rattle.steps_events.proofs.Holds.{eqb_same, some_same}
 use Rattle.steps_events.proofs.Steps.{by_move, tells_memory}
 use Rattle.steps_events.proofs.Parties.{IsKept, at_place}
-use Rattle.steps_events.proofs.NextStep.{steps_as}
+use Rattle.steps_events.proofs.NextStep.{steps_as, Descends, ends_within}
 use Rattle.steps_events.proofs.Locks.{IsLock, IsLockIntent, IsFreeOrHeld, holds_after, lock_word, lock_exclusive}
 use Rattle.steps_spin.specs.declared.SpinPlace.{SpinPlace}
 use Rattle.steps_spin.specs.declared.SpinPlace.TheVariants as places
-use Rattle.steps_spin.specs.Table.{spin_table, spin_begins, spin_intent, spin_after}
-use Rattle.steps_spin.specs.Law.{SpinCause, is_unheld, IsLeft, SpinStep, SwapsOne, IsHandedOn, CountsHolds, KeepsSpin}
+use Rattle.steps_spin.specs.Table.{spin_table, spin_begins, spin_intent, spin_after, is_free}
+use Rattle.steps_spin.specs.Law.{SpinCause, is_unheld, IsLeft, SpinStep, SwapsOne, IsHandedOn, CountsHolds, KeepsSpin, spin_most}
 
 -- What is kept of a call at its place: which call it is, of one that makes a single step that it has made none, and of `Unlock` that its party has a hold.
 
@@ -193,6 +193,31 @@ spin_step places.Lock c hold memory (inl is) = rw is (swaps_one (afters.At place
 spin_step places.Lock c hold memory (inr is) = rw is (swaps_one (afters.At places.Lock) (memory words.State) (memory words.State == 0) refl)
 spin_step places.Release c hold memory at = rw at.0 (at.2, refl, refl)
 
+-- and a call that waits for nobody has one step
+
+abbrev spin_rest : SpinPlace → Option ℕ
+spin_rest places.TryLock = Some 1
+spin_rest places.Lock = None
+spin_rest places.Release = Some 1
+
+spin_begun : {T : Type 0} (call : Call T) (place : SpinPlace) (steps : ℕ) → spin_begins call ≡ Some place → spin_most call ≡ Some steps → (left : ℕ) × (spin_rest place ≡ Some left) × (left ≤ steps)
+spin_begun calls.TryLock place steps is most = (1, sym (ap spin_rest (some_same places.TryLock place is)), omega (arith, some_same 1 steps most))
+spin_begun calls.Unlock place steps is most = (1, sym (ap spin_rest (some_same places.Release place is)), omega (arith, some_same 1 steps most))
+spin_begun other place steps is most = absurd cc
+
+spin_goes : (T : Type 0) (place next : SpinPlace) (told : Option ℕ) (left : ℕ) → spin_rest place ≡ Some left → place_after (spin_after {T = T} place told) ≡ Some next → (fewer : ℕ) × (spin_rest next ≡ Some fewer) × (fewer < left)
+spin_goes T places.TryLock next told left is goes = absurd (tried_ends T (is_free told) next goes)
+spin_goes T places.Lock next told left is goes = absurd cc
+spin_goes T places.Release next told left is goes = absurd cc
+
+spin_some : (place : SpinPlace) (left : ℕ) → spin_rest place ≡ Some left → 0 < left
+spin_some places.TryLock left is = omega (arith, some_same 1 left is)
+spin_some places.Lock left is = absurd cc
+spin_some places.Release left is = omega (arith, some_same 1 left is)
+
+spin_descends : {T : Type 0} → Descends {T = T} spin_table spin_most spin_rest
+spin_descends {T} = record { begins = spin_begun; goes = spin_goes T; some = spin_some; answered = λ place action. refl; chosen = λ place choice. refl }
+
 -- no exchange fails: there is none
 never_fails : {T : Type 0} (z : Arithmetic T) (parties : ℕ) (past : List (Event T)) → IsPast z spin_table parties past → failures_in past ≡ 0
 never_fails z parties [] run = refl
@@ -208,7 +233,7 @@ keeps_spin z parties [] run =
       told = tt;
       exclusive = lock_exclusive 0 [] (lock_word z spin_table parties (spin_is_lock z parties) [] run);
       cause = tt;
-      law = record { leaves = tt; steps = tt; hands_on = tt; spins = tt; word = counts_holds [] (lock_word z spin_table parties (spin_is_lock z parties) [] run); failed = refl };
+      law = record { leaves = tt; steps = tt; within = λ party. tt; hands_on = tt; spins = tt; word = counts_holds [] (lock_word z spin_table parties (spin_is_lock z parties) [] run); failed = refl };
     }
 keeps_spin z parties (e ∷ past) run =
     let event = event_law z parties past e run in
@@ -217,7 +242,7 @@ keeps_spin z parties (e ∷ past) run =
       told = tells_memory z spin_table parties (e ∷ past) run;
       exclusive = lock_exclusive _ (holds_of spin_table (e ∷ past)) held;
       cause = event.cause;
-      law = record { leaves = event.leaves; steps = steps_as z spin_table parties AtSpin SpinStep spin_kept spin_step (e ∷ past) run; hands_on = event.hands_on; spins = event.spins; word = counts_holds (e ∷ past) held; failed = never_fails z parties (e ∷ past) run };
+      law = record { leaves = event.leaves; steps = steps_as z spin_table parties AtSpin SpinStep spin_kept spin_step (e ∷ past) run; within = ends_within spin_table spin_most spin_rest spin_descends z parties (e ∷ past) run; hands_on = event.hands_on; spins = event.spins; word = counts_holds (e ∷ past) held; failed = never_fails z parties (e ∷ past) run };
     }
 
 -- a spin lock has no other word

@@ -1,5 +1,5 @@
 -- What a spin lock keeps at every front of every run: one holder, who has the lock after each answer, and that a call which waits only spins.
-use Rattle.std.specs.Prelude.{◌≡◌, ◌≤◌, ℕ, ◌==◌, Bool, true, false, if◌then◌else◌, List, [], ◌∷◌, length, MatchBool, MatchOption}
+use Rattle.std.specs.Prelude.{◌≡◌, ◌≤◌, ℕ, ◌==◌, Bool, true, false, if◌then◌else◌, List, [], ◌∷◌, Option, Some, None, length, MatchBool, MatchOption}
 use Rattle.steps_events.specs.declared.event.Word.TheVariants as words
 use Rattle.steps_events.specs.declared.event.Act.{Act}
 use Rattle.steps_events.specs.declared.event.Act.TheVariants as acts
@@ -13,7 +13,7 @@ use Rattle.steps_events.specs.declared.hold.HoldKind.TheVariants as kinds
 use Rattle.steps_events.specs.Past.{Hold, call_of, holds_of, word_in, failures_in}
 use Rattle.steps_events.specs.Moves.{is_step}
 use Rattle.steps_events.specs.Sights.{AtLastSight}
-use Rattle.steps_events.specs.NextStep.{StepsAs}
+use Rattle.steps_events.specs.NextStep.{StepsAs, EndsWithin}
 use Rattle.steps_events.specs.Waits.{OnlySpins}
 use Rattle.steps_events.specs.Laws.{IsLocked, Keeps}
 use Rattle.steps_spin.specs.Table.{spin_table}
@@ -59,6 +59,12 @@ SpinStep calls.BlockingLock own act outcome = SwapsOne thens.GoesOn act outcome
 SpinStep calls.Unlock own act outcome = (own ≡ []) × (act ≡ acts.Store words.State 0) × (outcome ≡ thens.Answers answers.Done)
 SpinStep other own act outcome = ⊥
 
+-- how many steps a call makes that waits for nobody
+abbrev pub spin_most : {T : Type 0} → Call T → Option ℕ
+spin_most calls.TryLock = Some 1
+spin_most calls.Unlock = Some 1
+spin_most other = None
+
 -- Who has the lock: `Success` takes it from nobody, `Done` gives it back, and nothing else changes who has it.
 abbrev pub IsHandedOn : {T : Type 0} → ℕ → Then T → List Hold → List Hold → Type 0
 IsHandedOn party (thens.Answers answers.Success) before holds = (before ≡ []) × (holds ≡ (party, kinds.Write) ∷ [])
@@ -80,6 +86,8 @@ pub record SpinLaw {T : Type 0} (past : List (Event T)) : Type 0 where
   pub leaves : LeavesByHolds past
   -- each step is the one that follows its call's own, and leaves it by what it tells
   pub steps : StepsAs SpinStep past
+  -- a call that waits for nobody makes so many steps at most, and answers with the last
+  pub within : EndsWithin spin_most past
   -- `Success` takes the lock from nobody, `Done` gives it back, and nothing else changes who has it
   pub hands_on : HandsOn past
   -- a call that waits only spins: none stands at a closure, and none wakes

@@ -10,4 +10,5 @@ pub mod RwReaderRule
 pub mod RwWriterRule
 pub mod RwWriterTally
 pub mod MutexScript
+pub mod SemaphoreScript
 pub mod Shown

@@ -13,5 +13,5 @@ pub use barrier::{Arrivals, Rounds};
 pub use held::{Held, Known};
 pub use mutex::{Holds, MutexScript, PlayedMutex};
 pub use rw_writer::MarkedHolds;
-pub use semaphore::Permits;
+pub use semaphore::{Permits, PlayedSemaphore, SemaphoreScript};
 pub use wait_word::WaitWord;

@@ -1,6 +1,34 @@
-//! What a pass of a semaphore counts.
+//! The model that a semaphore plays, and what its pass counts beside.
 
 use passes::{Rule, Tally};
+use playing::{Played, Script};
+use steps_semaphore::SemaphorePlace;
+
+/// The model that a semaphore plays: its one word is that of the permits. The key is the initial value, as a word.
+pub struct SemaphoreScript;
+
+impl Script<u64, SemaphorePlace> for SemaphoreScript {
+    ghost use Rattle.std.specs.Prelude.{[], ◌∷◌, ◌%◌, ◌^◌};
+    ghost use Rattle.steps_events.specs.declared.event.Word.TheVariants as words;
+    ghost use Rattle.steps_semaphore.specs.Table.{semaphore_table};
+    ghost use Rattle.steps_semaphore.specs.Law.{KeepsSemaphore};
+    ghost use Rattle.tallies.specs.SemaphoreScript.{semaphore_lawful};
+
+    ghost table = { λ key. semaphore_table (key % 2 ^ 64) };
+
+    ghost law = { λ key. KeepsSemaphore (key % 2 ^ 64) };
+
+    ghost lawful = { semaphore_lawful };
+
+    ghost names = { words.State ∷ [] };
+
+    ghost apart = { (tt, tt) };
+
+    ghost handed = { λ _. words.State };
+}
+
+/// What a pass of a semaphore is in its model, and counts beside.
+pub type PlayedSemaphore = Played<SemaphoreScript, SemaphorePlace, Permits>;
 
 /// What a pass of a semaphore counts. No value of it is made, and its numbers have no limit.
 pub struct Permits {

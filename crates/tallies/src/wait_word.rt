@@ -1,7 +1,7 @@
 //! The word that wait and wake closures see.
 ghost use Rattle.std.specs.Prelude.{◌≡◌};
 
-use crate::{Held, MarkedHolds, Permits, PlayedMutex, Rounds};
+use crate::{Held, MarkedHolds, PlayedMutex, PlayedSemaphore, Rounds};
 use passes::Word;
 use playing::Shown;
 
@@ -17,7 +17,7 @@ enum AnyWord<'t> {
     Mutex(Word<'t, (), PlayedMutex>),
     ReaderLock(Word<'t, (), Held<()>>),
     WriterLock(Word<'t, (), MarkedHolds>),
-    Semaphore(Word<'t, u64, Permits>),
+    Semaphore(Word<'t, u64, PlayedSemaphore>),
     Barrier(Word<'t, u32, Rounds>),
 }
 
@@ -77,9 +77,14 @@ impl<'t> From<Word<'t, (), MarkedHolds>> for WaitWord<'t> {
     }
 }
 
-impl<'t> From<Word<'t, u64, Permits>> for WaitWord<'t> {
+impl<'t> From<Word<'t, u64, PlayedSemaphore>> for WaitWord<'t> {
+    ghost use Rattle.tallies.specs.Shown.{object_shown, index_shown};
+
     #[inline(always)]
-    fn from(word: Word<'t, u64, Permits>) -> WaitWord<'t> {
+    fn from(word: Word<'t, u64, PlayedSemaphore>) -> WaitWord<'t>
+        ensures object { object_shown result ≡ word.entry.shared.now.table_id }
+        ensures index { index_shown result ≡ word.entry.index }
+    {
         WaitWord {
             word: AnyWord::Semaphore(word),
         }

@@ -3,6 +3,8 @@ ghost use Rattle.std.specs.Prelude.{◌≡◌, ◌+◌};
 ghost use Rattle.passes.specs.Parts.{IsWhole};
 ghost use Rattle.passes.specs.Passes.{IsSamePass, part_of, view};
 ghost use Rattle.passes.specs.Views.{first_view};
+ghost use Rattle.playing.specs.Passes.{played};
+ghost use Rattle.playing.specs.Slots.{no_parties};
 ghost use Rattle.tallies.specs.SemaphoreRule.{first_permits};
 ghost use Rattle.running_semaphore.specs.SemaphoreShown.{IsSemPass, HasCounted, given_of, taken_of};
 
@@ -15,6 +17,21 @@ use std::test::Fail;
 use std::thread;
 use std::thread::Threads;
 
+/// Takes both permits of a new semaphore of 2.
+fn take_both<R: Wait>(
+    rt: &R,
+    semaphore: &Semaphore,
+    pass: &mut SemPass,
+) -> (WaitResult<()>, WaitResult<()>)
+    requires own { IsSemPass semaphore.now pass.old }
+    requires new { view pass.old ≡ first_view (played no_parties (first_permits 2)) }
+    ensures same { IsSamePass pass.old pass.new }
+    ensures tally { (given_of pass.new ≡ 2) × (taken_of pass.new ≡ 2) }
+    ensures whole { IsWhole (part_of pass.new) }
+{
+    (semaphore.try_wait(rt, pass), semaphore.try_wait(rt, pass))
+}
+
 /// Takes three times from a new semaphore of 2, and posts 1.
 fn take_three_and_post_one<R: Wait>(
     rt: &R,
@@ -22,18 +39,15 @@ fn take_three_and_post_one<R: Wait>(
     pass: &mut SemPass,
 ) -> (WaitResult<()>, WaitResult<()>, WaitResult<()>)
     requires own { IsSemPass semaphore.now pass.old }
-    requires new { view pass.old ≡ first_view (first_permits 2) }
+    requires new { view pass.old ≡ first_view (played no_parties (first_permits 2)) }
     ensures same { IsSamePass pass.old pass.new }
     ensures tally { (given_of pass.new ≡ 2 + 1) × (taken_of pass.new ≡ 2) }
     ensures whole { IsWhole (part_of pass.new) }
 {
-    let answers = (
-        semaphore.try_wait(rt, pass),
-        semaphore.try_wait(rt, pass),
-        semaphore.try_wait(rt, pass),
-    );
+    let (first, second) = take_both(rt, semaphore, pass);
+    let third = semaphore.try_wait(rt, pass);
     semaphore.post(pass, |_| (), 1);
-    answers
+    (first, second, third)
 }
 
 #[test]
@@ -239,7 +253,7 @@ fn take_often<R: Wait>(rt: &R, semaphore: &Semaphore, mut pass: SemPass, times: 
 /// One thread posts 100 permits to a new semaphore of 2, and another takes 101 of the 102.
 fn post_and_take<R: Threads + Wait + Sync>(rt: &R, semaphore: Semaphore, pass: SemPass) -> u64
     requires own { IsSemPass semaphore pass }
-    requires new { view pass ≡ first_view (first_permits 2) }
+    requires new { view pass ≡ first_view (played no_parties (first_permits 2)) }
     ensures { result ≡ 1 }
 {
     let Ok((one, two)) = pass.split(&semaphore) else {
@@ -273,7 +287,7 @@ fn two_threads_post_and_take(rt: HostRuntime) -> Result<(), Fail> {
 /// Acts under a permit of a new semaphore of 1, and answers what the action gave.
 fn act_under_a_permit<R: Wait>(rt: &R, semaphore: &Semaphore, pass: &mut SemPass) -> u64
     requires own { IsSemPass semaphore.now pass.old }
-    requires new { view pass.old ≡ first_view (first_permits 1) }
+    requires new { view pass.old ≡ first_view (played no_parties (first_permits 1)) }
     ensures seven { result ≡ 7 }
     ensures same { IsSamePass pass.old pass.new }
     ensures tally { (given_of pass.new ≡ 2) × (taken_of pass.new ≡ 1) }

@@ -2,6 +2,8 @@
 ghost use Rattle.std.specs.Prelude.{◌≡◌};
 ghost use Rattle.passes.specs.Passes.{view};
 ghost use Rattle.passes.specs.Views.{first_view};
+ghost use Rattle.playing.specs.Passes.{played};
+ghost use Rattle.playing.specs.Slots.{no_parties};
 ghost use Rattle.tallies.specs.SemaphoreRule.{first_permits};
 ghost use Rattle.running_semaphore.specs.SemaphoreShown.{IsSemPass, HasCounted};
 
@@ -48,7 +50,7 @@ fn produce_and_consume<R: Threads + Wait + Sync>(
     filled_pass: SemPass,
 ) -> (u64, u64)
     requires own { IsSemPass free free_pass × IsSemPass filled filled_pass }
-    requires empty { (view free_pass ≡ first_view (first_permits 3)) × (view filled_pass ≡ first_view (first_permits 0)) }
+    requires empty { (view free_pass ≡ first_view (played no_parties (first_permits 3))) × (view filled_pass ≡ first_view (played no_parties (first_permits 0))) }
     ensures free { result.0 ≡ 3 }
     ensures filled { result.1 ≡ 0 }
 {

@@ -1,9 +1,12 @@
 use Rattle.std.proofs.Common.{◌≡◌, true}
 use Rattle.passes.specs.Parts.{IsWhole}
 use Rattle.passes.specs.Sights.{HasLooked, LooksOnceOrMisses}
-use Rattle.passes.specs.Passes.{view, part_of, sights_of, HasOnlySeen}
+use Rattle.passes.specs.Passes.{part_of, sights_of}
 use Rattle.passes.specs.Views.{looked}
-use Rattle.running_semaphore.specs.SemaphoreShown.{worth_of}
+use Rattle.playing.specs.Passes.{counted, parties_of}
+use Rattle.playing.specs.Counts.{HasOnlySeen}
+use Rattle.running_semaphore.specs.SemaphoreParties.{OnceWanting, HasLooked as HasLookedThere}
+use Rattle.running_semaphore.specs.SemaphoreShown.{initial_of, worth_of}
 use Rattle.running_semaphore.proofs.Semaphore.take.Given as goal
 
 -- the value seen is the last one that was seen, by the first look or by an exchange that missed
@@ -13,6 +16,7 @@ invariant-loop g l = record {
   last : HasLooked (λ n. n ≡ l.seen) 1 (sights_of l.fn.pass) (sights_of l.pass);
   fresh : (sights_of l.pass).fresh ≡ true;
   looks : LooksOnceOrMisses (sights_of l.fn.pass) (sights_of l.pass);
-  once : IsWhole (part_of l.fn.pass) → view l.pass ≡ looked (view l.fn.pass) l.seen;
+  once : IsWhole (part_of l.fn.pass) → counted l.pass ≡ looked (counted l.fn.pass) l.seen;
   exact : IsWhole (part_of l.fn.pass) → l.seen ≡ worth_of l.fn.pass;
+  at : OnceWanting (initial_of l.self) g.E.Entry.coming (parties_of l.fn.pass) (λ wanting done. HasLookedThere (initial_of l.self) wanting l.seen done (parties_of l.pass));
 }
