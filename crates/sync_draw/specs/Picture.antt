@@ -2,6 +2,10 @@
 use Rattle.std.specs.Prelude.{◌≡◌, ℕ, List, ◌++◌, map, codes, string_bytes}
 use Rattle.markup.specs.declared.name.Tag.TheVariants as tags
 use Rattle.markup.specs.Tree.{IsElement}
+use Rattle.steps_events.specs.Arithmetic.{Arithmetic}
+use Rattle.steps_events.specs.Integers.{u64_arithmetic}
+use Rattle.sync_play.specs.Lexer.{lines_of}
+use Rattle.sync_play.specs.Numerals.{Numerals, u64_numerals}
 use Rattle.sync_trace.specs.Trace.{rows_of}
 use Rattle.sync_draw.specs.declared.story.Step.{Step}
 use Rattle.sync_draw.specs.Story.{kept}
@@ -12,9 +16,13 @@ abbrev pub IsPicture : List (List ℕ) → List ℕ → Type 0
 IsPicture titles bytes = (element : List ℕ) × (bytes ≡ element ++ codes "\n") × ∥ IsElement tags.Svg titles element ∥₁
 
 -- the titles of a story's steps
-abbrev pub step_titles : List Step → List (List ℕ)
+abbrev pub step_titles : {T : Type 0} → List (Step T) → List (List ℕ)
 step_titles steps = map (λ step. string_bytes step.title) steps
 
--- a picture with a group for each row of the text's trace, in order, as far as they have room, whose title is that row in words
+-- a picture with a group for each row of the trace of these lines, in order, as far as they have room, whose title is that row in words
+abbrev pub IsTypedPicture : {T : Type 0} → Arithmetic T → Numerals T → List (List ℕ) → List ℕ → Type 0
+IsTypedPicture z numerals lines bytes = IsPicture (map title_words (kept (rows_of z numerals lines).rows)) bytes
+
+-- a picture of a text, by the type of its values
 abbrev pub IsPictureOf : List ℕ → List ℕ → Type 0
-IsPictureOf text bytes = IsPicture (map title_words (kept (rows_of text).rows)) bytes
+IsPictureOf text bytes = IsTypedPicture u64_arithmetic u64_numerals (lines_of text) bytes

@@ -2,6 +2,7 @@
 use crate::story::Step;
 use crate::terms::{name_of, say_value};
 use std::alloc::{AllocError, Global};
+use sync_play::integer::TextInteger;
 use sync_play::print::print_answer;
 use sync_steps::WaitAction;
 use sync_steps::steps::{Act, Answer, Object, Then, Wake, Word};
@@ -39,7 +40,7 @@ pub struct Reach {
 }
 
 /// How a step is marked.
-pub fn mark_of(act: &Act<u64>) -> Mark {
+pub fn mark_of<T: Copy>(act: &Act<T>) -> Mark {
     match act {
         Act::Begun(_) => Mark::None,
         Act::Load { .. } | Act::Answered(_) | Act::Chosen(_) | Act::Ended | Act::ReadCell(_) =>
@@ -53,7 +54,7 @@ pub fn mark_of(act: &Act<u64>) -> Mark {
 }
 
 /// The word that a step reads or writes, where it is one on a word.
-pub fn reach_of(act: &Act<u64>) -> Option<Reach> {
+pub fn reach_of<T: Copy>(act: &Act<T>) -> Option<Reach> {
     match *act {
         Act::Load { word, .. } => Some(Reach {
             word,
@@ -75,7 +76,7 @@ pub fn reach_of(act: &Act<u64>) -> Option<Reach> {
 }
 
 /// How a call has ended or stands, if it does not go on.
-pub fn tone_of(then: &Then<u64>) -> Option<Tone> {
+pub fn tone_of<T: Copy>(then: &Then<T>) -> Option<Tone> {
     match then {
         Then::GoesOn => None,
         Then::Waits(_) | Then::Chooses(_) => Some(Tone::Waiting),
@@ -98,7 +99,7 @@ fn say_count(out: &mut String, count: u64) -> Result<(), AllocError> {
 }
 
 /// Says which word a step is on; the first word of an object goes without its name.
-fn say_word(out: &mut String, object: &Object<u64>, word: Word) -> Result<(), AllocError> {
+fn say_word<T: Copy>(out: &mut String, object: &Object<T>, word: Word) -> Result<(), AllocError> {
     if word == Word::State {
         return Ok(());
     }
@@ -107,9 +108,9 @@ fn say_word(out: &mut String, object: &Object<u64>, word: Word) -> Result<(), Al
 }
 
 /// Says a word and what a value of it means.
-fn say_seen(
+fn say_seen<T: Copy>(
     out: &mut String,
-    object: &Object<u64>,
+    object: &Object<T>,
     word: Word,
     value: u64,
 ) -> Result<(), AllocError> {
@@ -118,7 +119,11 @@ fn say_seen(
 }
 
 /// What a step did, in the object's terms.
-fn say_act(out: &mut String, object: &Object<u64>, act: &Act<u64>) -> Result<(), AllocError> {
+fn say_act<T: TextInteger>(
+    out: &mut String,
+    object: &Object<T>,
+    act: &Act<T>,
+) -> Result<(), AllocError> {
     match *act {
         Act::Begun(_) => Ok(()),
         Act::Load { word, seen } => {
@@ -151,16 +156,22 @@ fn say_act(out: &mut String, object: &Object<u64>, act: &Act<u64>) -> Result<(),
         Act::Woke(Wake::All) => write!(out, "wakes all"),
         Act::Answered(WaitAction::Continue) => write!(out, "Continue"),
         Act::Answered(WaitAction::Abort) => write!(out, "Abort"),
-        Act::Chosen(Some(value)) => write!(out, "chooses {value}"),
+        Act::Chosen(Some(value)) => {
+            write!(out, "chooses ")?;
+            value.print(out)
+        }
         Act::Chosen(None) => write!(out, "chooses none"),
         Act::Ended => write!(out, "its closure ends"),
-        Act::ReadCell(value) => write!(out, "reads {value}"),
+        Act::ReadCell(value) => {
+            write!(out, "reads ")?;
+            value.print(out)
+        }
     }
 }
 
-fn say_change(
+fn say_change<T: Copy>(
     out: &mut String,
-    object: &Object<u64>,
+    object: &Object<T>,
     word: Word,
     old: u64,
     put: u64,
@@ -171,7 +182,11 @@ fn say_change(
 }
 
 /// What a step did, and how often.
-pub fn label_of(alloc: Global, object: &Object<u64>, step: &Step) -> Result<String, AllocError> {
+pub fn label_of<T: TextInteger>(
+    alloc: Global,
+    object: &Object<T>,
+    step: &Step<T>,
+) -> Result<String, AllocError> {
     let mut out = String::new(alloc);
     say_act(&mut out, object, &step.event.act)?;
     if step.count > 1 {
@@ -182,7 +197,7 @@ pub fn label_of(alloc: Global, object: &Object<u64>, step: &Step) -> Result<Stri
 }
 
 /// How the call of a step then stands, or what it answers; nothing where it goes on.
-pub fn outcome_of(alloc: Global, then: &Then<u64>) -> Result<String, AllocError> {
+pub fn outcome_of<T: TextInteger>(alloc: Global, then: &Then<T>) -> Result<String, AllocError> {
     let mut out = String::new(alloc);
     match *then {
         Then::GoesOn => {}

@@ -9,6 +9,7 @@ use crate::story::{Step, Story};
 use crate::terms::{name_of, say_value, words_of};
 use std::alloc::{AllocError, Global};
 use steps_events::hold::HoldKind;
+use sync_play::integer::TextInteger;
 use sync_steps::steps::{Act, Object, Then, Word};
 
 /// Where the first row begins.
@@ -159,7 +160,7 @@ fn next_colour(colour: Colour) -> Colour {
 }
 
 /// What a step puts into this word, if it changes it.
-fn put_of(act: &Act<u64>, word: Word) -> Option<u64> {
+fn put_of<T: Copy>(act: &Act<T>, word: Word) -> Option<u64> {
     match *act {
         Act::Store { word: at, put } if at == word => Some(put),
         Act::Swap { word: at, old, put } if at == word && old != put => Some(put),
@@ -175,7 +176,11 @@ fn put_of(act: &Act<u64>, word: Word) -> Option<u64> {
 }
 
 /// What a word held, from the opening on.
-fn segments_of(alloc: Global, story: &Story, word: Word) -> Result<Vec<Segment>, AllocError> {
+fn segments_of<T: Copy>(
+    alloc: Global,
+    story: &Story<T>,
+    word: Word,
+) -> Result<Vec<Segment>, AllocError> {
     let value = story.opening.get(word);
     let mut segments = Vec::new(alloc);
     let mut last = colour_of(value, None);
@@ -203,9 +208,9 @@ fn segments_of(alloc: Global, story: &Story, word: Word) -> Result<Vec<Segment>,
 }
 
 /// A value in its object's own terms.
-pub fn term_of(
+pub fn term_of<T: Copy>(
     alloc: Global,
-    object: &Object<u64>,
+    object: &Object<T>,
     word: Word,
     value: u64,
 ) -> Result<String, AllocError> {
@@ -215,9 +220,9 @@ pub fn term_of(
 }
 
 /// How wide a band has to be, so that each of its values has room.
-fn band_width(
+fn band_width<T: Copy>(
     alloc: Global,
-    object: &Object<u64>,
+    object: &Object<T>,
     word: Word,
     segments: &[Segment],
 ) -> Result<u32, AllocError> {
@@ -230,7 +235,7 @@ fn band_width(
 }
 
 /// The bands, from this place on.
-fn bands_of(alloc: Global, story: &Story, left: u32) -> Result<Vec<Band>, AllocError> {
+fn bands_of<T: Copy>(alloc: Global, story: &Story<T>, left: u32) -> Result<Vec<Band>, AllocError> {
     let mut bands = Vec::new(alloc);
     let mut left = left;
     for word in words_of(&story.object) {
@@ -248,7 +253,11 @@ fn bands_of(alloc: Global, story: &Story, left: u32) -> Result<Vec<Band>, AllocE
 }
 
 /// How wide the box of a call has to be for this step.
-fn step_width(alloc: Global, object: &Object<u64>, step: &Step) -> Result<u32, AllocError> {
+fn step_width<T: TextInteger>(
+    alloc: Global,
+    object: &Object<T>,
+    step: &Step<T>,
+) -> Result<u32, AllocError> {
     let outcome = outcome_of(alloc, &step.event.then)?;
     let outcome_width = text_width(&outcome);
     let said_width = match (&step.event.act, &step.line) {
@@ -263,7 +272,11 @@ fn step_width(alloc: Global, object: &Object<u64>, step: &Step) -> Result<u32, A
 }
 
 /// How wide the boxes of a party are. `None` where it makes no step.
-fn box_width(alloc: Global, story: &Story, party: usize) -> Result<Option<u32>, AllocError> {
+fn box_width<T: TextInteger>(
+    alloc: Global,
+    story: &Story<T>,
+    party: usize,
+) -> Result<Option<u32>, AllocError> {
     let mut width = None;
     for step in &story.steps {
         if step.event.party == party {
@@ -275,7 +288,11 @@ fn box_width(alloc: Global, story: &Story, party: usize) -> Result<Option<u32>, 
 }
 
 /// The calls of a party.
-fn calls_of(alloc: Global, steps: &[Step], party: usize) -> Result<Vec<Span>, AllocError> {
+fn calls_of<T: Copy>(
+    alloc: Global,
+    steps: &[Step<T>],
+    party: usize,
+) -> Result<Vec<Span>, AllocError> {
     let mut calls = Vec::new(alloc);
     let mut open = None;
     for step in steps {
@@ -302,7 +319,11 @@ fn calls_of(alloc: Global, steps: &[Step], party: usize) -> Result<Vec<Span>, Al
 }
 
 /// Where the calls of a party stand at a closure.
-fn stands_of(alloc: Global, steps: &[Step], party: usize) -> Result<Vec<Span>, AllocError> {
+fn stands_of<T: Copy>(
+    alloc: Global,
+    steps: &[Step<T>],
+    party: usize,
+) -> Result<Vec<Span>, AllocError> {
     let mut stands = Vec::new(alloc);
     let mut open = None;
     for step in steps {
@@ -327,7 +348,11 @@ fn stands_of(alloc: Global, steps: &[Step], party: usize) -> Result<Vec<Span>, A
 }
 
 /// The holds of a party.
-fn holds_of(alloc: Global, steps: &[Step], party: usize) -> Result<Vec<Hold>, AllocError> {
+fn holds_of<T: Copy>(
+    alloc: Global,
+    steps: &[Step<T>],
+    party: usize,
+) -> Result<Vec<Hold>, AllocError> {
     let mut holds = Vec::new(alloc);
     let mut open: Option<(HoldKind, u32)> = None;
     for step in steps {
@@ -359,7 +384,11 @@ fn holds_of(alloc: Global, steps: &[Step], party: usize) -> Result<Vec<Hold>, Al
 }
 
 /// What the refused calls of a party saw last.
-fn sights_of(alloc: Global, steps: &[Step], party: usize) -> Result<Vec<u32>, AllocError> {
+fn sights_of<T: Copy>(
+    alloc: Global,
+    steps: &[Step<T>],
+    party: usize,
+) -> Result<Vec<u32>, AllocError> {
     let mut sights = Vec::new(alloc);
     let mut seen = None;
     for step in steps {
@@ -381,9 +410,9 @@ fn sights_of(alloc: Global, steps: &[Step], party: usize) -> Result<Vec<u32>, Al
 }
 
 /// The lane of a party, from this place on.
-fn lane_of(
+fn lane_of<T: Copy>(
     alloc: Global,
-    steps: &[Step],
+    steps: &[Step<T>],
     party: usize,
     left: u32,
     width: u32,
@@ -400,7 +429,11 @@ fn lane_of(
 }
 
 /// The lanes, from this place on: one for each party that makes a step.
-fn lanes_of(alloc: Global, story: &Story, left: u32) -> Result<Vec<Lane>, AllocError> {
+fn lanes_of<T: TextInteger>(
+    alloc: Global,
+    story: &Story<T>,
+    left: u32,
+) -> Result<Vec<Lane>, AllocError> {
     let mut lanes = Vec::new(alloc);
     let mut left = left;
     for party in 0..story.parties {
@@ -413,7 +446,7 @@ fn lanes_of(alloc: Global, story: &Story, left: u32) -> Result<Vec<Lane>, AllocE
 }
 
 /// How wide the words of the schedule's lines are.
-fn schedule_width(story: &Story) -> u32 {
+fn schedule_width<T: Copy>(story: &Story<T>) -> u32 {
     let mut widest = 0;
     for step in &story.steps {
         if let Some(line) = &step.line {
@@ -441,7 +474,7 @@ fn lanes_right(lanes: &[Lane], left: u32) -> u32 {
 
 impl Layout {
     /// Where everything of a story stands.
-    pub fn of(alloc: Global, story: &Story) -> Result<Layout, AllocError> {
+    pub fn of<T: TextInteger>(alloc: Global, story: &Story<T>) -> Result<Layout, AllocError> {
         let bands_left = SCHEDULE
             .saturating_add(schedule_width(story))
             .max(text_width(&story.title) + 12)

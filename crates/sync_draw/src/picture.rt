@@ -1,10 +1,11 @@
 //! Draws a story where its layout has it.
 ghost use Rattle.std.specs.Prelude.{◌≡◌, ◌<◌, ◌^◌, OnOk, IfOk, IfErr, string_bytes};
 ghost use Rattle.sync_play.specs.Fault.{IsFaultOf};
-ghost use Rattle.sync_play.specs.Text.{output_of};
+ghost use Rattle.sync_play.specs.Lexer.{lines_of};
+ghost use Rattle.sync_play.specs.Text.{typed_output, output_of};
 ghost use Rattle.markup.specs.Group.{titles_of};
 ghost use Rattle.sync_draw.specs.Story.{HasOutput};
-ghost use Rattle.sync_draw.specs.Picture.{step_titles, IsPicture, IsPictureOf};
+ghost use Rattle.sync_draw.specs.Picture.{step_titles, IsPicture, IsTypedPicture, IsPictureOf};
 
 use crate::label::{Mark, Reach, Tone, label_of, mark_of, outcome_of, reach_of, tone_of};
 use crate::layout::{Band, Colour, Hold, Lane, Layout, SCHEDULE, Segment, Span, term_of, top_of};
@@ -20,6 +21,7 @@ use markup::opening::Opening;
 use std::alloc::{AllocError, Global};
 use steps_events::hold::HoldKind;
 use sync_play::fault::TextFault;
+use sync_play::integer::TextInteger;
 use sync_steps::steps::Act;
 
 /// How high the notes below the rows are.
@@ -54,10 +56,10 @@ fn draw_line(
 }
 
 /// Draws the lines of the schedule.
-fn draw_schedule(
+fn draw_schedule<T: TextInteger>(
     alloc: Global,
     picture: &mut Markup,
-    story: &Story,
+    story: &Story<T>,
     layout: &Layout,
 ) -> Result<(), AllocError> {
     for step in &story.steps {
@@ -79,10 +81,10 @@ fn colour_class(colour: Colour) -> &'static str {
 }
 
 /// Draws a value of a word, from its step to the next one that writes the word.
-fn draw_segment(
+fn draw_segment<T: TextInteger>(
     alloc: Global,
     picture: &mut Markup,
-    story: &Story,
+    story: &Story<T>,
     layout: &Layout,
     band: &Band,
     segment: &Segment,
@@ -109,10 +111,10 @@ fn draw_segment(
 }
 
 /// Draws what a word held.
-fn draw_band(
+fn draw_band<T: TextInteger>(
     alloc: Global,
     picture: &mut Markup,
-    story: &Story,
+    story: &Story<T>,
     layout: &Layout,
     band: &Band,
 ) -> Result<(), AllocError> {
@@ -243,12 +245,12 @@ fn tone_class(tone: Option<Tone>) -> &'static str {
 }
 
 /// Draws what a step says: what it did, and what became of the call.
-fn draw_words(
+fn draw_words<T: TextInteger>(
     alloc: Global,
     picture: &mut Markup,
-    story: &Story,
+    story: &Story<T>,
     lane: &Lane,
-    step: &Step,
+    step: &Step<T>,
 ) -> Result<(), AllocError> {
     let baseline = top_of(step.row) + 12;
     let label = label_of(alloc, &story.object, step)?;
@@ -276,11 +278,11 @@ fn draw_words(
 }
 
 /// Draws the head of a call: its words in the text, without the party's number, and the party.
-fn draw_head(
+fn draw_head<T: TextInteger>(
     alloc: Global,
     picture: &mut Markup,
     lane: &Lane,
-    step: &Step,
+    step: &Step<T>,
 ) -> Result<(), AllocError> {
     let baseline = top_of(step.row) + 13;
     if let Some(line) = &step.line
@@ -302,13 +304,13 @@ fn draw_head(
 }
 
 /// Draws a step in the lane of its party: the head of a call, or the way to a word, a mark and words.
-fn draw_in_lane(
+fn draw_in_lane<T: TextInteger>(
     alloc: Global,
     picture: &mut Markup,
-    story: &Story,
+    story: &Story<T>,
     layout: &Layout,
     lane: &Lane,
-    step: &Step,
+    step: &Step<T>,
 ) -> Result<(), AllocError> {
     if let Act::Begun(_) = step.event.act {
         return draw_head(alloc, picture, lane, step);
@@ -324,11 +326,11 @@ fn draw_in_lane(
 }
 
 /// Draws a step, with the row of the trace as its title.
-fn draw_step<'s>(
+fn draw_step<'s, T: TextInteger>(
     alloc: Global,
-    story: &Story,
+    story: &Story<T>,
     layout: &Layout,
-    step: &'s Step,
+    step: &'s Step<T>,
 ) -> Result<Group<'s>, AllocError>
     ensures { IfOk result (λ group. group.title.now ≡ string_bytes step.now.title) }
 {
@@ -344,9 +346,9 @@ fn draw_step<'s>(
 }
 
 /// Draws the steps.
-fn draw_steps<'s>(
+fn draw_steps<'s, T: TextInteger>(
     alloc: Global,
-    story: &'s Story,
+    story: &'s Story<T>,
     layout: &Layout,
 ) -> Result<Vec<Group<'s>>, AllocError>
     ensures { IfOk result (λ groups. titles_of groups.items ≡ step_titles story.now.steps.items) }
@@ -401,12 +403,16 @@ fn draw_spans(
 }
 
 /// How many parties make no step.
-fn idle_count(story: &Story, layout: &Layout) -> usize {
+fn idle_count<T: TextInteger>(story: &Story<T>, layout: &Layout) -> usize {
     story.parties.saturating_sub(layout.lanes.len())
 }
 
 /// What the picture leaves out; nothing where it leaves nothing out.
-fn left_out(alloc: Global, story: &Story, layout: &Layout) -> Result<String, AllocError> {
+fn left_out<T: TextInteger>(
+    alloc: Global,
+    story: &Story<T>,
+    layout: &Layout,
+) -> Result<String, AllocError> {
     let mut note = String::new(alloc);
     let idle = idle_count(story, layout);
     if idle > 0 {
@@ -426,10 +432,10 @@ fn left_out(alloc: Global, story: &Story, layout: &Layout) -> Result<String, All
 }
 
 /// Draws what the run has left, and what the picture leaves out.
-fn draw_notes(
+fn draw_notes<T: TextInteger>(
     alloc: Global,
     picture: &mut Markup,
-    story: &Story,
+    story: &Story<T>,
     layout: &Layout,
 ) -> Result<(), AllocError> {
     let bottom = layout.bottom();
@@ -450,7 +456,11 @@ fn draw_notes(
 }
 
 /// Draws what the steps stand on.
-fn draw_ground(alloc: Global, story: &Story, layout: &Layout) -> Result<Markup, AllocError> {
+fn draw_ground<T: TextInteger>(
+    alloc: Global,
+    story: &Story<T>,
+    layout: &Layout,
+) -> Result<Markup, AllocError> {
     let mut picture = Markup::new(alloc);
     picture.say("\n")?;
     let name = Opening::new(alloc, Tag::Title)?.saying(story.title.as_str())?;
@@ -482,7 +492,11 @@ fn draw_ground(alloc: Global, story: &Story, layout: &Layout) -> Result<Markup, 
 }
 
 /// Draws what stands below the steps.
-fn draw_foot(alloc: Global, story: &Story, layout: &Layout) -> Result<Markup, AllocError> {
+fn draw_foot<T: TextInteger>(
+    alloc: Global,
+    story: &Story<T>,
+    layout: &Layout,
+) -> Result<Markup, AllocError> {
     let mut picture = Markup::new(alloc);
     draw_notes(alloc, &mut picture, story, layout)?;
     draw_legend(alloc, &mut picture, layout.bottom() + NOTES_HEIGHT)?;
@@ -512,7 +526,7 @@ fn frame(alloc: Global, layout: &Layout) -> Result<Opening, AllocError>
 }
 
 /// The picture of a story.
-pub fn draw(alloc: Global, story: &Story) -> Result<Vec<u8>, AllocError>
+pub fn draw<T: TextInteger>(alloc: Global, story: &Story<T>) -> Result<Vec<u8>, AllocError>
     ensures { IfOk result (λ bytes. IsPicture (step_titles story.now.steps.items) bytes.items) }
 {
     let layout = Layout::of(alloc, story)?;
@@ -538,13 +552,22 @@ fn document(
     Ok(bytes.into_bytes())
 }
 
+/// The picture of a text whose values are of this type.
+fn draw_typed<T: TextInteger>(alloc: Global, text: &[u8]) -> Result<Vec<u8>, TextFault>
+    ensures drawn { IfOk result (λ bytes. IsTypedPicture T.arithmetic T.numerals (lines_of text.now) bytes.items) }
+    ensures played { OnOk result (HasOutput (typed_output T.arithmetic T.numerals (lines_of text.now))) }
+    ensures fault { IfErr result (λ e. IsFaultOf e (typed_output T.arithmetic T.numerals (lines_of text.now))) }
+{
+    let story = play::<T>(alloc, text)?;
+    let picture = draw(alloc, &story)?;
+    Ok(picture)
+}
+
 /// The picture of a text, or the fault of its first faulty line.
 pub fn draw_text(alloc: Global, text: &[u8]) -> Result<Vec<u8>, TextFault>
     ensures drawn { IfOk result (λ bytes. IsPictureOf text.now bytes.items) }
     ensures played { OnOk result (HasOutput (output_of text.now)) }
     ensures fault { IfErr result (λ e. IsFaultOf e (output_of text.now)) }
 {
-    let story = play(alloc, text)?;
-    let picture = draw(alloc, &story)?;
-    Ok(picture)
+    draw_typed::<u64>(alloc, text)
 }

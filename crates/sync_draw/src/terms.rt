@@ -4,7 +4,7 @@ use steps_barrier::{count_of, epoch_of};
 use sync_steps::steps::{Object, Word};
 
 /// The words of an object, each of which has a band.
-pub fn words_of(object: &Object<u64>) -> &'static [Word] {
+pub fn words_of<T>(object: &Object<T>) -> &'static [Word] {
     match object {
         Object::Mutex
         | Object::Spin
@@ -20,7 +20,7 @@ pub fn words_of(object: &Object<u64>) -> &'static [Word] {
 }
 
 /// How the band of a word is named.
-pub fn name_of(object: &Object<u64>, word: Word) -> &'static str {
+pub fn name_of<T>(object: &Object<T>, word: Word) -> &'static str {
     match word {
         Word::State => state_name(object),
         Word::Counter => "wakes",
@@ -31,7 +31,7 @@ pub fn name_of(object: &Object<u64>, word: Word) -> &'static str {
     }
 }
 
-fn state_name(object: &Object<u64>) -> &'static str {
+fn state_name<T>(object: &Object<T>) -> &'static str {
     match object {
         Object::Mutex
         | Object::Spin
@@ -46,9 +46,9 @@ fn state_name(object: &Object<u64>) -> &'static str {
 }
 
 /// Says what a value of a word means.
-pub fn say_value(
+pub fn say_value<T>(
     out: &mut String,
-    object: &Object<u64>,
+    object: &Object<T>,
     word: Word,
     value: u64,
 ) -> Result<(), AllocError> {
@@ -60,7 +60,7 @@ pub fn say_value(
     }
 }
 
-fn say_state(out: &mut String, object: &Object<u64>, value: u64) -> Result<(), AllocError> {
+fn say_state<T>(out: &mut String, object: &Object<T>, value: u64) -> Result<(), AllocError> {
     match object {
         Object::Mutex | Object::Spin | Object::Condvar => say_mutex(out, value),
         Object::Semaphore(_) => write!(out, "{value}"),

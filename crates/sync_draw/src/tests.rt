@@ -11,7 +11,7 @@ const ABORT: &[u8] = b"mutex 2\n1 try_lock\n1 run\n2 lock\n2 run\n2 abort\n2 run
 
 #[test]
 fn a_spin_is_one_step_of_a_story(rt: HostRuntime) -> Result<(), Fail> {
-    let story = play(rt.alloc(), ABORT).ok().ok_or("it has no fault")?;
+    let story = play::<u64>(rt.alloc(), ABORT).ok().ok_or("it has no fault")?;
     let mut counts: Vec<u64> = Vec::new(rt.alloc());
     for step in &story.steps {
         counts.push(step.count)?;
@@ -25,7 +25,7 @@ fn a_spin_is_one_step_of_a_story(rt: HostRuntime) -> Result<(), Fail> {
 
 #[test]
 fn each_line_stands_at_its_first_step(rt: HostRuntime) -> Result<(), Fail> {
-    let story = play(rt.alloc(), b"once 1\n\n 1   call_once\t\n1 go 3\n")
+    let story = play::<u64>(rt.alloc(), b"once 1\n\n 1   call_once\t\n1 go 3\n")
         .ok()
         .ok_or("it has no fault")?;
     let mut lines = String::new(rt.alloc());
@@ -53,7 +53,7 @@ fn taken(alloc: Global, times: u64) -> Result<String, AllocError> {
 #[test]
 fn a_story_keeps_two_thousand_steps(rt: HostRuntime) -> Result<(), Fail> {
     let text = taken(rt.alloc(), 401)?;
-    let story = play(rt.alloc(), text.as_bytes())
+    let story = play::<u64>(rt.alloc(), text.as_bytes())
         .ok()
         .ok_or("it has no fault")?;
     assert_eq!(rt; story.steps.len(), 2000);

@@ -19,7 +19,7 @@ fn print_times(out: &mut String, times: &str) -> Result<(), AllocError>
     write!(out, ", {times} times")
 }
 
-fn print_cells(out: &mut String, cells: &Cells) -> Result<(), AllocError>
+fn print_cells<T>(out: &mut String, cells: &Cells<T>) -> Result<(), AllocError>
     ensures { OnOk result (string_bytes out.new ≡ string_bytes out.old ++ cell_words (texts_of cells.now)) }
 {
     let line = cells.line.as_str();
@@ -36,7 +36,7 @@ fn print_cells(out: &mut String, cells: &Cells) -> Result<(), AllocError>
 
 /// A row of the trace: its cells, by the names of their columns.
 #[tactic(auto, unfolding(crate::specs::Title::title_words))]
-pub fn title_of(alloc: Global, row: &Row) -> Result<String, AllocError>
+pub fn title_of<T>(alloc: Global, row: &Row<T>) -> Result<String, AllocError>
     ensures { IfOk result (λ title. string_bytes title ≡ title_words (entry_of row.now)) }
 {
     let steps = steps_text(alloc, row)?;

@@ -1,5 +1,5 @@
 -- Lines and words cut from the front, and numbers read digit by digit, are those of the definitions.
-use Rattle.std.proofs.Common.{◌≡◌, ◌≢◌, ℕ, suc, ◌+◌, ◌*◌, ◌-◌, ◌^◌, ◌<◌, ◌≤◌, Bool, true, false, ◌&&◌, ◌==◌, eqb, ltb, cond, not, List, [], ◌∷◌, ◌++◌, length, get_or, take, drop, Option, Some, None, refl, sym, ap, subst, ◌∙◌, arith, add-one, drop-cons}
+use Rattle.std.proofs.Common.{◌≡◌, ◌≢◌, ℕ, suc, ◌+◌, ◌*◌, ◌-◌, ◌<◌, ◌≤◌, Bool, true, false, ◌&&◌, ◌==◌, eqb, ltb, cond, not, List, [], ◌∷◌, ◌++◌, length, get_or, take, drop, Option, Some, None, refl, sym, ap, subst, ◌∙◌, arith, add-one, drop-cons}
 use Rattle.std.proofs.lemmas.Bool.{le-ltb, lt-ltb}
 use Rattle.std.proofs.lemmas.List.{take_all, drop_all, length-drop}
 use Rattle.std.specs.Char.{is_ascii_digit}
@@ -215,22 +215,22 @@ word_alone line words i same e f =
 
 -- Numbers.
 
-unless_digit : (b : Bool) (read : Option ℕ) → fitting read ≡ None → fitting (cond b read None) ≡ None
-unless_digit true read h = h
-unless_digit false read h = refl
+unless_digit : (bound : ℕ) (b : Bool) (read : Option ℕ) → fitting bound read ≡ None → fitting bound (cond b read None) ≡ None
+unless_digit bound true read h = h
+unless_digit bound false read h = refl
 
 -- digits only make a number larger
-too_large : (n : ℕ) (bytes : List ℕ) → 2 ^ 64 ≤ n → fitting (number_from n bytes) ≡ None
-too_large n [] h = rw (le-ltb n (2 ^ 64) h) refl
-too_large n (byte ∷ bytes) h = unless_digit (is_ascii_digit byte) (number_from (n * 10 + (byte - 48)) bytes) (too_large (n * 10 + (byte - 48)) bytes (omega arith))
+too_large : (bound n : ℕ) (bytes : List ℕ) → bound ≤ n → fitting bound (number_from n bytes) ≡ None
+too_large bound n [] h = rw (le-ltb n bound h) refl
+too_large bound n (byte ∷ bytes) h = unless_digit bound (is_ascii_digit byte) (number_from (n * 10 + (byte - 48)) bytes) (too_large bound (n * 10 + (byte - 48)) bytes (omega (arith, h)))
 
 -- the number with one digit more is too large
-pub digit_too_large : (n i : ℕ) (word : List ℕ) (read : Option ℕ) → i < length word → 2 ^ 64 ≤ n * 10 + (get_or word i 0 - 48) → fitting (number_from n (drop i word)) ≡ read → read ≡ None
-digit_too_large n i word read within h e =
+pub digit_too_large : (bound n i : ℕ) (word : List ℕ) (read : Option ℕ) → i < length word → bound ≤ n * 10 + (get_or word i 0 - 48) → fitting bound (number_from n (drop i word)) ≡ read → read ≡ None
+digit_too_large bound n i word read within h e =
     let next : drop i word ≡ get_or word i 0 ∷ drop (i + 1) word = rw (add-one, drop-cons word i 0) refl in
     let byte = get_or word i 0 in
-    sym e ∙ rw next (unless_digit (is_ascii_digit byte) (number_from (n * 10 + (byte - 48)) (drop (i + 1) word)) (too_large (n * 10 + (byte - 48)) (drop (i + 1) word) h))
+    sym e ∙ rw next (unless_digit bound (is_ascii_digit byte) (number_from (n * 10 + (byte - 48)) (drop (i + 1) word)) (too_large bound (n * 10 + (byte - 48)) (drop (i + 1) word) h))
 
 -- all digits are read
-pub digits_end : (n i : ℕ) (word : List ℕ) (read : Option ℕ) → n < 2 ^ 64 → length word ≤ i → fitting (number_from n (drop i word)) ≡ read → Some n ≡ read
-digits_end n i word read small past e = sym (rw (drop_all i word past, lt-ltb n (2 ^ 64) small) refl) ∙ e
+pub digits_end : (bound n i : ℕ) (word : List ℕ) (read : Option ℕ) → n < bound → length word ≤ i → fitting bound (number_from n (drop i word)) ≡ read → Some n ≡ read
+digits_end bound n i word read small past e = sym (rw (drop_all i word past, lt-ltb n bound small) refl) ∙ e

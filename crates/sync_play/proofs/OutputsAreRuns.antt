@@ -1,6 +1,5 @@
 -- Where a text has an output, it is what a run of the text's inputs prints.
-use Rattle.std.proofs.Common.{◌≡◌, ◌<◌, ℕ, zero, suc, ◌+◌, ◌-◌, ◌%◌, ◌^◌, ◌≤◌, Bool, true, false, ◌&&◌, cond, leb, List, [], ◌∷◌, ◌++◌, Option, Some, None, Result, Ok, Err, refl, sym, ap, subst, ◌∙◌, append_assoc, arith}
-use Rattle.std.proofs.lemmas.Bool.{leb-true}
+use Rattle.std.proofs.Common.{◌≡◌, ◌<◌, ℕ, zero, suc, ◌+◌, ◌-◌, ◌^◌, ◌≤◌, Bool, true, false, cond, List, [], ◌∷◌, ◌++◌, Option, Some, None, Result, Ok, Err, refl, sym, ap, subst, ◌∙◌, append_assoc, arith}
 use Rattle.std.proofs.lemmas.List.Concat.{flat_map-append}
 use Rattle.steps_events.specs.declared.event.Call.TheVariants as calls
 use Rattle.steps_events.specs.declared.event.Event.{Event}
@@ -9,7 +8,7 @@ use Rattle.steps_events.specs.declared.event.Input.TheVariants as inputs
 use Rattle.steps_events.specs.declared.event.Object.{Object}
 use Rattle.steps_events.specs.declared.event.Object.TheVariants as objects
 use Rattle.steps_events.specs.declared.event.StepFault.{StepFault}
-use Rattle.steps_events.specs.Integers.{u64_arithmetic}
+use Rattle.steps_events.specs.Arithmetic.{Arithmetic}
 use Rattle.steps_events.specs.Moves.{Move}
 use Rattle.steps_events.specs.Sights.{goes_on}
 use Rattle.steps_events.specs.Moves.{InputValues}
@@ -29,17 +28,16 @@ use Rattle.sync_play.specs.declared.command.Task.TheVariants as tasks
 use Rattle.sync_play.specs.declared.command.Command.{Command}
 use Rattle.sync_play.specs.Fault.{◌>>=◌, at_line}
 use Rattle.sync_play.specs.Command.{find, verbs, calls_of, steps_asked, task_by, task_if, task_of, party_of, command_of}
-use Rattle.sync_play.specs.Lexer.{lines_of, words_of, in_range, number_of, number_within, nothing, only_number}
+use Rattle.sync_play.specs.Lexer.{words_of, number_within, nothing, only, only_number}
 use Rattle.sync_play.specs.Header.{header_of}
 use Rattle.sync_play.specs.Player.{event_by, unless_refused, event_of, events_of, run_of, steps_of, task_events}
-use Rattle.sync_play.specs.Text.{events_asked, line_events, output_after, output_of_lines}
+use Rattle.sync_play.specs.Text.{events_asked, line_events, output_after, typed_output}
 use Rattle.sync_play.specs.Print.{printed, event_lines, last_line}
-use Rattle.sync_play.specs.Law.{EndsFirstAtLast, AreInputsOf, LineAsks, LinesAsk, IsRunOfText, OutputsAreRuns}
+use Rattle.sync_play.specs.Law.{EndsFirstAtLast, AreInputsOf, LineAsks, LinesAsk, IsRunOfLines}
 use Rattle.sync_play.proofs.PlayerLaws.{bind_ok, ok_is, run_length}
 use Rattle.sync_play.proofs.TextLaws.{after_both}
-
-abbrev Ev : Type 0
-Ev = Event ℕ
+use Rattle.sync_play.specs.Numerals.{Numerals, ReadsValues}
+use Rattle.sync_play.specs.NumeralLaws.{number_at_most}
 
 -- Steps that may fail, with any kind of fault.
 
@@ -57,282 +55,268 @@ pub ok_at_line : {A : Type 0} (n : ℕ) (r : Result A LineFault) (x : A) → at_
 ok_at_line {A} n (Ok y) x e = let same : y ≡ x = same_ok {E = FaultyLine} y x e in ap (λ (z : A). Ok z) same
 ok_at_line n (Err fault) x e = absurd cc
 
--- The event of an input is the next.
+module _ {T : Type 0} (z : Arithmetic T) (numerals : Numerals T) (reads : ReadsValues z numerals) where
+  abbrev Ev : Type 0
+  Ev = Event T
 
-record IsAllowed (party : ℕ) (fault : Option StepFault) (move : Option (Move ℕ)) (e : Ev) : Type 0 where
-  allowed : fault ≡ None
-  party_is : e.party ≡ party
-  moved : move ≡ Some (record { act = e.act; outcome = e.then })
+  -- The event of an input is the next.
 
-allowed_by : (party : ℕ) (fault : Option StepFault) (move : Option (Move ℕ)) (e : Ev) → unless_refused fault (event_by party move) ≡ Ok e → IsAllowed party fault move e
-allowed_by party (Some fault) move e h = absurd cc
-allowed_by party None None e h = absurd cc
-allowed_by party None (Some m) e h =
-    let made : Ev = record { party = party; act = m.act; «then» = m.outcome } in
-    subst (λ (x : Ev). IsAllowed party None (Some m) x) (same_ok {E = LineFault} made e h) (record { allowed = refl; party_is = refl; moved = refl })
+  record IsAllowed (party : ℕ) (fault : Option StepFault) (move : Option (Move T)) (e : Ev) : Type 0 where
+    allowed : fault ≡ None
+    party_is : e.party ≡ party
+    moved : move ≡ Some (record { act = e.act; outcome = e.then })
 
-pub next_is : (o : Object ℕ) (parties : ℕ) (past : List Ev) (party : ℕ) (input : Input ℕ) (e : Ev) → InputValues u64_arithmetic input → event_of o parties past party input ≡ Ok e → IsNext u64_arithmetic o parties past party input e
-unfolding event_of
-next_is o parties past party input e values h =
-    let a = allowed_by party (fault_of u64_arithmetic o parties past party input) (move_of u64_arithmetic o past party input) e h in
-    record {
-      allowed = a.allowed;
-      values = values;
-      party_is = a.party_is;
-      form = form_of_move (table_of u64_arithmetic o) (call_of party past) (hold_of (table_of u64_arithmetic o) party past) (word_in u64_arithmetic o past) input _ a.moved;
-      moved = a.moved;
-    }
+  allowed_by : (party : ℕ) (fault : Option StepFault) (move : Option (Move T)) (e : Ev) → unless_refused fault (event_by party move) ≡ Ok e → IsAllowed party fault move e
+  allowed_by party (Some fault) move e h = absurd cc
+  allowed_by party None None e h = absurd cc
+  allowed_by party None (Some m) e h =
+      let made : Ev = record { party = party; act = m.act; «then» = m.outcome } in
+      subst (λ (x : Ev). IsAllowed party None (Some m) x) (same_ok {E = LineFault} made e h) (record { allowed = refl; party_is = refl; moved = refl })
 
--- The inputs of a line bring values of the type.
+  pub next_is : (o : Object T) (parties : ℕ) (past : List Ev) (party : ℕ) (input : Input T) (e : Ev) → InputValues z input → event_of z o parties past party input ≡ Ok e → IsNext z o parties past party input e
+  unfolding event_of
+  next_is o parties past party input e values h =
+      let a = allowed_by party (fault_of z o parties past party input) (move_of z o past party input) e h in
+      record {
+        allowed = a.allowed;
+        values = values;
+        party_is = a.party_is;
+        form = form_of_move (table_of z o) (call_of party past) (hold_of (table_of z o) party past) (word_in z o past) input _ a.moved;
+        moved = a.moved;
+      }
 
-abbrev pub HasValues : Task → Type 0
-HasValues (tasks.Give input) = InputValues u64_arithmetic input
-HasValues (tasks.Go n) = Unit {0}
-HasValues (tasks.Run limit) = Unit {0}
+  -- The inputs of a line bring values of the type.
 
-abbrev MakesValues : Result Task LineFault → Type 0
-MakesValues r = (t : Task) → r ≡ Ok t → HasValues t
+  abbrev pub HasValues : Task T → Type 0
+  HasValues (tasks.Give input) = InputValues z input
+  HasValues (tasks.Go n) = Unit {0}
+  HasValues (tasks.Run limit) = Unit {0}
 
--- a form that asks a task without a number asks one with values
-abbrev FormValues : Form → Type 0
-FormValues (forms.Alone task) = HasValues task
-FormValues other = Unit {0}
+  abbrev MakesValues : Result (Task T) LineFault → Type 0
+  MakesValues r = (t : Task T) → r ≡ Ok t → HasValues t
 
-abbrev RowValues : List (List ℕ × Form) → Type 0
-RowValues [] = Unit {0}
-RowValues (row ∷ rows) = FormValues row.1 × RowValues rows
+  -- a form that asks a task without a number asks one with values
+  abbrev FormValues : Form T → Type 0
+  FormValues (forms.Alone task) = HasValues task
+  FormValues other = Unit {0}
 
-either_form : (b : Bool) (form found : Form) (rest : Option Form) → FormValues form → (rest ≡ Some found → FormValues found) → cond b (Some form) rest ≡ Some found → FormValues found
-either_form true form found rest h k e = let same : form ≡ found = cc in subst FormValues same h
-either_form false form found rest h k e = k e
+  abbrev RowValues : List (List ℕ × Form T) → Type 0
+  RowValues [] = Unit {0}
+  RowValues (row ∷ rows) = FormValues row.1 × RowValues rows
 
-found_values : (name : List ℕ) (rows : List (List ℕ × Form)) (form : Form) → RowValues rows → find name rows ≡ Some form → FormValues form
-found_values name [] form values e = absurd cc
-found_values name (row ∷ rows) form values e = either_form (bytes_eq name row.0) row.1 form (find name rows) values.0 (found_values name rows form values.1) e
+  either_form : (b : Bool) (form found : Form T) (rest : Option (Form T)) → FormValues form → (rest ≡ Some found → FormValues found) → cond b (Some form) rest ≡ Some found → FormValues found
+  either_form true form found rest h k e = let same : form ≡ found = cc in subst FormValues same h
+  either_form false form found rest h k e = k e
 
-both_values : (rows more : List (List ℕ × Form)) → RowValues rows → RowValues more → RowValues (rows ++ more)
-both_values [] more h k = k
-both_values (row ∷ rows) more h k = (h.0, both_values rows more h.1 k)
+  found_values : (name : List ℕ) (rows : List (List ℕ × Form T)) (form : Form T) → RowValues rows → find name rows ≡ Some form → FormValues form
+  found_values name [] form values e = absurd cc
+  found_values name (row ∷ rows) form values e = either_form (bytes_eq name row.0) row.1 form (find name rows) values.0 (found_values name rows form values.1) e
 
-verb_values : RowValues verbs
-verb_values = (tt, (tt, (tt, (tt, (tt, (tt, tt))))))
+  both_values : (rows more : List (List ℕ × Form T)) → RowValues rows → RowValues more → RowValues (rows ++ more)
+  both_values [] more h k = k
+  both_values (row ∷ rows) more h k = (h.0, both_values rows more h.1 k)
 
-call_values : (o : Object ℕ) → RowValues (calls_of o)
-call_values objects.Mutex = (tt, (tt, (tt, tt)))
-call_values objects.Spin = (tt, (tt, (tt, (tt, tt))))
-call_values (objects.Semaphore initial) = (tt, (tt, (tt, (tt, tt))))
-call_values objects.ReaderLock = (tt, (tt, (tt, (tt, (tt, tt)))))
-call_values objects.WriterLock = (tt, (tt, (tt, (tt, (tt, tt)))))
-call_values (objects.Barrier n) = (tt, tt)
-call_values objects.Condvar = (tt, (tt, (tt, (tt, (tt, (tt, tt))))))
-call_values objects.Once = (tt, (tt, tt))
-call_values (objects.Lazy v) = (tt, tt)
-call_values other = tt
+  verb_values : RowValues verbs
+  verb_values = (tt, (tt, (tt, (tt, (tt, (tt, tt))))))
 
-at_most : (b : Bool) (n m : ℕ) (fault : LineFault) → cond b (Ok n) (Err fault) ≡ Ok m → (b ≡ true) × (n ≡ m)
-at_most true n m fault e = (refl, cc)
-at_most false n m fault e = absurd cc
+  call_values : (o : Object T) → RowValues (calls_of o)
+  call_values objects.Mutex = (tt, (tt, (tt, tt)))
+  call_values objects.Spin = (tt, (tt, (tt, (tt, tt))))
+  call_values (objects.Semaphore initial) = (tt, (tt, (tt, (tt, tt))))
+  call_values objects.ReaderLock = (tt, (tt, (tt, (tt, (tt, tt)))))
+  call_values objects.WriterLock = (tt, (tt, (tt, (tt, (tt, tt)))))
+  call_values (objects.Barrier n) = (tt, tt)
+  call_values objects.Condvar = (tt, (tt, (tt, (tt, (tt, (tt, tt))))))
+  call_values objects.Once = (tt, (tt, tt))
+  call_values (objects.Lazy v) = (tt, tt)
+  call_values other = tt
 
-and_right : (a b : Bool) → (a && b) ≡ true → b ≡ true
-and_right true b e = e
-and_right false b e = absurd cc
+  only_one : {A : Type 0} (read : List ℕ → Result A LineFault) (words : List (List ℕ)) (x : A) → only read words ≡ Ok x → (word : List ℕ) × (read word ≡ Ok x)
+  only_one read [] x e = absurd cc
+  only_one read (word ∷ []) x e = (word, e)
+  only_one read (word ∷ other ∷ words) x e = absurd cc
 
-small : (low high n : ℕ) (read : Option ℕ) → in_range low high read ≡ Ok n → n ≤ high
-small low high n None e = absurd cc
-small low high n (Some m) e =
-    let g = at_most (leb low m && leb m high) m n _ e in
-    let within : m ≤ high = leb-true m high (and_right (leb low m) (leb m high) g.0) in
-    subst (λ (k : ℕ). k ≤ high) g.1 within
+  steps_make : (words : List (List ℕ)) → MakesValues (steps_asked words)
+  steps_make [] t e = subst HasValues (ok_is (tasks.Go 1) t e) tt
+  steps_make (word ∷ words) t e = let b = bind_ok (only_number 1 100000 (word ∷ words)) (λ n. Ok (tasks.Go n)) t e in subst HasValues (ok_is (tasks.Go b.0) t b.2) tt
 
-only_small : (low high n : ℕ) (words : List (List ℕ)) → only_number low high words ≡ Ok n → n ≤ high
-only_small low high n [] e = absurd cc
-only_small low high n (word ∷ []) e = small low high n (number_of word) e
-only_small low high n (word ∷ other ∷ words) e = absurd cc
+  form_makes : (form : Form T) (words : List (List ℕ)) → FormValues form → MakesValues (task_by numerals form words)
+  form_makes (forms.Alone task) words h t e = let b = bind_ok (nothing words) (λ _. Ok task) t e in subst HasValues (ok_is task t b.2) h
+  form_makes forms.Steps words h t e = steps_make words t e
+  form_makes forms.Choice words h t e =
+      let b = bind_ok (only numerals.value_of words) (λ v. Ok (tasks.Give (inputs.Choose (Some v)))) t e in
+      let word = only_one numerals.value_of words b.0 b.1 in
+      subst HasValues (ok_is (tasks.Give (inputs.Choose (Some b.0))) t b.2) (reads word.0 b.0 word.1)
+  form_makes forms.Permits words h t e =
+      let b = bind_ok (only_number 0 (2 ^ 64 - 1) words) (λ n. Ok (tasks.Give (inputs.Begin (calls.Post n)))) t e in
+      let word = only_one (number_within 0 (2 ^ 64 - 1)) words b.0 b.1 in
+      let least = number_at_most 0 (2 ^ 64 - 1) b.0 word.0 word.1 in
+      let below : b.0 < 2 ^ 64 = omega arith in
+      subst HasValues (ok_is (tasks.Give (inputs.Begin (calls.Post b.0))) t b.2) below
 
-steps_make : (words : List (List ℕ)) → MakesValues (steps_asked words)
-steps_make [] t e = subst HasValues (ok_is (tasks.Go 1) t e) tt
-steps_make (word ∷ words) t e = let b = bind_ok (only_number 1 100000 (word ∷ words)) (λ n. Ok (tasks.Go n)) t e in subst HasValues (ok_is (tasks.Go b.0) t b.2) tt
+  asked_makes : (asked : Option (Form T)) (words : List (List ℕ)) → ((form : Form T) → asked ≡ Some form → FormValues form) → MakesValues (task_if numerals asked words)
+  asked_makes None words h t e = absurd cc
+  asked_makes (Some form) words h t e = form_makes form words (h form refl) t e
 
-form_makes : (form : Form) (words : List (List ℕ)) → FormValues form → MakesValues (task_by form words)
-form_makes (forms.Alone task) words h t e = let b = bind_ok (nothing words) (λ _. Ok task) t e in subst HasValues (ok_is task t b.2) h
-form_makes forms.Steps words h t e = steps_make words t e
-form_makes forms.Choice words h t e =
-    let b = bind_ok (only_number 0 (2 ^ 64 - 1) words) (λ n. Ok (tasks.Give (inputs.Choose (Some n)))) t e in
-    let least = only_small 0 (2 ^ 64 - 1) b.0 words b.1 in
-    let value : b.0 % 2 ^ 64 ≡ b.0 = omega arith in
-    subst HasValues (ok_is (tasks.Give (inputs.Choose (Some b.0))) t b.2) value
-form_makes forms.Permits words h t e =
-    let b = bind_ok (only_number 0 (2 ^ 64 - 1) words) (λ n. Ok (tasks.Give (inputs.Begin (calls.Post n)))) t e in
-    let least = only_small 0 (2 ^ 64 - 1) b.0 words b.1 in
-    let below : b.0 < 2 ^ 64 = omega arith in
-    subst HasValues (ok_is (tasks.Give (inputs.Begin (calls.Post b.0))) t b.2) below
+  task_makes : (o : Object T) (verb : List ℕ) (words : List (List ℕ)) → MakesValues (task_of numerals o verb words)
+  unfolding task_of
+  task_makes o verb words =
+      asked_makes (find verb (verbs ++ calls_of o)) words (λ form e. found_values verb (verbs ++ calls_of o) form (both_values verbs (calls_of o) verb_values (call_values o)) e)
 
-asked_makes : (asked : Option Form) (words : List (List ℕ)) → ((form : Form) → asked ≡ Some form → FormValues form) → MakesValues (task_if asked words)
-asked_makes None words h t e = absurd cc
-asked_makes (Some form) words h t e = form_makes form words (h form refl) t e
+  none_is_some : {A : Type 0} {x : A} → ◌≡◌ {A = Result (Option A) LineFault} (Ok None) (Ok (Some x)) → ⊥
+  none_is_some e = cc
 
-task_makes : (o : Object ℕ) (verb : List ℕ) (words : List (List ℕ)) → MakesValues (task_of o verb words)
-unfolding task_of
-task_makes o verb words =
-    asked_makes (find verb (verbs ++ calls_of o)) words (λ form e. found_values verb (verbs ++ calls_of o) form (both_values verbs (calls_of o) verb_values (call_values o)) e)
+  some_is : {A : Type 0} (x y : A) → Some x ≡ Some y → x ≡ y
+  some_is x y e = cc
 
-none_is_some : {A : Type 0} {x : A} → ◌≡◌ {A = Result (Option A) LineFault} (Ok None) (Ok (Some x)) → ⊥
-none_is_some e = cc
+  pub command_values : (o : Object T) (words : List (List ℕ)) (command : Command T) → command_of numerals o words ≡ Ok (Some command) → HasValues command.task
+  unfolding command_of
+  command_values o [] command e = absurd (none_is_some e)
+  command_values o (party ∷ []) command e = absurd cc
+  command_values o (party ∷ verb ∷ words) command e =
+      let a = bind_ok (task_of numerals o verb words) (λ task. number_within 0 (2 ^ 64 - 1) party >>= λ number. party_of number >>= λ from_zero. Ok (Some (record { party = from_zero; task = task }))) (Some command) e in
+      let b = bind_ok (number_within 0 (2 ^ 64 - 1) party) (λ number. party_of number >>= λ from_zero. Ok (Some (record { party = from_zero; task = a.0 }))) (Some command) a.2 in
+      let d = bind_ok (party_of b.0) (λ from_zero. Ok (Some (record { party = from_zero; task = a.0 }))) (Some command) b.2 in
+      let made : Command T = record { party = d.0; task = a.0 } in
+      subst (λ (x : Command T). HasValues x.task) (some_is made command (ok_is (Some made) (Some command) d.2)) (task_makes o verb words a.0 a.1)
 
-some_is : {A : Type 0} (x y : A) → Some x ≡ Some y → x ≡ y
-some_is x y e = cc
+  -- The events of a line are a run.
 
-pub command_values : (o : Object ℕ) (words : List (List ℕ)) (command : Command) → command_of o words ≡ Ok (Some command) → HasValues command.task
-unfolding command_of
-command_values o [] command e = absurd (none_is_some e)
-command_values o (party ∷ []) command e = absurd cc
-command_values o (party ∷ verb ∷ words) command e =
-    let a = bind_ok (task_of o verb words) (λ task. number_within 0 (2 ^ 64 - 1) party >>= λ number. party_of number >>= λ from_zero. Ok (Some (record { party = from_zero; task = task }))) (Some command) e in
-    let b = bind_ok (number_within 0 (2 ^ 64 - 1) party) (λ number. party_of number >>= λ from_zero. Ok (Some (record { party = from_zero; task = a.0 }))) (Some command) a.2 in
-    let d = bind_ok (party_of b.0) (λ from_zero. Ok (Some (record { party = from_zero; task = a.0 }))) (Some command) b.2 in
-    let made : Command = record { party = d.0; task = a.0 } in
-    subst (λ (x : Command). HasValues x.task) (some_is made command (ok_is (Some made) (Some command) d.2)) (task_makes o verb words a.0 a.1)
+  pub run_of_both : (o : Object T) (parties : ℕ) (past : List Ev) (first others : List (ℕ × Input T)) (front back : List Ev) → IsRun z o parties past first front → IsRun z o parties (after front past) others back
+      → IsRun z o parties past (first ++ others) (front ++ back)
+  run_of_both o parties past [] others [] back h k = k
+  run_of_both o parties past [] others (e ∷ front) back h k = absurd h
+  run_of_both o parties past (turn ∷ first) others [] back h k = absurd h
+  run_of_both o parties past (turn ∷ first) others (e ∷ front) back h k = (h.0, run_of_both o parties (e ∷ past) first others front back h.1 k)
 
--- The events of a line are a run.
+  one_is_run : (o : Object T) (parties : ℕ) (past : List Ev) (party : ℕ) (input : Input T) (events : List Ev) → InputValues z input → events_of z o parties past ((party, input) ∷ []) ≡ Ok events → IsRun z o parties past ((party, input) ∷ []) events
+  unfolding events_of
+  one_is_run o parties past party input events values h =
+      let a = bind_ok (event_of z o parties past party input) (λ e. Ok (e ∷ [])) events h in
+      subst (λ (es : List Ev). IsRun z o parties past ((party, input) ∷ []) es) (ok_is (a.0 ∷ []) events a.2) (next_is o parties past party input a.0 values a.1, tt)
 
-pub run_of_both : (o : Object ℕ) (parties : ℕ) (past : List Ev) (first others : List (ℕ × Input ℕ)) (front back : List Ev) → IsRun u64_arithmetic o parties past first front → IsRun u64_arithmetic o parties (after front past) others back
-    → IsRun u64_arithmetic o parties past (first ++ others) (front ++ back)
-run_of_both o parties past [] others [] back h k = k
-run_of_both o parties past [] others (e ∷ front) back h k = absurd h
-run_of_both o parties past (turn ∷ first) others [] back h k = absurd h
-run_of_both o parties past (turn ∷ first) others (e ∷ front) back h k = (h.0, run_of_both o parties (e ∷ past) first others front back h.1 k)
+  steps_are_run : (o : Object T) (parties : ℕ) (past : List Ev) (party n : ℕ) (events : List Ev) → events_of z o parties past (steps_of n party) ≡ Ok events → IsRun z o parties past (steps_of n party) events
+  unfolding events_of steps_of
+  steps_are_run o parties past party zero events h = subst (λ (es : List Ev). IsRun z o parties past [] es) (ok_is [] events h) tt
+  steps_are_run o parties past party (suc n) events h =
+      let a = bind_ok (event_of z o parties past party inputs.Go) (λ e. events_of z o parties (e ∷ past) (steps_of n party) >>= λ es. Ok (e ∷ es)) events h in
+      let b = bind_ok (events_of z o parties (a.0 ∷ past) (steps_of n party)) (λ es. Ok (a.0 ∷ es)) events a.2 in
+      subst (λ (es : List Ev). IsRun z o parties past ((party, inputs.Go) ∷ steps_of n party) es) (ok_is (a.0 ∷ b.0) events b.2)
+      (next_is o parties past party inputs.Go a.0 tt a.1, steps_are_run o parties (a.0 ∷ past) party n b.0 b.1)
 
-one_is_run : (o : Object ℕ) (parties : ℕ) (past : List Ev) (party : ℕ) (input : Input ℕ) (events : List Ev) → InputValues u64_arithmetic input → events_of o parties past ((party, input) ∷ []) ≡ Ok events → IsRun u64_arithmetic o parties past ((party, input) ∷ []) events
-unfolding events_of
-one_is_run o parties past party input events values h =
-    let a = bind_ok (event_of o parties past party input) (λ e. Ok (e ∷ [])) events h in
-    subst (λ (es : List Ev). IsRun u64_arithmetic o parties past ((party, input) ∷ []) es) (ok_is (a.0 ∷ []) events a.2) (next_is o parties past party input a.0 values a.1, tt)
+  record RunsToEnd (o : Object T) (parties : ℕ) (past : List Ev) (party limit : ℕ) (events : List Ev) : Type 0 where
+    steps : ℕ
+    within : steps ≤ limit
+    run : IsRun z o parties past (steps_of steps party) events
+    ends : EndsFirstAtLast events
 
-steps_are_run : (o : Object ℕ) (parties : ℕ) (past : List Ev) (party n : ℕ) (events : List Ev) → events_of o parties past (steps_of n party) ≡ Ok events → IsRun u64_arithmetic o parties past (steps_of n party) events
-unfolding events_of steps_of
-steps_are_run o parties past party zero events h = subst (λ (es : List Ev). IsRun u64_arithmetic o parties past [] es) (ok_is [] events h) tt
-steps_are_run o parties past party (suc n) events h =
-    let a = bind_ok (event_of o parties past party inputs.Go) (λ e. events_of o parties (e ∷ past) (steps_of n party) >>= λ es. Ok (e ∷ es)) events h in
-    let b = bind_ok (events_of o parties (a.0 ∷ past) (steps_of n party)) (λ es. Ok (a.0 ∷ es)) events a.2 in
-    subst (λ (es : List Ev). IsRun u64_arithmetic o parties past ((party, inputs.Go) ∷ steps_of n party) es) (ok_is (a.0 ∷ b.0) events b.2)
-    (next_is o parties past party inputs.Go a.0 tt a.1, steps_are_run o parties (a.0 ∷ past) party n b.0 b.1)
+  ends_later : (e : Ev) (events : List Ev) → goes_on e.then ≡ true → EndsFirstAtLast events → EndsFirstAtLast (e ∷ events)
+  ends_later e [] h k = absurd k
+  ends_later e (f ∷ events) h k = (h, k)
 
-record RunsToEnd (o : Object ℕ) (parties : ℕ) (past : List Ev) (party limit : ℕ) (events : List Ev) : Type 0 where
-  steps : ℕ
-  within : steps ≤ limit
-  run : IsRun u64_arithmetic o parties past (steps_of steps party) events
-  ends : EndsFirstAtLast events
+  step_again : (o : Object T) (parties : ℕ) (past : List Ev) (party limit : ℕ) (e : Ev) (events : List Ev) → IsNext z o parties past party inputs.Go e → goes_on e.then ≡ true → RunsToEnd o parties (e ∷ past) party limit events
+      → RunsToEnd o parties past party (suc limit) (e ∷ events)
+  unfolding steps_of
+  step_again o parties past party limit e events n h r =
+      let within = r.within in
+      record { steps = suc r.steps; within = omega arith; run = (n, r.run); ends = ends_later e events h r.ends }
 
-ends_later : (e : Ev) (events : List Ev) → goes_on e.then ≡ true → EndsFirstAtLast events → EndsFirstAtLast (e ∷ events)
-ends_later e [] h k = absurd k
-ends_later e (f ∷ events) h k = (h, k)
+  step_last : (o : Object T) (parties : ℕ) (past : List Ev) (party limit : ℕ) (e : Ev) → IsNext z o parties past party inputs.Go e → goes_on e.then ≡ false → RunsToEnd o parties past party (suc limit) (e ∷ [])
+  unfolding steps_of
+  step_last o parties past party limit e n h = record { steps = 1; within = omega arith; run = (n, tt); ends = h }
 
-step_again : (o : Object ℕ) (parties : ℕ) (past : List Ev) (party limit : ℕ) (e : Ev) (events : List Ev) → IsNext u64_arithmetic o parties past party inputs.Go e → goes_on e.then ≡ true → RunsToEnd o parties (e ∷ past) party limit events
-    → RunsToEnd o parties past party (suc limit) (e ∷ events)
-unfolding steps_of
-step_again o parties past party limit e events n h r =
-    let within = r.within in
-    record { steps = suc r.steps; within = omega arith; run = (n, r.run); ends = ends_later e events h r.ends }
+  step_either : (o : Object T) (parties : ℕ) (past : List Ev) (party limit : ℕ) (e : Ev) (b : Bool) (more : Result (List Ev) LineFault) (events : List Ev) → IsNext z o parties past party inputs.Go e → goes_on e.then ≡ b
+      → ((es : List Ev) → more ≡ Ok es → RunsToEnd o parties (e ∷ past) party limit es) → cond b (more >>= λ es. Ok (e ∷ es)) (Ok (e ∷ [])) ≡ Ok events → RunsToEnd o parties past party (suc limit) events
+  step_either o parties past party limit e true more events n g k h =
+      let b = bind_ok more (λ es. Ok (e ∷ es)) events h in
+      subst (λ (es : List Ev). RunsToEnd o parties past party (suc limit) es) (ok_is (e ∷ b.0) events b.2) (step_again o parties past party limit e b.0 n g (k b.0 b.1))
+  step_either o parties past party limit e false more events n g k h =
+      subst (λ (es : List Ev). RunsToEnd o parties past party (suc limit) es) (ok_is (e ∷ []) events h) (step_last o parties past party limit e n g)
 
-step_last : (o : Object ℕ) (parties : ℕ) (past : List Ev) (party limit : ℕ) (e : Ev) → IsNext u64_arithmetic o parties past party inputs.Go e → goes_on e.then ≡ false → RunsToEnd o parties past party (suc limit) (e ∷ [])
-unfolding steps_of
-step_last o parties past party limit e n h = record { steps = 1; within = omega arith; run = (n, tt); ends = h }
+  run_to_end : (o : Object T) (parties : ℕ) (past : List Ev) (party limit : ℕ) (events : List Ev) → run_of z o parties limit past party ≡ Ok events → RunsToEnd o parties past party limit events
+  unfolding run_of
+  run_to_end o parties past party zero events h = absurd cc
+  run_to_end o parties past party (suc limit) events h =
+      let a = bind_ok (event_of z o parties past party inputs.Go) (λ e. cond (goes_on e.then) (run_of z o parties limit (e ∷ past) party >>= λ es. Ok (e ∷ es)) (Ok (e ∷ []))) events h in
+      step_either o parties past party limit a.0 (goes_on a.0.then) (run_of z o parties limit (a.0 ∷ past) party) events (next_is o parties past party inputs.Go a.0 tt a.1) refl
+      (λ es k. run_to_end o parties (a.0 ∷ past) party limit es k) a.2
 
-step_either : (o : Object ℕ) (parties : ℕ) (past : List Ev) (party limit : ℕ) (e : Ev) (b : Bool) (more : Result (List Ev) LineFault) (events : List Ev) → IsNext u64_arithmetic o parties past party inputs.Go e → goes_on e.then ≡ b
-    → ((es : List Ev) → more ≡ Ok es → RunsToEnd o parties (e ∷ past) party limit es) → cond b (more >>= λ es. Ok (e ∷ es)) (Ok (e ∷ [])) ≡ Ok events → RunsToEnd o parties past party (suc limit) events
-step_either o parties past party limit e true more events n g k h =
-    let b = bind_ok more (λ es. Ok (e ∷ es)) events h in
-    subst (λ (es : List Ev). RunsToEnd o parties past party (suc limit) es) (ok_is (e ∷ b.0) events b.2) (step_again o parties past party limit e b.0 n g (k b.0 b.1))
-step_either o parties past party limit e false more events n g k h =
-    subst (λ (es : List Ev). RunsToEnd o parties past party (suc limit) es) (ok_is (e ∷ []) events h) (step_last o parties past party limit e n g)
+  -- a line's inputs and their run
+  pub record LineRuns (o : Object T) (parties : ℕ) (past : List Ev) (words : List (List ℕ)) (events : List Ev) : Type 0 where
+    pub schedule : List (ℕ × Input T)
+    pub asks : LineAsks numerals o words schedule events
+    pub run : IsRun z o parties past schedule events
 
-run_to_end : (o : Object ℕ) (parties : ℕ) (past : List Ev) (party limit : ℕ) (events : List Ev) → run_of o parties limit past party ≡ Ok events → RunsToEnd o parties past party limit events
-unfolding run_of
-run_to_end o parties past party zero events h = absurd cc
-run_to_end o parties past party (suc limit) events h =
-    let a = bind_ok (event_of o parties past party inputs.Go) (λ e. cond (goes_on e.then) (run_of o parties limit (e ∷ past) party >>= λ es. Ok (e ∷ es)) (Ok (e ∷ []))) events h in
-    step_either o parties past party limit a.0 (goes_on a.0.then) (run_of o parties limit (a.0 ∷ past) party) events (next_is o parties past party inputs.Go a.0 tt a.1) refl
-    (λ es k. run_to_end o parties (a.0 ∷ past) party limit es k) a.2
+  record TaskRuns (o : Object T) (parties : ℕ) (past : List Ev) (party : ℕ) (task : Task T) (events : List Ev) : Type 0 where
+    schedule : List (ℕ × Input T)
+    asks : AreInputsOf party task schedule events
+    run : IsRun z o parties past schedule events
 
--- a line's inputs and their run
-pub record LineRuns (o : Object ℕ) (parties : ℕ) (past : List Ev) (words : List (List ℕ)) (events : List Ev) : Type 0 where
-  pub schedule : List (ℕ × Input ℕ)
-  pub asks : LineAsks o words schedule events
-  pub run : IsRun u64_arithmetic o parties past schedule events
+  task_runs : (o : Object T) (parties : ℕ) (past : List Ev) (party : ℕ) (task : Task T) (events : List Ev) → HasValues task → task_events z o parties past party task ≡ Ok events → TaskRuns o parties past party task events
+  task_runs o parties past party (tasks.Give input) events values h = record { schedule = (party, input) ∷ []; asks = refl; run = one_is_run o parties past party input events values h }
+  task_runs o parties past party (tasks.Go n) events values h = record { schedule = steps_of n party; asks = refl; run = steps_are_run o parties past party n events h }
+  task_runs o parties past party (tasks.Run limit) events values h =
+      let r = run_to_end o parties past party limit events h in
+      record { schedule = steps_of r.steps party; asks = (r.steps, r.within, refl, r.ends); run = r.run }
 
-record TaskRuns (o : Object ℕ) (parties : ℕ) (past : List Ev) (party : ℕ) (task : Task) (events : List Ev) : Type 0 where
-  schedule : List (ℕ × Input ℕ)
-  asks : AreInputsOf party task schedule events
-  run : IsRun u64_arithmetic o parties past schedule events
+  asked_runs : (o : Object T) (parties : ℕ) (past : List Ev) (words : List (List ℕ)) (asked : Option (Command T)) (events : List Ev) → command_of numerals o words ≡ Ok asked → events_asked z numerals o parties past asked ≡ Ok events → LineRuns o parties past words events
+  asked_runs o parties past words None events is h =
+      record { schedule = []; asks = (None, is, refl); run = subst (λ (es : List Ev). IsRun z o parties past [] es) (ok_is [] events h) tt }
+  asked_runs o parties past words (Some command) events is h =
+      let r = task_runs o parties past command.party command.task events (command_values o words command is) h in
+      record { schedule = r.schedule; asks = (Some command, is, r.asks); run = r.run }
 
-task_runs : (o : Object ℕ) (parties : ℕ) (past : List Ev) (party : ℕ) (task : Task) (events : List Ev) → HasValues task → task_events o parties past party task ≡ Ok events → TaskRuns o parties past party task events
-task_runs o parties past party (tasks.Give input) events values h = record { schedule = (party, input) ∷ []; asks = refl; run = one_is_run o parties past party input events values h }
-task_runs o parties past party (tasks.Go n) events values h = record { schedule = steps_of n party; asks = refl; run = steps_are_run o parties past party n events h }
-task_runs o parties past party (tasks.Run limit) events values h =
-    let r = run_to_end o parties past party limit events h in
-    record { schedule = steps_of r.steps party; asks = (r.steps, r.within, refl, r.ends); run = r.run }
+  pub line_runs : (o : Object T) (parties : ℕ) (past : List Ev) (words : List (List ℕ)) (events : List Ev) → line_events z numerals o parties past words ≡ Ok events → LineRuns o parties past words events
+  unfolding line_events
+  line_runs o parties past words events h =
+      let a = bind_ok (command_of numerals o words) (λ asked. events_asked z numerals o parties past asked) events h in
+      asked_runs o parties past words a.0 events a.1 a.2
 
-asked_runs : (o : Object ℕ) (parties : ℕ) (past : List Ev) (words : List (List ℕ)) (asked : Option Command) (events : List Ev) → command_of o words ≡ Ok asked → events_asked o parties past asked ≡ Ok events → LineRuns o parties past words events
-asked_runs o parties past words None events is h =
-    record { schedule = []; asks = (None, is, refl); run = subst (λ (es : List Ev). IsRun u64_arithmetic o parties past [] es) (ok_is [] events h) tt }
-asked_runs o parties past words (Some command) events is h =
-    let r = task_runs o parties past command.party command.task events (command_values o words command is) h in
-    record { schedule = r.schedule; asks = (Some command, is, r.asks); run = r.run }
+  -- The lines of a text are one run.
 
-pub line_runs : (o : Object ℕ) (parties : ℕ) (past : List Ev) (words : List (List ℕ)) (events : List Ev) → line_events o parties past words ≡ Ok events → LineRuns o parties past words events
-unfolding line_events
-line_runs o parties past words events h =
-    let a = bind_ok (command_of o words) (λ asked. events_asked o parties past asked) events h in
-    asked_runs o parties past words a.0 events a.1 a.2
+  record LinesRun (o : Object T) (parties : ℕ) (lines : List (List ℕ)) (past : List Ev) (bytes : List ℕ) : Type 0 where
+    schedule : List (ℕ × Input T)
+    events : List Ev
+    asks : LinesAsk numerals o lines schedule events
+    run : IsRun z o parties past schedule events
+    bytes_are : bytes ≡ printed numerals events ++ last_line z numerals o (after events past)
 
--- The lines of a text are one run.
+  lines_run : (o : Object T) (parties number : ℕ) (lines : List (List ℕ)) (past : List Ev) (bytes : List ℕ) → output_after z numerals o parties number lines past ≡ Ok bytes → LinesRun o parties lines past bytes
+  unfolding output_after
+  lines_run o parties number [] past bytes h =
+      record { schedule = []; events = []; asks = refl; run = tt; bytes_are = sym (same_ok {E = FaultyLine} (last_line z numerals o past) bytes h) }
+  lines_run o parties number (line ∷ lines) past bytes h =
+      let a = bind_in (at_line number (line_events z numerals o parties past (words_of line))) (λ events. output_after z numerals o parties (number + 1) lines (after events past) >>= λ rest. Ok (printed numerals events ++ rest)) bytes h in
+      let b = bind_in (output_after z numerals o parties (number + 1) lines (after a.0 past)) (λ rest. Ok (printed numerals a.0 ++ rest)) bytes a.2 in
+      let front = line_runs o parties past (words_of line) a.0 (ok_at_line number (line_events z numerals o parties past (words_of line)) a.0 a.1) in
+      let back = lines_run o parties (number + 1) lines (after a.0 past) b.0 b.1 in
+      let there = after_both a.0 back.events past in
+      record {
+        schedule = front.schedule ++ back.schedule;
+        events = a.0 ++ back.events;
+        asks = (front.schedule, back.schedule, a.0, back.events, refl, refl, sym (run_length z o parties past front.schedule a.0 front.run), front.asks, back.asks);
+        run = run_of_both o parties past front.schedule back.schedule a.0 back.events front.run back.run;
+        bytes_are = sym (same_ok {E = FaultyLine} (printed numerals a.0 ++ b.0) bytes b.2) ∙ ap (λ (l : List ℕ). printed numerals a.0 ++ l) back.bytes_are
+            ∙ sym (append_assoc (printed numerals a.0) (printed numerals back.events) (last_line z numerals o (after back.events (after a.0 past))))
+            ∙ ap (λ (l : List ℕ). l ++ last_line z numerals o (after back.events (after a.0 past))) (sym (flat_map-append (event_lines numerals) a.0 back.events))
+            ∙ ap (λ (p : List Ev). printed numerals (a.0 ++ back.events) ++ last_line z numerals o p) (sym there);
+      }
 
-record LinesRun (o : Object ℕ) (parties : ℕ) (lines : List (List ℕ)) (past : List Ev) (bytes : List ℕ) : Type 0 where
-  schedule : List (ℕ × Input ℕ)
-  events : List Ev
-  asks : LinesAsk o lines schedule events
-  run : IsRun u64_arithmetic o parties past schedule events
-  bytes_are : bytes ≡ printed events ++ last_line o (after events past)
-
-lines_run : (o : Object ℕ) (parties number : ℕ) (lines : List (List ℕ)) (past : List Ev) (bytes : List ℕ) → output_after o parties number lines past ≡ Ok bytes → LinesRun o parties lines past bytes
-unfolding output_after
-lines_run o parties number [] past bytes h =
-    record { schedule = []; events = []; asks = refl; run = tt; bytes_are = sym (same_ok {E = FaultyLine} (last_line o past) bytes h) }
-lines_run o parties number (line ∷ lines) past bytes h =
-    let a = bind_in (at_line number (line_events o parties past (words_of line))) (λ events. output_after o parties (number + 1) lines (after events past) >>= λ rest. Ok (printed events ++ rest)) bytes h in
-    let b = bind_in (output_after o parties (number + 1) lines (after a.0 past)) (λ rest. Ok (printed a.0 ++ rest)) bytes a.2 in
-    let front = line_runs o parties past (words_of line) a.0 (ok_at_line number (line_events o parties past (words_of line)) a.0 a.1) in
-    let back = lines_run o parties (number + 1) lines (after a.0 past) b.0 b.1 in
-    let there = after_both a.0 back.events past in
-    record {
-      schedule = front.schedule ++ back.schedule;
-      events = a.0 ++ back.events;
-      asks = (front.schedule, back.schedule, a.0, back.events, refl, refl, sym (run_length o parties past front.schedule a.0 front.run), front.asks, back.asks);
-      run = run_of_both o parties past front.schedule back.schedule a.0 back.events front.run back.run;
-      bytes_are = sym (same_ok {E = FaultyLine} (printed a.0 ++ b.0) bytes b.2) ∙ ap (λ (l : List ℕ). printed a.0 ++ l) back.bytes_are
-          ∙ sym (append_assoc (printed a.0) (printed back.events) (last_line o (after back.events (after a.0 past))))
-          ∙ ap (λ (l : List ℕ). l ++ last_line o (after back.events (after a.0 past))) (sym (flat_map-append event_lines a.0 back.events))
-          ∙ ap (λ (p : List Ev). printed (a.0 ++ back.events) ++ last_line o p) (sym there);
-    }
-
-text_runs : (text : List ℕ) (lines : List (List ℕ)) (bytes : List ℕ) → lines_of text ≡ lines → output_of_lines lines ≡ Ok bytes → IsRunOfText text bytes
-unfolding output_of_lines
-text_runs text [] bytes same h = absurd cc
-text_runs text (line ∷ lines) bytes same h =
-    let a = bind_in (at_line 1 (header_of (words_of line))) (λ header. output_after header.object header.parties 2 lines []) bytes h in
-    let r = lines_run a.0.object a.0.parties 2 lines [] bytes a.2 in
-    record {
-      first = line;
-      lines = lines;
-      text_is = same;
-      header = a.0;
-      names = ok_at_line 1 (header_of (words_of line)) a.0 a.1;
-      schedule = r.schedule;
-      events = r.events;
-      asks = r.asks;
-      run = r.run;
-      bytes_are = r.bytes_are;
-    }
-
-pub outputs_are_runs : OutputsAreRuns
-outputs_are_runs text bytes h = text_runs text (lines_of text) bytes refl h
+  pub outputs_are_runs : (lines : List (List ℕ)) (bytes : List ℕ) → typed_output z numerals lines ≡ Ok bytes → IsRunOfLines z numerals lines bytes
+  unfolding typed_output
+  outputs_are_runs [] bytes h = absurd cc
+  outputs_are_runs (line ∷ lines) bytes h =
+      let a = bind_in (at_line 1 (header_of numerals (words_of line))) (λ header. output_after z numerals header.object header.parties 2 lines []) bytes h in
+      let r = lines_run a.0.object a.0.parties 2 lines [] bytes a.2 in
+      record {
+        first = line;
+        others = lines;
+        lines_are = refl;
+        header = a.0;
+        names = ok_at_line 1 (header_of numerals (words_of line)) a.0 a.1;
+        schedule = r.schedule;
+        events = r.events;
+        asks = r.asks;
+        run = r.run;
+        bytes_are = r.bytes_are;
+      }

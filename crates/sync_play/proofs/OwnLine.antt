@@ -22,6 +22,8 @@ use Rattle.sync_play.specs.Player.{steps_of}
 use Rattle.sync_play.specs.Header.{header_of}
 use Rattle.sync_play.specs.Command.{command_of, task_of}
 use Rattle.sync_play.specs.Print.{last_line}
+use Rattle.sync_play.specs.Lexer.{lines_of}
+use Rattle.sync_play.specs.Numerals.{u64_numerals}
 use Rattle.sync_play.specs.Law.{LinesAsk, IsRunOfText, EndsInItsLine}
 use Rattle.sync_play.proofs.RunsAreOutputs.{runs_are_outputs}
 
@@ -93,7 +95,7 @@ is_run = (record { allowed = refl; values = tt; party_is = refl; form = refl; mo
 abbrev lines : List (List ℕ)
 lines = codes "1 try_lock" ∷ codes "1 go" ∷ codes "1 unlock" ∷ codes "1 run" ∷ codes "2 lock" ∷ codes "2 go" ∷ []
 
-asks : LinesAsk objects.Mutex lines inputs_0 events_0
+asks : LinesAsk u64_numerals objects.Mutex lines inputs_0 events_0
 unfolding command_of task_of steps_of
 asks = (
   (0, inputs.Begin calls.TryLock) ∷ [],
@@ -163,7 +165,7 @@ output = codes "1 success\n1 wakes one\n1 done\n2 success\nword 1 failed 0\n"
 is_run_of_text : IsRunOfText text output
 unfolding header_of last_line
 is_run_of_text =
-    record { first = codes "mutex 2"; lines = lines; text_is = refl; header = record { object = objects.Mutex; parties = 2 }; names = refl; schedule = inputs_0; events = events_0; asks = asks; run = is_run; bytes_are = rw (decimal_digit 0 (omega arith), decimal_digit 1 (omega arith), decimal_digit 2 (omega arith)) refl }
+    record { first = codes "mutex 2"; others = lines; lines_are = refl; header = record { object = objects.Mutex; parties = 2 }; names = refl; schedule = inputs_0; events = events_0; asks = asks; run = is_run; bytes_are = rw (decimal_digit 0 (omega arith), decimal_digit 1 (omega arith), decimal_digit 2 (omega arith)) refl }
 
 abbrev output_length : Result (List ℕ) FaultyLine → ℕ
 output_length (Ok bytes) = length bytes
@@ -174,6 +176,6 @@ differ e = let same : output_length (Ok output) ≡ output_length (Ok (codes "1 
 
 pub ends_in_its_line : EndsInItsLine
 ends_in_its_line other =
-    let meant = runs_are_outputs text output is_run_of_text in
-    let told = runs_are_outputs text (codes "1 success\n2 success\nword 1 failed 0\n") other in
+    let meant = runs_are_outputs u64_arithmetic u64_numerals (lines_of text) output is_run_of_text in
+    let told = runs_are_outputs u64_arithmetic u64_numerals (lines_of text) (codes "1 success\n2 success\nword 1 failed 0\n") other in
     differ (sym meant ∙ told)

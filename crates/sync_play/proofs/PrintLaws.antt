@@ -1,31 +1,34 @@
 -- The last line is printed in three pieces.
 use Rattle.std.proofs.Common.{◌≡◌, ◌∙◌, refl, ap, ℕ, ◌-◌, ◌^◌, min, List, ◌++◌, Result, Ok, Err, OnOk, append_assoc}
 use Rattle.std.specs.Prelude.{codes}
+use Rattle.std.specs.Fmt.{decimal}
 use Rattle.steps_events.specs.declared.event.Event.{Event}
 use Rattle.steps_events.specs.declared.event.Object.{Object}
 use Rattle.steps_events.specs.declared.event.Word.TheVariants as words
-use Rattle.steps_events.specs.Integers.{u64_arithmetic}
+use Rattle.steps_events.specs.Arithmetic.{Arithmetic}
 use Rattle.steps_events.specs.Past.{failures_in}
 use Rattle.sync_steps.specs.Runs.{word_in}
-use Rattle.sync_play.specs.Print.{named, named_words, further_words, last_line}
+use Rattle.sync_play.specs.Print.{named, further_words, last_line}
+use Rattle.sync_play.specs.Numerals.{Numerals}
 
 -- what is printed, if the last piece is
 printed_all : {A E P Q : Type 0} (result : Result A E) → (P → Q) → OnOk result P → OnOk result Q
 printed_all (Ok a) leads h = leads h
 printed_all (Err e) leads h = tt
 
-pub last_printed :
-    {A E : Type 0} (result : Result A E) (o : Object ℕ) (past : List (Event ℕ)) (word failed : ℕ) (old first second all : List ℕ) →
-    word ≡ word_in u64_arithmetic o past words.State → failed ≡ min (failures_in past) (2 ^ 64 - 1) →
-    first ≡ old ++ named (codes "word") word →
-    second ≡ first ++ named_words (word_in u64_arithmetic o past) (further_words o) →
-    OnOk result (all ≡ second ++ (codes " " ++ (named (codes "failed") failed ++ codes "\n"))) →
-    OnOk result (all ≡ old ++ last_line o past)
-unfolding last_line
-last_printed result o past word failed old first second all w f a b c =
-    let front = named (codes "word") word in
-    let rest = named_words (word_in u64_arithmetic o past) (further_words o) in
-    let end = codes " " ++ (named (codes "failed") failed ++ codes "\n") in
-    let whole : old ++ (front ++ (rest ++ end)) ≡ old ++ last_line o past = rw (w, f) refl in
-    let pieces : second ≡ (old ++ front) ++ rest = b ∙ ap (λ (l : List ℕ). l ++ rest) a in
-    printed_all result (λ is. is ∙ ap (λ (l : List ℕ). l ++ end) pieces ∙ append_assoc (old ++ front) rest end ∙ append_assoc old front (rest ++ end) ∙ whole) c
+module _ {T : Type 0} (z : Arithmetic T) (numerals : Numerals T) where
+  pub last_printed :
+      {A E : Type 0} (result : Result A E) (o : Object T) (past : List (Event T)) (word failed : ℕ) (old first second all : List ℕ) →
+      word ≡ word_in z o past words.State → failed ≡ min (failures_in past) (2 ^ 64 - 1) →
+      first ≡ old ++ named (codes "word") (decimal word) →
+      second ≡ first ++ further_words z numerals o (word_in z o past) →
+      OnOk result (all ≡ second ++ (codes " " ++ (named (codes "failed") (decimal failed) ++ codes "\n"))) →
+      OnOk result (all ≡ old ++ last_line z numerals o past)
+  unfolding last_line
+  last_printed result o past word failed old first second all w f a b c =
+      let front = named (codes "word") (decimal word) in
+      let rest = further_words z numerals o (word_in z o past) in
+      let end = codes " " ++ (named (codes "failed") (decimal failed) ++ codes "\n") in
+      let whole : old ++ (front ++ (rest ++ end)) ≡ old ++ last_line z numerals o past = rw (w, f) refl in
+      let pieces : second ≡ (old ++ front) ++ rest = b ∙ ap (λ (l : List ℕ). l ++ rest) a in
+      printed_all result (λ is. is ∙ ap (λ (l : List ℕ). l ++ end) pieces ∙ append_assoc (old ++ front) rest end ∙ append_assoc old front (rest ++ end) ∙ whole) c

@@ -15,15 +15,16 @@ use Rattle.sync_play.specs.declared.command.Task.TheVariants as tasks
 use Rattle.sync_play.specs.declared.fault.LineFault.{LineFault}
 use Rattle.sync_play.specs.declared.fault.LineFault.TheVariants as faults
 use Rattle.sync_play.specs.Fault.{◌>>=◌}
-use Rattle.sync_play.specs.Lexer.{number_within, nothing, only_number}
+use Rattle.sync_play.specs.Lexer.{number_within, nothing, only, only_number}
+use Rattle.sync_play.specs.Numerals.{Numerals}
 
 -- The tables: each verb, and what it asks.
 
-abbrev pub begins : Call ℕ → Form
+abbrev pub begins : {T : Type 0} → Call T → Form T
 begins call = forms.Alone (tasks.Give (inputs.Begin call))
 
 -- what every object knows
-abbrev pub verbs : List (List ℕ × Form)
+abbrev pub verbs : {T : Type 0} → List (List ℕ × Form T)
 verbs =
     (codes "go", forms.Steps)
     ∷ (codes "run", forms.Alone (tasks.Run 100000))
@@ -33,14 +34,14 @@ verbs =
     ∷ (codes "none", forms.Alone (tasks.Give (inputs.Choose None)))
     ∷ []
 
-abbrev pub mutex_calls : List (List ℕ × Form)
+abbrev pub mutex_calls : {T : Type 0} → List (List ℕ × Form T)
 mutex_calls =
     (codes "lock", begins calls.Lock)
     ∷ (codes "try_lock", begins calls.TryLock)
     ∷ (codes "unlock", begins calls.Unlock)
     ∷ []
 
-abbrev pub spin_calls : List (List ℕ × Form)
+abbrev pub spin_calls : {T : Type 0} → List (List ℕ × Form T)
 spin_calls =
     (codes "lock", begins calls.Lock)
     ∷ (codes "blocking_lock", begins calls.BlockingLock)
@@ -49,7 +50,7 @@ spin_calls =
     ∷ []
 
 -- a call that is named `wait` is written `start_wait`, since `wait` is the closure's answer
-abbrev pub semaphore_calls : List (List ℕ × Form)
+abbrev pub semaphore_calls : {T : Type 0} → List (List ℕ × Form T)
 semaphore_calls =
     (codes "value", begins calls.Value)
     ∷ (codes "post", forms.Permits)
@@ -58,7 +59,7 @@ semaphore_calls =
     ∷ []
 
 -- those of both reader-writer locks
-abbrev pub rw_lock_calls : List (List ℕ × Form)
+abbrev pub rw_lock_calls : {T : Type 0} → List (List ℕ × Form T)
 rw_lock_calls =
     (codes "read_lock", begins calls.ReadLock)
     ∷ (codes "try_read_lock", begins calls.TryReadLock)
@@ -67,11 +68,11 @@ rw_lock_calls =
     ∷ (codes "unlock", begins calls.Unlock)
     ∷ []
 
-abbrev pub barrier_calls : List (List ℕ × Form)
+abbrev pub barrier_calls : {T : Type 0} → List (List ℕ × Form T)
 barrier_calls = (codes "start_wait", begins calls.Wait) ∷ []
 
 -- its mutex's, and its own
-abbrev pub condvar_calls : List (List ℕ × Form)
+abbrev pub condvar_calls : {T : Type 0} → List (List ℕ × Form T)
 condvar_calls =
     mutex_calls
     ++ ((codes "notify_one", begins calls.NotifyOne)
@@ -79,16 +80,16 @@ condvar_calls =
     ∷ (codes "start_wait", begins calls.Wait)
     ∷ [])
 
-abbrev pub once_calls : List (List ℕ × Form)
+abbrev pub once_calls : {T : Type 0} → List (List ℕ × Form T)
 once_calls =
     (codes "call_once", begins calls.CallOnce)
     ∷ (codes "is_completed", begins calls.IsCompleted)
     ∷ []
 
-abbrev pub lazy_calls : List (List ℕ × Form)
+abbrev pub lazy_calls : {T : Type 0} → List (List ℕ × Form T)
 lazy_calls = (codes "force", begins calls.Force) ∷ []
 
-abbrev pub calls_of : Object ℕ → List (List ℕ × Form)
+abbrev pub calls_of : {T : Type 0} → Object T → List (List ℕ × Form T)
 calls_of objects.Mutex = mutex_calls
 calls_of objects.Spin = spin_calls
 calls_of (objects.Semaphore initial) = semaphore_calls
@@ -101,30 +102,30 @@ calls_of (objects.Lazy v) = lazy_calls
 calls_of o = []
 
 -- the first row of this name
-abbrev pub find : List ℕ → List (List ℕ × Form) → Option Form
+abbrev pub find : {T : Type 0} → List ℕ → List (List ℕ × Form T) → Option (Form T)
 find name [] = None
 find name (row ∷ rows) = if bytes_eq name row.0 then Some row.1 else find name rows
 
 -- The numbers that follow.
 
 -- `go` makes one step, or as many as it says
-abbrev pub steps_asked : List (List ℕ) → Result Task LineFault
+abbrev pub steps_asked : {T : Type 0} → List (List ℕ) → Result (Task T) LineFault
 steps_asked [] = Ok (tasks.Go 1)
 steps_asked (word ∷ words) = only_number 1 100000 (word ∷ words) >>= λ n. Ok (tasks.Go n)
 
-abbrev pub task_by : Form → List (List ℕ) → Result Task LineFault
-task_by (forms.Alone task) words = nothing words >>= λ _. Ok task
-task_by forms.Steps words = steps_asked words
-task_by forms.Choice words = only_number 0 (2 ^ 64 - 1) words >>= λ n. Ok (tasks.Give (inputs.Choose (Some n)))
-task_by forms.Permits words = only_number 0 (2 ^ 64 - 1) words >>= λ n. Ok (tasks.Give (inputs.Begin (calls.Post n)))
+abbrev pub task_by : {T : Type 0} → Numerals T → Form T → List (List ℕ) → Result (Task T) LineFault
+task_by numerals (forms.Alone task) words = nothing words >>= λ _. Ok task
+task_by numerals forms.Steps words = steps_asked words
+task_by numerals forms.Choice words = only numerals.value_of words >>= λ v. Ok (tasks.Give (inputs.Choose (Some v)))
+task_by numerals forms.Permits words = only_number 0 (2 ^ 64 - 1) words >>= λ n. Ok (tasks.Give (inputs.Begin (calls.Post n)))
 
 -- what a verb asks with the words after it; an unknown verb is a bad line
-abbrev pub task_if : Option Form → List (List ℕ) → Result Task LineFault
-task_if None words = Err faults.BadLine
-task_if (Some form) words = task_by form words
+abbrev pub task_if : {T : Type 0} → Numerals T → Option (Form T) → List (List ℕ) → Result (Task T) LineFault
+task_if numerals None words = Err faults.BadLine
+task_if numerals (Some form) words = task_by numerals form words
 
-unfoldable pub task_of : Object ℕ → List ℕ → List (List ℕ) → Result Task LineFault
-task_of o verb words = task_if (find verb (verbs ++ calls_of o)) words
+unfoldable pub task_of : {T : Type 0} → Numerals T → Object T → List ℕ → List (List ℕ) → Result (Task T) LineFault
+task_of numerals o verb words = task_if numerals (find verb (verbs ++ calls_of o)) words
 
 -- The line.
 
@@ -135,11 +136,11 @@ party_of (suc party) = Ok party
 
 -- The party and what it is asked. An unknown verb or a wrong count of words comes before a bad number, and a line without words asks
 -- nothing.
-unfoldable pub command_of : Object ℕ → List (List ℕ) → Result (Option Command) LineFault
-command_of o [] = Ok None
-command_of o (party ∷ []) = Err faults.BadLine
-command_of o (party ∷ verb ∷ words) = do
-  task ← task_of o verb words
+unfoldable pub command_of : {T : Type 0} → Numerals T → Object T → List (List ℕ) → Result (Option (Command T)) LineFault
+command_of numerals o [] = Ok None
+command_of numerals o (party ∷ []) = Err faults.BadLine
+command_of numerals o (party ∷ verb ∷ words) = do
+  task ← task_of numerals o verb words
   number ← number_within 0 (2 ^ 64 - 1) party
   from_zero ← party_of number
   Ok (Some (record { party = from_zero; task = task }))

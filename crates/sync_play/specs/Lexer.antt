@@ -1,5 +1,5 @@
 -- The lines of a text, the words of a line, and the numbers that words write.
-use Rattle.std.specs.Prelude.{ℕ, ◌+◌, ◌*◌, ◌-◌, ◌^◌, Bool, false, ◌&&◌, ◌||◌, ◌==◌, nat_le, nat_lt, if◌then◌else◌, List, [], ◌∷◌, Option, Some, None, Result, Ok, Err}
+use Rattle.std.specs.Prelude.{ℕ, ◌+◌, ◌*◌, ◌-◌, Bool, false, ◌&&◌, ◌||◌, ◌==◌, nat_le, nat_lt, if◌then◌else◌, List, [], ◌∷◌, Option, Some, None, Result, Ok, Err}
 use Rattle.std.specs.Char.{is_ascii_digit}
 use Rattle.sync_play.specs.declared.fault.LineFault.{LineFault}
 use Rattle.sync_play.specs.declared.fault.LineFault.TheVariants as faults
@@ -82,10 +82,10 @@ in_range low high (Some n) = if (nat_le low n && nat_le n high) then Ok n else E
 abbrev pub number_within : ℕ → ℕ → List ℕ → Result ℕ LineFault
 number_within low high word = in_range low high (number_of word)
 
--- a number that fits 64 bits
-abbrev pub fitting : Option ℕ → Option ℕ
-fitting None = None
-fitting (Some n) = if nat_lt n (2 ^ 64) then Some n else None
+-- a number below the bound
+abbrev pub fitting : ℕ → Option ℕ → Option ℕ
+fitting bound None = None
+fitting bound (Some n) = if nat_lt n bound then Some n else None
 
 -- What is left of a line.
 
@@ -94,8 +94,12 @@ abbrev pub nothing : List (List ℕ) → Result (Unit {0}) LineFault
 nothing [] = Ok tt
 nothing (word ∷ words) = Err faults.BadLine
 
+-- one word, which is read so
+abbrev pub only : {A : Type 0} → (List ℕ → Result A LineFault) → List (List ℕ) → Result A LineFault
+only read [] = Err faults.BadLine
+only read (word ∷ []) = read word
+only read (word ∷ other ∷ words) = Err faults.BadLine
+
 -- one word, and it is a number in a range
 abbrev pub only_number : ℕ → ℕ → List (List ℕ) → Result ℕ LineFault
-only_number low high [] = Err faults.BadLine
-only_number low high (word ∷ []) = number_within low high word
-only_number low high (word ∷ other ∷ words) = Err faults.BadLine
+only_number low high words = only (number_within low high) words

@@ -5,7 +5,7 @@ use Rattle.steps_events.specs.declared.event.Input.{Input}
 use Rattle.steps_events.specs.declared.event.Input.TheVariants as inputs
 use Rattle.steps_events.specs.declared.event.Object.{Object}
 use Rattle.steps_events.specs.declared.event.StepFault.{StepFault}
-use Rattle.steps_events.specs.Integers.{u64_arithmetic}
+use Rattle.steps_events.specs.Arithmetic.{Arithmetic}
 use Rattle.steps_events.specs.Moves.{Move}
 use Rattle.steps_events.specs.Sights.{goes_on}
 use Rattle.sync_steps.specs.Runs.{fault_of, move_of}
@@ -16,53 +16,54 @@ use Rattle.sync_play.specs.declared.fault.LineFault.{LineFault}
 use Rattle.sync_play.specs.declared.fault.LineFault.TheVariants as faults
 use Rattle.sync_play.specs.Fault.{◌>>=◌, line_fault_of}
 
-abbrev pub event_by : ℕ → Option (Move ℕ) → Result (Event ℕ) LineFault
+abbrev pub event_by : {T : Type 0} → ℕ → Option (Move T) → Result (Event T) LineFault
 event_by party (Some move) = Ok (record { party = party; act = move.act; «then» = move.outcome })
 event_by party None = Err faults.Idle
 
-abbrev pub unless_refused : Option StepFault → Result (Event ℕ) LineFault → Result (Event ℕ) LineFault
+abbrev pub unless_refused : {T : Type 0} → Option StepFault → Result (Event T) LineFault → Result (Event T) LineFault
 unless_refused None event = event
 unless_refused (Some fault) event = Err (line_fault_of fault)
 
--- the event that an input gives, or why it is refused
-unfoldable pub event_of : Object ℕ → ℕ → List (Event ℕ) → ℕ → Input ℕ → Result (Event ℕ) LineFault
-event_of o parties past party input =
-    unless_refused (fault_of u64_arithmetic o parties past party input)
-    (event_by party (move_of u64_arithmetic o past party input))
-
--- the events of a schedule
-unfoldable pub events_of : Object ℕ → ℕ → List (Event ℕ) → List (ℕ × Input ℕ) → Result (List (Event ℕ)) LineFault
-events_of o parties past [] = Ok []
-events_of o parties past (turn ∷ schedule) = do
-  event ← event_of o parties past turn.0 turn.1
-  events ← events_of o parties (event ∷ past) schedule
-  Ok (event ∷ events)
-
--- the events of the shortest list of `Go`, of at least one and at most so many, whose last event answers or stands at a closure
-unfoldable pub run_of : Object ℕ → ℕ → ℕ → List (Event ℕ) → ℕ → Result (List (Event ℕ)) LineFault
-run_of o parties zero past party = Err faults.StepLimit
-run_of o parties (suc steps) past party = do
-  event ← event_of o parties past party inputs.Go
-  if goes_on event.then
-      then (run_of o parties steps (event ∷ past) party >>= λ events. Ok (event ∷ events))
-      else Ok (event ∷ [])
-
 -- so many steps of a party
-unfoldable pub steps_of : ℕ → ℕ → List (ℕ × Input ℕ)
+unfoldable pub steps_of : {T : Type 0} → ℕ → ℕ → List (ℕ × Input T)
 steps_of zero party = []
 steps_of (suc steps) party = (party, inputs.Go) ∷ steps_of steps party
 
--- the events of a task
-abbrev pub task_events : Object ℕ → ℕ → List (Event ℕ) → ℕ → Task → Result (List (Event ℕ)) LineFault
-task_events o parties past party (tasks.Give input) = events_of o parties past ((party, input) ∷ [])
-task_events o parties past party (tasks.Go n) = events_of o parties past (steps_of n party)
-task_events o parties past party (tasks.Run limit) = run_of o parties limit past party
-
-abbrev pub command_events : Object ℕ → ℕ → List (Event ℕ) → Command → Result (List (Event ℕ)) LineFault
-command_events o parties past command = task_events o parties past command.party command.task
-
 -- how many steps a task makes at most
-abbrev pub steps_left : Task → ℕ
+abbrev pub steps_left : {T : Type 0} → Task T → ℕ
 steps_left (tasks.Give input) = 1
 steps_left (tasks.Go n) = n
 steps_left (tasks.Run limit) = limit
+
+module _ {T : Type 0} (z : Arithmetic T) where
+  -- the event that an input gives, or why it is refused
+  unfoldable pub event_of : Object T → ℕ → List (Event T) → ℕ → Input T → Result (Event T) LineFault
+  event_of o parties past party input =
+      unless_refused (fault_of z o parties past party input)
+      (event_by party (move_of z o past party input))
+
+  -- the events of a schedule
+  unfoldable pub events_of : Object T → ℕ → List (Event T) → List (ℕ × Input T) → Result (List (Event T)) LineFault
+  events_of o parties past [] = Ok []
+  events_of o parties past (turn ∷ schedule) = do
+    event ← event_of o parties past turn.0 turn.1
+    events ← events_of o parties (event ∷ past) schedule
+    Ok (event ∷ events)
+
+  -- the events of the shortest list of `Go`, of at least one and at most so many, whose last event answers or stands at a closure
+  unfoldable pub run_of : Object T → ℕ → ℕ → List (Event T) → ℕ → Result (List (Event T)) LineFault
+  run_of o parties zero past party = Err faults.StepLimit
+  run_of o parties (suc steps) past party = do
+    event ← event_of o parties past party inputs.Go
+    if goes_on event.then
+        then (run_of o parties steps (event ∷ past) party >>= λ events. Ok (event ∷ events))
+        else Ok (event ∷ [])
+
+  -- the events of a task
+  abbrev pub task_events : Object T → ℕ → List (Event T) → ℕ → Task T → Result (List (Event T)) LineFault
+  task_events o parties past party (tasks.Give input) = events_of o parties past ((party, input) ∷ [])
+  task_events o parties past party (tasks.Go n) = events_of o parties past (steps_of n party)
+  task_events o parties past party (tasks.Run limit) = run_of o parties limit past party
+
+  abbrev pub command_events : Object T → ℕ → List (Event T) → Command T → Result (List (Event T)) LineFault
+  command_events o parties past command = task_events o parties past command.party command.task

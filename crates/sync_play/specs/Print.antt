@@ -4,6 +4,7 @@ use Rattle.std.specs.Fmt.{decimal}
 use Rattle.std.specs.List.{flat_map}
 use Rattle.steps_events.specs.declared.event.Word.{Word}
 use Rattle.steps_events.specs.declared.event.Word.TheVariants as words
+use Rattle.steps_events.specs.declared.event.Wake.{Wake}
 use Rattle.steps_events.specs.declared.event.Wake.TheVariants as wakes
 use Rattle.steps_events.specs.declared.event.Act.{Act}
 use Rattle.steps_events.specs.declared.event.Act.TheVariants as acts
@@ -14,73 +15,77 @@ use Rattle.steps_events.specs.declared.event.Then.TheVariants as thens
 use Rattle.steps_events.specs.declared.event.Event.{Event}
 use Rattle.steps_events.specs.declared.event.Object.{Object}
 use Rattle.steps_events.specs.declared.event.Object.TheVariants as objects
-use Rattle.steps_events.specs.Integers.{u64_arithmetic}
+use Rattle.steps_events.specs.Arithmetic.{Arithmetic}
 use Rattle.steps_events.specs.Past.{failures_in}
 use Rattle.sync_steps.specs.Runs.{word_in}
+use Rattle.sync_play.specs.Numerals.{Numerals}
 
 -- a line of a party, whose number is counted from 1
 abbrev pub party_line : ℕ → List ℕ → List ℕ
 party_line party words = decimal (party + 1) ++ (codes " " ++ (words ++ codes "\n"))
 
-abbrev pub answer_words : Answer ℕ → List ℕ
-answer_words answers.Success = codes "success"
-answer_words answers.Interrupted = codes "interrupted"
-answer_words answers.InterruptedHeld = codes "interrupted held"
-answer_words answers.Done = codes "done"
-answer_words answers.Ok = codes "ok"
-answer_words answers.Full = codes "full"
-answer_words (answers.Number n) = decimal n
-answer_words (answers.Flag true) = codes "true"
-answer_words (answers.Flag false) = codes "false"
-answer_words (answers.Value n) = decimal n
-answer_words (answers.OkOld n) = codes "ok " ++ decimal n
-answer_words (answers.ErrOld n) = codes "err " ++ decimal n
+abbrev pub answer_words : {T : Type 0} → Numerals T → Answer T → List ℕ
+answer_words numerals answers.Success = codes "success"
+answer_words numerals answers.Interrupted = codes "interrupted"
+answer_words numerals answers.InterruptedHeld = codes "interrupted held"
+answer_words numerals answers.Done = codes "done"
+answer_words numerals answers.Ok = codes "ok"
+answer_words numerals answers.Full = codes "full"
+answer_words numerals (answers.Number n) = decimal n
+answer_words numerals (answers.Flag true) = codes "true"
+answer_words numerals (answers.Flag false) = codes "false"
+answer_words numerals (answers.Value v) = numerals.decimal_of v
+answer_words numerals (answers.OkOld v) = codes "ok " ++ numerals.decimal_of v
+answer_words numerals (answers.ErrOld v) = codes "err " ++ numerals.decimal_of v
 
 -- a call of a wake closure
-abbrev pub act_line : ℕ → Act ℕ → List ℕ
-act_line party (acts.Woke wakes.One) = party_line party (codes "wakes one")
-act_line party (acts.Woke wakes.All) = party_line party (codes "wakes all")
+abbrev pub wake_line : ℕ → Wake → List ℕ
+wake_line party wakes.One = party_line party (codes "wakes one")
+wake_line party wakes.All = party_line party (codes "wakes all")
+
+abbrev pub act_line : {T : Type 0} → ℕ → Act T → List ℕ
+act_line party (acts.Woke wake) = wake_line party wake
 act_line party act = []
 
 -- how the call stands then
-abbrev pub then_line : ℕ → Then ℕ → List ℕ
-then_line party thens.GoesOn = []
-then_line party (thens.Waits seen) = party_line party (codes "waits " ++ decimal seen)
-then_line party (thens.Chooses old) = party_line party (codes "chooses " ++ decimal old)
-then_line party (thens.Answers answer) = party_line party (answer_words answer)
+abbrev pub then_line : {T : Type 0} → Numerals T → ℕ → Then T → List ℕ
+then_line numerals party thens.GoesOn = []
+then_line numerals party (thens.Waits seen) = party_line party (codes "waits " ++ decimal seen)
+then_line numerals party (thens.Chooses old) = party_line party (codes "chooses " ++ numerals.decimal_of old)
+then_line numerals party (thens.Answers answer) = party_line party (answer_words numerals answer)
 
-abbrev pub event_lines : Event ℕ → List ℕ
-event_lines e = act_line e.party e.act ++ then_line e.party e.then
+abbrev pub event_lines : {T : Type 0} → Numerals T → Event T → List ℕ
+event_lines numerals e = act_line e.party e.act ++ then_line numerals e.party e.then
 
-abbrev pub printed : List (Event ℕ) → List ℕ
-printed events = flat_map event_lines events
+abbrev pub printed : {T : Type 0} → Numerals T → List (Event T) → List ℕ
+printed numerals events = flat_map (event_lines numerals) events
 
 -- The last line: what the run has left.
 
 -- a number by its name
-abbrev pub named : List ℕ → ℕ → List ℕ
-named name n = name ++ (codes " " ++ decimal n)
+abbrev pub named : List ℕ → List ℕ → List ℕ
+named name number = name ++ (codes " " ++ number)
 
--- the words that it tells after the first, and by which names
-abbrev pub further_words : Object ℕ → List (List ℕ × Word)
-further_words objects.Mutex = []
-further_words objects.Spin = []
-further_words (objects.Semaphore initial) = []
-further_words (objects.Barrier n) = []
-further_words objects.ReaderLock = []
-further_words objects.WriterLock = (codes "counter", words.Counter) ∷ []
-further_words objects.Condvar = (codes "waiters", words.Waiters) ∷ (codes "value", words.Value) ∷ []
-further_words objects.Once = []
-further_words (objects.Lazy v) = []
-further_words (objects.Atomic v) = []
+-- what an object's words hold in this memory after the first, by their names; of an atomic the value of its two words
+abbrev pub further : {T : Type 0} → Arithmetic T → Numerals T → Object T → (Word → ℕ) → List (List ℕ × List ℕ)
+further z numerals objects.Mutex memory = []
+further z numerals objects.Spin memory = []
+further z numerals (objects.Semaphore initial) memory = []
+further z numerals (objects.Barrier n) memory = []
+further z numerals objects.ReaderLock memory = []
+further z numerals objects.WriterLock memory = (codes "counter", decimal (memory words.Counter)) ∷ []
+further z numerals objects.Condvar memory = (codes "waiters", decimal (memory words.Waiters)) ∷ (codes "value", decimal (memory words.Value)) ∷ []
+further z numerals objects.Once memory = []
+further z numerals (objects.Lazy v) memory = []
+further z numerals (objects.Atomic v) memory = (codes "value", numerals.decimal_of (z.of_words (memory words.Low) (memory words.High))) ∷ []
 
--- what words hold in this memory, by their names, each after a space
-abbrev pub named_words : (Word → ℕ) → List (List ℕ × Word) → List ℕ
-named_words memory rows = flat_map (λ row. codes " " ++ named row.0 (memory row.1)) rows
+-- each after a space
+abbrev pub further_words : {T : Type 0} → Arithmetic T → Numerals T → Object T → (Word → ℕ) → List ℕ
+further_words z numerals o memory = flat_map (λ row. codes " " ++ named row.0 row.1) (further z numerals o memory)
 
 -- the first word, the further ones, and how many exchanges failed
-abbrev pub line_of_words : (Word → ℕ) → List (List ℕ × Word) → ℕ → List ℕ
-line_of_words memory rows failed = named (codes "word") (memory words.State) ++ (named_words memory rows ++ (codes " " ++ (named (codes "failed") failed ++ codes "\n")))
+abbrev pub line_of_words : ℕ → List ℕ → ℕ → List ℕ
+line_of_words word more failed = named (codes "word") (decimal word) ++ (more ++ (codes " " ++ (named (codes "failed") (decimal failed) ++ codes "\n")))
 
-unfoldable pub last_line : Object ℕ → List (Event ℕ) → List ℕ
-last_line o past = line_of_words (word_in u64_arithmetic o past) (further_words o) (min (failures_in past) (2 ^ 64 - 1))
+unfoldable pub last_line : {T : Type 0} → Arithmetic T → Numerals T → Object T → List (Event T) → List ℕ
+last_line z numerals o past = line_of_words (word_in z o past words.State) (further_words z numerals o (word_in z o past)) (min (failures_in past) (2 ^ 64 - 1))

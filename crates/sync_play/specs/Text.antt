@@ -2,6 +2,8 @@
 use Rattle.std.specs.Prelude.{ℕ, ◌+◌, List, [], ◌∷◌, ◌++◌, Option, Some, None, Result, Ok, Err}
 use Rattle.steps_events.specs.declared.event.Event.{Event}
 use Rattle.steps_events.specs.declared.event.Object.{Object}
+use Rattle.steps_events.specs.Arithmetic.{Arithmetic}
+use Rattle.steps_events.specs.Integers.{u64_arithmetic}
 use Rattle.steps_events.specs.Runs.{after}
 use Rattle.sync_play.specs.declared.command.Command.{Command}
 use Rattle.sync_play.specs.declared.fault.FaultyLine.{FaultyLine}
@@ -13,30 +15,32 @@ use Rattle.sync_play.specs.Header.{header_of}
 use Rattle.sync_play.specs.Lexer.{lines_of, words_of}
 use Rattle.sync_play.specs.Player.{command_events}
 use Rattle.sync_play.specs.Print.{printed, last_line}
+use Rattle.sync_play.specs.Numerals.{Numerals, u64_numerals}
 
--- a line without words asks nothing
-abbrev pub events_asked : Object ℕ → ℕ → List (Event ℕ) → Option Command → Result (List (Event ℕ)) LineFault
-events_asked o parties past None = Ok []
-events_asked o parties past (Some command) = command_events o parties past command
+module _ {T : Type 0} (z : Arithmetic T) (numerals : Numerals T) where
+  -- a line without words asks nothing
+  abbrev pub events_asked : Object T → ℕ → List (Event T) → Option (Command T) → Result (List (Event T)) LineFault
+  events_asked o parties past None = Ok []
+  events_asked o parties past (Some command) = command_events z o parties past command
 
--- the events of a line after the events so far
-unfoldable pub line_events : Object ℕ → ℕ → List (Event ℕ) → List (List ℕ) → Result (List (Event ℕ)) LineFault
-line_events o parties past words = command_of o words >>= λ asked. events_asked o parties past asked
+  -- the events of a line after the events so far
+  unfoldable pub line_events : Object T → ℕ → List (Event T) → List (List ℕ) → Result (List (Event T)) LineFault
+  line_events o parties past words = command_of numerals o words >>= λ asked. events_asked o parties past asked
 
--- what the lines from line `number` on print after the events so far, newest first
-unfoldable pub output_after : Object ℕ → ℕ → ℕ → List (List ℕ) → List (Event ℕ) → Result (List ℕ) FaultyLine
-output_after o parties number [] past = Ok (last_line o past)
-output_after o parties number (line ∷ lines) past = do
-  events ← at_line number (line_events o parties past (words_of line))
-  rest ← output_after o parties (number + 1) lines (after events past)
-  Ok (printed events ++ rest)
+  -- what the lines from line `number` on print after the events so far, newest first
+  unfoldable pub output_after : Object T → ℕ → ℕ → List (List ℕ) → List (Event T) → Result (List ℕ) FaultyLine
+  output_after o parties number [] past = Ok (last_line z numerals o past)
+  output_after o parties number (line ∷ lines) past = do
+    events ← at_line number (line_events o parties past (words_of line))
+    rest ← output_after o parties (number + 1) lines (after events past)
+    Ok (printed numerals events ++ rest)
 
-unfoldable pub output_of_lines : List (List ℕ) → Result (List ℕ) FaultyLine
-output_of_lines [] = Err (record { line = 1; fault = faults.NoObject })
-output_of_lines (line ∷ lines) = do
-  header ← at_line 1 (header_of (words_of line))
-  output_after header.object header.parties 2 lines []
+  -- the lines of the run of all the text's inputs, and then the last line
+  unfoldable pub typed_output : List (List ℕ) → Result (List ℕ) FaultyLine
+  typed_output [] = Err (record { line = 1; fault = faults.NoObject })
+  typed_output (line ∷ lines) = do
+    header ← at_line 1 (header_of numerals (words_of line))
+    output_after header.object header.parties 2 lines []
 
--- the lines of the run of all the text's inputs, and then the last line
 abbrev pub output_of : List ℕ → Result (List ℕ) FaultyLine
-output_of text = output_of_lines (lines_of text)
+output_of text = typed_output u64_arithmetic u64_numerals (lines_of text)

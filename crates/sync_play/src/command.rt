@@ -4,7 +4,8 @@ ghost use Rattle.sync_play.specs.Lexer.{words_of};
 ghost use Rattle.sync_play.specs.Command as meaning;
 
 use crate::fault::LineFault;
-use crate::lexer::{is, next_word, nothing, number_within, only_number};
+use crate::integer::TextInteger;
+use crate::lexer::{is, next_word, nothing, number_within, only_number, only_value};
 use sync_steps::WaitAction;
 use sync_steps::steps::{Call, Input, Object};
 
@@ -13,9 +14,9 @@ pub const STEP_LIMIT: u64 = 100000;
 
 /// What is asked of a party, or what is left of it.
 #[derive(Clone, Copy)]
-pub enum Task {
+pub enum Task<T> {
     /// One input.
-    Give(Input<u64>),
+    Give(Input<T>),
     /// So many steps.
     Go(u64),
     /// Steps until the call has answered or stands at a closure, and at most so many.
@@ -24,16 +25,16 @@ pub enum Task {
 
 /// A party, counted from 0, and what is asked of it.
 #[derive(Clone, Copy)]
-pub struct Command {
+pub struct Command<T> {
     pub party: usize,
-    pub task: Task,
+    pub task: Task<T>,
 }
 
 /// What a verb asks, and the numbers that follow it.
 #[derive(Clone, Copy)]
-enum Form {
+enum Form<T> {
     /// This task; no number follows.
-    Alone(Task),
+    Alone(Task<T>),
     /// Steps: one, or as many as the number says that may follow.
     Steps,
     /// An answer of the choice closure, with its value.
@@ -43,14 +44,14 @@ enum Form {
 }
 
 /// A call that no number follows.
-fn begins(call: Call<u64>) -> Form
+fn begins<T>(call: Call<T>) -> Form<T>
     ensures { result ≡ meaning.begins call }
 {
     Form::Alone(Task::Give(Input::Begin(call)))
 }
 
 /// The verbs that every object knows.
-fn verb(name: &[u8]) -> Option<Form>
+fn verb<T>(name: &[u8]) -> Option<Form<T>>
     ensures { result ≡ meaning.find name.now meaning.verbs }
 {
     if is(name, b"go") {
@@ -70,7 +71,7 @@ fn verb(name: &[u8]) -> Option<Form>
     }
 }
 
-fn mutex_call(name: &[u8]) -> Option<Form>
+fn mutex_call<T>(name: &[u8]) -> Option<Form<T>>
     ensures { result ≡ meaning.find name.now meaning.mutex_calls }
 {
     if is(name, b"lock") {
@@ -84,7 +85,7 @@ fn mutex_call(name: &[u8]) -> Option<Form>
     }
 }
 
-fn spin_call(name: &[u8]) -> Option<Form>
+fn spin_call<T>(name: &[u8]) -> Option<Form<T>>
     ensures { result ≡ meaning.find name.now meaning.spin_calls }
 {
     if is(name, b"lock") {
@@ -101,7 +102,7 @@ fn spin_call(name: &[u8]) -> Option<Form>
 }
 
 /// A call that is named `wait` is written `start_wait`, since `wait` is the closure's answer.
-fn semaphore_call(name: &[u8]) -> Option<Form>
+fn semaphore_call<T>(name: &[u8]) -> Option<Form<T>>
     ensures { result ≡ meaning.find name.now meaning.semaphore_calls }
 {
     if is(name, b"value") {
@@ -118,7 +119,7 @@ fn semaphore_call(name: &[u8]) -> Option<Form>
 }
 
 /// The calls of both reader-writer locks.
-fn rw_lock_call(name: &[u8]) -> Option<Form>
+fn rw_lock_call<T>(name: &[u8]) -> Option<Form<T>>
     ensures { result ≡ meaning.find name.now meaning.rw_lock_calls }
 {
     if is(name, b"read_lock") {
@@ -137,7 +138,7 @@ fn rw_lock_call(name: &[u8]) -> Option<Form>
 }
 
 /// Its one call is written `start_wait`, as a semaphore's.
-fn barrier_call(name: &[u8]) -> Option<Form>
+fn barrier_call<T>(name: &[u8]) -> Option<Form<T>>
     ensures { result ≡ meaning.find name.now meaning.barrier_calls }
 {
     if is(name, b"start_wait") {
@@ -148,7 +149,7 @@ fn barrier_call(name: &[u8]) -> Option<Form>
 }
 
 /// The calls of its mutex, and its own.
-fn condvar_call(name: &[u8]) -> Option<Form>
+fn condvar_call<T>(name: &[u8]) -> Option<Form<T>>
     ensures { result ≡ meaning.find name.now meaning.condvar_calls }
 {
     if is(name, b"notify_one") {
@@ -162,7 +163,7 @@ fn condvar_call(name: &[u8]) -> Option<Form>
     }
 }
 
-fn once_call(name: &[u8]) -> Option<Form>
+fn once_call<T>(name: &[u8]) -> Option<Form<T>>
     ensures { result ≡ meaning.find name.now meaning.once_calls }
 {
     if is(name, b"call_once") {
@@ -174,7 +175,7 @@ fn once_call(name: &[u8]) -> Option<Form>
     }
 }
 
-fn lazy_call(name: &[u8]) -> Option<Form>
+fn lazy_call<T>(name: &[u8]) -> Option<Form<T>>
     ensures { result ≡ meaning.find name.now meaning.lazy_calls }
 {
     if is(name, b"force") {
@@ -185,7 +186,7 @@ fn lazy_call(name: &[u8]) -> Option<Form>
 }
 
 /// The calls of an object.
-fn named_call(object: Object<u64>, name: &[u8]) -> Option<Form>
+fn named_call<T: Copy>(object: Object<T>, name: &[u8]) -> Option<Form<T>>
     ensures { result ≡ meaning.find name.now (meaning.calls_of object) }
 {
     match object {
@@ -202,7 +203,7 @@ fn named_call(object: Object<u64>, name: &[u8]) -> Option<Form>
 }
 
 /// As many steps as the number says, or one where none follows.
-fn steps(rest: &[u8]) -> Result<Task, LineFault>
+fn steps<T>(rest: &[u8]) -> Result<Task<T>, LineFault>
     ensures { result ≡ meaning.steps_asked (words_of rest.now) }
 {
     match next_word(rest) {
@@ -212,8 +213,8 @@ fn steps(rest: &[u8]) -> Result<Task, LineFault>
 }
 
 /// The task that a verb asks with the words after it.
-fn with_numbers(form: Form, rest: &[u8]) -> Result<Task, LineFault>
-    ensures { result ≡ meaning.task_by form (words_of rest.now) }
+fn with_numbers<T: TextInteger>(form: Form<T>, rest: &[u8]) -> Result<Task<T>, LineFault>
+    ensures { result ≡ meaning.task_by T.numerals form (words_of rest.now) }
 {
     match form {
         Form::Alone(task) => {
@@ -222,7 +223,7 @@ fn with_numbers(form: Form, rest: &[u8]) -> Result<Task, LineFault>
         }
         Form::Steps => steps(rest),
         Form::Choice => {
-            let value = only_number(0, u64::MAX, rest)?;
+            let value = only_value(rest)?;
             Ok(Task::Give(Input::Choose(Some(value))))
         }
         Form::Permits => {
@@ -233,8 +234,12 @@ fn with_numbers(form: Form, rest: &[u8]) -> Result<Task, LineFault>
 }
 
 /// What the words of a verb and after it ask of the object.
-fn task_of(object: Object<u64>, name: &[u8], rest: &[u8]) -> Result<Task, LineFault>
-    ensures { result ≡ meaning.task_of object name.now (words_of rest.now) }
+fn task_of<T: TextInteger>(
+    object: Object<T>,
+    name: &[u8],
+    rest: &[u8],
+) -> Result<Task<T>, LineFault>
+    ensures { result ≡ meaning.task_of T.numerals object name.now (words_of rest.now) }
 {
     if let Some(form) = verb(name) {
         return with_numbers(form, rest);
@@ -255,14 +260,14 @@ fn party(number: u64) -> Result<usize, LineFault>
     }
 }
 
-impl Command {
+impl<T: TextInteger> Command<T> {
     /// Reads a line after the first: `<party> <verb>`, and the numbers that the verb wants. `None` where the line has no word.
     ///
     /// An unknown verb and another count of words are `BadLine`, then a number that is none or out of its range is
     /// `BadNumber`, and then party 0 is `NoParty`. A party that the object has not is refused when the command is played.
     #[tactic(auto, unfolding(crate::specs::Command::command_of))]
-    pub fn parse(object: Object<u64>, line: &[u8]) -> Result<Option<Command>, LineFault>
-        ensures { result ≡ meaning.command_of object (words_of line.now) }
+    pub fn parse(object: Object<T>, line: &[u8]) -> Result<Option<Command<T>>, LineFault>
+        ensures { result ≡ meaning.command_of T.numerals object (words_of line.now) }
     {
         let Some((number, rest)) = next_word(line) else {
             return Ok(None);

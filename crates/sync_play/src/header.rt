@@ -1,9 +1,10 @@
 //! What the first line names.
 ghost use Rattle.std.specs.Prelude.{◌≡◌, ◌≤◌, true, List, IfOk};
-ghost use Rattle.sync_play.specs.Lexer.{words_of};
+ghost use Rattle.sync_play.specs.Lexer.{words_of, number_within};
 ghost use Rattle.sync_play.specs.Header as meaning;
 
 use crate::fault::LineFault;
+use crate::integer::TextInteger;
 use crate::lexer::{is, next_word, number_within, only_number};
 use sync_steps::steps::Object;
 
@@ -12,8 +13,8 @@ pub const MOST_PARTIES: u64 = 64;
 
 /// An object, and how many parties use it.
 #[derive(Clone, Copy)]
-pub struct Header {
-    pub object: Object<u64>,
+pub struct Header<T> {
+    pub object: Object<T>,
     pub parties: usize,
 }
 
@@ -25,9 +26,9 @@ fn parties(rest: &[u8]) -> Result<usize, LineFault>
     Ok(parties as usize)
 }
 
-/// The parties of an object that is opened with a value, and the value.
-fn parties_and_value(greatest: u64, rest: &[u8]) -> Result<(usize, u64), LineFault>
-    ensures read { result ≡ meaning.parties_and_value greatest (words_of rest.now) }
+/// The parties of an object that is opened with a number of at most so much, and the number.
+fn parties_and_number(greatest: u64, rest: &[u8]) -> Result<(usize, u64), LineFault>
+    ensures read { result ≡ meaning.parties_and (number_within 0 greatest) (words_of rest.now) }
     ensures within { IfOk result (λ opened. opened.1 ≤ greatest) }
 {
     let Some((parties, rest)) = next_word(rest) else {
@@ -46,14 +47,34 @@ fn parties_and_value(greatest: u64, rest: &[u8]) -> Result<(usize, u64), LineFau
     }
 }
 
-impl Header {
+/// The parties of an object that is opened with a value, and the value.
+fn parties_and_value<T: TextInteger>(rest: &[u8]) -> Result<(usize, T), LineFault>
+    ensures { result ≡ meaning.parties_and T.numerals.value_of (words_of rest.now) }
+{
+    let Some((parties, rest)) = next_word(rest) else {
+        return Err(LineFault::BadLine);
+    };
+    let Some((value, rest)) = next_word(rest) else {
+        return Err(LineFault::BadLine);
+    };
+    match next_word(rest) {
+        None => {
+            let parties = number_within(1, MOST_PARTIES, parties)?;
+            let value = T::parse(value)?;
+            Ok((parties as usize, value))
+        }
+        Some(_) => Err(LineFault::BadLine),
+    }
+}
+
+impl<T: TextInteger> Header<T> {
     /// Reads the first line: `<object> <parties>`, and a value where the object is opened with one.
     ///
     /// Another first word is `NoObject`, another count of words `BadLine`, and then a number that is none or out of its range
     /// `BadNumber`. There may be 1 to 64 parties.
     #[tactic(auto, unfolding(crate::specs::Header::header_of))]
-    pub fn parse(line: &[u8]) -> Result<Header, LineFault>
-        ensures value { result ≡ meaning.header_of (words_of line.now) }
+    pub fn parse(line: &[u8]) -> Result<Header<T>, LineFault>
+        ensures value { result ≡ meaning.header_of T.numerals (words_of line.now) }
     {
         let Some((name, rest)) = next_word(line) else {
             return Err(LineFault::NoObject);
@@ -71,13 +92,13 @@ impl Header {
                 parties,
             })
         } else if is(name, b"semaphore") {
-            let (parties, initial) = parties_and_value(u64::MAX, rest)?;
+            let (parties, initial) = parties_and_number(u64::MAX, rest)?;
             Ok(Header {
                 object: Object::Semaphore(initial),
                 parties,
             })
         } else if is(name, b"barrier") {
-            let (parties, number_of_waiters) = parties_and_value(u64::from(u32::MAX), rest)?;
+            let (parties, number_of_waiters) = parties_and_number(u64::from(u32::MAX), rest)?;
             Ok(Header {
                 object: Object::Barrier(number_of_waiters as u32),
                 parties,
@@ -107,7 +128,7 @@ impl Header {
                 parties,
             })
         } else if is(name, b"lazy") {
-            let (parties, value) = parties_and_value(u64::MAX, rest)?;
+            let (parties, value) = parties_and_value(rest)?;
             Ok(Header {
                 object: Object::Lazy(value),
                 parties,

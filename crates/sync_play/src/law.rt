@@ -2,9 +2,11 @@
 ghost use Rattle.sync_play.specs.Law.{OutputsAreRuns, RunsAreOutputs, FaultsAreRefusals, RefusalsAreFaults, EndsInItsLine};
 ghost use Rattle.sync_play.specs.WalkOutput.{WalksAreOutputs};
 
+use crate::integer::TextInteger;
+
 /// The walk of a text is what is played of it: its output is what the events of the walk's steps print, and its fault is the walk's.
-pub fn walks_are_outputs()
-    ensures { WalksAreOutputs }
+pub fn walks_are_outputs<T: TextInteger>()
+    ensures { WalksAreOutputs T.arithmetic T.numerals }
 {}
 
 /// A text has this output where it is what the events of a run of all the text's inputs print, and then the last line, and

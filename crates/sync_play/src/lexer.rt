@@ -1,9 +1,10 @@
 //! The lines of a text, the words of a line, and the numbers that words write.
-ghost use Rattle.std.specs.Prelude.{◌≡◌, ◌<◌, ◌≤◌, ◌==◌, List, length, not, position, IfSome, IfOk};
+ghost use Rattle.std.specs.Prelude.{◌≡◌, ◌<◌, ◌≤◌, ◌==◌, ◌^◌, List, length, not, position, IfSome, IfOk};
 ghost use Rattle.std.specs.Str.{bytes_eq};
 ghost use Rattle.sync_play.specs.Lexer as meaning;
 
 use crate::fault::LineFault;
+use crate::integer::TextInteger;
 
 /// The place of the first line feed.
 fn feed_at(text: &[u8]) -> Option<usize>
@@ -77,7 +78,7 @@ pub fn is(word: &[u8], name: &[u8]) -> bool
 
 /// The number of a word of decimal digits, where it fits 64 bits.
 fn number(word: &[u8]) -> Option<u64>
-    ensures { result ≡ meaning.fitting (meaning.number_of word.now) }
+    ensures { result ≡ meaning.fitting (2 ^ 64) (meaning.number_of word.now) }
 {
     if word.is_empty() {
         return None;
@@ -124,6 +125,19 @@ pub fn only_number(low: u64, high: u64, rest: &[u8]) -> Result<u64, LineFault>
     };
     match next_word(rest) {
         None => number_within(low, high, word),
+        Some(_) => Err(LineFault::BadLine),
+    }
+}
+
+/// The value that alone is left of a line.
+pub fn only_value<T: TextInteger>(rest: &[u8]) -> Result<T, LineFault>
+    ensures { result ≡ meaning.only T.numerals.value_of (meaning.words_of rest.now) }
+{
+    let Some((word, rest)) = next_word(rest) else {
+        return Err(LineFault::BadLine);
+    };
+    match next_word(rest) {
+        None => T::parse(word),
         Some(_) => Err(LineFault::BadLine),
     }
 }

@@ -1,6 +1,5 @@
 //! Plays a command stride by stride.
 ghost use Rattle.std.specs.Prelude.{◌≡◌, ◌<◌, ℕ, List, IfOk, OnErr, IfSome};
-ghost use Rattle.steps_events.specs.Integers.{u64_arithmetic};
 ghost use Rattle.steps_events.specs.Sights.{goes_on};
 ghost use Rattle.sync_steps.specs.Machine.{StandsAt};
 ghost use Rattle.sync_steps.specs.Machine.Strides.{IsQuiet};
@@ -11,11 +10,12 @@ ghost use Rattle.sync_play.specs.Walk as meaning;
 
 use crate::command::{Command, Task};
 use crate::fault::LineFault;
+use steps_events::atomic::internal::AtomicInteger;
 use sync_steps::steps::{Machine, Stride, Then};
 
 /// Whether a call goes on by itself.
 #[inline(always)]
-fn goes_on(then: &Then<u64>) -> bool
+fn goes_on<T>(then: &Then<T>) -> bool
     ensures { result ≡ goes_on then.now }
 {
     match then {
@@ -29,12 +29,12 @@ fn goes_on(then: &Then<u64>) -> bool
 ///
 /// After a fault the machine and `left` are as they were. It takes no memory.
 #[inline(always)]
-pub fn next_events(
-    machine: &mut Machine<u64>,
-    left: &mut Command,
-) -> Result<Option<Stride<u64>>, LineFault>
-    ensures turn { (o : AnObject ℕ) (parties : ℕ) (past : List (AnEvent ℕ)) → StandsAt u64_arithmetic o parties past machine.old →
-        meaning.IsTurn o parties past left.old left.new machine.new result }
+pub fn next_events<T: AtomicInteger>(
+    machine: &mut Machine<T>,
+    left: &mut Command<T>,
+) -> Result<Option<Stride<T>>, LineFault>
+    ensures turn { (o : AnObject T) (parties : ℕ) (past : List (AnEvent T)) → StandsAt T.arithmetic o parties past machine.old →
+        meaning.IsTurn T.arithmetic o parties past left.old left.new machine.new result }
     ensures some { IfOk result (λ stride. IfSome stride (λ s. 0 < s.times)) }
     ensures quiet { IfOk result (λ stride. IfSome stride (λ s. 1 < s.times → IsQuiet s.event)) }
     ensures shorter { IfOk result (λ stride. IfSome stride (λ _. steps_left left.new.task < steps_left left.old.task)) }

@@ -1,6 +1,5 @@
 //! Walks a text step by step.
 ghost use Rattle.std.specs.Prelude.{◌≡◌, ◌+◌, ◌^◌, ◌<◌, ℕ, true, List, length, Ok, Err, IfOk, IfErr, IfSome};
-ghost use Rattle.steps_events.specs.Integers.{u64_arithmetic};
 ghost use Rattle.sync_steps.specs.Machine.{StandsAt};
 ghost use Rattle.steps_events.specs.declared.event.Event.{Event as AnEvent};
 ghost use Rattle.steps_events.specs.declared.event.Object.{Object as AnObject};
@@ -12,54 +11,59 @@ ghost use Rattle.sync_play.specs.Walk as meaning;
 use crate::command::{Command, Task};
 use crate::fault::{FaultyLine, LineFault};
 use crate::header::Header;
+use crate::integer::TextInteger;
 use crate::lexer::next_line;
 use crate::player::next_events;
 use sync_steps::steps::{Event, Machine, Object};
 
 /// An event, and the line that asked for it, counted from 1.
 #[derive(Clone, Copy)]
-pub struct Step {
+pub struct Step<T> {
     pub line: u64,
-    pub event: Event<u64>,
+    pub event: Event<T>,
 }
 
 /// Equal steps in a row: one, or those of a call that spins.
 #[derive(Clone, Copy)]
-pub struct Stride {
-    pub step: Step,
+pub struct Stride<T> {
+    pub step: Step<T>,
     pub times: u64,
 }
 
 /// What is left of a text: of line `line` what `left` asks, and all the lines after it.
 #[derive(Clone, Copy)]
-pub struct Rest<'t> {
+pub struct Rest<'t, T> {
     pub line: u64,
-    pub left: Command,
+    pub left: Command<T>,
     pub lines: &'t [u8],
 }
 
 /// What asks for no step.
-const NOTHING: Command = Command {
-    party: 0,
-    task: Task::Go(0),
-};
+fn nothing<T>() -> Command<T>
+    ensures { result ≡ meaning.nothing }
+{
+    Command {
+        party: 0,
+        task: Task::Go(0),
+    }
+}
 
 /// What a line asks; one without words asks for no step.
-fn asked(object: Object<u64>, line: &[u8]) -> Result<Command, LineFault>
-    ensures asked { result ≡ meaning.asked object (words_of line.now) }
+fn asked<T: TextInteger>(object: Object<T>, line: &[u8]) -> Result<Command<T>, LineFault>
+    ensures asked { result ≡ meaning.asked T.numerals object (words_of line.now) }
     ensures within { IfOk result (λ command. steps_left command.task < 2 ^ 64) }
 {
     match Command::parse(object, line) {
         Ok(Some(command)) => Ok(command),
-        Ok(None) => Ok(NOTHING),
+        Ok(None) => Ok(nothing()),
         Err(fault) => Err(fault),
     }
 }
 
 /// The object that the first line of a text opens, and what is left of the text then; or why it opens none.
-pub fn open(text: &[u8]) -> Result<(Header, Rest<'_>), FaultyLine>
-    ensures opened { IfOk result (λ found. meaning.opened (lines_of text.now) ≡ Ok (found.0, lines_of found.1.lines.now)) }
-    ensures fault { IfErr result (λ fault. meaning.opened (lines_of text.now) ≡ Err fault) }
+pub fn open<T: TextInteger>(text: &[u8]) -> Result<(Header<T>, Rest<'_, T>), FaultyLine>
+    ensures opened { IfOk result (λ found. meaning.opened T.numerals (lines_of text.now) ≡ Ok (found.0, lines_of found.1.lines.now)) }
+    ensures fault { IfErr result (λ fault. meaning.opened T.numerals (lines_of text.now) ≡ Err fault) }
     ensures line { IfOk result (λ found. found.1.line ≡ 1) }
     ensures left { IfOk result (λ found. found.1.left ≡ meaning.nothing) }
     ensures countable { IfOk result (λ found. found.1.line + length found.1.lines.now < 2 ^ 64) }
@@ -75,7 +79,7 @@ pub fn open(text: &[u8]) -> Result<(Header, Rest<'_>), FaultyLine>
             header,
             Rest {
                 line: 1,
-                left: NOTHING,
+                left: nothing(),
                 lines,
             },
         )),
@@ -87,13 +91,13 @@ pub fn open(text: &[u8]) -> Result<(Header, Rest<'_>), FaultyLine>
 /// `None` once all lines are played.
 ///
 /// After a fault nothing more is to be asked.
-pub fn next_stride(
-    machine: &mut Machine<u64>,
-    rest: &mut Rest<'_>,
-) -> Result<Option<Stride>, FaultyLine>
+pub fn next_stride<T: TextInteger>(
+    machine: &mut Machine<T>,
+    rest: &mut Rest<'_, T>,
+) -> Result<Option<Stride<T>>, FaultyLine>
     requires countable { rest.old.line + length rest.old.lines.now < 2 ^ 64 }
-    ensures stride { (o : AnObject ℕ) (parties : ℕ) (past : List (AnEvent ℕ)) → StandsAt u64_arithmetic o parties past machine.old →
-        meaning.IsNextStride o parties past rest.old rest.new machine.new result }
+    ensures stride { (o : AnObject T) (parties : ℕ) (past : List (AnEvent T)) → StandsAt T.arithmetic o parties past machine.old →
+        meaning.IsNextStride T.arithmetic T.numerals o parties past rest.old rest.new machine.new result }
     ensures some { IfOk result (λ stride. IfSome stride (λ s. 0 < s.times)) }
 
     // Of several steps each leaves all words and holds as they are.

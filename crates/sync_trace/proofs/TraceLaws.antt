@@ -3,7 +3,7 @@ use Rattle.std.proofs.Common.{◌≡◌, ℕ, zero, suc, ◌<◌, true, IfSome, 
 use Rattle.std.specs.Prelude.{replicate}
 use Rattle.steps_events.specs.declared.event.Event.{Event}
 use Rattle.steps_events.specs.declared.event.Object.{Object}
-use Rattle.steps_events.specs.Integers.{u64_arithmetic}
+use Rattle.steps_events.specs.Arithmetic.{Arithmetic}
 use Rattle.steps_events.specs.Runs.{after}
 use Rattle.sync_steps.specs.Machine.{Configuration, StandsAt}
 use Rattle.sync_steps.specs.Machine.Strides.{is_quiet, IsQuiet}
@@ -23,117 +23,119 @@ use Rattle.sync_trace.specs.Rows.{Entry, entries, added, added_often}
 use Rattle.sync_trace.specs.declared.trace.Rows.{Rows}
 use Rattle.sync_trace.specs.Table.{table}
 use Rattle.sync_trace.proofs.QuietLaws.{cells_again, cells_after}
-use Rattle.sync_trace.specs.Trace.{rows_with, HasAdded, RowsAndFault, rows_of_walk, rows_of_opened, rows_of, AreRowsOf, HasPlayed, Written, trace_of}
+use Rattle.sync_trace.specs.Trace.{rows_with, HasAdded, RowsAndFault, rows_of_walk, rows_of_opened, rows_of, AreRowsOf, HasPlayed, Written, typed_trace}
+use Rattle.sync_play.specs.Numerals.{Numerals}
 
-abbrev Ev : Type 0
-Ev = Event ℕ
+module _ {T : Type 0} (z : Arithmetic T) (numerals : Numerals T) where
+  abbrev Ev : Type 0
+  Ev = Event T
 
--- Some steps of the walk were added, and the others are still to come.
-pub record IsHalfway (header : Header) (past : List Ev) (first rest : Rest) (old new : List Row) (machine : Configuration ℕ) : Type 0 where
-  pub here : List Ev
-  pub stands : StandsAt u64_arithmetic header.object header.parties here machine
-  pub rows : rows_with header past (rest_walk header.object header.parties past first).steps (entries old) ≡ rows_with header here (rest_walk header.object header.parties here rest).steps (entries new)
-  pub fault : (rest_walk header.object header.parties past first).fault ≡ (rest_walk header.object header.parties here rest).fault
-  pub events : after (events_in (rest_walk header.object header.parties past first).steps) past ≡ after (events_in (rest_walk header.object header.parties here rest).steps) here
+  -- Some steps of the walk were added, and the others are still to come.
+  pub record IsHalfway (header : Header T) (past : List Ev) (first rest : Rest T) (old new : List (Row T)) (machine : Configuration T) : Type 0 where
+    pub here : List Ev
+    pub stands : StandsAt z header.object header.parties here machine
+    pub rows : rows_with z numerals header past (rest_walk z numerals header.object header.parties past first).steps (entries old) ≡ rows_with z numerals header here (rest_walk z numerals header.object header.parties here rest).steps (entries new)
+    pub fault : (rest_walk z numerals header.object header.parties past first).fault ≡ (rest_walk z numerals header.object header.parties here rest).fault
+    pub events : after (events_in (rest_walk z numerals header.object header.parties past first).steps) past ≡ after (events_in (rest_walk z numerals header.object header.parties here rest).steps) here
 
-pub begins : (header : Header) (past : List Ev) (rest : Rest) (rows : List Row) (machine : Configuration ℕ) → StandsAt u64_arithmetic header.object header.parties past machine → IsHalfway header past rest rest rows rows machine
-begins header past rest rows machine stands = record { here = past; stands = stands; rows = refl; fault = refl; events = refl }
+  pub begins : (header : Header T) (past : List Ev) (rest : Rest T) (rows : List (Row T)) (machine : Configuration T) → StandsAt z header.object header.parties past machine → IsHalfway header past rest rest rows rows machine
+  begins header past rest rows machine stands = record { here = past; stands = stands; rows = refl; fault = refl; events = refl }
 
--- a stride, whatever run stands at the machine
-abbrev Strides : Rest → Rest → Configuration ℕ → Configuration ℕ → Result (Option Stride) FaultyLine → Type 0
-Strides old new machine machine' told = (o : Object ℕ) (parties : ℕ) (past : List Ev) → StandsAt u64_arithmetic o parties past machine → IsNextStride o parties past old new machine' told
+  -- a stride, whatever run stands at the machine
+  abbrev Strides : Rest T → Rest T → Configuration T → Configuration T → Result (Option (Stride T)) FaultyLine → Type 0
+  Strides old new machine machine' told = (o : Object T) (parties : ℕ) (past : List Ev) → StandsAt z o parties past machine → IsNextStride z numerals o parties past old new machine' told
 
--- equal steps of which each reads as the first, and then others
-rows_along : (header : Header) (step : Step) (n : ℕ) (past : List Ev) (steps : List Step) (cells : Texts) (rows : List Entry) → (1 < n → is_quiet step.event.act ≡ true) → (0 < n → cells_at header (step.event ∷ past) step ≡ cells) →
-    rows_with header past (replicate n step ++ steps) rows ≡ rows_with header (after_times n step.event past) steps (added_often n cells rows)
-rows_along header step zero past steps cells rows quiet reads = refl
-rows_along header step (suc zero) past steps cells rows quiet reads =
-    ap (λ (t : Texts). rows_with header (step.event ∷ past) steps (added t rows)) (reads (omega arith))
-rows_along header step (suc (suc n)) past steps cells rows quiet reads =
-    let still : is_quiet step.event.act ≡ true = quiet (omega arith) in
-    let first = reads (omega arith) in
-    ap (λ (t : Texts). rows_with header (step.event ∷ past) (replicate (suc n) step ++ steps) (added t rows)) first
-    ∙ rows_along header step (suc n) (step.event ∷ past) steps cells (added cells rows) (λ more. still) (λ some. cells_again header step past still ∙ first)
+  -- equal steps of which each reads as the first, and then others
+  rows_along : (header : Header T) (step : Step T) (n : ℕ) (past : List Ev) (steps : List (Step T)) (cells : Texts T) (rows : List (Entry T)) → (1 < n → is_quiet step.event.act ≡ true) → (0 < n → cells_at z numerals header (step.event ∷ past) step ≡ cells) →
+      rows_with z numerals header past (replicate n step ++ steps) rows ≡ rows_with z numerals header (after_times n step.event past) steps (added_often n cells rows)
+  rows_along header step zero past steps cells rows quiet reads = refl
+  rows_along header step (suc zero) past steps cells rows quiet reads =
+      ap (λ (t : Texts T). rows_with z numerals header (step.event ∷ past) steps (added t rows)) (reads (omega arith))
+  rows_along header step (suc (suc n)) past steps cells rows quiet reads =
+      let still : is_quiet step.event.act ≡ true = quiet (omega arith) in
+      let first = reads (omega arith) in
+      ap (λ (t : Texts T). rows_with z numerals header (step.event ∷ past) (replicate (suc n) step ++ steps) (added t rows)) first
+      ∙ rows_along header step (suc n) (step.event ∷ past) steps cells (added cells rows) (λ more. still) (λ some. cells_again z numerals header step past still ∙ first)
 
-steps_in : (n : ℕ) (step : Step) (walk : Walk) → (steps_then (replicate n step) walk).steps ≡ replicate n step ++ walk.steps
-steps_in zero step walk = refl
-steps_in (suc n) step walk = ap (λ (l : List Step). step ∷ l) (steps_in n step walk)
+  steps_in : (n : ℕ) (step : Step T) (walk : Walk T) → (steps_then (replicate n step) walk).steps ≡ replicate n step ++ walk.steps
+  steps_in zero step walk = refl
+  steps_in (suc n) step walk = ap (λ (l : List (Step T)). step ∷ l) (steps_in n step walk)
 
--- what the last of so many reads, each of them reads
-reads_first : (header : Header) (step : Step) (n : ℕ) (past : List Ev) (cells : Texts) → (1 < n → is_quiet step.event.act ≡ true) → cells ≡ cells_at header (after_times n step.event past) step → 0 < n → cells_at header (step.event ∷ past) step ≡ cells
-reads_first header step zero past cells quiet reads some = absurd (omega (arith, some))
-reads_first header step (suc zero) past cells quiet reads some = sym reads
-reads_first header step (suc (suc n)) past cells quiet reads some = sym (reads ∙ cells_after header step (suc n) past (quiet (omega arith)))
+  -- what the last of so many reads, each of them reads
+  reads_first : (header : Header T) (step : Step T) (n : ℕ) (past : List Ev) (cells : Texts T) → (1 < n → is_quiet step.event.act ≡ true) → cells ≡ cells_at z numerals header (after_times n step.event past) step → 0 < n → cells_at z numerals header (step.event ∷ past) step ≡ cells
+  reads_first header step zero past cells quiet reads some = absurd (omega (arith, some))
+  reads_first header step (suc zero) past cells quiet reads some = sym reads
+  reads_first header step (suc (suc n)) past cells quiet reads some = sym (reads ∙ cells_after z numerals header step (suc n) past (quiet (omega arith)))
 
-pub goes_on : (header : Header) (past : List Ev) (first rest rest' : Rest) (old rows rows' : List Row) (machine machine' : Configuration ℕ) (told : Option Stride) (stride : Stride) (cells : Texts) → told ≡ Some stride →
-    IsHalfway header past first rest old rows machine → Strides rest rest' machine machine' (Ok told) → IfSome told (λ s. 1 < s.times → IsQuiet s.step.event) →
-    ((here : List Ev) → StandsAt u64_arithmetic header.object header.parties here machine' → cells ≡ cells_at header here stride.step) → entries rows' ≡ added_often stride.times cells (entries rows) →
-    IsHalfway header past first rest' old rows' machine'
-goes_on header past first rest rest' old rows rows' machine machine' told stride cells some h strides leaves reads is =
-    let next = subst (λ (x : Option Stride). IsNextStride header.object header.parties h.here rest rest' machine' (Ok x)) some (strides header.object header.parties h.here h.stands) in
-    let quiet = subst (λ (x : Option Stride). IfSome x (λ s. 1 < s.times → IsQuiet s.step.event)) some leaves in
-    let step = stride.step in
-    let e = step.event in
-    let n = stride.times in
-    let there = after_times n e h.here in
-    let walk : Walk = rest_walk header.object header.parties there rest' in
-    let still : 1 < n → is_quiet e.act ≡ true = λ more. (quiet more).act in
-    let events : events_in (rest_walk header.object header.parties h.here rest).steps ≡ replicate n e ++ events_in walk.steps = ap (λ (w : Walk). events_in w.steps) next.0 ∙ events_then n step walk in
-    record {
-      here = there;
-      stands = next.1;
-      rows = h.rows ∙ ap (λ (w : Walk). rows_with header h.here w.steps (entries rows)) next.0 ∙ ap (λ (l : List Step). rows_with header h.here l (entries rows)) (steps_in n step walk)
-          ∙ rows_along header step n h.here walk.steps cells (entries rows) still (reads_first header step n h.here cells still (reads there next.1))
-          ∙ ap (λ (l : List Entry). rows_with header there walk.steps l) (sym is);
-      fault = h.fault ∙ ap (λ (w : Walk). w.fault) next.0 ∙ fault_then n step walk;
-      events = h.events ∙ ap (λ (l : List Ev). after l h.here) events ∙ after_both (replicate n e) (events_in walk.steps) h.here;
-    }
+  pub goes_on : (header : Header T) (past : List Ev) (first rest rest' : Rest T) (old rows rows' : List (Row T)) (machine machine' : Configuration T) (told : Option (Stride T)) (stride : Stride T) (cells : Texts T) → told ≡ Some stride →
+      IsHalfway header past first rest old rows machine → Strides rest rest' machine machine' (Ok told) → IfSome told (λ s. 1 < s.times → IsQuiet s.step.event) →
+      ((here : List Ev) → StandsAt z header.object header.parties here machine' → cells ≡ cells_at z numerals header here stride.step) → entries rows' ≡ added_often stride.times cells (entries rows) →
+      IsHalfway header past first rest' old rows' machine'
+  goes_on header past first rest rest' old rows rows' machine machine' told stride cells some h strides leaves reads is =
+      let next = subst (λ (x : Option (Stride T)). IsNextStride z numerals header.object header.parties h.here rest rest' machine' (Ok x)) some (strides header.object header.parties h.here h.stands) in
+      let quiet = subst (λ (x : Option (Stride T)). IfSome x (λ s. 1 < s.times → IsQuiet s.step.event)) some leaves in
+      let step = stride.step in
+      let e = step.event in
+      let n = stride.times in
+      let there = after_times n e h.here in
+      let walk : Walk T = rest_walk z numerals header.object header.parties there rest' in
+      let still : 1 < n → is_quiet e.act ≡ true = λ more. (quiet more).act in
+      let events : events_in (rest_walk z numerals header.object header.parties h.here rest).steps ≡ replicate n e ++ events_in walk.steps = ap (λ (w : Walk T). events_in w.steps) next.0 ∙ events_then z numerals n step walk in
+      record {
+        here = there;
+        stands = next.1;
+        rows = h.rows ∙ ap (λ (w : Walk T). rows_with z numerals header h.here w.steps (entries rows)) next.0 ∙ ap (λ (l : List (Step T)). rows_with z numerals header h.here l (entries rows)) (steps_in n step walk)
+            ∙ rows_along header step n h.here walk.steps cells (entries rows) still (reads_first header step n h.here cells still (reads there next.1))
+            ∙ ap (λ (l : List (Entry T)). rows_with z numerals header there walk.steps l) (sym is);
+        fault = h.fault ∙ ap (λ (w : Walk T). w.fault) next.0 ∙ fault_then z numerals n step walk;
+        events = h.events ∙ ap (λ (l : List Ev). after l h.here) events ∙ after_both (replicate n e) (events_in walk.steps) h.here;
+      }
 
-pub ends : (header : Header) (past : List Ev) (first rest rest' : Rest) (old rows : List Row) (machine machine' : Configuration ℕ) (told : Option Stride) → told ≡ None → IsHalfway header past first rest old rows machine →
-    Strides rest rest' machine machine' (Ok told) → HasAdded header past (rest_walk header.object header.parties past first) old rows None
-ends header past first rest rest' old rows machine machine' told none h strides =
-    let next = subst (λ (x : Option Stride). IsNextStride header.object header.parties h.here rest rest' machine' (Ok x)) none (strides header.object header.parties h.here h.stands) in
-    (sym (h.rows ∙ ap (λ (w : Walk). rows_with header h.here w.steps (entries rows)) next.0), sym (h.fault ∙ ap (λ (w : Walk). w.fault) next.0))
+  pub ends : (header : Header T) (past : List Ev) (first rest rest' : Rest T) (old rows : List (Row T)) (machine machine' : Configuration T) (told : Option (Stride T)) → told ≡ None → IsHalfway header past first rest old rows machine →
+      Strides rest rest' machine machine' (Ok told) → HasAdded z numerals header past (rest_walk z numerals header.object header.parties past first) old rows None
+  ends header past first rest rest' old rows machine machine' told none h strides =
+      let next = subst (λ (x : Option (Stride T)). IsNextStride z numerals header.object header.parties h.here rest rest' machine' (Ok x)) none (strides header.object header.parties h.here h.stands) in
+      (sym (h.rows ∙ ap (λ (w : Walk T). rows_with z numerals header h.here w.steps (entries rows)) next.0), sym (h.fault ∙ ap (λ (w : Walk T). w.fault) next.0))
 
-pub ends_so : (header : Header) (past : List Ev) (first rest rest' : Rest) (old rows : List Row) (machine machine' : Configuration ℕ) (told : Option Stride) → told ≡ None → IsHalfway header past first rest old rows machine →
-    Strides rest rest' machine machine' (Ok told) → HasPlayed header past (rest_walk header.object header.parties past first) machine' None
-ends_so header past first rest rest' old rows machine machine' told none h strides =
-    let next = subst (λ (x : Option Stride). IsNextStride header.object header.parties h.here rest rest' machine' (Ok x)) none (strides header.object header.parties h.here h.stands) in
-    let here : after (events_in (rest_walk header.object header.parties past first).steps) past ≡ h.here = h.events ∙ ap (λ (w : Walk). after (events_in w.steps) h.here) next.0 in
-    subst (λ (l : List Ev). StandsAt u64_arithmetic header.object header.parties l machine') (sym here) next.1
+  pub ends_so : (header : Header T) (past : List Ev) (first rest rest' : Rest T) (old rows : List (Row T)) (machine machine' : Configuration T) (told : Option (Stride T)) → told ≡ None → IsHalfway header past first rest old rows machine →
+      Strides rest rest' machine machine' (Ok told) → HasPlayed z header past (rest_walk z numerals header.object header.parties past first) machine' None
+  ends_so header past first rest rest' old rows machine machine' told none h strides =
+      let next = subst (λ (x : Option (Stride T)). IsNextStride z numerals header.object header.parties h.here rest rest' machine' (Ok x)) none (strides header.object header.parties h.here h.stands) in
+      let here : after (events_in (rest_walk z numerals header.object header.parties past first).steps) past ≡ h.here = h.events ∙ ap (λ (w : Walk T). after (events_in w.steps) h.here) next.0 in
+      subst (λ (l : List Ev). StandsAt z header.object header.parties l machine') (sym here) next.1
 
-pub fails : (header : Header) (past : List Ev) (first rest rest' : Rest) (old rows : List Row) (machine machine' : Configuration ℕ) (fault : FaultyLine) → IsHalfway header past first rest old rows machine →
-    Strides rest rest' machine machine' (Err fault) → HasAdded header past (rest_walk header.object header.parties past first) old rows (Some fault)
-fails header past first rest rest' old rows machine machine' fault h strides =
-    let next = strides header.object header.parties h.here h.stands in
-    (sym (h.rows ∙ ap (λ (w : Walk). rows_with header h.here w.steps (entries rows)) next), sym (h.fault ∙ ap (λ (w : Walk). w.fault) next))
+  pub fails : (header : Header T) (past : List Ev) (first rest rest' : Rest T) (old rows : List (Row T)) (machine machine' : Configuration T) (fault : FaultyLine) → IsHalfway header past first rest old rows machine →
+      Strides rest rest' machine machine' (Err fault) → HasAdded z numerals header past (rest_walk z numerals header.object header.parties past first) old rows (Some fault)
+  fails header past first rest rest' old rows machine machine' fault h strides =
+      let next = strides header.object header.parties h.here h.stands in
+      (sym (h.rows ∙ ap (λ (w : Walk T). rows_with z numerals header h.here w.steps (entries rows)) next), sym (h.fault ∙ ap (λ (w : Walk T). w.fault) next))
 
--- A text.
+  -- A text.
 
-made : List Entry → Option FaultyLine → RowsAndFault
-made rows fault = record { rows = rows; fault = fault }
+  made : List (Entry T) → Option FaultyLine → RowsAndFault T
+  made rows fault = record { rows = rows; fault = fault }
 
-pub opens_none : (text : List ℕ) (rows : List Row) (fault : FaultyLine) → opened (lines_of text) ≡ Err fault → rows ≡ [] → record { rows = entries rows; fault = Some fault } ≡ rows_of text
-unfolding rows_of made
-opens_none text rows fault is none = ap (λ (l : List Row). made (entries l) (Some fault)) none ∙ sym (ap rows_of_opened is)
+  pub opens_none : (lines : List (List ℕ)) (rows : List (Row T)) (fault : FaultyLine) → opened numerals lines ≡ Err fault → rows ≡ [] → record { rows = entries rows; fault = Some fault } ≡ rows_of z numerals lines
+  unfolding rows_of made
+  opens_none lines rows fault is none = ap (λ (l : List (Row T)). made (entries l) (Some fault)) none ∙ sym (ap (rows_of_opened z numerals) is)
 
-pub rows_read : (text : List ℕ) (header : Header) (rest : Rest) (none rows : List Row) (fault : Option FaultyLine) → opened (lines_of text) ≡ Ok (header, lines_of rest.lines.now) → rest.line ≡ 1 → rest.left ≡ nothing → none ≡ [] →
-    HasAdded header [] (rest_walk header.object header.parties [] rest) none rows fault → record { rows = entries rows; fault = fault } ≡ rows_of text
-unfolding rows_of go_walk made
-rows_read text header rest none rows fault is line left empty added =
-    let walk = rest_walk header.object header.parties [] rest in
-    let same : walk ≡ lines_walk header.object header.parties 2 (lines_of rest.lines.now) [] = rw (line, left) refl in
-    let read : entries rows ≡ rows_with header [] walk.steps [] = added.0 ∙ ap (λ (l : List Row). rows_with header [] walk.steps (entries l)) empty in
-    ap (λ (l : List Entry). made l fault) read ∙ ap (λ (f : Option FaultyLine). made (rows_with header [] walk.steps []) f) added.1
-    ∙ ap (λ (w : Walk). rows_of_walk header w) same ∙ sym (ap rows_of_opened is)
+  pub rows_read : (lines : List (List ℕ)) (header : Header T) (rest : Rest T) (none rows : List (Row T)) (fault : Option FaultyLine) → opened numerals lines ≡ Ok (header, lines_of rest.lines.now) → rest.line ≡ 1 → rest.left ≡ nothing → none ≡ [] →
+      HasAdded z numerals header [] (rest_walk z numerals header.object header.parties [] rest) none rows fault → record { rows = entries rows; fault = fault } ≡ rows_of z numerals lines
+  unfolding rows_of go_walk made
+  rows_read lines header rest none rows fault is line left empty added =
+      let walk = rest_walk z numerals header.object header.parties [] rest in
+      let same : walk ≡ lines_walk z numerals header.object header.parties 2 (lines_of rest.lines.now) [] = rw (line, left) refl in
+      let read : entries rows ≡ rows_with z numerals header [] walk.steps [] = added.0 ∙ ap (λ (l : List (Row T)). rows_with z numerals header [] walk.steps (entries l)) empty in
+      ap (λ (l : List (Entry T)). made l fault) read ∙ ap (λ (f : Option FaultyLine). made (rows_with z numerals header [] walk.steps []) f) added.1
+      ∙ ap (λ (w : Walk T). rows_of_walk z numerals header w) same ∙ sym (ap (rows_of_opened z numerals) is)
 
-pub written_so : (text : List ℕ) (found : Rows) (rows : List Row) (out bytes : List ℕ) → AreRowsOf text found → rows ≡ found.rows.items → out ≡ table (entries rows) → bytes ≡ out → record { bytes = bytes; fault = found.fault } ≡ trace_of text
-unfolding trace_of
-written_so text found rows out bytes are same laid is =
-    let whole : bytes ≡ table (entries found.rows.items) = is ∙ laid ∙ ap (λ (l : List Row). table (entries l)) same in
-    let read : Written = record { bytes = table (entries found.rows.items); fault = found.fault } in
-    let first : record { bytes = bytes; fault = found.fault } ≡ read = rw whole refl in
-    first ∙ ap (λ (r : RowsAndFault). shown r) are
-  where
-    shown : RowsAndFault → Written
-    shown r = record { bytes = table r.rows; fault = r.fault }
+  pub written_so : (lines : List (List ℕ)) (found : Rows T) (rows : List (Row T)) (out bytes : List ℕ) → AreRowsOf z numerals lines found → rows ≡ found.rows.items → out ≡ table (entries rows) → bytes ≡ out → record { bytes = bytes; fault = found.fault } ≡ typed_trace z numerals lines
+  unfolding typed_trace
+  written_so lines found rows out bytes are same laid is =
+      let whole : bytes ≡ table (entries found.rows.items) = is ∙ laid ∙ ap (λ (l : List (Row T)). table (entries l)) same in
+      let read : Written = record { bytes = table (entries found.rows.items); fault = found.fault } in
+      let first : record { bytes = bytes; fault = found.fault } ≡ read = rw whole refl in
+      first ∙ ap (λ (r : RowsAndFault T). shown r) are
+    where
+      shown : RowsAndFault T → Written
+      shown r = record { bytes = table r.rows; fault = r.fault }

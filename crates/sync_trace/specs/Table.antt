@@ -18,7 +18,7 @@ times_words first last = if first == last then [] else decimal ((last - first) +
 abbrev pub titles : Widths
 titles = record { steps = 4; times = 5; line = 4; party = 5; act = 3; words = 4; holds = 5 }
 
-abbrev pub widened : Widths → Entry → Widths
+abbrev pub widened : {T : Type 0} → Widths → Entry T → Widths
 widened widths row =
     record {
       steps = max widths.steps (length (steps_words row.first row.last));
@@ -30,11 +30,11 @@ widened widths row =
       holds = max widths.holds (length row.cells.holds);
     }
 
-abbrev pub widened_by : List Entry → Widths → Widths
+abbrev pub widened_by : {T : Type 0} → List (Entry T) → Widths → Widths
 widened_by [] widths = widths
 widened_by (row ∷ rows) widths = widened_by rows (widened widths row)
 
-abbrev pub widths_of : List Entry → Widths
+abbrev pub widths_of : {T : Type 0} → List (Entry T) → Widths
 widths_of rows = widened_by rows titles
 
 -- a cell that another follows
@@ -78,7 +78,7 @@ head =
       call = codes "call";
     }
 
-abbrev pub columns_at : Entry → Columns
+abbrev pub columns_at : {T : Type 0} → Entry T → Columns
 columns_at row =
     record {
       steps = steps_words row.first row.last;
@@ -96,12 +96,12 @@ line_text widths line =
     cell widths.steps line.steps ++ (cell widths.times line.times ++ (cell widths.line line.line ++ (cell widths.party line.party
     ++ (cell widths.act line.act ++ (cell widths.words line.words ++ (cell widths.holds line.holds ++ (line.call ++ codes "\n")))))))
 
-abbrev pub row_line : Widths → Entry → List ℕ
+abbrev pub row_line : {T : Type 0} → Widths → Entry T → List ℕ
 row_line widths row = line_text widths (columns_at row)
 
-abbrev pub row_lines : Widths → List Entry → List ℕ
+abbrev pub row_lines : {T : Type 0} → Widths → List (Entry T) → List ℕ
 row_lines widths rows = flat_map (row_line widths) rows
 
 -- the head, and a line for each row
-unfoldable pub table : List Entry → List ℕ
+unfoldable pub table : {T : Type 0} → List (Entry T) → List ℕ
 table rows = line_text (widths_of rows) head ++ row_lines (widths_of rows) rows

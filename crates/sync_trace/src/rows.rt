@@ -10,12 +10,12 @@ use sync_play::lexer::is;
 
 /// A row: steps with the same cells. Steps are counted from 1, up to 2^64 - 1.
 #[derive(Drop)]
-pub struct Row {
+pub struct Row<T> {
     /// The number of its first step.
     pub first: u64,
     /// The number of its last step.
     pub last: u64,
-    pub cells: Cells,
+    pub cells: Cells<T>,
 }
 
 /// Whether two texts are the same.
@@ -26,7 +26,7 @@ fn same(a: &String, b: &String) -> bool
 }
 
 /// Whether two steps read the same, but for their numbers.
-fn read_same(a: &Cells, b: &Cells) -> bool
+fn read_same<T>(a: &Cells<T>, b: &Cells<T>) -> bool
     ensures { result ≡ meaning.read_same (texts_of a.now) (texts_of b.now) }
 {
     same(&a.line, &b.line)
@@ -38,7 +38,7 @@ fn read_same(a: &Cells, b: &Cells) -> bool
 }
 
 /// Adds the next steps, as many as read like this: to the last row where it reads the same, and else in a row of their own.
-pub fn add(rows: &mut Vec<Row>, cells: Cells, times: u64) -> Result<(), AllocError>
+pub fn add<T: Copy>(rows: &mut Vec<Row<T>>, cells: Cells<T>, times: u64) -> Result<(), AllocError>
     requires { 0 < times }
     ensures { OnOk result (meaning.entries rows.new.items ≡ meaning.added_often times (texts_of cells) (meaning.entries rows.old.items)) }
 {

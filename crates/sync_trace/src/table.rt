@@ -32,7 +32,7 @@ struct Line<'t> {
 }
 
 /// The number of a row's step, or those of its first and its last.
-pub fn steps_text(alloc: Global, row: &Row) -> Result<String, AllocError>
+pub fn steps_text<T>(alloc: Global, row: &Row<T>) -> Result<String, AllocError>
     ensures { IfOk result (λ text. string_bytes text ≡ meaning.steps_words row.now.first row.now.last) }
 {
     let first = row.first;
@@ -47,7 +47,7 @@ pub fn steps_text(alloc: Global, row: &Row) -> Result<String, AllocError>
 }
 
 /// How many steps a row has, where it has more than one.
-pub fn times_text(alloc: Global, row: &Row) -> Result<String, AllocError>
+pub fn times_text<T>(alloc: Global, row: &Row<T>) -> Result<String, AllocError>
     ensures { IfOk result (λ text. string_bytes text ≡ meaning.times_words row.now.first row.now.last) }
 {
     let mut text = String::new(alloc);
@@ -59,7 +59,7 @@ pub fn times_text(alloc: Global, row: &Row) -> Result<String, AllocError>
 }
 
 /// Widens the columns where a cell of the row is wider.
-fn widen(alloc: Global, widths: &mut Widths, row: &Row) -> Result<(), AllocError>
+fn widen<T>(alloc: Global, widths: &mut Widths, row: &Row<T>) -> Result<(), AllocError>
     ensures { OnOk result (widths.new ≡ meaning.widened widths.old (entry_of row.now)) }
 {
     let steps = steps_text(alloc, row)?;
@@ -89,7 +89,7 @@ const TITLES: Widths = Widths {
 };
 
 /// The width of each column: that of its widest cell.
-fn widths_of(alloc: Global, rows: &[Row]) -> Result<Widths, AllocError>
+fn widths_of<T>(alloc: Global, rows: &[Row<T>]) -> Result<Widths, AllocError>
     ensures { IfOk result (λ widths. widths ≡ meaning.widths_of (entries rows.now)) }
 {
     let mut widths = TITLES;
@@ -149,7 +149,12 @@ fn print_head(out: &mut String, widths: &Widths) -> Result<(), AllocError>
     print_line(out, widths, &head)
 }
 
-fn print_row(alloc: Global, out: &mut String, widths: &Widths, row: &Row) -> Result<(), AllocError>
+fn print_row<T>(
+    alloc: Global,
+    out: &mut String,
+    widths: &Widths,
+    row: &Row<T>,
+) -> Result<(), AllocError>
     ensures { OnOk result (string_bytes out.new ≡ string_bytes out.old ++ meaning.row_line widths.now (entry_of row.now)) }
 {
     let steps = steps_text(alloc, row)?;
@@ -168,11 +173,11 @@ fn print_row(alloc: Global, out: &mut String, widths: &Widths, row: &Row) -> Res
     print_line(out, widths, &line)
 }
 
-fn print_rows(
+fn print_rows<T>(
     alloc: Global,
     out: &mut String,
     widths: &Widths,
-    rows: &[Row],
+    rows: &[Row<T>],
 ) -> Result<(), AllocError>
     ensures { OnOk result (string_bytes out.new ≡ string_bytes out.old ++ meaning.row_lines widths.now (entries rows.now)) }
 {
@@ -183,7 +188,7 @@ fn print_rows(
 }
 
 /// The table of the rows: the head, and a line for each.
-pub fn table(alloc: Global, rows: &[Row]) -> Result<String, AllocError>
+pub fn table<T>(alloc: Global, rows: &[Row<T>]) -> Result<String, AllocError>
     ensures { IfOk result (λ text. string_bytes text ≡ meaning.table (entries rows.now)) }
 {
     let widths = widths_of(alloc, rows)?;

@@ -1,8 +1,8 @@
 //! Traces a schedule text.
-ghost use Rattle.std.specs.Prelude.{◌≡◌, ◌+◌, ◌^◌, ◌<◌, ℕ, List, length, IfOk};
-ghost use Rattle.steps_events.specs.Integers.{u64_arithmetic};
+ghost use Rattle.std.specs.Prelude.{◌≡◌, ◌+◌, ◌^◌, ◌<◌, List, length, IfOk};
 ghost use Rattle.sync_steps.specs.Machine.{StandsAt};
 ghost use Rattle.steps_events.specs.declared.event.Event.{Event as AnEvent};
+ghost use Rattle.sync_play.specs.Lexer.{lines_of};
 ghost use Rattle.sync_play.specs.Walk.{rest_walk};
 ghost use Rattle.sync_trace.specs.Trace as meaning;
 
@@ -12,13 +12,14 @@ use crate::table::table;
 use std::alloc::{AllocError, Global};
 use sync_play::fault::FaultyLine;
 use sync_play::header::Header;
+use sync_play::integer::TextInteger;
 use sync_play::walk::{Rest, next_stride, open};
 use sync_steps::steps::Machine;
 
 /// The rows of a run, and the line with a fault that ended it early, if there is one.
 #[derive(Drop)]
-pub struct Rows {
-    pub rows: Vec<Row>,
+pub struct Rows<T> {
+    pub rows: Vec<Row<T>>,
     pub fault: Option<FaultyLine>,
 }
 
@@ -30,18 +31,18 @@ pub struct Trace {
 }
 
 /// Adds the rows of the steps that are left of a text, and tells the line with a fault that ends them early, if there is one.
-pub fn add_steps(
+pub fn add_steps<T: TextInteger>(
     alloc: Global,
-    header: Header,
-    machine: &mut Machine<u64>,
-    rest: &mut Rest<'_>,
-    rows: &mut Vec<Row>,
+    header: Header<T>,
+    machine: &mut Machine<T>,
+    rest: &mut Rest<'_, T>,
+    rows: &mut Vec<Row<T>>,
 ) -> Result<Option<FaultyLine>, AllocError>
     requires countable { rest.old.line + length rest.old.lines.now < 2 ^ 64 }
-    ensures added { (past : List (AnEvent ℕ)) → StandsAt u64_arithmetic header.object header.parties past machine.old →
-        IfOk result (meaning.HasAdded header past (rest_walk header.object header.parties past rest.old) rows.old.items rows.new.items) }
-    ensures stands { (past : List (AnEvent ℕ)) → StandsAt u64_arithmetic header.object header.parties past machine.old →
-        IfOk result (meaning.HasPlayed header past (rest_walk header.object header.parties past rest.old) machine.new) }
+    ensures added { (past : List (AnEvent T)) → StandsAt T.arithmetic header.object header.parties past machine.old →
+        IfOk result (meaning.HasAdded T.arithmetic T.numerals header past (rest_walk T.arithmetic T.numerals header.object header.parties past rest.old) rows.old.items rows.new.items) }
+    ensures stands { (past : List (AnEvent T)) → StandsAt T.arithmetic header.object header.parties past machine.old →
+        IfOk result (meaning.HasPlayed T.arithmetic header past (rest_walk T.arithmetic T.numerals header.object header.parties past rest.old) machine.new) }
 {
     loop {
         match next_stride(machine, rest) {
@@ -56,11 +57,11 @@ pub fn add_steps(
 }
 
 /// The rows of a text.
-fn rows_of(alloc: Global, text: &[u8]) -> Result<Rows, AllocError>
-    ensures { IfOk result (λ found. meaning.AreRowsOf text.now found) }
+fn rows_of<T: TextInteger>(alloc: Global, text: &[u8]) -> Result<Rows<T>, AllocError>
+    ensures { IfOk result (λ found. meaning.AreRowsOf T.arithmetic T.numerals (lines_of text.now) found) }
 {
     let mut rows = Vec::new(alloc);
-    let (header, mut rest) = match open(text) {
+    let (header, mut rest) = match open::<T>(text) {
         Ok(opened) => opened,
         Err(fault) => {
             return Ok(Rows {
@@ -74,16 +75,23 @@ fn rows_of(alloc: Global, text: &[u8]) -> Result<Rows, AllocError>
     Ok(Rows { rows, fault })
 }
 
+/// The trace of a text whose values are of this type.
+fn trace_typed<T: TextInteger>(alloc: Global, text: &[u8]) -> Result<Trace, AllocError>
+    ensures { IfOk result (λ trace. meaning.written_of trace ≡ meaning.typed_trace T.arithmetic T.numerals (lines_of text.now)) }
+{
+    let found = rows_of::<T>(alloc, text)?;
+    let out = table(alloc, &found.rows)?;
+    Ok(Trace {
+        bytes: out.into_bytes(),
+        fault: found.fault,
+    })
+}
+
 /// The trace of a text: the head and a line for each row, up to its end or its first fault.
 ///
 /// Its steps are let go as they are folded into rows, so it takes memory for the rows and the output alone.
 pub fn trace_text(alloc: Global, text: &[u8]) -> Result<Trace, AllocError>
     ensures { IfOk result (λ trace. meaning.written_of trace ≡ meaning.trace_of text.now) }
 {
-    let found = rows_of(alloc, text)?;
-    let out = table(alloc, &found.rows)?;
-    Ok(Trace {
-        bytes: out.into_bytes(),
-        fault: found.fault,
-    })
+    trace_typed::<u64>(alloc, text)
 }

@@ -8,7 +8,9 @@ use sync_steps::steps::{Machine, Object};
 
 #[test]
 fn a_header_is_read(rt: HostRuntime) -> Result<(), Fail> {
-    let header = Header::parse(b"semaphore 64 5").ok().ok_or("it is one")?;
+    let header = Header::<u64>::parse(b"semaphore 64 5")
+        .ok()
+        .ok_or("it is one")?;
     assert!(rt; matches!(header.object, Object::Semaphore(5)));
     assert_eq!(rt; header.parties, 64);
     Ok(())
@@ -17,7 +19,7 @@ fn a_header_is_read(rt: HostRuntime) -> Result<(), Fail> {
 /// Plays the commands of a mutex of two parties one event at a time, and prints each.
 #[test]
 fn events_one_at_a_time(rt: HostRuntime) -> Result<(), Fail> {
-    let mut machine = Machine::new(rt.alloc(), Object::Mutex, 2)?;
+    let mut machine = Machine::<u64>::new(rt.alloc(), Object::Mutex, 2)?;
     let mut out = String::new(rt.alloc());
     let lines: [&[u8]; 4] = [b"1 lock", b"1 go", b"1 unlock", b"1 run"];
     for (line, want) in lines.iter().zip([1, 1, 1, 2]) {
@@ -44,7 +46,7 @@ fn events_one_at_a_time(rt: HostRuntime) -> Result<(), Fail> {
 
 #[test]
 fn a_refused_command_keeps_its_machine(rt: HostRuntime) -> Result<(), Fail> {
-    let mut machine = Machine::new(rt.alloc(), Object::Semaphore(3), 1)?;
+    let mut machine = Machine::<u64>::new(rt.alloc(), Object::Semaphore(3), 1)?;
     let command = Command::parse(Object::Semaphore(3), b" 1 run");
     let mut left = command.ok().flatten().ok_or("it asks something")?;
     assert!(rt; matches!(&next_events(&mut machine, &mut left), Err(LineFault::Idle)));

@@ -1,4 +1,4 @@
-use Rattle.std.proofs.Common.{◌∙◌, ap, refl, rules, arith, ◌+◌, ℕ}
+use Rattle.std.proofs.Common.{◌∙◌, ap, refl, rules, arith, ◌+◌}
 use Rattle.std.proofs.Math.Nat.{le_refl}
 use Rattle.steps_events.specs.declared.event.Object.{Object}
 use Rattle.sync_play.specs.Lexer.{lines_of, words_of}
@@ -7,50 +7,50 @@ use Rattle.sync_play.proofs.WalkLaws.{walk_strides, walk_stands, walk_stops, wal
 use Rattle.sync_play.proofs.walk.next_stride.Goals as goal
 
 pub loop-found-init : goal.loop-found-init
-loop-found-init c = (c.requires.countable, le_refl _, λ o parties past stands. (refl, stands))
+loop-found-init g c = (c.requires.countable, le_refl _, λ o parties past stands. (refl, stands))
 
 pub returns-in-Ok-Some-clause-stride : goal.returns-in-Ok-Some-clause-stride
-returns-in-Ok-Some-clause-stride c o parties past stands =
+returns-in-Ok-Some-clause-stride g c o parties past stands =
     let here = c.loop-found.invariant.2 o parties past stands in
     let turn = c.in-Ok-Some.ensures.turn o parties past here.1 in
     let left = c.loop-found.rest.left in (
-      here.0 ∙ walk_strides o parties c.loop-found.rest.line past left c.next_events.new.left c.loop-found.rest.lines.now _ c.in-Ok-Some.found _ c.in-Ok-Some.field-0-is turn,
-      walk_stands o parties past left c.next_events.new.left _ c.in-Ok-Some.found _ c.in-Ok-Some.field-0-is turn,
+      here.0 ∙ walk_strides g.T.AtomicInteger.arithmetic g.T.TextInteger.numerals o parties c.loop-found.rest.line past left c.next_events.new.left c.loop-found.rest.lines.now _ c.in-Ok-Some.found _ c.in-Ok-Some.field-0-is turn,
+      walk_stands g.T.AtomicInteger.arithmetic g.T.TextInteger.numerals o parties past left c.next_events.new.left _ c.in-Ok-Some.found _ c.in-Ok-Some.field-0-is turn,
     )
 
 pub returns-in-Ok-Some-clause-countable : goal.returns-in-Ok-Some-clause-countable
-returns-in-Ok-Some-clause-countable c = c.loop-found.invariant.0
+returns-in-Ok-Some-clause-countable g c = c.loop-found.invariant.0
 
 pub returns-in-Err-clause-stride : goal.returns-in-Err-clause-stride
-returns-in-Err-clause-stride c o parties past stands =
+returns-in-Err-clause-stride g c o parties past stands =
     let here = c.loop-found.invariant.2 o parties past stands in
-    here.0 ∙ walk_stops o parties c.loop-found.rest.line past c.loop-found.rest.left c.next_events.new.left c.loop-found.rest.lines.now c.in-Err.fault c.next_events.new.machine (c.in-Err.ensures.turn o parties past here.1)
+    here.0 ∙ walk_stops g.T.AtomicInteger.arithmetic g.T.TextInteger.numerals o parties c.loop-found.rest.line past c.loop-found.rest.left c.next_events.new.left c.loop-found.rest.lines.now c.in-Err.fault c.next_events.new.machine (c.in-Err.ensures.turn o parties past here.1)
 
 pub returns-in-Err-clause-countable : goal.returns-in-Err-clause-countable
-returns-in-Err-clause-countable c = c.loop-found.invariant.0
+returns-in-Err-clause-countable g c = c.loop-found.invariant.0
 
 pub returns-in_default-clause-stride : goal.returns-in_default-clause-stride
-returns-in_default-clause-stride c o parties past stands =
+returns-in_default-clause-stride g c o parties past stands =
     let here = c.loop-found.invariant.2 o parties past stands in
     let turn = c.in-Ok-None.ensures.turn o parties past here.1 in
     let number = c.loop-found.rest.line in
     let left = c.loop-found.rest.left in
     let lines = c.loop-found.rest.lines.now in (
-      here.0 ∙ walk_passes o parties number past left c.next_events.new.left lines _ _ c.in-Ok-None.field-0-is turn ∙ lines_end o parties (number + 1) past (lines_of lines) (search rules),
-      pass_stands o parties past left c.next_events.new.left _ _ c.in-Ok-None.field-0-is turn,
+      here.0 ∙ walk_passes g.T.AtomicInteger.arithmetic g.T.TextInteger.numerals o parties number past left c.next_events.new.left lines _ _ c.in-Ok-None.field-0-is turn ∙ lines_end g.T.AtomicInteger.arithmetic g.T.TextInteger.numerals o parties (number + 1) past (lines_of lines) (search rules),
+      pass_stands g.T.AtomicInteger.arithmetic g.T.TextInteger.numerals o parties past left c.next_events.new.left _ _ c.in-Ok-None.field-0-is turn,
     )
 
 pub returns-in_default-clause-countable : goal.returns-in_default-clause-countable
-returns-in_default-clause-countable c = c.loop-found.invariant.0
+returns-in_default-clause-countable g c = c.loop-found.invariant.0
 
 pub overflow_add-rest : goal.overflow_add-rest
-overflow_add-rest c = omega (arith, c.loop-found.invariant.0, c.in-Some.ensures.shorter)
+overflow_add-rest g c = omega (arith, c.loop-found.invariant.0, c.in-Some.ensures.shorter)
 
 pub loop-found-smaller : goal.loop-found-smaller
-loop-found-smaller c = c.in-Some.ensures.shorter
+loop-found-smaller g c = c.in-Some.ensures.shorter
 
 pub loop-found-preserved : goal.loop-found-preserved
-loop-found-preserved c = (
+loop-found-preserved g c = (
   omega (arith, c.loop-found.invariant.0, c.in-Some.ensures.shorter),
   fewer_left _ _ _ _ _ c.loop-found.invariant.1 c.in-Some.ensures.shorter c.in-Ok.ensures.within,
   λ o parties past stands.
@@ -59,28 +59,28 @@ loop-found-preserved c = (
       let number = c.loop-found.rest.line in
       let left = c.loop-found.rest.left in
       let lines = c.loop-found.rest.lines.now in
-      let there = pass_stands o parties past left c.next_events.new.left _ c.next_events.new.machine c.in-Ok-None.field-0-is turn in (
-        here.0 ∙ walk_passes o parties number past left c.next_events.new.left lines _ _ c.in-Ok-None.field-0-is turn
-            ∙ lines_go_on o parties (number + 1) past (lines_of lines) c.in-Some.line.now c.in-Some.lines.now c.in-Ok.command c.in-Some.ensures.lines
-            (c.in-Ok.ensures.asked ∙ ap (λ (x : Object ℕ). asked x (words_of c.in-Some.line.now)) (c.object.ensures o parties past there)),
+      let there = pass_stands g.T.AtomicInteger.arithmetic g.T.TextInteger.numerals o parties past left c.next_events.new.left _ c.next_events.new.machine c.in-Ok-None.field-0-is turn in (
+        here.0 ∙ walk_passes g.T.AtomicInteger.arithmetic g.T.TextInteger.numerals o parties number past left c.next_events.new.left lines _ _ c.in-Ok-None.field-0-is turn
+            ∙ lines_go_on g.T.AtomicInteger.arithmetic g.T.TextInteger.numerals o parties (number + 1) past (lines_of lines) c.in-Some.line.now c.in-Some.lines.now c.in-Ok.command c.in-Some.ensures.lines
+            (c.in-Ok.ensures.asked ∙ ap (λ (x : Object g.row.T.Denot). asked g.T.TextInteger.numerals x (words_of c.in-Some.line.now)) (c.object.ensures o parties past there)),
         there,
       ),
 )
 
 pub returns-in-Err-asked-clause-stride : goal.returns-in-Err-asked-clause-stride
-returns-in-Err-asked-clause-stride c o parties past stands =
+returns-in-Err-asked-clause-stride g c o parties past stands =
     let here = c.loop-found.invariant.2 o parties past stands in
     let turn = c.in-Ok-None.ensures.turn o parties past here.1 in
     let number = c.loop-found.rest.line in
     let left = c.loop-found.rest.left in
     let lines = c.loop-found.rest.lines.now in
-    let there = pass_stands o parties past left c.next_events.new.left _ c.next_events.new.machine c.in-Ok-None.field-0-is turn in
-    here.0 ∙ walk_passes o parties number past left c.next_events.new.left lines _ _ c.in-Ok-None.field-0-is turn
-    ∙ lines_stop o parties (number + 1) past (lines_of lines) c.in-Some.line.now c.in-Some.lines.now c.in-Err-asked.fault c.in-Some.ensures.lines
-    (c.in-Err-asked.ensures.asked ∙ ap (λ (x : Object ℕ). asked x (words_of c.in-Some.line.now)) (c.object.ensures o parties past there))
+    let there = pass_stands g.T.AtomicInteger.arithmetic g.T.TextInteger.numerals o parties past left c.next_events.new.left _ c.next_events.new.machine c.in-Ok-None.field-0-is turn in
+    here.0 ∙ walk_passes g.T.AtomicInteger.arithmetic g.T.TextInteger.numerals o parties number past left c.next_events.new.left lines _ _ c.in-Ok-None.field-0-is turn
+    ∙ lines_stop g.T.AtomicInteger.arithmetic g.T.TextInteger.numerals o parties (number + 1) past (lines_of lines) c.in-Some.line.now c.in-Some.lines.now c.in-Err-asked.fault c.in-Some.ensures.lines
+    (c.in-Err-asked.ensures.asked ∙ ap (λ (x : Object g.row.T.Denot). asked g.T.TextInteger.numerals x (words_of c.in-Some.line.now)) (c.object.ensures o parties past there))
 
 pub returns-in-Err-asked-clause-countable : goal.returns-in-Err-asked-clause-countable
-returns-in-Err-asked-clause-countable c = omega (arith, c.loop-found.invariant.0, c.in-Some.ensures.shorter)
+returns-in-Err-asked-clause-countable g c = omega (arith, c.loop-found.invariant.0, c.in-Some.ensures.shorter)
 
 pub returns-in-Ok-Some-clause-fewer : goal.returns-in-Ok-Some-clause-fewer
-returns-in-Ok-Some-clause-fewer c = fewer_steps c.next_events.new.left c.loop-found.rest.left _ c.in-Ok-Some.found _ _ c.in-Ok-Some.field-0-is c.loop-found.invariant.1 c.in-Ok-Some.ensures.shorter
+returns-in-Ok-Some-clause-fewer g c = fewer_steps c.next_events.new.left c.loop-found.rest.left _ c.in-Ok-Some.found _ _ c.in-Ok-Some.field-0-is c.loop-found.invariant.1 c.in-Ok-Some.ensures.shorter

@@ -1,7 +1,14 @@
-use Rattle.sync_trace.specs.Table.{titles}
+use Rattle.std.proofs.Common.{◌∙◌, ap, List, arith}
+use Rattle.std.proofs.lemmas.List.{take_all}
+use Rattle.sync_trace.specs.declared.rows.Row.{Row}
+use Rattle.sync_trace.specs.Rows.{entries}
+use Rattle.sync_trace.specs.Table.{titles, widened_by}
 use Rattle.sync_trace.proofs.RowLaws.{widened_more}
 use Rattle.sync_trace.proofs.table.widths_of.Goals as goal
 
 pub loop-row-preserved : goal.loop-row-preserved
-loop-row-preserved c =
+loop-row-preserved g c =
     widened_more c.args.rows.now c.loop-row.row-index c.row-item.result titles c.loop-row.widths c.widen.new.widths c.loop-row-test.true c.row-item.is c.loop-row.invariant c.in_ok-widen.ensures
+
+pub returns : goal.returns
+returns g c = c.loop-row.invariant ∙ ap (λ (l : List (Row g.row.T.Denot)). widened_by (entries l) titles) (take_all c.loop-row.row-index c.args.rows.now (omega (arith, c.loop-row-test.false)))

@@ -1,11 +1,12 @@
 use Rattle.std.proofs.Common.{[]}
+use Rattle.sync_play.specs.Lexer.{lines_of}
 use Rattle.sync_trace.proofs.TraceLaws.{opens_none, rows_read}
 use Rattle.sync_trace.proofs.trace.rows_of.Goals as goal
 
 pub returns-in-Err : goal.returns-in-Err
-returns-in-Err c = opens_none c.args.text.now _ c.in-Err.fault c.in-Err.ensures.fault c.new-rows.ensures.items
+returns-in-Err g c = opens_none g.T.AtomicInteger.arithmetic g.T.TextInteger.numerals (lines_of c.args.text.now) _ c.in-Err.fault c.in-Err.ensures.fault c.new-rows.ensures.items
 
 pub returns : goal.returns
-returns c =
+returns g c =
     let told = c.in-Ok.ensures in
-    rows_read c.args.text.now c.in-Ok.opened.0 c.in-Ok.opened.1 _ _ c.in_ok-fault.fault told.opened told.line told.left c.new-rows.ensures.items (c.in_ok-fault.ensures.added [] c.in_ok-machine.ensures)
+    rows_read g.T.AtomicInteger.arithmetic g.T.TextInteger.numerals (lines_of c.args.text.now) c.in-Ok.opened.0 c.in-Ok.opened.1 _ _ c.in_ok-fault.fault told.opened told.line told.left c.new-rows.ensures.items (c.in_ok-fault.ensures.added [] c.in_ok-machine.ensures)

@@ -1,7 +1,0 @@
-use Rattle.std.proofs.Common.{ap, ℕ, Vec, Global}
-use Rattle.sync_trace.proofs.TraceLaws.{written_so}
-use Rattle.sync_trace.proofs.trace.trace_text.Goals as goal
-
-pub returns : goal.returns
-returns c =
-    written_so c.args.text.now c.in_ok-found.found _ _ _ c.in_ok-found.ensures c.deref.ensures.value c.in_ok-out.ensures (ap (λ (v : Vec ℕ Global). v.items) c.into_bytes.ensures.value)
