@@ -11,7 +11,9 @@ const ABORT: &[u8] = b"mutex 2\n1 try_lock\n1 run\n2 lock\n2 run\n2 abort\n2 run
 
 #[test]
 fn a_spin_is_one_step_of_a_story(rt: HostRuntime) -> Result<(), Fail> {
-    let story = play::<u64>(rt.alloc(), ABORT).ok().ok_or("it has no fault")?;
+    let story = play::<u64>(rt.alloc(), ABORT)
+        .ok()
+        .ok_or("it has no fault")?;
     let mut counts: Vec<u64> = Vec::new(rt.alloc());
     for step in &story.steps {
         counts.push(step.count)?;
