@@ -3,7 +3,7 @@
     tools/broken_texts.py [HOW_MANY [PROGRAM ..]]
 
 By default 100000 texts and the three programs, which have to be built. No program may crash, hang or end with another status than 0 or 2; a fault
-names a line of the text, in words of docs/TEXT.md; and all programs say the same of a text. Prints what is wrong, and then how many texts were
+names a line of the text, in words of docs/TEXT.md, to which sync-trace adds that line and a sentence; and all programs say the same of a text. Prints what is wrong, and then how many texts were
 played. The status is 0 where nothing is wrong.
 """
 
@@ -90,9 +90,23 @@ def broken(number):
 
 
 def said_of(program, text):
-    """The program's status, and what it says on standard error."""
+    """The program's status, and what it says on standard error, without what sync-trace advises."""
     done = subprocess.run([f"crates/{program.replace('-', '_')}_main/out/{program.replace('-', '_')}_main"], input=text, capture_output=True, timeout=60)
-    return done.returncode, done.stderr.decode("utf-8", "replace")
+    said = done.stderr
+    if program == "sync-trace" and done.returncode == 2:
+        said = without_advice(text, said)
+    return done.returncode, said.decode("utf-8", "replace")
+
+
+def without_advice(text, said):
+    """The fault's line, where the text's own line and a sentence follow it; else all that was said."""
+    fault = re.match(rb"line ([0-9]+): .*\n", said)
+    if not fault:
+        return said
+    lines = re.split(rb"\r?\n", text) + [b""]
+    line = lines[min(int(fault[1]), len(lines)) - 1]
+    advice = said[fault.end() :]
+    return fault[0] if re.fullmatch(re.escape(line) + rb"\n[^\n]+\n", advice) else said
 
 
 def wrong_with(text, said):

@@ -1,7 +1,8 @@
 # Runs a program of this repository, or proves and builds it.
 #
 # Sourced, with the call's arguments, by a script at the top that bears the program's name and sets `top`, the repository's folder,
-# `crate`, the program's, and `does`, what it does, in a few words.
+# `crate`, the program's, and `does`, what it does, in a few words; and `reads` and `usage`, where it reads no schedule text: what it
+# reads, and the file that says how that is written.
 #
 # A program that stands is run, and one whose sources are no longer those that it was built of is built again first. Where none has been
 # built, the sources are run as they are, unproved, by `rt try`: that takes a minute, and a build many.
@@ -10,6 +11,8 @@ set -euo pipefail
 shopt -s execfail lastpipe globstar nullglob
 
 name=$(basename -- "$0")
+reads=${reads-a schedule text}
+usage=${usage-tools/texts.txt}
 folder=$top/crates/$crate
 program=$folder/out/$crate
 # The sums of the sources and of the program that was built of them. `rt ci` removes it with all that `out` has.
@@ -178,9 +181,9 @@ play_unproved() {
 }
 
 tell_usage() {
-    printf '%s\n' "$name: $does" "    ./$name < FILE      does so with a schedule text, read from standard input" \
+    printf '%s\n' "$name: $does" "    ./$name < FILE      does so with $reads, read from standard input" \
         "    ./$name --build     proves and builds the program, where it is not built of these sources" ""
-    cat -- tools/texts.txt
+    cat -- "$usage"
 }
 
 cd -- "$top" || fail "$top cannot be entered"
@@ -191,7 +194,7 @@ case "$#${1-}" in
         exit 0
         ;;
     *)
-        say "it reads a schedule text from standard input: ./$name < FILE; ./$name --help says more"
+        say "it reads $reads from standard input: ./$name < FILE; ./$name --help says more"
         exit 4
         ;;
 esac
@@ -206,7 +209,7 @@ if [[ ${1-} == --build ]]; then
     exit 0
 fi
 if [[ -t 0 ]]; then
-    say "reading a schedule text from the terminal, up to its end (Ctrl-D); ./$name --help says what that is"
+    say "reading $reads from the terminal, up to its end (Ctrl-D); ./$name --help says what that is"
 fi
 if [[ ! -x $program ]]; then
     play_unproved

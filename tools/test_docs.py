@@ -65,6 +65,9 @@ for text in sorted(glob.glob("examples/*.txt")):
     if text in TEXTS["docs/TRACE.md"]:
         report(stem, quoted("docs/TRACE.md", stem, ("txt", "trace")))
 
+for text in sorted(glob.glob("examples/explore/*.txt")):
+    report(text, quoted("docs/EXPLORE.md", text.removesuffix(".txt")))
+
 named = set(re.findall(r"`(\w+\.edit)`", "".join(TEXTS.values())))
 edits = {os.path.basename(it): it for it in glob.glob("crates/*/must-fail/*.edit")}
 for edit in sorted(named | edits.keys()):

@@ -1,6 +1,6 @@
 # Each text of examples/ is played by each of `players`. NAME.txt has beside it what is written to standard output (NAME.out, or the
-# player's own ending), NAME.err for standard error where it is not empty, and NAME.status where the status is not 0. Each is drawn too:
-# a picture that a page shows is compared with its file, and every other is a picture.
+# player's own ending), NAME.err for standard error where it is not empty, which sync-trace goes on as in NAME.advice, and NAME.status where
+# the status is not 0. Each is drawn too: a picture that a page shows is compared with its file, and every other is a picture.
 test_examples() {
     local line player ending endings=() text stem
     for line in "${players[@]}"; do
@@ -24,9 +24,9 @@ test_examples() {
             fi
         done
     fi
-    for text in examples/*; do
+    for text in examples/*.*; do
         stem=${text%.*}
-        if [[ " txt err status ${endings[*]} " != *" ${text##*.} "* ]]; then
+        if [[ " txt err advice status ${endings[*]} " != *" ${text##*.} "* ]]; then
             fail "$text" "no program writes a file of this ending"
         elif [[ ! -e $stem.txt ]]; then
             fail "$text" "there is no $stem.txt"
@@ -42,6 +42,10 @@ play_example() {
     fi
     if [[ -f $3.err ]]; then
         wanted_err=$3.err
+    fi
+    if [[ $1 == sync-trace && -f $3.err ]]; then
+        wanted_err=$room/wanted_err
+        cat -- "$3.err" "$3.advice" >"$wanted_err"
     fi
     if [[ -f $3.status ]]; then
         wanted_status=$(<"$3.status")

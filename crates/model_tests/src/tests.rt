@@ -6,13 +6,11 @@ mod atomic;
 mod barrier;
 mod condvar;
 mod events;
-mod lazy;
 mod mutex;
 mod once;
 mod rw_reader;
 mod rw_writer;
 mod semaphore;
-mod spin;
 mod strides;
 
 use linked_list_allocator::LocalHeap;

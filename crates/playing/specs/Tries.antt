@@ -1,5 +1,7 @@
 -- A call that tries again until it is granted or gives up.
 use Rattle.std.specs.Prelude.{◌≡◌, ℕ, true, List, Option, None}
+use Rattle.std.specs.Borrow.{Bor}
+use Rattle.std.specs.Fn.{Shared, FnReturns}
 use Rattle.steps_events.specs.declared.event.Word.{Word}
 use Rattle.steps_events.specs.declared.event.Wake.{Wake}
 use Rattle.steps_events.specs.declared.event.Call.{Call}
@@ -55,6 +57,13 @@ module _ {P : Type 0} (t : Table ℕ P) (Law : List (Event ℕ) → Type 0) (cal
   OnceStanding told p Then = (done : List Slot) → IsStanding told done p → Then done
 
 -- Closures.
+
+-- What a wait closure that answers nothing promises of a call holds, of some word that was seen to be this.
+pub record HasTold {F W : Type 0} (g : Shared F (Bor W × (Bor ℕ × Unit {0})) (Unit {0})) (wait : F) (told : ℕ) : Type 0 where
+  pub word : Bor W
+  pub seen : Bor ℕ
+  pub named : seen.now ≡ told
+  pub says : FnReturns g wait (word, (seen, tt)) tt
 
 module _ {P : Type 0} (t : Table ℕ P) (Law : List (Event ℕ) → Type 0) (names : List Word) (handed : P → Word) where
   -- a call of the pass stands at its wait closure, which is to be told this, and handed the word at this index

@@ -1,9 +1,9 @@
-//! The words that closures see, and how a call that plays a model calls its wake closure.
+//! The words that closures see, and how a call that plays a model calls a closure that answers nothing.
 ghost use Rattle.std.specs.Prelude.{◌≡◌, ℕ};
 ghost use Rattle.atomic_table.specs.Seated.{TableId};
 ghost use Rattle.passes.specs.Answers.{HasWoken};
 ghost use Rattle.playing.specs.Passes.{parties_of};
-ghost use Rattle.playing.specs.Tries.{IsToWake};
+ghost use Rattle.playing.specs.Tries.{IsToWake, StandsToWait, HasTold};
 
 use crate::played::Played;
 use crate::script::Script;
@@ -22,6 +22,26 @@ pub trait Shown {
 
 impl<K, M: Script<K, P>, P, C: Rule<(), K>, A: Allocator> Stage<K, M, P, C, A> {
     ghost use Rattle.playing.specs.Stages.{IsPassOf, id_of, key_of};
+
+    /// Calls a wait closure that answers nothing, at which a call of the pass stands. It is handed the word that the model names for that
+    /// place, and told what the model tells it there.
+    #[inline(always)]
+    pub fn tell<X: Shown, W: Fn(&X, &u64)>(
+        &self,
+        pass: &Pass<Played<M, P, C>>,
+        word: &X,
+        told: u64,
+        wait: &W,
+    )
+        requires own { IsPassOf self.now pass.now }
+        requires word { X.object word.now ≡ id_of self.now }
+        requires stands { StandsToWait (M.table (key_of self.now)) (M.law (key_of self.now)) M.names M.handed (X.index word.now) told (parties_of pass.now) }
+        requires may { W.IsAlwaysCallable wait.now }
+        ensures told { HasTold W.Fn wait.now told }
+    {
+        let _pass = pass;
+        wait(word, &told);
+    }
 
     /// Calls the wake closure that a call of the pass is to call next, of the word that the model names for that place.
     #[inline(always)]

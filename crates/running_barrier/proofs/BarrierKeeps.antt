@@ -10,17 +10,17 @@ use Rattle.passes.specs.declared.view.View.{View}
 use Rattle.passes.specs.Parts.{IsWhole, total}
 use Rattle.passes.specs.Sights.{stale}
 use Rattle.passes.specs.Views.{view_of, looked, missed, left_view, right_view, joined_view, sum_of, Updates}
-use Rattle.passes.specs.declared.pass.Pass.{Pass}
 use Rattle.passes.specs.Passes.{view}
+use Rattle.playing.specs.Passes.{none_played, both_played, core_played, played_add_up}
 use Rattle.passes.proofs.Sums.{sum_at}
 use Rattle.passes.proofs.Updates.{by_look, by_exchange}
 use Rattle.tallies.specs.declared.barrier.Rounds.{Rounds}
 use Rattle.tallies.specs.Counts.{one_more, both_counts}
 use Rattle.tallies.proofs.CountLaws.{in_both, more_in_both, more_here, more_elsewhere}
 use Rattle.tallies.specs.BarrierRule.{in_round, rounds, no_rounds, both_rounds, known_rounds, word_of, IsFilling, BarrierAgrees}
-use Rattle.running_barrier.specs.BarrierSteps.{OpenRoundsAreFull, reaches, Says, MadeAll, Loaded, Exchanged}
+use Rattle.running_barrier.specs.BarrierSteps.{BarrierView, OpenRoundsAreFull, reaches, Says, MadeAll, Loaded, Exchanged}
 use Rattle.tallies.specs.BarrierTally.{rounds_add_up}
-use Rattle.running_barrier.specs.BarrierShown.{counts_of, arrivals_of, IsNextWord}
+use Rattle.running_barrier.specs.BarrierShown.{BarrierPass, counts_of, arrivals_of, IsNextWord}
 
 -- counts
 
@@ -172,19 +172,20 @@ exchanges n v old new next = by_exchange no_rounds both_rounds (BarrierAgrees n)
 
 -- the law of open rounds
 
-total_in : (round : ℕ) (views : List (View Rounds)) → in_round round (sum_of no_rounds both_rounds views).arrivals ≡ total (λ u. in_round round u.tally.arrivals) views
+total_in : (round : ℕ) (views : List BarrierView) → in_round round (sum_of (none_played no_rounds) (both_played both_rounds) views).counts.arrivals ≡ total (λ u. in_round round u.tally.counts.arrivals) views
 total_in round [] = refl
-total_in round (v ∷ views) = let both = in_both round v.tally.arrivals (sum_of no_rounds both_rounds views).arrivals in let rest = total_in round views in omega arith
+total_in round (v ∷ views) = let both = in_both round v.tally.counts.arrivals (sum_of (none_played no_rounds) (both_played both_rounds) views).counts.arrivals in let rest = total_in round views in omega arith
 
 pub open_rounds_are_full : OpenRoundsAreFull
-open_rounds_are_full n s r i v here round below = let all : Rounds = sum_of no_rounds both_rounds s.views in let at = sum_at no_rounds both_rounds known_rounds rounds_add_up s.views i v here in
-    let reached = ap (λ (t : Rounds). t.reached) at in let known = r.agree.known in
-    sym (total_in round s.views) ∙ r.agree.full round (omega arith)
+open_rounds_are_full n s r i v here round below =
+    let at = sum_at (none_played no_rounds) (both_played both_rounds) (core_played known_rounds) (played_add_up no_rounds both_rounds known_rounds rounds_add_up) s.views i v here in
+    let reached = ap (λ t. t.counts.reached) at in let known = r.agree.1.known in
+    sym (total_in round s.views) ∙ r.agree.1.full round (omega arith)
 
 -- what a split and a join leave of the arrivals
 
-pub parted_arrivals : (p one other : Pass Rounds) → (view one ≡ left_view (view p)) × (view other ≡ right_view known_rounds (view p)) → arrivals_of one + arrivals_of other ≡ arrivals_of p
-parted_arrivals p one other views = let first = ap (λ (v : View Rounds). sum v.tally.arrivals) views.0 in let second = ap (λ (v : View Rounds). sum v.tally.arrivals) views.1 in omega arith
+pub parted_arrivals : (p one other : BarrierPass) → (view one ≡ left_view (view p)) × (view other ≡ right_view (core_played known_rounds) (view p)) → arrivals_of one + arrivals_of other ≡ arrivals_of p
+parted_arrivals p one other views = let first = ap (λ (v : BarrierView). sum v.tally.counts.arrivals) views.0 in let second = ap (λ (v : BarrierView). sum v.tally.counts.arrivals) views.1 in omega arith
 
-pub joined_arrivals : (one other both : Pass Rounds) → view both ≡ joined_view both_rounds (view one) (view other) → arrivals_of both ≡ arrivals_of one + arrivals_of other
-joined_arrivals one other both views = ap (λ (v : View Rounds). sum v.tally.arrivals) views ∙ sum_both (counts_of one) (counts_of other)
+pub joined_arrivals : (one other both : BarrierPass) → view both ≡ joined_view (both_played both_rounds) (view one) (view other) → arrivals_of both ≡ arrivals_of one + arrivals_of other
+joined_arrivals one other both views = ap (λ (v : BarrierView). sum v.tally.counts.arrivals) views ∙ sum_both (counts_of one) (counts_of other)

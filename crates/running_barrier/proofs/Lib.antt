@@ -1,1 +1,2 @@
 pub mod BarrierKeeps
+pub mod BarrierPlays

@@ -1,39 +1,55 @@
 -- What contracts see of a barrier and its pass, and what a call changes in a pass.
-use Rattle.std.specs.Prelude.{◌≡◌, ℕ, ◌+◌, ◌<◌, ◌≤◌, ◌%◌, ◌^◌, ◌⊎◌, List}
+use Rattle.std.specs.Prelude.{◌≡◌, ℕ, ◌+◌, ◌<◌, ◌≤◌, ◌%◌, ◌^◌, ◌⊎◌, List, None}
 use Rattle.std.specs.List.{sum}
+use Rattle.steps_events.specs.declared.event.Call.TheVariants as calls
+use Rattle.steps_events.specs.declared.event.Answer.{Answer}
+use Rattle.steps_events.specs.declared.event.Then.TheVariants as thens
+use Rattle.steps_barrier.specs.declared.BarrierPlace.{BarrierPlace}
+use Rattle.steps_barrier.specs.declared.BarrierPlace.TheVariants as places
 use Rattle.steps_barrier.specs.Rounds.{epoch_of, count_of, opened}
+use Rattle.steps_barrier.specs.Table.{barrier_table}
+use Rattle.steps_barrier.specs.Law.{KeepsBarrier}
 use Rattle.passes.specs.declared.pass.Pass.{Pass}
 use Rattle.passes.specs.Parts.{IsWhole}
 use Rattle.passes.specs.Sights.{seen, stale}
-use Rattle.passes.specs.Passes.{IsSamePass, part_of, sights_of, tally_of}
-use Rattle.passes.specs.Objects.{IsPassOf, key_of}
+use Rattle.passes.specs.Passes.{IsSamePass, part_of, sights_of}
+use Rattle.playing.specs.declared.played.Played.{Played}
+use Rattle.playing.specs.Slots.{all_of}
+use Rattle.playing.specs.Plays.{HasCalled, IsAt}
+use Rattle.playing.specs.Passes.{parties_of, counts_of as tally_of}
+use Rattle.playing.specs.Stages.{IsPassOf, key_of}
 use Rattle.tallies.specs.declared.barrier.Rounds.{Rounds}
+use Rattle.tallies.specs.declared.barrier.BarrierScript.{BarrierScript}
 use Rattle.running_barrier.specs.declared.Barrier.{Barrier}
 use Rattle.tallies.specs.Counts.{one_more}
 use Rattle.running_barrier.specs.BarrierSteps.{Arrives}
 
+-- the pass of a barrier
+abbrev pub BarrierPass : Type 0
+BarrierPass = Pass (Played BarrierScript BarrierPlace Rounds)
+
 module _ {A : Type 0} where
-  abbrev pub IsBarrierPass : Barrier A → Pass Rounds → Type 0
-  IsBarrierPass b p = IsPassOf b.words p
+  abbrev pub IsBarrierPass : Barrier A → BarrierPass → Type 0
+  IsBarrierPass b p = IsPassOf b.stage p
 
   -- how many it was made for
   abbrev pub waiters_of : Barrier A → ℕ
-  waiters_of b = key_of b.words
+  waiters_of b = key_of b.stage % 2 ^ 32
 
 -- how often the pass's owner arrived in each round, the first round first
-abbrev pub counts_of : Pass Rounds → List ℕ
+abbrev pub counts_of : BarrierPass → List ℕ
 counts_of p = (tally_of p).arrivals
 
 -- how often its owner arrived
-abbrev pub arrivals_of : Pass Rounds → ℕ
+abbrev pub arrivals_of : BarrierPass → ℕ
 arrivals_of p = sum (counts_of p)
 
 -- each round below this one is known to be open
-abbrev pub reached_of : Pass Rounds → ℕ
+abbrev pub reached_of : BarrierPass → ℕ
 reached_of p = (tally_of p).reached
 
 -- how many rounds its owner opened
-abbrev pub opened_of : Pass Rounds → ℕ
+abbrev pub opened_of : BarrierPass → ℕ
 opened_of p = (tally_of p).opened
 
 -- the word after an arrival, where there is room for one: the next epoch if it fills the round, else one more has come
@@ -43,7 +59,7 @@ pub record IsNextWord (n from to : ℕ) : Type 0 where
   pub early : count_of from + 1 < n → to ≡ from + 1
 
 -- an arrival was made from this value, which was seen last, and nothing else changed but what was seen
-pub record HasArrived (n from : ℕ) (p q : Pass Rounds) : Type 0 where
+pub record HasArrived (n from : ℕ) (p q : BarrierPass) : Type 0 where
   pub same : IsSamePass p q
   pub part : part_of q ≡ part_of p
   pub room : count_of from < n
@@ -56,7 +72,7 @@ pub record HasArrived (n from : ℕ) (p q : Pass Rounds) : Type 0 where
   pub alone : IsWhole (part_of p) → round ≡ opened_of p
 
 -- nothing was counted: the pass has looked, and may know more rounds to be open
-pub record HasStayed (p q : Pass Rounds) : Type 0 where
+pub record HasStayed (p q : BarrierPass) : Type 0 where
   pub same : IsSamePass p q
   pub part : part_of q ≡ part_of p
   pub arrivals : counts_of q ≡ counts_of p
@@ -66,7 +82,7 @@ pub record HasStayed (p q : Pass Rounds) : Type 0 where
 
 -- The pass has one arrival more, in a round that is now known to be open, and was not before; it may have opened the next. Nothing
 -- else changed but what was seen. Where no other pass is left, that round is the one after those that it opened.
-pub record HasPassed (p q : Pass Rounds) : Type 0 where
+pub record HasPassed (p q : BarrierPass) : Type 0 where
   pub same : IsSamePass p q
   pub part : part_of q ≡ part_of p
   pub round : ℕ
@@ -79,15 +95,28 @@ pub record HasPassed (p q : Pass Rounds) : Type 0 where
   pub alone : IsWhole (part_of p) → round ≡ opened_of p
 
 -- the word was seen once before the arrival, and never after
-abbrev pub HasLookedOnce : Pass Rounds → Pass Rounds → Type 0
+abbrev pub HasLookedOnce : BarrierPass → BarrierPass → Type 0
 HasLookedOnce p q = sights_of q ≡ stale (seen (sights_of p) (sights_of q).last)
 
 -- So many rounds were passed, and nothing else changed but what was seen and opened on the way. A helper, a loop and a closure carry
 -- this one fact.
-pub record HasWaited (times : ℕ) (p q : Pass Rounds) : Type 0 where
+pub record HasWaited (times : ℕ) (p q : BarrierPass) : Type 0 where
   pub same : IsSamePass p q
   pub part : part_of q ≡ part_of p
   pub arrivals : arrivals_of q ≡ arrivals_of p + times
   pub known : reached_of p ≤ reached_of q
   pub opened : opened_of p ≤ opened_of q
   pub saw : (sights_of p).count ≤ (sights_of q).count
+
+-- The pass as a party of the model, of a barrier for n.
+
+module _ (n : ℕ) where
+  -- There is a run of the model, which keeps the law of a barrier for n, in which a party of the pass has just been answered so by a
+  -- `Wait`. It is the one call that the pass has made since, as a party that is new.
+  abbrev pub HasPlayed : Answer ℕ → BarrierPass → BarrierPass → Type 0
+  HasPlayed answer p q = HasCalled (barrier_table n) (KeepsBarrier n) calls.Wait answer None (parties_of p) (parties_of q)
+
+  -- As a party that is new the pass has begun a `Wait` and filled a round by its arrival, in a run that keeps the barrier's law; and is
+  -- to wake all.
+  abbrev pub HasFilled : BarrierPass → BarrierPass → Type 0
+  HasFilled p q = IsAt (barrier_table n) (KeepsBarrier n) calls.Wait places.Wake thens.GoesOn None (all_of (parties_of p)) (parties_of q)

@@ -1,22 +1,37 @@
 -- What holds whenever the rule of a barrier does, and what a step changes in a pass.
-use Rattle.std.specs.Prelude.{◌≡◌, ◌≢◌, ℕ, ◌+◌, ◌%◌, ◌^◌, ◌<◌, ◌≤◌}
+use Rattle.std.specs.Prelude.{◌≡◌, ◌≢◌, ℕ, ◌+◌, ◌%◌, ◌^◌, ◌<◌, ◌≤◌, [], ◌∷◌}
 use Rattle.std.specs.List.{sum}
 use mathlib.Core.Option.{some}
 use lib.ListN.{get_elem?}
 use Rattle.atomic_table.specs.Table.{State}
+use Rattle.steps_events.specs.declared.event.Word.TheVariants as words
+use Rattle.steps_barrier.specs.declared.BarrierPlace.{BarrierPlace}
 use Rattle.steps_barrier.specs.Rounds.{epoch_of, count_of}
+use Rattle.steps_barrier.specs.Table.{barrier_table}
+use Rattle.steps_barrier.specs.Law.{KeepsBarrier}
 use Rattle.passes.specs.declared.view.View.{View}
 use Rattle.passes.specs.Parts.{IsWhole, total}
 use Rattle.passes.specs.Sights.{stale}
 use Rattle.passes.specs.Views.{view_of, looked, missed, IsCounted}
+use Rattle.playing.specs.declared.played.Played.{Played}
+use Rattle.playing.specs.Passes.{none_played, both_played, PlaysAndCounts}
 use Rattle.tallies.specs.declared.barrier.Rounds.{Rounds}
+use Rattle.tallies.specs.declared.barrier.BarrierScript.{BarrierScript}
 use Rattle.tallies.specs.Counts.{one_more}
 use Rattle.tallies.specs.BarrierRule.{in_round, rounds, no_rounds, both_rounds, word_of, BarrierAgrees}
 
--- whenever the rule holds, a round that a pass knows to be open has n arrivals of all passes
+-- what the pass of a barrier knows
+abbrev pub BarrierView : Type 0
+BarrierView = View (Played BarrierScript BarrierPlace Rounds)
+
+-- the rule of a barrier for n holds
+abbrev pub IsRuled : ℕ → State (Unit {0}) BarrierView → Type 0
+IsRuled n s = IsCounted (none_played no_rounds) (both_played both_rounds) (PlaysAndCounts (barrier_table n) (KeepsBarrier n) (words.State ∷ []) (BarrierAgrees n)) s
+
+-- whenever it does, a round that a pass knows to be open has n arrivals of all passes
 abbrev pub OpenRoundsAreFull : Type 0
-OpenRoundsAreFull = (n : ℕ) (s : State (Unit {0}) (View Rounds)) → IsCounted no_rounds both_rounds (BarrierAgrees n) s → (i : ℕ) (v : View Rounds) → get_elem? s.views i ≡ some v
-    → (round : ℕ) → round < v.tally.reached → total (λ u. in_round round u.tally.arrivals) s.views ≡ n
+OpenRoundsAreFull = (n : ℕ) (s : State (Unit {0}) BarrierView) → IsRuled n s → (i : ℕ) (v : BarrierView) → get_elem? s.views i ≡ some v
+    → (round : ℕ) → round < v.tally.counts.reached → total (λ u. in_round round u.tally.counts.arrivals) s.views ≡ n
 
 -- so many rounds are known to be open
 abbrev pub reaches : ℕ → View Rounds → View Rounds

@@ -1,2 +1,3 @@
+pub mod BarrierParties
 pub mod BarrierSteps
 pub mod BarrierShown

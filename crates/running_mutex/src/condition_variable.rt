@@ -312,6 +312,36 @@ impl<A: Allocator> ConditionVariable<A> {
         }
     }
 
+    /// Counts the wait in, calls `leave`, by which its caller lets a lock of its own go, waits for a permit as the semaphore's `wait` does,
+    /// and counts the wait out. What `leave` gave, and `Success` where a permit was taken.
+    ///
+    /// It serves a lock of another kind than the mutex. `leave` is called after the count, so a notify that comes once the lock is free
+    /// sees the wait. The lock is the caller's to take again.
+    #[inline(always)]
+    pub fn wait_around<R: Wait, Y, F: FnOnce() -> Y, W: Fn(&WaitWord, &u64) -> WaitAction>(
+        &self,
+        rt: &R,
+        cond_pass: &mut CondPass,
+        leave: F,
+        wait: W,
+    ) -> (Y, WaitResult<()>)
+        requires own { IsCondPass self.now cond_pass.old }
+        requires may { F.IsAlwaysCallable leave × W.IsAlwaysCallable wait }
+        ensures left { F.post leave result.0 }
+        ensures counted { HasWaited cond_pass.old cond_pass.new }
+        ensures signalled { IfSuccess result.1 (λ _. HasTaken (permits_in cond_pass.old) (permits_in cond_pass.new)) }
+        ensures unsignalled { IfInterrupted result.1 (HasNotTaken W.Fn wait cond_pass.old cond_pass.new) }
+    {
+        self.count_in(&mut cond_pass.waits);
+        let left = leave();
+        let slept = self.semaphore.wait(rt, &mut cond_pass.permits, wait);
+        self.count_out(&mut cond_pass.waits);
+        match slept {
+            WaitResult::Success(()) => (left, WaitResult::Success(())),
+            WaitResult::Interrupted => (left, WaitResult::Interrupted),
+        }
+    }
+
     /// What `wait_held` does until it locks the mutex again, and whether a permit was taken.
     fn sleep<B: Allocator, R: Wait, K: Fn(&WaitWord), W: Fn(&WaitWord, &u64) -> WaitAction>(
         &self,

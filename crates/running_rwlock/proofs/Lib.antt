@@ -1,4 +1,5 @@
 pub mod RwReaderKeeps
+pub mod RwReaderPlays
 pub mod RwWriterKeeps
 pub mod RwReaderUnlocks
 pub mod RwReaderJoins

@@ -1,5 +1,5 @@
 -- Each step of a reader-preferring lock keeps its rule.
-use Rattle.std.proofs.Common.{◌≡◌, ℕ, ◌+◌, ◌-◌, ◌%◌, ◌^◌, ◌<◌, eqb, List, get_or, set, refl, sym, ◌∙◌, subst, arith, length-set, get_or-set_same}
+use Rattle.std.proofs.Common.{◌≡◌, ℕ, ◌+◌, ◌-◌, ◌%◌, ◌^◌, ◌<◌, eqb, List, get_or, set, refl, sym, ap, ◌∙◌, subst, arith, length-set, get_or-set_same}
 use mathlib.Core.Logic.{dite}
 use native.Mathlib.Decide.{ℕ_discrete}
 use prog.Atomic.{either}
@@ -7,6 +7,7 @@ use Rattle.passes.specs.declared.view.View.{View}
 use Rattle.passes.specs.Views.{looked, missed, wrote, Updates}
 use Rattle.passes.proofs.Sums.{sum_of_two}
 use Rattle.passes.proofs.Updates.{by_look, by_exchange}
+use Rattle.playing.specs.Passes.{none_played, both_played, core_played, played_add_up}
 use Rattle.tallies.specs.declared.held.Held.TheVariants.{Free}
 use Rattle.tallies.specs.Held.{read_holds, write_holds, Locks}
 use Rattle.tallies.specs.HeldTally.{same_nothing, tells_same_nothing, held_adds_up}
@@ -110,9 +111,10 @@ writers_out v on = record {
 pub none_beside : NoHoldBesideAWriteHold
 none_beside s r i j v w here there writes some = dite (ℕ_discrete i j) (λ same. same)
     (λ apart.
-    let two = sum_of_two no_holds both_holds (λ _. Free) (held_adds_up same_nothing tells_same_nothing) s.views i j v w here there apart in
-    let all : Locks (get_or s.words 0 0) tt (both_holds v.tally (both_holds w.tally two.0)) = subst (λ t. Locks (get_or s.words 0 0) tt t) two.1 r.agree.locks in
-    let mine = parts same_nothing tells_same_nothing tt v.tally (both_holds w.tally two.0) all.knows in
-    let others : Locks 0 tt (both_holds w.tally two.0) = subst (λ t. Locks 0 tt t) (sym (mine.alone writes)) (record { word_is = omega arith; room = omega arith; knows = tt }) in
-    let theirs = parts same_nothing tells_same_nothing tt w.tally two.0 others.knows in
+    let two = sum_of_two (none_played no_holds) (both_played both_holds) (core_played (λ _. Free)) (played_add_up no_holds both_holds (λ _. Free) (held_adds_up same_nothing tells_same_nothing)) s.views i j v w here there apart in
+    let rest : Holds = two.0.counts in
+    let all : Locks (get_or s.words 0 0) tt (both_holds v.tally.counts (both_holds w.tally.counts rest)) = subst (λ t. Locks (get_or s.words 0 0) tt t) (ap (λ t. t.counts) two.1) r.agree.1.locks in
+    let mine = parts same_nothing tells_same_nothing tt v.tally.counts (both_holds w.tally.counts rest) all.knows in
+    let others : Locks 0 tt (both_holds w.tally.counts rest) = subst (λ t. Locks 0 tt t) (sym (mine.alone writes)) (record { word_is = omega arith; room = omega arith; knows = tt }) in
+    let theirs = parts same_nothing tells_same_nothing tt w.tally.counts rest others.knows in
     absurd (omega (arith, others.word_is, theirs.reads, theirs.writes, some)))

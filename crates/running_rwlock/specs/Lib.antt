@@ -1,4 +1,5 @@
 pub mod RwShown
+pub mod RwReaderParties
 pub mod RwReaderSteps
 pub mod RwReaderShown
 pub mod RwWriterSteps

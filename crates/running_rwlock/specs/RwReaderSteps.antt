@@ -1,20 +1,35 @@
 -- What holds whenever the rule of a reader-preferring lock does, and what a step changes in a pass.
-use Rattle.std.specs.Prelude.{◌≡◌, ◌≢◌, ℕ, ◌+◌, ◌-◌, ◌*◌, ◌^◌, ◌<◌}
+use Rattle.std.specs.Prelude.{◌≡◌, ◌≢◌, ℕ, ◌+◌, ◌-◌, ◌*◌, ◌^◌, ◌<◌, [], ◌∷◌}
 use mathlib.Core.Option.{some}
 use lib.ListN.{get_elem?}
 use Rattle.atomic_table.specs.Table.{State}
+use Rattle.steps_events.specs.declared.event.Word.TheVariants as words
+use Rattle.steps_rw_reader.specs.declared.RwReaderPlace.{RwReaderPlace}
+use Rattle.steps_rw_reader.specs.Table.{rw_reader_table}
+use Rattle.steps_rw_reader.specs.Law.{KeepsRwReader}
 use Rattle.passes.specs.declared.view.View.{View}
 use Rattle.passes.specs.Parts.{IsWhole}
 use Rattle.passes.specs.Views.{looked, missed, wrote, IsCounted}
+use Rattle.playing.specs.declared.played.Played.{Played}
+use Rattle.playing.specs.Passes.{none_played, both_played, PlaysAndCounts}
+use Rattle.tallies.specs.declared.rw_reader.RwReaderScript.{RwReaderScript}
 use Rattle.tallies.specs.declared.held.Held.TheVariants.{Writing}
 use Rattle.tallies.specs.Held.{read_holds, write_holds, reader_in, reader_out}
 use Rattle.tallies.specs.HeldTally.{same_nothing}
 use Rattle.tallies.specs.RwReaderRule.{Holds, RwReaderAgrees, both_holds, no_holds}
 
--- whenever the rule holds, no pass has a hold where another has a write hold
+-- what a pass of a reader-preferring lock is in its model, and counts beside
+abbrev pub PlayedRwReader : Type 0
+PlayedRwReader = Played RwReaderScript RwReaderPlace Holds
+
+-- the rule of a lock holds
+abbrev pub IsRuled : State (Unit {0}) (View PlayedRwReader) → Type 0
+IsRuled s = IsCounted (none_played no_holds) (both_played both_holds) (PlaysAndCounts rw_reader_table KeepsRwReader (words.State ∷ []) RwReaderAgrees) s
+
+-- whenever it does, no pass has a hold where another has a write hold
 abbrev pub NoHoldBesideAWriteHold : Type 0
-NoHoldBesideAWriteHold = (s : State (Unit {0}) (View Holds)) → IsCounted no_holds both_holds RwReaderAgrees s → (i j : ℕ) (v w : View Holds) → get_elem? s.views i ≡ some v → get_elem? s.views j ≡ some w
-    → write_holds v.tally ≡ 1 → 0 < read_holds w.tally + write_holds w.tally → i ≡ j
+NoHoldBesideAWriteHold = (s : State (Unit {0}) (View PlayedRwReader)) → IsRuled s → (i j : ℕ) (v w : View PlayedRwReader) → get_elem? s.views i ≡ some v → get_elem? s.views j ≡ some w
+    → write_holds v.tally.counts ≡ 1 → 0 < read_holds w.tally.counts + write_holds w.tally.counts → i ≡ j
 
 -- the word where no other pass has counted anything
 abbrev pub word_of : Holds → ℕ

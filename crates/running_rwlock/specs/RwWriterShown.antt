@@ -5,7 +5,7 @@ use Rattle.passes.specs.declared.part.Sights.{Sights}
 use Rattle.passes.specs.declared.view.View.{View}
 use Rattle.passes.specs.declared.pass.Pass.{Pass}
 use Rattle.passes.specs.Parts.{IsWhole}
-use Rattle.passes.specs.Passes.{IsSamePass, view, part_of, sights_of, tally_of, HasMoved}
+use Rattle.passes.specs.Passes.{IsSamePass, view, part_of, sights_of, tally_of, HasOnlySeen, HasMoved}
 use Rattle.passes.specs.Views.{looked, missed, wrote}
 use Rattle.passes.specs.Objects.{IsPassOf}
 use Rattle.running_rwlock.specs.declared.hold.RwPass.{Ghosts}
@@ -14,7 +14,7 @@ use Rattle.running_rwlock.specs.declared.writer_preference.RwLockWriterPreferenc
 use Rattle.running_rwlock.specs.declared.writer_preference.pass.RwWriterPass.{RwWriterPass}
 use Rattle.tallies.specs.declared.rw_writer.MarkedHolds.{MarkedHolds}
 use Rattle.tallies.specs.Held.{read_holds, write_holds}
-use Rattle.running_rwlock.specs.RwShown.{IsReadHold, IsWriteHold, pass_of}
+use Rattle.running_rwlock.specs.RwShown.{IsReadHold, IsWriteHold, pass_of, TurnsAway}
 use Rattle.running_rwlock.specs.RwWriterSteps.{IsMarked, IsOnly, read, no_more_read, written, no_more_written, flagged}
 
 -- the pass inside, between two calls
@@ -77,6 +77,10 @@ HasEnteredToRead = HasMoved EntersToRead
 -- one look saw the value from which the read hold was then turned on, and nothing else changed
 abbrev pub HasReadAtOnce : Pass MarkedHolds → Pass MarkedHolds → Type 0
 HasReadAtOnce p q = view q ≡ wrote (looked (view p) (sights_of q).last) (read (tally_of p))
+
+-- one look, or one and an exchange that failed, did not let the reader in
+abbrev pub WasTurnedAway : Pass MarkedHolds → Pass MarkedHolds → Type 0
+WasTurnedAway = TurnsAway view HasOnlySeen IsShut
 
 -- The write hold is on, where the pass had no hold, and was granted once more. The flag is down. Nothing else changed but what was seen
 -- on the way.

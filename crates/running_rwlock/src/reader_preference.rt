@@ -1,41 +1,43 @@
 //! A lock of many readers or one writer that lets readers in as long as no writer is. Its word is the number of read holds, or
 //! 2^64 - 1 with a write hold.
-ghost use Rattle.std.specs.Prelude.{◌≡◌, ◌-◌, ◌^◌, IfOk};
-ghost use Rattle.passes.specs.Objects.{count_of};
+ghost use Rattle.std.specs.Prelude.{◌≡◌, ℕ, ◌-◌, ◌^◌, IfOk};
+ghost use Rattle.playing.specs.Passes.{parties_of, counts_of as tally_of, counted};
+ghost use Rattle.playing.specs.Stages.{count_of};
 ghost use Rattle.running_rwlock.specs.RwReaderSteps.{NoHoldBesideAWriteHold};
 
 use crate::hold::{ReadHold, RwHold, WriteHold};
-use passes::{Attempt, Deed, Origin, Pass, WaitResult, Words, try_again, wake};
+use passes::{Deed, Origin, Pass, WaitResult};
+use playing::{Attempt, Entry, GoesOn, Stage, try_again};
 use std::alloc::{AllocError, Allocator, Global};
 use std::ops::Deref;
 use std::sync::Wait;
 use steps_events::WaitAction;
-use steps_rw_reader::{reader_enters, writer_enters};
-use tallies::{Held, WaitWord};
+use steps_rw_reader::{RwReaderPlace, reader_enters, writer_enters};
+use tallies::{Held, PlayedRwReader, RwReaderScript, WaitWord};
 
 /// A lock of many readers or one writer. A reader enters wherever no writer is in, also where writers wait.
 #[derive(Drop)]
 pub struct RwLockReaderPreference<A: Allocator = Global> {
-    words: Words<(), Held<()>, A>,
-    ghost one_word: { count_of words ≡ 1 },
+    stage: Stage<(), RwReaderScript, RwReaderPlace, Held<()>, A>,
+    ghost one_word: { count_of stage ≡ 1 },
 }
 
 /// What the passes of a lock come from, at which they are split and joined.
 impl<A: Allocator> Deref for RwLockReaderPreference<A> {
-    ghost use Rattle.passes.specs.Objects.{origin};
+    ghost use Rattle.playing.specs.Stages.{origin};
 
-    type Target = Origin<(), Held<()>, A>;
+    type Target = Origin<(), PlayedRwReader, A>;
 
     #[inline(always)]
-    fn deref(&self) -> &Origin<(), Held<()>, A>
-        ensures { result.now ≡ origin self.now.words }
+    fn deref(&self) -> &Origin<(), PlayedRwReader, A>
+        ensures { result.now ≡ origin self.now.stage }
     {
-        &self.words
+        &self.stage
     }
 }
 
 /// The right to call a reader-preferring lock, and what its owner did and saw there.
-pub type RwReaderPass = Pass<Held<()>>;
+pub type RwReaderPass = Pass<PlayedRwReader>;
 
 /// A load.
 struct Look;
@@ -82,27 +84,96 @@ impl Deed<(), Held<()>> for LeaveWriting {
     ghost tells = { λ _ _ _ before _ after. WriterOut before after };
 }
 
+/// A `TryReadLock` begins.
+struct TryReadBegins;
+
+impl Entry for TryReadBegins {
+    ghost use Rattle.steps_events.specs.declared.event.Call.TheVariants as calls;
+    ghost use Rattle.playing.specs.Plays.{Beginning};
+
+    ghost coming = { Beginning calls.TryReadLock };
+}
+
+/// A `ReadLock` begins.
+struct ReadBegins;
+
+impl Entry for ReadBegins {
+    ghost use Rattle.steps_events.specs.declared.event.Call.TheVariants as calls;
+    ghost use Rattle.playing.specs.Plays.{Beginning};
+
+    ghost coming = { Beginning calls.ReadLock };
+}
+
+/// A `TryWriteLock` begins.
+struct TryWriteBegins;
+
+impl Entry for TryWriteBegins {
+    ghost use Rattle.steps_events.specs.declared.event.Call.TheVariants as calls;
+    ghost use Rattle.playing.specs.Plays.{Beginning};
+
+    ghost coming = { Beginning calls.TryWriteLock };
+}
+
+/// A `WriteLock` begins.
+struct WriteBegins;
+
+impl Entry for WriteBegins {
+    ghost use Rattle.steps_events.specs.declared.event.Call.TheVariants as calls;
+    ghost use Rattle.playing.specs.Plays.{Beginning};
+
+    ghost coming = { Beginning calls.WriteLock };
+}
+
+/// An `Unlock` begins, by the party that has the hold.
+struct UnlockBegins;
+
+impl Entry for UnlockBegins {
+    ghost use Rattle.steps_events.specs.declared.event.Call.TheVariants as calls;
+    ghost use Rattle.playing.specs.Plays.{Continuing};
+
+    ghost coming = { Continuing calls.Unlock };
+}
+
 impl<A: Allocator> RwLockReaderPreference<A> {
     ghost use Rattle.std.specs.Borrow.{sem, unit};
-    ghost use Rattle.std.specs.Prelude.{true, false, ◌+◌, ◌<◌, ◌≢◌, MatchBool, IfErr, is_ok};
-    ghost use Rattle.passes.specs.Answers.{IfSuccess, IfInterrupted, IsSuccess, RestsIfInterrupted, MayAnswerAbort, HasAsked, HasGivenUp, HasWoken};
+    ghost use Rattle.std.specs.Prelude.{true, false, ◌+◌, ◌<◌, ◌≢◌, [], ◌∷◌, Some, None, MatchBool, IfErr, is_ok};
+    ghost use Rattle.steps_events.specs.declared.event.Word.TheVariants as words;
+    ghost use Rattle.steps_events.specs.declared.event.Call.TheVariants as calls;
+    ghost use Rattle.steps_events.specs.declared.event.Answer.TheVariants as answers;
+    ghost use Rattle.steps_events.specs.declared.hold.HoldKind.TheVariants as kinds;
+    ghost use Rattle.steps_events.specs.declared.row.Intent.TheVariants as intents;
+    ghost use Rattle.steps_rw_reader.specs.declared.RwReaderPlace.TheVariants as places;
+    ghost use Rattle.steps_rw_reader.specs.Table.{rw_reader_table};
+    ghost use Rattle.steps_rw_reader.specs.Law.{KeepsRwReader};
+    ghost use Rattle.steps_rw_reader.specs.contracts.RwReaderPlace as place_row;
+    ghost use Rattle.passes.specs.Answers.{IfSuccess, IfInterrupted, IsSuccess, RestsIfInterrupted, MayAnswerAbort, HasAsked, HasWoken};
     ghost use Rattle.passes.specs.Parts.{IsWhole};
-    ghost use Rattle.passes.specs.Passes.{view, part_of, sights_of, tally_of, HasSeen, HasMissed, HasDone, WasRefused, WasRefusedAt};
+    ghost use Rattle.passes.specs.Passes.{view, part_of, sights_of};
     ghost use Rattle.passes.specs.Views.{first_view};
     ghost use Rattle.passes.specs.contracts.pass.Pass.{the_row};
+    ghost use Rattle.playing.specs.contracts.played.Played as played_row;
+    ghost use Rattle.playing.specs.Slots.{no_parties};
+    ghost use Rattle.playing.specs.Plays.{Going, MayStep, Went};
+    ghost use Rattle.playing.specs.Passes.{played};
+    ghost use Rattle.playing.specs.Counts.{HasSeen, HasMissed, HasDone, WasRefused, WasRefusedAt, HasGivenUp};
+    ghost use Rattle.playing.specs.Stages.{id_of};
+    ghost use Rattle.playing.specs.Tries.{MayTry, Tried, IsGranted, IsRefused};
     ghost use Rattle.tallies.specs.contracts.held.Held as held_row;
-    ghost use Rattle.running_rwlock.specs.RwShown.{IsReadHold, IsWriteHold, pass_of, borrow_of, WasTurnedAway};
+    ghost use Rattle.tallies.specs.contracts.rw_reader.RwReaderScript as script_row;
+    ghost use Rattle.tallies.specs.Shown.{object_shown, index_shown};
+    ghost use Rattle.running_rwlock.specs.RwShown.{IsReadHold, IsWriteHold, pass_of, borrow_of};
     ghost use Rattle.tallies.specs.RwReaderRule.{no_holds};
+    ghost use Rattle.running_rwlock.specs.RwReaderParties.{has_hold, Unlocks};
     ghost use Rattle.running_rwlock.specs.RwReaderSteps.{read, written, word_of};
-    ghost use Rattle.running_rwlock.specs.RwReaderShown.{IsRwReaderPass, IsAlone, IsShut, IsTaken, reads_of, writes_of, HasEnteredToRead, HasEnteredToWrite, HasReadAtOnce, HasWrittenAtOnce, HasSeenTaken, HasLeftReading, HasLeftWriting, HasUnlocked};
+    ghost use Rattle.running_rwlock.specs.RwReaderShown.{IsRwReaderPass, IsAlone, IsShut, IsTaken, reads_of, writes_of, WasTurnedAway, HasEnteredToRead, HasEnteredToWrite, HasReadAtOnce, HasWrittenAtOnce, HasSeenTaken, HasLeftReading, HasLeftWriting, HasUnlocked, HasPlayed, HasPlayedUnlock};
 
     /// A lock that is free, and the pass that is whole. `Err` where there was no memory; then nothing was made.
     pub fn new(alloc: A) -> Result<(RwLockReaderPreference<A>, RwReaderPass), AllocError>
         ensures own { IfOk result (λ made. IsRwReaderPass made.0 made.1) }
-        ensures first { IfOk result (λ made. view made.1 ≡ first_view no_holds) }
+        ensures first { IfOk result (λ made. view made.1 ≡ first_view (played no_parties no_holds)) }
     {
-        let (words, pass) = Words::new(alloc, &[0], &())?;
-        Ok((RwLockReaderPreference { words }, pass))
+        let (stage, pass) = Stage::new(alloc, &[0], &())?;
+        Ok((RwLockReaderPreference { stage }, pass))
     }
 
     /// Locks for reading: one look and, where there is room for a reader, one exchange. `Interrupted` where a writer is in or there
@@ -113,11 +184,12 @@ impl<A: Allocator> RwLockReaderPreference<A> {
         this: &Self,
     ) -> WaitResult<RwHold<'p, RwReaderPass>>
         requires own { IsRwReaderPass this.now pass.old }
-        ensures* refused { sem 𝓛 (RestsIfInterrupted (the_row (held_row.the_row unit)) pass.entry borrow_of result (WasTurnedAway IsShut pass.old)) }
+        ensures* refused { sem 𝓛 (RestsIfInterrupted (the_row (played_row.the_row script_row.the_row place_row.the_row (held_row.the_row unit))) pass.entry borrow_of result (λ q. WasTurnedAway pass.old q × HasPlayed calls.TryReadLock answers.Interrupted None pass.old q)) }
         ensures same_borrow { IfSuccess result (λ hold. borrow_of hold ≡ pass.entry.ghost_name) }
         ensures kind { IfSuccess result IsReadHold }
         ensures granted { IfSuccess result (λ hold. HasEnteredToRead pass.old (pass_of hold)) }
         ensures at_once { IfSuccess result (λ hold. HasReadAtOnce pass.old (pass_of hold)) }
+        ensures played { IfSuccess result (λ hold. HasPlayed calls.TryReadLock answers.Success (Some kinds.Read) pass.old (pass_of hold)) }
         ensures exact { IsAlone pass.old → IsSuccess result }
     {
         if this.try_to_read(pass) {
@@ -139,10 +211,11 @@ impl<A: Allocator> RwLockReaderPreference<A> {
     ) -> WaitResult<RwHold<'p, RwReaderPass>>
         requires own { IsRwReaderPass this.now pass.old }
         requires may { W.IsAlwaysCallable wait }
-        ensures* refused { sem 𝓛 (RestsIfInterrupted (the_row (held_row.the_row unit)) pass.entry borrow_of result (λ q. WasRefused IsShut 10002 pass.old q × (IsWhole (part_of pass.old) → HasAsked W.Fn wait IsShut 10001 pass.old q))) }
+        ensures* refused { sem 𝓛 (RestsIfInterrupted (the_row (played_row.the_row script_row.the_row place_row.the_row (held_row.the_row unit))) pass.entry borrow_of result (λ q. WasRefused IsShut 10002 pass.old q × (IsWhole (part_of pass.old) → HasAsked W.Fn wait IsShut 10001 pass.old q) × HasPlayed calls.ReadLock answers.Interrupted None pass.old q)) }
         ensures same_borrow { IfSuccess result (λ hold. borrow_of hold ≡ pass.entry.ghost_name) }
         ensures kind { IfSuccess result IsReadHold }
         ensures granted { IfSuccess result (λ hold. HasEnteredToRead pass.old (pass_of hold)) }
+        ensures played { IfSuccess result (λ hold. HasPlayed calls.ReadLock answers.Success (Some kinds.Read) pass.old (pass_of hold)) }
         ensures exact { IsAlone pass.old → IsSuccess result }
         ensures aborted { IfInterrupted result (MayAnswerAbort W.Fn wait IsShut) }
     {
@@ -154,7 +227,7 @@ impl<A: Allocator> RwLockReaderPreference<A> {
     }
 
     /// Subtracts 1 for a read hold, stores 0 for a write hold, and then calls the wake closure once. Gives the pass back.
-    #[tactic(auto, using(crate::proofs::RwReaderUnlocks::unlocked_reading, crate::proofs::RwReaderUnlocks::unlocked_writing))]
+    #[tactic(auto, using(crate::proofs::RwReaderUnlocks::unlocked_reading, crate::proofs::RwReaderUnlocks::unlocked_writing, crate::proofs::RwReaderUnlocks::played_reading, crate::proofs::RwReaderUnlocks::played_writing))]
     #[inline(always)]
     pub fn unlock<'p, W: Fn(&WaitWord)>(
         &self,
@@ -165,6 +238,7 @@ impl<A: Allocator> RwLockReaderPreference<A> {
         requires may { W.IsAlwaysCallable wake_one }
         ensures same_borrow { result.ghost_name ≡ borrow_of hold.entry }
         ensures released { HasUnlocked hold.entry result.now }
+        ensures played { HasPlayedUnlock hold.entry result.now }
         ensures woke { HasWoken W.Fn wake_one }
     {
         match hold {
@@ -180,16 +254,18 @@ impl<A: Allocator> RwLockReaderPreference<A> {
         this: &Self,
     ) -> WaitResult<RwHold<'p, RwReaderPass>>
         requires own { IsRwReaderPass this.now pass.old }
-        ensures* refused { sem 𝓛 (RestsIfInterrupted (the_row (held_row.the_row unit)) pass.entry borrow_of result (HasSeenTaken pass.old)) }
+        ensures* refused { sem 𝓛 (RestsIfInterrupted (the_row (played_row.the_row script_row.the_row place_row.the_row (held_row.the_row unit))) pass.entry borrow_of result (λ q. HasSeenTaken pass.old q × HasPlayed calls.TryWriteLock answers.Interrupted None pass.old q)) }
         ensures same_borrow { IfSuccess result (λ hold. borrow_of hold ≡ pass.entry.ghost_name) }
         ensures kind { IfSuccess result IsWriteHold }
         ensures granted { IfSuccess result (λ hold. HasEnteredToWrite pass.old (pass_of hold)) }
         ensures at_once { IfSuccess result (λ hold. HasWrittenAtOnce pass.old (pass_of hold)) }
+        ensures played { IfSuccess result (λ hold. HasPlayed calls.TryWriteLock answers.Success (Some kinds.Write) pass.old (pass_of hold)) }
         ensures exact { IsAlone pass.old → IsSuccess result }
     {
-        match this.try_to_write(pass) {
-            Ok(()) => WaitResult::Success(RwHold::Write(WriteHold { pass })),
-            Err(_) => WaitResult::Interrupted,
+        if this.try_once_to_write(pass) {
+            WaitResult::Success(RwHold::Write(WriteHold { pass }))
+        } else {
+            WaitResult::Interrupted
         }
     }
 
@@ -205,10 +281,11 @@ impl<A: Allocator> RwLockReaderPreference<A> {
     ) -> WaitResult<RwHold<'p, RwReaderPass>>
         requires own { IsRwReaderPass this.now pass.old }
         requires may { W.IsAlwaysCallable wait }
-        ensures* refused { sem 𝓛 (RestsIfInterrupted (the_row (held_row.the_row unit)) pass.entry borrow_of result (HasGivenUp W.Fn wait IsTaken pass.old)) }
+        ensures* refused { sem 𝓛 (RestsIfInterrupted (the_row (played_row.the_row script_row.the_row place_row.the_row (held_row.the_row unit))) pass.entry borrow_of result (λ q. HasGivenUp W.Fn wait IsTaken pass.old q × HasPlayed calls.WriteLock answers.Interrupted None pass.old q)) }
         ensures same_borrow { IfSuccess result (λ hold. borrow_of hold ≡ pass.entry.ghost_name) }
         ensures kind { IfSuccess result IsWriteHold }
         ensures granted { IfSuccess result (λ hold. HasEnteredToWrite pass.old (pass_of hold)) }
+        ensures played { IfSuccess result (λ hold. HasPlayed calls.WriteLock answers.Success (Some kinds.Write) pass.old (pass_of hold)) }
         ensures exact { IsAlone pass.old → IsSuccess result }
         ensures aborted { IfInterrupted result (MayAnswerAbort W.Fn wait IsTaken) }
     {
@@ -225,19 +302,21 @@ impl<A: Allocator> RwLockReaderPreference<A> {
         ensures exact { IsWhole (part_of pass) → result ≡ word_of (tally_of pass) }
         ensures free { IsAlone pass → result ≡ 0 }
     {
-        let RwLockReaderPreference { words } = self;
-        words.close(pass, 0)
+        let RwLockReaderPreference { stage } = self;
+        stage.close(pass, 0)
     }
 
     /// What `try_read_lock` does, and whether the hold is on.
     #[inline(always)]
     fn try_to_read(&self, pass: &mut RwReaderPass) -> bool
         requires own { IsRwReaderPass self.now pass.old }
-        ensures entered { MatchBool result (HasEnteredToRead pass.old pass.new) (WasTurnedAway IsShut pass.old pass.new) }
+        ensures entered { MatchBool result (HasEnteredToRead pass.old pass.new) (WasTurnedAway pass.old pass.new) }
+        ensures played { MatchBool result (HasPlayed calls.TryReadLock answers.Success (Some kinds.Read) pass.old pass.new) (HasPlayed calls.TryReadLock answers.Interrupted None pass.old pass.new) }
+        ensures has { result ≡ true → has_hold kinds.Read (parties_of pass.new) ≡ true }
         ensures at_once { result ≡ true → HasReadAtOnce pass.old pass.new }
         ensures exact { IsAlone pass.old → result ≡ true }
     {
-        let seen = self.look(pass);
+        let seen = self.look::<TryReadBegins>(pass);
         match reader_enters(seen) {
             Some(more) => self.come_to_read(pass, seen, more) == seen,
             None => false,
@@ -246,14 +325,21 @@ impl<A: Allocator> RwLockReaderPreference<A> {
 
     /// Looks, and turns a read hold on while there is room. `Err` with a value at which there was none.
     #[inline(always)]
-    fn read_unless_shut<R: Wait>(&self, rt: &R, pass: &mut RwReaderPass) -> Result<(), u64>
+    fn read_unless_shut<E: Entry, R: Wait>(
+        &self,
+        rt: &R,
+        pass: &mut RwReaderPass,
+    ) -> Result<(), u64>
         requires own { IsRwReaderPass self.now pass.old }
+        requires comes { MayTry rw_reader_table KeepsRwReader calls.ReadLock places.ReadLook E.coming (parties_of pass.old) }
         ensures entered { IfOk result (λ _. HasEnteredToRead pass.old pass.new) }
         ensures refused { IfErr result (λ seen. WasRefusedAt IsShut seen 1 pass.old pass.new) }
         ensures once { IfErr result (λ _. IsWhole (part_of pass.old) → (sights_of pass.new).count ≡ (sights_of pass.old).count + 1) }
+        ensures granted { IfOk result (λ _. Tried rw_reader_table KeepsRwReader calls.ReadLock places.ReadLook E.coming (parties_of pass.old) (λ _ done. IsGranted rw_reader_table KeepsRwReader calls.ReadLock places.ReadLook (Some kinds.Read) done (parties_of pass.new))) }
+        ensures failed { IfErr result (λ seen. Tried rw_reader_table KeepsRwReader calls.ReadLock places.ReadLook E.coming (parties_of pass.old) (λ patience done. IsRefused rw_reader_table KeepsRwReader calls.ReadLock places.ReadLook patience seen done (parties_of pass.new))) }
         ensures exact { IsAlone pass.old → is_ok result ≡ true }
     {
-        let mut seen = self.look(pass);
+        let mut seen = self.look::<E>(pass);
         for _ in rt.forever() {
             let Some(more) = reader_enters(seen) else {
                 return Err(seen);
@@ -278,11 +364,13 @@ impl<A: Allocator> RwLockReaderPreference<A> {
         requires own { IsRwReaderPass self.now pass.old }
         requires may { W.IsAlwaysCallable wait.now }
         ensures entered { MatchBool result (HasEnteredToRead pass.old pass.new) (WasRefused IsShut 10002 pass.old pass.new) }
+        ensures played { MatchBool result (HasPlayed calls.ReadLock answers.Success (Some kinds.Read) pass.old pass.new) (HasPlayed calls.ReadLock answers.Interrupted None pass.old pass.new) }
+        ensures has { result ≡ true → has_hold kinds.Read (parties_of pass.new) ≡ true }
         ensures exact { IsAlone pass.old → result ≡ true }
         ensures aborted { result ≡ false → MayAnswerAbort W.Fn wait.now IsShut }
         ensures asked { IsWhole (part_of pass.old) → result ≡ false → HasAsked W.Fn wait.now IsShut 10001 pass.old pass.new }
     {
-        match self.read_unless_shut(rt, pass) {
+        match self.read_unless_shut::<ReadBegins, R>(rt, pass) {
             Ok(()) => true,
             Err(seen) => {
                 let reader = Reader { lock: self };
@@ -300,13 +388,15 @@ impl<A: Allocator> RwLockReaderPreference<A> {
     ) -> &'p mut RwReaderPass
         requires own { IsRwReaderPass self.now pass.old }
         requires on { 0 < reads_of pass.old }
+        requires has { has_hold kinds.Read (parties_of pass.old) ≡ true }
         requires may { W.IsAlwaysCallable wake_one }
         ensures same_borrow { result.ghost_name ≡ pass.entry.ghost_name }
         ensures released { HasLeftReading pass.old result.now }
+        ensures played { Unlocks kinds.Read (parties_of pass.old) (parties_of result.now) }
         ensures woke { HasWoken W.Fn wake_one }
     {
         self.leave_reading(pass);
-        self.wake(&wake_one);
+        self.stage.wake(pass, &self.word(), &wake_one);
         pass
     }
 
@@ -319,26 +409,47 @@ impl<A: Allocator> RwLockReaderPreference<A> {
     ) -> &'p mut RwReaderPass
         requires own { IsRwReaderPass self.now pass.old }
         requires on { writes_of pass.old ≡ 1 }
+        requires has { has_hold kinds.Write (parties_of pass.old) ≡ true }
         requires may { W.IsAlwaysCallable wake_one }
         ensures same_borrow { result.ghost_name ≡ pass.entry.ghost_name }
         ensures released { HasLeftWriting pass.old result.now }
+        ensures played { Unlocks kinds.Write (parties_of pass.old) (parties_of result.now) }
         ensures woke { HasWoken W.Fn wake_one }
     {
         self.leave_writing(pass);
-        self.wake(&wake_one);
+        self.stage.wake(pass, &self.word(), &wake_one);
         pass
+    }
+
+    /// What `try_write_lock` does, and whether the hold is on.
+    #[inline(always)]
+    fn try_once_to_write(&self, pass: &mut RwReaderPass) -> bool
+        requires own { IsRwReaderPass self.now pass.old }
+        ensures entered { MatchBool result (HasEnteredToWrite pass.old pass.new) (HasSeenTaken pass.old pass.new) }
+        ensures played { MatchBool result (HasPlayed calls.TryWriteLock answers.Success (Some kinds.Write) pass.old pass.new) (HasPlayed calls.TryWriteLock answers.Interrupted None pass.old pass.new) }
+        ensures has { result ≡ true → has_hold kinds.Write (parties_of pass.new) ≡ true }
+        ensures at_once { result ≡ true → HasWrittenAtOnce pass.old pass.new }
+        ensures exact { IsAlone pass.old → result ≡ true }
+    {
+        match self.try_to_write::<TryWriteBegins>(pass) {
+            Ok(()) => true,
+            Err(_) => false,
+        }
     }
 
     /// Turns the write hold on by one exchange. `Err` with the value that it found, where that was not 0.
     #[inline(always)]
-    fn try_to_write(&self, pass: &mut RwReaderPass) -> Result<(), u64>
+    fn try_to_write<E: Entry>(&self, pass: &mut RwReaderPass) -> Result<(), u64>
         requires own { IsRwReaderPass self.now pass.old }
+        requires may { (put : ℕ) → put ≡ 2 ^ 64 - 1 → MayStep rw_reader_table KeepsRwReader (words.State ∷ []) E.coming 0 (λ w. intents.Exchange w 0 put) (parties_of pass.old) }
         ensures entered { IfOk result (λ _. HasEnteredToWrite pass.old pass.new) }
         ensures at_once { IfOk result (λ _. HasWrittenAtOnce pass.old pass.new) }
         ensures refused { IfErr result (λ seen. HasSeenTaken pass.old pass.new × ((sights_of pass.new).last ≡ seen)) }
+        ensures went { IfOk result (λ _. Went rw_reader_table KeepsRwReader E.coming (parties_of pass.old) 0 (parties_of pass.new)) }
+        ensures missed { IfErr result (λ seen. (seen ≢ 0) × Went rw_reader_table KeepsRwReader E.coming (parties_of pass.old) seen (parties_of pass.new)) }
         ensures exact { IsAlone pass.old → is_ok result ≡ true }
     {
-        match self.come_to_write(pass) {
+        match self.come_to_write::<E>(pass) {
             0 => Ok(()),
             found => Err(found),
         }
@@ -355,10 +466,12 @@ impl<A: Allocator> RwLockReaderPreference<A> {
         requires own { IsRwReaderPass self.now pass.old }
         requires may { W.IsAlwaysCallable wait.now }
         ensures entered { MatchBool result (HasEnteredToWrite pass.old pass.new) (HasGivenUp W.Fn wait.now IsTaken pass.old pass.new) }
+        ensures played { MatchBool result (HasPlayed calls.WriteLock answers.Success (Some kinds.Write) pass.old pass.new) (HasPlayed calls.WriteLock answers.Interrupted None pass.old pass.new) }
+        ensures has { result ≡ true → has_hold kinds.Write (parties_of pass.new) ≡ true }
         ensures exact { IsAlone pass.old → result ≡ true }
         ensures aborted { result ≡ false → MayAnswerAbort W.Fn wait.now IsTaken }
     {
-        match self.try_to_write(pass) {
+        match self.try_to_write::<WriteBegins>(pass) {
             Ok(()) => true,
             Err(seen) => {
                 let writer = Writer { lock: self };
@@ -368,14 +481,15 @@ impl<A: Allocator> RwLockReaderPreference<A> {
     }
 
     /// A load.
-    #[tactic(auto, using(crate::proofs::RwReaderKeeps::loads))]
     #[inline(always)]
-    fn look(&self, pass: &mut RwReaderPass) -> u64
+    fn look<E: Entry>(&self, pass: &mut RwReaderPass) -> u64
         requires own { IsRwReaderPass self.now pass.old }
+        requires may { MayStep rw_reader_table KeepsRwReader (words.State ∷ []) E.coming 0 (λ w. intents.Load w) (parties_of pass.old) }
         ensures saw { HasSeen result pass.old pass.new }
+        ensures went { Went rw_reader_table KeepsRwReader E.coming (parties_of pass.old) result (parties_of pass.new) }
         ensures exact { IsWhole (part_of pass.old) → result ≡ word_of (tally_of pass.old) }
     {
-        self.words.load::<Look>(pass, 0)
+        self.stage.load::<E, Look>(pass, 0)
     }
 
     /// An exchange of the value seen for one more, and the value that it found.
@@ -384,65 +498,66 @@ impl<A: Allocator> RwLockReaderPreference<A> {
         requires own { IsRwReaderPass self.now pass.old }
         requires room { seen < 2 ^ 64 - 2 }
         requires more { more ≡ seen + 1 }
+        requires may { MayStep rw_reader_table KeepsRwReader (words.State ∷ []) Going 0 (λ w. intents.Exchange w seen more) (parties_of pass.old) }
         ensures done { result ≡ seen → HasDone read pass.old pass.new }
         ensures reads { result ≡ seen → reads_of pass.new ≡ reads_of pass.old + 1 }
         ensures writes { result ≡ seen → (writes_of pass.old ≡ 0) × (writes_of pass.new ≡ 0) }
         ensures failed { result ≢ seen → HasMissed seen result pass.old pass.new }
+        ensures went { Went rw_reader_table KeepsRwReader Going (parties_of pass.old) result (parties_of pass.new) }
         ensures exact { IsWhole (part_of pass.old) → result ≡ word_of (tally_of pass.old) }
     {
-        self.words
-            .compare_exchange::<ComeToRead>(pass, 0, seen, more)
+        self.stage
+            .exchange::<GoesOn, ComeToRead>(pass, 0, seen, more)
     }
 
     /// A subtraction of 1, by a pass that has a read hold.
-    #[tactic(auto, using(crate::proofs::RwReaderKeeps::readers_out))]
     #[inline(always)]
     fn leave_reading(&self, pass: &mut RwReaderPass)
         requires own { IsRwReaderPass self.now pass.old }
         requires on { 0 < reads_of pass.old }
+        requires has { has_hold kinds.Read (parties_of pass.old) ≡ true }
         ensures released { HasLeftReading pass.old pass.new }
+        ensures played { Unlocks kinds.Read (parties_of pass.old) (parties_of pass.new) }
     {
-        self.words.fetch_sub::<LeaveReading>(pass, 0, 1);
+        self.stage
+            .subtract::<UnlockBegins, LeaveReading>(pass, 0, 1);
     }
 
     /// An exchange of 0 for 2^64 - 1, and the value that it found.
     #[inline(always)]
-    fn come_to_write(&self, pass: &mut RwReaderPass) -> u64
+    fn come_to_write<E: Entry>(&self, pass: &mut RwReaderPass) -> u64
         requires own { IsRwReaderPass self.now pass.old }
+        requires may { (put : ℕ) → put ≡ 2 ^ 64 - 1 → MayStep rw_reader_table KeepsRwReader (words.State ∷ []) E.coming 0 (λ w. intents.Exchange w 0 put) (parties_of pass.old) }
         ensures done { result ≡ 0 → HasDone (λ _. written) pass.old pass.new }
         ensures off { result ≡ 0 → (reads_of pass.old ≡ 0) × (writes_of pass.old ≡ 0) }
         ensures on { result ≡ 0 → (reads_of pass.new ≡ 0) × (writes_of pass.new ≡ 1) }
         ensures failed { result ≢ 0 → HasMissed 0 result pass.old pass.new }
+        ensures went { Went rw_reader_table KeepsRwReader E.coming (parties_of pass.old) result (parties_of pass.new) }
         ensures exact { IsWhole (part_of pass.old) → result ≡ word_of (tally_of pass.old) }
     {
-        self.words
-            .compare_exchange::<ComeToWrite>(pass, 0, 0, write_locked())
+        self.stage
+            .exchange::<E, ComeToWrite>(pass, 0, 0, write_locked())
     }
 
     /// A store of 0, by the pass that has the write hold.
-    #[tactic(auto, using(crate::proofs::RwReaderKeeps::writers_out))]
     #[inline(always)]
     fn leave_writing(&self, pass: &mut RwReaderPass)
         requires own { IsRwReaderPass self.now pass.old }
         requires on { writes_of pass.old ≡ 1 }
+        requires has { has_hold kinds.Write (parties_of pass.old) ≡ true }
         ensures released { HasLeftWriting pass.old pass.new }
+        ensures played { Unlocks kinds.Write (parties_of pass.old) (parties_of pass.new) }
     {
-        self.words.store::<LeaveWriting>(pass, 0, 0);
-    }
-
-    /// Calls the wake closure once.
-    #[inline(always)]
-    fn wake<W: Fn(&WaitWord)>(&self, wake_one: &W)
-        requires may { W.IsAlwaysCallable wake_one.now }
-        ensures woke { HasWoken W.Fn wake_one.now }
-    {
-        wake(wake_one, &self.word());
+        self.stage.store::<UnlockBegins, LeaveWriting>(pass, 0, 0);
     }
 
     /// The lock's word, as closures see it.
     #[inline(always)]
-    fn word(&self) -> WaitWord<'_> {
-        WaitWord::from(self.words.word(0))
+    fn word(&self) -> WaitWord<'_>
+        ensures object { object_shown result ≡ id_of self.now.stage }
+        ensures index { index_shown result ≡ 0 }
+    {
+        WaitWord::from(self.stage.word(0))
     }
 }
 
@@ -453,12 +568,25 @@ struct Reader<'l, A: Allocator> {
 }
 
 /// A look of `read_lock`, and its exchanges.
-impl<A: Allocator> Attempt<Held<()>> for Reader<'_, A> {
+impl<A: Allocator> Attempt<(), RwReaderScript, RwReaderPlace, Held<()>> for Reader<'_, A> {
+    ghost use Rattle.std.specs.Prelude.{Some};
+    ghost use Rattle.std.proofs.Common.{refl};
+    ghost use Rattle.steps_events.specs.declared.event.Call.TheVariants as calls;
+    ghost use Rattle.steps_events.specs.declared.hold.HoldKind.TheVariants as kinds;
+    ghost use Rattle.steps_rw_reader.specs.declared.RwReaderPlace.TheVariants as places;
     ghost use Rattle.passes.specs.Parts.{IsWhole};
-    ghost use Rattle.passes.specs.Objects.{id_of};
+    ghost use Rattle.playing.specs.Stages.{id_of};
     ghost use Rattle.running_rwlock.specs.RwReaderShown.{IsShut, EntersToRead};
 
-    ghost object = { λ r. id_of r.lock.now.words };
+    ghost object = { λ r. id_of r.lock.now.stage };
+
+    ghost key = { λ _. tt };
+
+    ghost call = { calls.ReadLock };
+
+    ghost place = { places.ReadLook };
+
+    ghost takes = { Some kinds.Read };
 
     ghost moves = { EntersToRead };
 
@@ -466,9 +594,11 @@ impl<A: Allocator> Attempt<Held<()>> for Reader<'_, A> {
 
     ghost looks_once = { λ part _. IsWhole part };
 
+    ghost answers = { λ _ _ _. refl };
+
     #[inline(always)]
-    fn attempt<R: Wait>(&self, rt: &R, pass: &mut RwReaderPass) -> Result<(), u64> {
-        self.lock.read_unless_shut(rt, pass)
+    fn attempt<E: Entry, R: Wait>(&self, rt: &R, pass: &mut RwReaderPass) -> Result<(), u64> {
+        self.lock.read_unless_shut::<E, R>(rt, pass)
     }
 }
 
@@ -479,11 +609,24 @@ struct Writer<'l, A: Allocator> {
 }
 
 /// An exchange of `write_lock`.
-impl<A: Allocator> Attempt<Held<()>> for Writer<'_, A> {
-    ghost use Rattle.passes.specs.Objects.{id_of};
+impl<A: Allocator> Attempt<(), RwReaderScript, RwReaderPlace, Held<()>> for Writer<'_, A> {
+    ghost use Rattle.std.specs.Prelude.{Some};
+    ghost use Rattle.std.proofs.Common.{refl};
+    ghost use Rattle.steps_events.specs.declared.event.Call.TheVariants as calls;
+    ghost use Rattle.steps_events.specs.declared.hold.HoldKind.TheVariants as kinds;
+    ghost use Rattle.steps_rw_reader.specs.declared.RwReaderPlace.TheVariants as places;
+    ghost use Rattle.playing.specs.Stages.{id_of};
     ghost use Rattle.running_rwlock.specs.RwReaderShown.{IsTaken, EntersToWrite};
 
-    ghost object = { λ w. id_of w.lock.now.words };
+    ghost object = { λ w. id_of w.lock.now.stage };
+
+    ghost key = { λ _. tt };
+
+    ghost call = { calls.WriteLock };
+
+    ghost place = { places.Write };
+
+    ghost takes = { Some kinds.Write };
 
     ghost moves = { EntersToWrite };
 
@@ -491,9 +634,12 @@ impl<A: Allocator> Attempt<Held<()>> for Writer<'_, A> {
 
     ghost looks_once = { λ _ _. Unit {0} };
 
+    ghost answers = { λ _ _ _. refl };
+
     #[inline(always)]
-    fn attempt<R: Wait>(&self, _rt: &R, pass: &mut RwReaderPass) -> Result<(), u64> {
-        self.lock.try_to_write(pass)
+    fn attempt<E: Entry, R: Wait>(&self, rt: &R, pass: &mut RwReaderPass) -> Result<(), u64> {
+        let _rt = rt;
+        self.lock.try_to_write::<E>(pass)
     }
 }
 
@@ -510,7 +656,6 @@ fn write_locked() -> u64
 
 /// Whenever the rule of a reader-preferring lock holds, no pass has a hold where another has a write hold. Says so of the rule alone,
 /// and does nothing.
-#[tactic(auto, using(crate::proofs::RwReaderKeeps::none_beside))]
 pub fn no_hold_beside_a_write_hold()
     ensures { NoHoldBesideAWriteHold }
 {}

@@ -40,9 +40,9 @@ impl<A: Allocator> RwLockWriterPreference<A> {
     ghost use Rattle.passes.specs.Views.{first_view};
     ghost use Rattle.running_rwlock.specs.contracts.writer_preference.pass.RwWriterPass.{the_row};
     ghost use Rattle.tallies.specs.RwWriterRule.{nothing_marked};
-    ghost use Rattle.running_rwlock.specs.RwShown.{IsReadHold, IsWriteHold, pass_of, borrow_of, WasTurnedAway};
+    ghost use Rattle.running_rwlock.specs.RwShown.{IsReadHold, IsWriteHold, pass_of, borrow_of};
     ghost use Rattle.running_rwlock.specs.RwWriterSteps.{IsMarked, word_of};
-    ghost use Rattle.running_rwlock.specs.RwWriterShown.{IsRwWriterPass, IsAlone, IsShut, pass_in, known_by, part_in, sights_in, HasEnteredToRead, HasEnteredToWrite, HasReadAtOnce, HasWrittenAtOnce, HasSeenTaken, HasGivenUpWriting, HasUnlocked};
+    ghost use Rattle.running_rwlock.specs.RwWriterShown.{IsRwWriterPass, IsAlone, IsShut, pass_in, known_by, part_in, sights_in, HasEnteredToRead, HasEnteredToWrite, HasReadAtOnce, HasWrittenAtOnce, HasSeenTaken, HasGivenUpWriting, HasUnlocked, WasTurnedAway};
 
     /// A lock that is free, and the pass that is whole. `Err` where there was no memory; then nothing was made.
     #[tactic(auto, using(crate::proofs::RwWriterKeeps::opens))]
@@ -62,7 +62,7 @@ impl<A: Allocator> RwLockWriterPreference<A> {
         this: &Self,
     ) -> WaitResult<RwHold<'p, RwWriterPass>>
         requires own { IsRwWriterPass this.now pass.old }
-        ensures* refused { sem 𝓛 (RestsIfInterrupted the_row pass.entry borrow_of result (λ q. WasTurnedAway IsShut (pass_in pass.old) (pass_in q))) }
+        ensures* refused { sem 𝓛 (RestsIfInterrupted the_row pass.entry borrow_of result (λ q. WasTurnedAway (pass_in pass.old) (pass_in q))) }
         ensures same_borrow { IfSuccess result (λ hold. borrow_of hold ≡ pass.entry.ghost_name) }
         ensures kind { IfSuccess result IsReadHold }
         ensures granted { IfSuccess result (λ hold. HasEnteredToRead (pass_in pass.old) (pass_in (pass_of hold))) }

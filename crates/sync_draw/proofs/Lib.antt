@@ -1,1 +1,2 @@
 pub mod StoryLaws
+pub mod PictureLaws

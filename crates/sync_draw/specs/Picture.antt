@@ -3,9 +3,9 @@ use Rattle.std.specs.Prelude.{◌≡◌, ℕ, List, ◌++◌, map, codes, string
 use Rattle.markup.specs.declared.name.Tag.TheVariants as tags
 use Rattle.markup.specs.Tree.{IsElement}
 use Rattle.steps_events.specs.Arithmetic.{Arithmetic}
-use Rattle.steps_events.specs.Integers.{u64_arithmetic}
 use Rattle.sync_play.specs.Lexer.{lines_of}
-use Rattle.sync_play.specs.Numerals.{Numerals, u64_numerals}
+use Rattle.sync_play.specs.Numerals.{Numerals}
+use Rattle.sync_play.specs.ValueTypes.{values_in}
 use Rattle.sync_trace.specs.Trace.{rows_of}
 use Rattle.sync_draw.specs.declared.story.Step.{Step}
 use Rattle.sync_draw.specs.Story.{kept}
@@ -24,5 +24,5 @@ abbrev pub IsTypedPicture : {T : Type 0} → Arithmetic T → Numerals T → Lis
 IsTypedPicture z numerals lines bytes = IsPicture (map title_words (kept (rows_of z numerals lines).rows)) bytes
 
 -- a picture of a text, by the type of its values
-abbrev pub IsPictureOf : List ℕ → List ℕ → Type 0
-IsPictureOf text bytes = IsTypedPicture u64_arithmetic u64_numerals (lines_of text) bytes
+unfoldable pub IsPictureOf : List ℕ → List ℕ → Type 0
+IsPictureOf text bytes = IsTypedPicture (values_in text).arithmetic (values_in text).numerals (lines_of text) bytes

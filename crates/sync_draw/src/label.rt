@@ -1,6 +1,7 @@
 //! A step in words, and how it is marked.
-use crate::story::Step;
+use crate::story::{Step, Story};
 use crate::terms::{name_of, say_value};
+use crate::value::{DataWords, ends_a_value};
 use std::alloc::{AllocError, Global};
 use sync_play::integer::TextInteger;
 use sync_play::print::print_answer;
@@ -181,14 +182,19 @@ fn say_change<T: Copy>(
     say_value(out, object, word, put)
 }
 
-/// What a step did, and how often.
+/// What a step did, and how often; of the second of two data words also the value.
 pub fn label_of<T: TextInteger>(
     alloc: Global,
-    object: &Object<T>,
+    story: &Story<T>,
     step: &Step<T>,
 ) -> Result<String, AllocError> {
     let mut out = String::new(alloc);
-    say_act(&mut out, object, &step.event.act)?;
+    say_act(&mut out, &story.object, &step.event.act)?;
+    if ends_a_value(&step.event.act) {
+        write!(out, ": value ")?;
+        let value: T = DataWords::after(story, step.row).value();
+        value.print(&mut out)?;
+    }
     if step.count > 1 {
         write!(out, " × ")?;
         say_count(&mut out, step.count)?;

@@ -6,7 +6,8 @@ ghost use Rattle.std.specs.Prelude.{◌<◌, ◌^◌};
 
 use crate::label::{Tone, label_of, outcome_of, reach_of, tone_of};
 use crate::story::{Step, Story};
-use crate::terms::{name_of, say_value, words_of};
+use crate::terms::{Shown, band_name, say_value, shown_at, shown_of};
+use crate::value::DataWords;
 use std::alloc::{AllocError, Global};
 use steps_events::hold::HoldKind;
 use sync_play::integer::TextInteger;
@@ -76,30 +77,34 @@ impl Lane {
     }
 }
 
-/// A value of a word, from a row on.
-#[derive(Clone, Copy, Debug, PartialEq, Eq)]
+/// What a band shows, from a row on.
+#[derive(Debug, Drop)]
 pub struct Segment {
     /// The row whose step wrote it; none for the value before the first step.
     pub row: Option<u32>,
     /// The row whose step wrote the next value; none for the last one.
     pub next: Option<u32>,
-    pub value: u64,
+    /// What was put, as it is.
+    pub title: String,
+    /// The same in its object's own terms.
+    pub term: String,
     pub colour: Colour,
 }
 
-/// The colours of a band: one for 0, and three in turn.
+/// The colours of a band: one for 0, and three in turn; and one for a value of which only a half is written.
 #[derive(Clone, Copy, Debug, PartialEq, Eq)]
 pub enum Colour {
     Zero,
     First,
     Second,
     Third,
+    Half,
 }
 
-/// What a word held.
+/// What a word held, or an atomic.
 #[derive(Debug, Drop)]
 pub struct Band {
-    pub word: Word,
+    pub shown: Shown,
     pub left: u32,
     pub width: u32,
     pub segments: Vec<Segment>,
@@ -156,6 +161,7 @@ fn next_colour(colour: Colour) -> Colour {
         Colour::First => Colour::Second,
         Colour::Second => Colour::Third,
         Colour::Third => Colour::First,
+        Colour::Half => Colour::Half,
     }
 }
 
@@ -175,6 +181,50 @@ fn put_of<T: Copy>(act: &Act<T>, word: Word) -> Option<u64> {
     }
 }
 
+/// A value of a word.
+fn word_segment<T: Copy>(
+    alloc: Global,
+    object: &Object<T>,
+    row: Option<u32>,
+    word: Word,
+    value: u64,
+    colour: Colour,
+) -> Result<Segment, AllocError> {
+    let mut term = String::new(alloc);
+    say_value(&mut term, object, word, value)?;
+    Ok(Segment {
+        row,
+        next: None,
+        title: format!(in alloc; "{value}")?,
+        term,
+        colour,
+    })
+}
+
+/// A value of an atomic; while only its low word is written it is none yet.
+fn value_segment<T: TextInteger>(
+    alloc: Global,
+    row: Option<u32>,
+    words: DataWords,
+    colour: Colour,
+) -> Result<Segment, AllocError> {
+    let DataWords { low, high, is_half } = words;
+    let mut term = String::new(alloc);
+    if is_half {
+        write!(term, "half written")?;
+    } else {
+        let value: T = words.value();
+        value.print(&mut term)?;
+    }
+    Ok(Segment {
+        row,
+        next: None,
+        title: format!(in alloc; "low half {low}, high half {high}")?,
+        term,
+        colour,
+    })
+}
+
 /// What a word held, from the opening on.
 fn segments_of<T: Copy>(
     alloc: Global,
@@ -184,65 +234,68 @@ fn segments_of<T: Copy>(
     let value = story.opening.get(word);
     let mut segments = Vec::new(alloc);
     let mut last = colour_of(value, None);
-    segments.push(Segment {
-        row: None,
-        next: None,
-        value,
-        colour: last,
-    })?;
+    segments.push(word_segment(alloc, &story.object, None, word, value, last)?)?;
     for step in &story.steps {
         if let Some(value) = put_of(&step.event.act, word) {
             if let Some(segment) = segments.last_mut() {
                 segment.next = Some(step.row);
             }
             last = colour_of(value, Some(last));
-            segments.push(Segment {
-                row: Some(step.row),
-                next: None,
-                value,
-                colour: last,
-            })?;
+            segments.push(word_segment(alloc, &story.object, Some(step.row), word, value, last)?)?;
         }
     }
     Ok(segments)
 }
 
-/// A value in its object's own terms.
-pub fn term_of<T: Copy>(
-    alloc: Global,
-    object: &Object<T>,
-    word: Word,
-    value: u64,
-) -> Result<String, AllocError> {
-    let mut out = String::new(alloc);
-    say_value(&mut out, object, word, value)?;
-    Ok(out)
+/// What an atomic held, from the opening on.
+fn values_of<T: TextInteger>(alloc: Global, story: &Story<T>) -> Result<Vec<Segment>, AllocError> {
+    let mut words = DataWords::before(story);
+    let mut segments = Vec::new(alloc);
+    let mut last = colour_of(words.low | words.high, None);
+    segments.push(value_segment::<T>(alloc, None, words, last)?)?;
+    for step in &story.steps {
+        if let Some(written) = words.written_by(&step.event.act) {
+            if let Some(segment) = segments.last_mut() {
+                segment.next = Some(step.row);
+            }
+            words = written;
+            let colour = if words.is_half {
+                Colour::Half
+            } else {
+                last = colour_of(words.low | words.high, Some(last));
+                last
+            };
+            segments.push(value_segment::<T>(alloc, Some(step.row), words, colour)?)?;
+        }
+    }
+    Ok(segments)
 }
 
-/// How wide a band has to be, so that each of its values has room.
-fn band_width<T: Copy>(
-    alloc: Global,
-    object: &Object<T>,
-    word: Word,
-    segments: &[Segment],
-) -> Result<u32, AllocError> {
-    let mut widest = text_width(name_of(object, word));
+/// How wide a band has to be, so that all that it shows has room.
+fn band_width(name: &str, segments: &[Segment]) -> u32 {
+    let mut widest = text_width(name);
     for segment in segments {
-        let term = term_of(alloc, object, word, segment.value)?;
-        widest = widest.max(text_width(&term));
+        widest = widest.max(text_width(&segment.term));
     }
-    Ok(LEAST_BAND.max(widest.saturating_add(16)))
+    LEAST_BAND.max(widest.saturating_add(16))
 }
 
 /// The bands, from this place on.
-fn bands_of<T: Copy>(alloc: Global, story: &Story<T>, left: u32) -> Result<Vec<Band>, AllocError> {
+fn bands_of<T: TextInteger>(
+    alloc: Global,
+    story: &Story<T>,
+    left: u32,
+) -> Result<Vec<Band>, AllocError> {
     let mut bands = Vec::new(alloc);
     let mut left = left;
-    for word in words_of(&story.object) {
-        let segments = segments_of(alloc, story, *word)?;
-        let width = band_width(alloc, &story.object, *word, &segments)?;
+    for shown in shown_of(&story.object) {
+        let segments = match *shown {
+            Shown::Word(word) => segments_of(alloc, story, word)?,
+            Shown::Value => values_of(alloc, story)?,
+        };
+        let width = band_width(band_name(&story.object, *shown), &segments);
         bands.push(Band {
-            word: *word,
+            shown: *shown,
             left,
             width,
             segments,
@@ -255,7 +308,7 @@ fn bands_of<T: Copy>(alloc: Global, story: &Story<T>, left: u32) -> Result<Vec<B
 /// How wide the box of a call has to be for this step.
 fn step_width<T: TextInteger>(
     alloc: Global,
-    object: &Object<T>,
+    story: &Story<T>,
     step: &Step<T>,
 ) -> Result<u32, AllocError> {
     let outcome = outcome_of(alloc, &step.event.then)?;
@@ -264,7 +317,7 @@ fn step_width<T: TextInteger>(
         // The call's name stands on the left, and its party on the right.
         (Act::Begun(_), Some(line)) => text_width(&line.words) + 70,
         _ => {
-            let label = label_of(alloc, object, step)?;
+            let label = label_of(alloc, story, step)?;
             text_width(&label) + 46
         }
     };
@@ -280,7 +333,7 @@ fn box_width<T: TextInteger>(
     let mut width = None;
     for step in &story.steps {
         if step.event.party == party {
-            let wide = step_width(alloc, &story.object, step)?;
+            let wide = step_width(alloc, story, step)?;
             width = Some(wide.max(width.unwrap_or(LEAST_BOX)));
         }
     }
@@ -525,7 +578,7 @@ impl Layout {
         ensures { result < 2 ^ 40 }
     {
         for band in &self.bands {
-            if band.word == word {
+            if band.shown == shown_at(word) {
                 return u64::from(band.left) + u64::from(band.width);
             }
         }

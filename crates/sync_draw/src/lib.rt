@@ -19,3 +19,4 @@ mod terms;
 #[cfg(test)]
 mod tests;
 pub mod title;
+mod value;

@@ -8,18 +8,19 @@ ghost use Rattle.sync_draw.specs.Story.{HasOutput};
 ghost use Rattle.sync_draw.specs.Picture.{step_titles, IsPicture, IsTypedPicture, IsPictureOf};
 
 use crate::label::{Mark, Reach, Tone, label_of, mark_of, outcome_of, reach_of, tone_of};
-use crate::layout::{Band, Colour, Hold, Lane, Layout, SCHEDULE, Segment, Span, term_of, top_of};
+use crate::layout::{Band, Colour, Hold, Lane, Layout, SCHEDULE, Segment, Span, top_of};
 use crate::legend::{LEGEND_HEIGHT, cross, draw_legend};
 use crate::shape::{circle, line, put, rect, text, titled};
 use crate::story::{Line, MOST_STEPS, Step, Story, play};
 use crate::style::draw_style;
-use crate::terms::name_of;
+use crate::terms::band_name;
 use markup::group::Group;
 use markup::markup::Markup;
 use markup::name::{Key, Tag};
 use markup::opening::Opening;
 use std::alloc::{AllocError, Global};
 use steps_events::hold::HoldKind;
+use sync_play::by_value_type;
 use sync_play::fault::TextFault;
 use sync_play::integer::TextInteger;
 use sync_steps::steps::Act;
@@ -77,14 +78,15 @@ fn colour_class(colour: Colour) -> &'static str {
         Colour::First => "band first",
         Colour::Second => "band second",
         Colour::Third => "band third",
+        // Dashed, as what has not ended.
+        Colour::Half => "open",
     }
 }
 
-/// Draws a value of a word, from its step to the next one that writes the word.
-fn draw_segment<T: TextInteger>(
+/// Draws a value of a band, from its step to the next one that writes there.
+fn draw_segment(
     alloc: Global,
     picture: &mut Markup,
-    story: &Story<T>,
     layout: &Layout,
     band: &Band,
     segment: &Segment,
@@ -99,18 +101,21 @@ fn draw_segment<T: TextInteger>(
     };
     let left = u64::from(band.left);
     let width = u64::from(band.width);
-    let value = segment.value;
-    let title = format!(in alloc; "{value}")?;
     let class = colour_class(segment.colour);
     let area = rect(alloc, class, left, top, width, bottom.saturating_sub(top))?;
-    let area = titled(alloc, area, title.as_str())?;
+    let area = titled(alloc, area, segment.title.as_str())?;
     put(picture, &area)?;
-    let term = term_of(alloc, &story.object, band.word, value)?;
-    let words = text(alloc, "mid", left + width / 2, top + 15, term.as_str())?;
+    let words = text(
+        alloc,
+        "mid",
+        left + width / 2,
+        top + 15,
+        segment.term.as_str(),
+    )?;
     put(picture, &words)
 }
 
-/// Draws what a word held.
+/// Draws a band.
 fn draw_band<T: TextInteger>(
     alloc: Global,
     picture: &mut Markup,
@@ -119,11 +124,11 @@ fn draw_band<T: TextInteger>(
     band: &Band,
 ) -> Result<(), AllocError> {
     let middle = u64::from(band.left) + u64::from(band.width) / 2;
-    let name = name_of(&story.object, band.word);
+    let name = band_name(&story.object, band.shown);
     let name = text(alloc, "soft mid", middle, 22, name)?;
     put(picture, &name)?;
     for segment in &band.segments {
-        draw_segment(alloc, picture, story, layout, band, segment)?;
+        draw_segment(alloc, picture, layout, band, segment)?;
     }
     Ok(())
 }
@@ -253,7 +258,7 @@ fn draw_words<T: TextInteger>(
     step: &Step<T>,
 ) -> Result<(), AllocError> {
     let baseline = top_of(step.row) + 12;
-    let label = label_of(alloc, &story.object, step)?;
+    let label = label_of(alloc, story, step)?;
     // A wake's arrow is longer than a mark.
     let indent = if mark_of(&step.event.act) == Mark::Wake {
         40
@@ -569,5 +574,5 @@ pub fn draw_text(alloc: Global, text: &[u8]) -> Result<Vec<u8>, TextFault>
     ensures played { OnOk result (HasOutput (output_of text.now)) }
     ensures fault { IfErr result (λ e. IsFaultOf e (output_of text.now)) }
 {
-    draw_typed::<u64>(alloc, text)
+    by_value_type!(text, draw_typed(alloc, text))
 }

@@ -3,8 +3,17 @@ use std::alloc::AllocError;
 use steps_barrier::{count_of, epoch_of};
 use sync_steps::steps::{Object, Word};
 
-/// The words of an object, each of which has a band.
-pub fn words_of<T>(object: &Object<T>) -> &'static [Word] {
+/// What a band shows.
+#[derive(Clone, Copy, Debug, PartialEq, Eq)]
+pub enum Shown {
+    /// What a word holds.
+    Word(Word),
+    /// The value that the two data words of an atomic have.
+    Value,
+}
+
+/// What the bands of an object show.
+pub fn shown_of<T>(object: &Object<T>) -> &'static [Shown] {
     match object {
         Object::Mutex
         | Object::Spin
@@ -12,14 +21,34 @@ pub fn words_of<T>(object: &Object<T>) -> &'static [Word] {
         | Object::Barrier(_)
         | Object::ReaderLock
         | Object::Once
-        | Object::Lazy(_) => &[Word::State],
-        Object::WriterLock => &[Word::State, Word::Counter],
-        Object::Condvar => &[Word::State, Word::Waiters, Word::Value],
-        Object::Atomic(_) => &[Word::State, Word::Low, Word::High],
+        | Object::Lazy(_) => &[Shown::Word(Word::State)],
+        Object::WriterLock => &[Shown::Word(Word::State), Shown::Word(Word::Counter)],
+        Object::Condvar => &[
+            Shown::Word(Word::State),
+            Shown::Word(Word::Waiters),
+            Shown::Word(Word::Value),
+        ],
+        Object::Atomic(_) => &[Shown::Word(Word::State), Shown::Value],
     }
 }
 
-/// How the band of a word is named.
+/// Where a word is shown.
+pub fn shown_at(word: Word) -> Shown {
+    match word {
+        Word::Low | Word::High => Shown::Value,
+        Word::State | Word::Counter | Word::Waiters | Word::Value => Shown::Word(word),
+    }
+}
+
+/// How a band is named.
+pub fn band_name<T>(object: &Object<T>, shown: Shown) -> &'static str {
+    match shown {
+        Shown::Word(word) => name_of(object, word),
+        Shown::Value => "value",
+    }
+}
+
+/// How a word is named.
 pub fn name_of<T>(object: &Object<T>, word: Word) -> &'static str {
     match word {
         Word::State => state_name(object),

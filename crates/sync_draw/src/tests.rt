@@ -107,6 +107,38 @@ fn a_picture_tells_what_happened(rt: HostRuntime) -> Result<(), Fail> {
     Ok(())
 }
 
+/// A `fetch_add` at an atomic, so many steps long: an exchange, two loads, two stores and the release.
+fn added(alloc: Global, steps: u64) -> Result<String, AllocError> {
+    format!(in alloc; "atomic_u128 1 18446744073709551615\n1 fetch_add 2\n1 go {steps}\n")
+}
+
+#[test]
+fn an_atomic_has_a_band_for_its_value(rt: HostRuntime) -> Result<(), Fail> {
+    let half = added(rt.alloc(), 4)?;
+    let half = half.as_bytes();
+    assert!(rt; has(rt, half, ">18446744073709551615</text>")?);
+    assert!(rt; has(rt, half, ">half written</text>")?);
+    assert!(rt; !has(rt, half, ">18446744073709551617</text>")?);
+    let whole = added(rt.alloc(), 6)?;
+    let whole = whole.as_bytes();
+    assert!(rt; has(rt, whole, ">18446744073709551617</text>")?);
+    assert!(rt;
+        has(
+            rt,
+            whole,
+            ">sees high half 0: value 18446744073709551615</text>"
+        )?
+    );
+    assert!(rt;
+        has(
+            rt,
+            whole,
+            ">stores high half 1: value 18446744073709551617</text>"
+        )?
+    );
+    Ok(())
+}
+
 #[test]
 fn a_group_for_each_row_has_the_row_as_its_title(rt: HostRuntime) -> Result<(), Fail> {
     let picture = draw_text(rt.alloc(), ABORT).ok().ok_or("it has no fault")?;

@@ -8,10 +8,10 @@ use Rattle.steps_events.specs.declared.event.Input.TheVariants as inputs
 use Rattle.steps_events.specs.declared.event.Object.{Object}
 use Rattle.steps_events.specs.declared.event.Object.TheVariants as objects
 use Rattle.steps_events.specs.declared.event.StepFault.{StepFault}
-use Rattle.steps_events.specs.Arithmetic.{Arithmetic}
+use Rattle.steps_events.specs.Arithmetic.{Arithmetic, IsValue}
 use Rattle.steps_events.specs.Moves.{Move}
 use Rattle.steps_events.specs.Sights.{goes_on}
-use Rattle.steps_events.specs.Moves.{InputValues}
+use Rattle.steps_events.specs.Moves.{CallValues, InputValues}
 use Rattle.steps_events.specs.Past.{call_of, hold_of}
 use Rattle.steps_events.proofs.Steps.{form_of_move}
 use Rattle.sync_steps.specs.Objects.{table_of}
@@ -21,14 +21,16 @@ use Rattle.sync_steps.specs.Runs.{IsRun}
 use Rattle.std.specs.Str.{bytes_eq}
 use Rattle.sync_play.specs.declared.command.Form.{Form}
 use Rattle.sync_play.specs.declared.command.Form.TheVariants as forms
+use Rattle.sync_play.specs.declared.command.Operation.{Operation}
+use Rattle.sync_play.specs.declared.command.Operation.TheVariants as operations
 use Rattle.sync_play.specs.declared.fault.FaultyLine.{FaultyLine}
 use Rattle.sync_play.specs.declared.fault.LineFault.{LineFault}
 use Rattle.sync_play.specs.declared.command.Task.{Task}
 use Rattle.sync_play.specs.declared.command.Task.TheVariants as tasks
 use Rattle.sync_play.specs.declared.command.Command.{Command}
 use Rattle.sync_play.specs.Fault.{◌>>=◌, at_line}
-use Rattle.sync_play.specs.Command.{find, verbs, calls_of, steps_asked, task_by, task_if, task_of, party_of, command_of}
-use Rattle.sync_play.specs.Lexer.{words_of, number_within, nothing, only, only_number}
+use Rattle.sync_play.specs.Command.{find, verbs, calls_of, with_value, steps_asked, task_by, task_if, task_of, party_of, command_of}
+use Rattle.sync_play.specs.Lexer.{words_of, number_within, nothing, only, only_two, only_number}
 use Rattle.sync_play.specs.Header.{header_of}
 use Rattle.sync_play.specs.Player.{event_by, unless_refused, event_of, events_of, run_of, steps_of, task_events}
 use Rattle.sync_play.specs.Text.{events_asked, line_events, output_after, typed_output}
@@ -129,12 +131,34 @@ module _ {T : Type 0} (z : Arithmetic T) (numerals : Numerals T) (reads : ReadsV
   call_values objects.Condvar = (tt, (tt, (tt, (tt, (tt, (tt, tt))))))
   call_values objects.Once = (tt, (tt, tt))
   call_values (objects.Lazy v) = (tt, tt)
-  call_values other = tt
+  call_values (objects.Atomic v) = (tt, (tt, (tt, (tt, (tt, (tt, (tt, (tt, (tt, (tt, (tt, (tt, (tt, (tt, tt))))))))))))))
 
   only_one : {A : Type 0} (read : List ℕ → Result A LineFault) (words : List (List ℕ)) (x : A) → only read words ≡ Ok x → (word : List ℕ) × (read word ≡ Ok x)
   only_one read [] x e = absurd cc
   only_one read (word ∷ []) x e = (word, e)
   only_one read (word ∷ other ∷ words) x e = absurd cc
+
+  only_both : {A : Type 0} (read : List ℕ → Result A LineFault) (words : List (List ℕ)) (x : A × A) → only_two read words ≡ Ok x → (first : List ℕ) × (second : List ℕ) × (read first ≡ Ok x.0) × (read second ≡ Ok x.1)
+  only_both read [] x e = absurd cc
+  only_both read (word ∷ []) x e = absurd cc
+  only_both {A} read (word ∷ other ∷ []) x e =
+      let a = bind_ok (read word) (λ first. read other >>= λ second. Ok (first, second)) x e in
+      let b = bind_ok (read other) (λ second. Ok (a.0, second)) x a.2 in
+      let both : A × A = (a.0, b.0) in
+      subst (λ (y : A × A). (first : List ℕ) × (second : List ℕ) × (read first ≡ Ok y.0) × (read second ≡ Ok y.1)) (ok_is both x b.2) (word, other, a.1, b.1)
+  only_both read (word ∷ other ∷ more ∷ words) x e = absurd cc
+
+  operation_values : (operation : Operation) (v : T) → IsValue z v → CallValues z (with_value operation v)
+  operation_values operations.Store v is = is
+  operation_values operations.Swap v is = is
+  operation_values operations.FetchAdd v is = is
+  operation_values operations.FetchSub v is = is
+  operation_values operations.FetchAnd v is = is
+  operation_values operations.FetchOr v is = is
+  operation_values operations.FetchXor v is = is
+  operation_values operations.FetchNand v is = is
+  operation_values operations.FetchMax v is = is
+  operation_values operations.FetchMin v is = is
 
   steps_make : (words : List (List ℕ)) → MakesValues (steps_asked words)
   steps_make [] t e = subst HasValues (ok_is (tasks.Go 1) t e) tt
@@ -147,6 +171,18 @@ module _ {T : Type 0} (z : Arithmetic T) (numerals : Numerals T) (reads : ReadsV
       let b = bind_ok (only numerals.value_of words) (λ v. Ok (tasks.Give (inputs.Choose (Some v)))) t e in
       let word = only_one numerals.value_of words b.0 b.1 in
       subst HasValues (ok_is (tasks.Give (inputs.Choose (Some b.0))) t b.2) (reads word.0 b.0 word.1)
+  form_makes (forms.Operand operation) words h t e =
+      let b = bind_ok (only numerals.value_of words) (λ v. Ok (tasks.Give (inputs.Begin (with_value operation v)))) t e in
+      let word = only_one numerals.value_of words b.0 b.1 in
+      subst HasValues (ok_is (tasks.Give (inputs.Begin (with_value operation b.0))) t b.2) (operation_values operation b.0 (reads word.0 b.0 word.1))
+  form_makes forms.Exchange words h t e =
+      let b = bind_ok (only_two numerals.value_of words) (λ vs. Ok (tasks.Give (inputs.Begin (calls.CompareExchange vs.0 vs.1)))) t e in
+      let both = only_both numerals.value_of words b.0 b.1 in
+      subst HasValues (ok_is (tasks.Give (inputs.Begin (calls.CompareExchange b.0.0 b.0.1))) t b.2) (reads both.0 b.0.0 both.2, reads both.1 b.0.1 both.3)
+  form_makes forms.ExchangeWeak words h t e =
+      let b = bind_ok (only_two numerals.value_of words) (λ vs. Ok (tasks.Give (inputs.Begin (calls.CompareExchangeWeak vs.0 vs.1)))) t e in
+      let both = only_both numerals.value_of words b.0 b.1 in
+      subst HasValues (ok_is (tasks.Give (inputs.Begin (calls.CompareExchangeWeak b.0.0 b.0.1))) t b.2) (reads both.0 b.0.0 both.2, reads both.1 b.0.1 both.3)
   form_makes forms.Permits words h t e =
       let b = bind_ok (only_number 0 (2 ^ 64 - 1) words) (λ n. Ok (tasks.Give (inputs.Begin (calls.Post n)))) t e in
       let word = only_one (number_within 0 (2 ^ 64 - 1)) words b.0 b.1 in

@@ -10,12 +10,14 @@ use Rattle.steps_events.specs.declared.event.Object.TheVariants as objects
 use Rattle.sync_play.specs.declared.command.Command.{Command}
 use Rattle.sync_play.specs.declared.command.Form.{Form}
 use Rattle.sync_play.specs.declared.command.Form.TheVariants as forms
+use Rattle.sync_play.specs.declared.command.Operation.{Operation}
+use Rattle.sync_play.specs.declared.command.Operation.TheVariants as operations
 use Rattle.sync_play.specs.declared.command.Task.{Task}
 use Rattle.sync_play.specs.declared.command.Task.TheVariants as tasks
 use Rattle.sync_play.specs.declared.fault.LineFault.{LineFault}
 use Rattle.sync_play.specs.declared.fault.LineFault.TheVariants as faults
 use Rattle.sync_play.specs.Fault.{◌>>=◌}
-use Rattle.sync_play.specs.Lexer.{number_within, nothing, only, only_number}
+use Rattle.sync_play.specs.Lexer.{number_within, nothing, only, only_two, only_number}
 use Rattle.sync_play.specs.Numerals.{Numerals}
 
 -- The tables: each verb, and what it asks.
@@ -89,6 +91,24 @@ once_calls =
 abbrev pub lazy_calls : {T : Type 0} → List (List ℕ × Form T)
 lazy_calls = (codes "force", begins calls.Force) ∷ []
 
+abbrev pub atomic_calls : {T : Type 0} → List (List ℕ × Form T)
+atomic_calls =
+    (codes "load", begins calls.Load)
+    ∷ (codes "store", forms.Operand operations.Store)
+    ∷ (codes "swap", forms.Operand operations.Swap)
+    ∷ (codes "compare_exchange", forms.Exchange)
+    ∷ (codes "compare_exchange_weak", forms.ExchangeWeak)
+    ∷ (codes "fetch_add", forms.Operand operations.FetchAdd)
+    ∷ (codes "fetch_sub", forms.Operand operations.FetchSub)
+    ∷ (codes "fetch_and", forms.Operand operations.FetchAnd)
+    ∷ (codes "fetch_or", forms.Operand operations.FetchOr)
+    ∷ (codes "fetch_xor", forms.Operand operations.FetchXor)
+    ∷ (codes "fetch_nand", forms.Operand operations.FetchNand)
+    ∷ (codes "fetch_max", forms.Operand operations.FetchMax)
+    ∷ (codes "fetch_min", forms.Operand operations.FetchMin)
+    ∷ (codes "fetch_update", begins calls.FetchUpdate)
+    ∷ []
+
 abbrev pub calls_of : {T : Type 0} → Object T → List (List ℕ × Form T)
 calls_of objects.Mutex = mutex_calls
 calls_of objects.Spin = spin_calls
@@ -99,7 +119,7 @@ calls_of (objects.Barrier n) = barrier_calls
 calls_of objects.Condvar = condvar_calls
 calls_of objects.Once = once_calls
 calls_of (objects.Lazy v) = lazy_calls
-calls_of o = []
+calls_of (objects.Atomic v) = atomic_calls
 
 -- the first row of this name
 abbrev pub find : {T : Type 0} → List ℕ → List (List ℕ × Form T) → Option (Form T)
@@ -107,6 +127,19 @@ find name [] = None
 find name (row ∷ rows) = if bytes_eq name row.0 then Some row.1 else find name rows
 
 -- The numbers that follow.
+
+-- a call of an atomic with the one value that it brings
+abbrev pub with_value : {T : Type 0} → Operation → T → Call T
+with_value operations.Store v = calls.Store v
+with_value operations.Swap v = calls.Swap v
+with_value operations.FetchAdd v = calls.FetchAdd v
+with_value operations.FetchSub v = calls.FetchSub v
+with_value operations.FetchAnd v = calls.FetchAnd v
+with_value operations.FetchOr v = calls.FetchOr v
+with_value operations.FetchXor v = calls.FetchXor v
+with_value operations.FetchNand v = calls.FetchNand v
+with_value operations.FetchMax v = calls.FetchMax v
+with_value operations.FetchMin v = calls.FetchMin v
 
 -- `go` makes one step, or as many as it says
 abbrev pub steps_asked : {T : Type 0} → List (List ℕ) → Result (Task T) LineFault
@@ -117,6 +150,9 @@ abbrev pub task_by : {T : Type 0} → Numerals T → Form T → List (List ℕ) 
 task_by numerals (forms.Alone task) words = nothing words >>= λ _. Ok task
 task_by numerals forms.Steps words = steps_asked words
 task_by numerals forms.Choice words = only numerals.value_of words >>= λ v. Ok (tasks.Give (inputs.Choose (Some v)))
+task_by numerals (forms.Operand operation) words = only numerals.value_of words >>= λ v. Ok (tasks.Give (inputs.Begin (with_value operation v)))
+task_by numerals forms.Exchange words = only_two numerals.value_of words >>= λ vs. Ok (tasks.Give (inputs.Begin (calls.CompareExchange vs.0 vs.1)))
+task_by numerals forms.ExchangeWeak words = only_two numerals.value_of words >>= λ vs. Ok (tasks.Give (inputs.Begin (calls.CompareExchangeWeak vs.0 vs.1)))
 task_by numerals forms.Permits words = only_number 0 (2 ^ 64 - 1) words >>= λ n. Ok (tasks.Give (inputs.Begin (calls.Post n)))
 
 -- what a verb asks with the words after it; an unknown verb is a bad line

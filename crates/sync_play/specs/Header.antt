@@ -41,4 +41,6 @@ header_of numerals (name ∷ words) =
     then (parties_of words >>= λ n. Ok (record { object = objects.Once; parties = n }))
     else (if bytes_eq name (codes "lazy")
     then (parties_and numerals.value_of words >>= λ opened. Ok (record { object = objects.Lazy opened.1; parties = opened.0 }))
-    else Err faults.NoObject))))))))
+    else (if bytes_eq name numerals.atomic
+    then (parties_and numerals.value_of words >>= λ opened. Ok (record { object = objects.Atomic opened.1; parties = opened.0 }))
+    else Err faults.NoObject)))))))))

@@ -5,7 +5,6 @@ use Rattle.steps_events.specs.declared.event.Input.{Input}
 use Rattle.steps_events.specs.declared.event.Object.{Object}
 use Rattle.steps_events.specs.declared.event.StepFault.{StepFault}
 use Rattle.steps_events.specs.Arithmetic.{Arithmetic}
-use Rattle.steps_events.specs.Integers.{u64_arithmetic}
 use Rattle.steps_events.specs.Sights.{goes_on}
 use Rattle.sync_steps.specs.Runs.{fault_of}
 use Rattle.steps_events.specs.Runs.{after}
@@ -24,7 +23,8 @@ use Rattle.sync_play.specs.Lexer.{lines_of, words_of}
 use Rattle.sync_play.specs.Player.{steps_of}
 use Rattle.sync_play.specs.Print.{printed, last_line}
 use Rattle.sync_play.specs.Text.{output_of}
-use Rattle.sync_play.specs.Numerals.{Numerals, u64_numerals}
+use Rattle.sync_play.specs.Numerals.{Numerals}
+use Rattle.sync_play.specs.ValueTypes.{values_in}
 
 -- the last event answered its call or stands at a closure, and none before it did
 abbrev pub EndsFirstAtLast : {T : Type 0} → List (Event T) → Type 0
@@ -131,12 +131,11 @@ module _ {T : Type 0} (z : Arithmetic T) (numerals : Numerals T) where
 -- The laws: what a text prints, and why it is refused, are relations of its lines alone.
 
 -- a text has this output where it is that of a run, and nowhere else
--- the text's values are of 64 bits
 abbrev pub IsRunOfText : List ℕ → List ℕ → Type 0
-IsRunOfText text bytes = IsRunOfLines u64_arithmetic u64_numerals (lines_of text) bytes
+IsRunOfText text bytes = IsRunOfLines (values_in text).arithmetic (values_in text).numerals (lines_of text) bytes
 
 abbrev pub IsRefusal : List ℕ → FaultyLine → Type 0
-IsRefusal text fault = IsRefusedLine u64_arithmetic u64_numerals (lines_of text) fault.line fault.fault
+IsRefusal text fault = IsRefusedLine (values_in text).arithmetic (values_in text).numerals (lines_of text) fault.line fault.fault
 
 abbrev pub OutputsAreRuns : Type 0
 OutputsAreRuns = (text bytes : List ℕ) → output_of text ≡ Ok bytes → IsRunOfText text bytes

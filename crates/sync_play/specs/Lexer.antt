@@ -1,8 +1,10 @@
 -- The lines of a text, the words of a line, and the numbers that words write.
-use Rattle.std.specs.Prelude.{ℕ, ◌+◌, ◌*◌, ◌-◌, Bool, false, ◌&&◌, ◌||◌, ◌==◌, nat_le, nat_lt, if◌then◌else◌, List, [], ◌∷◌, Option, Some, None, Result, Ok, Err}
+use Rattle.std.specs.Prelude.{ℕ, ℤ, pos, neg_ℤ, ◌+◌, ◌*◌, ◌-◌, Bool, true, false, ◌&&◌, ◌||◌, ◌==◌, nat_le, nat_lt, if◌then◌else◌, List, [], ◌∷◌, Option, Some, None, Result, Ok, Err}
 use Rattle.std.specs.Char.{is_ascii_digit}
+use Rattle.steps_events.specs.Integers.{fits_signed}
 use Rattle.sync_play.specs.declared.fault.LineFault.{LineFault}
 use Rattle.sync_play.specs.declared.fault.LineFault.TheVariants as faults
+use Rattle.sync_play.specs.Fault.{◌>>=◌}
 use denote.Ref.{Bor}
 
 -- Lines.
@@ -87,6 +89,31 @@ abbrev pub fitting : ℕ → Option ℕ → Option ℕ
 fitting bound None = None
 fitting bound (Some n) = if nat_lt n bound then Some n else None
 
+-- Numbers with a sign.
+
+abbrev pub with_sign : Bool → Option ℕ → Option ℤ
+with_sign minus None = None
+with_sign true (Some n) = Some (neg_ℤ (pos n))
+with_sign false (Some n) = Some (pos n)
+
+-- decimal digits, and a minus before them where the number is negative
+abbrev pub signed_of : List ℕ → Option ℤ
+signed_of [] = None
+signed_of (byte ∷ bytes) = if byte == 45 then with_sign true (number_of bytes) else with_sign false (number_of (byte ∷ bytes))
+
+-- a number that is one of the signed type
+abbrev pub fitting_signed : Bool → Option ℤ → Option ℤ
+fitting_signed wide None = None
+fitting_signed wide (Some v) = if fits_signed wide v then Some v else None
+
+abbrev pub or_bad_number : {A : Type 0} → Option A → Result A LineFault
+or_bad_number None = Err faults.BadNumber
+or_bad_number (Some x) = Ok x
+
+-- the number of a word, where it is one of the signed type
+abbrev pub signed_within : Bool → List ℕ → Result ℤ LineFault
+signed_within wide word = or_bad_number (fitting_signed wide (signed_of word))
+
 -- What is left of a line.
 
 -- no word
@@ -103,3 +130,10 @@ only read (word ∷ other ∷ words) = Err faults.BadLine
 -- one word, and it is a number in a range
 abbrev pub only_number : ℕ → ℕ → List (List ℕ) → Result ℕ LineFault
 only_number low high words = only (number_within low high) words
+
+-- two words, which are read so
+abbrev pub only_two : {A : Type 0} → (List ℕ → Result A LineFault) → List (List ℕ) → Result (A × A) LineFault
+only_two read [] = Err faults.BadLine
+only_two read (word ∷ []) = Err faults.BadLine
+only_two read (word ∷ other ∷ []) = read word >>= λ first. read other >>= λ second. Ok (first, second)
+only_two read (word ∷ other ∷ more ∷ words) = Err faults.BadLine

@@ -2,6 +2,7 @@ pub mod Fault
 pub mod Lexer
 pub mod Numerals
 pub mod NumeralLaws
+pub mod ValueTypes
 pub mod Header
 pub mod Command
 pub mod Player

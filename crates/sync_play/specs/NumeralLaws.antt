@@ -1,11 +1,14 @@
 -- What a word writes is a value of the type.
-use Rattle.std.proofs.Common.{◌≡◌, refl, ℕ, ◌-◌, ◌<◌, ◌≤◌, Bool, true, false, ◌&&◌, cond, leb, List, Option, Some, None, Ok, Err, subst, arith}
-use Rattle.std.proofs.lemmas.Bool.{leb-true}
-use Rattle.steps_events.specs.Integers.{span, arithmetic_of, unsigned}
-use Rattle.steps_events.specs.IntegerLaws.{unsigned_value}
+use Rattle.std.proofs.Common.{◌≡◌, refl, ℕ, ◌^◌, ◌-◌, ◌<◌, ◌≤◌, Bool, true, false, ◌&&◌, cond, leb, List, Option, Some, None, Ok, Err, subst, arith}
+use Rattle.std.proofs.lemmas.Bool.{leb-true, ltb-true}
+use Rattle.std.specs.Prelude.{ℤ}
+use Rattle.std.specs.Int.RustNames.{FitsSigned}
+use Rattle.std.specs.Int.Signed.{mag}
+use Rattle.steps_events.specs.Integers.{span, arithmetic_of, unsigned, signed, width_of, fits_signed}
+use Rattle.steps_events.specs.IntegerLaws.{unsigned_value, signed_value}
 use Rattle.sync_play.specs.declared.fault.LineFault.{LineFault}
-use Rattle.sync_play.specs.Lexer.{in_range, number_of, number_within}
-use Rattle.sync_play.specs.Numerals.{ReadsValues, unsigned_numerals}
+use Rattle.sync_play.specs.Lexer.{in_range, number_of, number_within, signed_of, fitting_signed, or_bad_number}
+use Rattle.sync_play.specs.Numerals.{ReadsValues, unsigned_numerals, signed_numerals}
 
 at_most : (b : Bool) (n m : ℕ) (fault : LineFault) → cond b (Ok n) (Err fault) ≡ Ok m → (b ≡ true) × (n ≡ m)
 at_most true n m fault e = (refl, cc)
@@ -30,5 +33,24 @@ below_span : (wide : Bool) (n : ℕ) → n ≤ span wide - 1 → n < span wide
 below_span true n h = omega (arith, h)
 below_span false n h = omega (arith, h)
 
-pub unsigned_reads : (wide : Bool) → ReadsValues (arithmetic_of (unsigned wide)) (unsigned_numerals wide)
-unsigned_reads wide word n e = unsigned_value wide n (below_span wide n (number_at_most 0 (span wide - 1) n word e))
+pub unsigned_reads : (name : List ℕ) (wide : Bool) → ReadsValues (arithmetic_of (unsigned wide)) (unsigned_numerals name wide)
+unsigned_reads name wide word n e = unsigned_value wide n (below_span wide n (number_at_most 0 (span wide - 1) n word e))
+
+-- With a sign.
+
+fits : (wide : Bool) (v : ℤ) → fits_signed wide v ≡ true → FitsSigned (width_of wide) v
+fits true v e = record { sfits = ltb-true (mag v) (2 ^ 127) e }
+fits false v e = record { sfits = ltb-true (mag v) (2 ^ 63) e }
+
+fitted : (b : Bool) (v w : ℤ) → or_bad_number (cond b (Some v) None) ≡ Ok w → (b ≡ true) × (v ≡ w)
+fitted true v w e = (refl, cc)
+fitted false v w e = absurd cc
+
+fitting_fits : (wide : Bool) (read : Option ℤ) (v : ℤ) → or_bad_number (fitting_signed wide read) ≡ Ok v → FitsSigned (width_of wide) v
+fitting_fits wide None v e = absurd cc
+fitting_fits wide (Some w) v e =
+    let g = fitted (fits_signed wide w) w v e in
+    subst (λ (k : ℤ). FitsSigned (width_of wide) k) g.1 (fits wide w g.0)
+
+pub signed_reads : (name : List ℕ) (wide : Bool) → ReadsValues (arithmetic_of (signed wide)) (signed_numerals name wide)
+signed_reads name wide word v e = signed_value wide v (fitting_fits wide (signed_of word) v e)

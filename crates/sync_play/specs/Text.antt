@@ -3,7 +3,6 @@ use Rattle.std.specs.Prelude.{ℕ, ◌+◌, List, [], ◌∷◌, ◌++◌, Optio
 use Rattle.steps_events.specs.declared.event.Event.{Event}
 use Rattle.steps_events.specs.declared.event.Object.{Object}
 use Rattle.steps_events.specs.Arithmetic.{Arithmetic}
-use Rattle.steps_events.specs.Integers.{u64_arithmetic}
 use Rattle.steps_events.specs.Runs.{after}
 use Rattle.sync_play.specs.declared.command.Command.{Command}
 use Rattle.sync_play.specs.declared.fault.FaultyLine.{FaultyLine}
@@ -15,7 +14,8 @@ use Rattle.sync_play.specs.Header.{header_of}
 use Rattle.sync_play.specs.Lexer.{lines_of, words_of}
 use Rattle.sync_play.specs.Player.{command_events}
 use Rattle.sync_play.specs.Print.{printed, last_line}
-use Rattle.sync_play.specs.Numerals.{Numerals, u64_numerals}
+use Rattle.sync_play.specs.Numerals.{Numerals}
+use Rattle.sync_play.specs.ValueTypes.{values_in}
 
 module _ {T : Type 0} (z : Arithmetic T) (numerals : Numerals T) where
   -- a line without words asks nothing
@@ -42,5 +42,6 @@ module _ {T : Type 0} (z : Arithmetic T) (numerals : Numerals T) where
     header ← at_line 1 (header_of numerals (words_of line))
     output_after header.object header.parties 2 lines []
 
+-- by the type of the text's values
 abbrev pub output_of : List ℕ → Result (List ℕ) FaultyLine
-output_of text = typed_output u64_arithmetic u64_numerals (lines_of text)
+output_of text = typed_output (values_in text).arithmetic (values_in text).numerals (lines_of text)

@@ -1,11 +1,13 @@
 //! What a line after the first asks, and of whom.
-ghost use Rattle.std.specs.Prelude.{◌≡◌, List};
+ghost use Rattle.std.specs.Prelude.{◌≡◌, ◌||◌, List, is_some};
 ghost use Rattle.sync_play.specs.Lexer.{words_of};
 ghost use Rattle.sync_play.specs.Command as meaning;
 
 use crate::fault::LineFault;
 use crate::integer::TextInteger;
-use crate::lexer::{is, next_word, nothing, number_within, only_number, only_value};
+use crate::lexer::{
+    is, next_word, nothing, number_within, only_number, only_two_values, only_value,
+};
 use sync_steps::WaitAction;
 use sync_steps::steps::{Call, Input, Object};
 
@@ -41,6 +43,47 @@ enum Form<T> {
     Choice,
     /// A post, with how many permits.
     Permits,
+    /// A call of an atomic, with the value that it brings.
+    Operand(Operation),
+    /// A compare-exchange, with what it is from and to.
+    Exchange,
+    /// A weak one.
+    ExchangeWeak,
+}
+
+/// A call of an atomic that brings one value.
+#[derive(Clone, Copy)]
+enum Operation {
+    Store,
+    Swap,
+    FetchAdd,
+    FetchSub,
+    FetchAnd,
+    FetchOr,
+    FetchXor,
+    FetchNand,
+    FetchMax,
+    FetchMin,
+}
+
+impl Operation {
+    /// The call with its value.
+    fn with_value<T>(self, value: T) -> Call<T>
+        ensures { result ≡ meaning.with_value self value }
+    {
+        match self {
+            Operation::Store => Call::Store(value),
+            Operation::Swap => Call::Swap(value),
+            Operation::FetchAdd => Call::FetchAdd(value),
+            Operation::FetchSub => Call::FetchSub(value),
+            Operation::FetchAnd => Call::FetchAnd(value),
+            Operation::FetchOr => Call::FetchOr(value),
+            Operation::FetchXor => Call::FetchXor(value),
+            Operation::FetchNand => Call::FetchNand(value),
+            Operation::FetchMax => Call::FetchMax(value),
+            Operation::FetchMin => Call::FetchMin(value),
+        }
+    }
 }
 
 /// A call that no number follows.
@@ -51,6 +94,7 @@ fn begins<T>(call: Call<T>) -> Form<T>
 }
 
 /// The verbs that every object knows.
+#[inline(always)]
 fn verb<T>(name: &[u8]) -> Option<Form<T>>
     ensures { result ≡ meaning.find name.now meaning.verbs }
 {
@@ -185,6 +229,42 @@ fn lazy_call<T>(name: &[u8]) -> Option<Form<T>>
     }
 }
 
+fn atomic_call<T>(name: &[u8]) -> Option<Form<T>>
+    ensures { result ≡ meaning.find name.now meaning.atomic_calls }
+{
+    if is(name, b"load") {
+        Some(begins(Call::Load))
+    } else if is(name, b"store") {
+        Some(Form::Operand(Operation::Store))
+    } else if is(name, b"swap") {
+        Some(Form::Operand(Operation::Swap))
+    } else if is(name, b"compare_exchange") {
+        Some(Form::Exchange)
+    } else if is(name, b"compare_exchange_weak") {
+        Some(Form::ExchangeWeak)
+    } else if is(name, b"fetch_add") {
+        Some(Form::Operand(Operation::FetchAdd))
+    } else if is(name, b"fetch_sub") {
+        Some(Form::Operand(Operation::FetchSub))
+    } else if is(name, b"fetch_and") {
+        Some(Form::Operand(Operation::FetchAnd))
+    } else if is(name, b"fetch_or") {
+        Some(Form::Operand(Operation::FetchOr))
+    } else if is(name, b"fetch_xor") {
+        Some(Form::Operand(Operation::FetchXor))
+    } else if is(name, b"fetch_nand") {
+        Some(Form::Operand(Operation::FetchNand))
+    } else if is(name, b"fetch_max") {
+        Some(Form::Operand(Operation::FetchMax))
+    } else if is(name, b"fetch_min") {
+        Some(Form::Operand(Operation::FetchMin))
+    } else if is(name, b"fetch_update") {
+        Some(begins(Call::FetchUpdate))
+    } else {
+        None
+    }
+}
+
 /// The calls of an object.
 fn named_call<T: Copy>(object: Object<T>, name: &[u8]) -> Option<Form<T>>
     ensures { result ≡ meaning.find name.now (meaning.calls_of object) }
@@ -198,8 +278,15 @@ fn named_call<T: Copy>(object: Object<T>, name: &[u8]) -> Option<Form<T>>
         Object::Condvar => condvar_call(name),
         Object::Once => once_call(name),
         Object::Lazy(_) => lazy_call(name),
-        _ => None,
+        Object::Atomic(_) => atomic_call(name),
     }
+}
+
+/// Whether this is a verb that a text knows of the object: one of those of every object, or one of its calls.
+pub fn is_known<T: Copy>(object: Object<T>, name: &[u8]) -> bool
+    ensures { result ≡ is_some (meaning.find {T = T} name.now meaning.verbs) || is_some (meaning.find name.now (meaning.calls_of object)) }
+{
+    verb::<T>(name).is_some() || named_call(object, name).is_some()
 }
 
 /// As many steps as the number says, or one where none follows.
@@ -229,6 +316,18 @@ fn with_numbers<T: TextInteger>(form: Form<T>, rest: &[u8]) -> Result<Task<T>, L
         Form::Permits => {
             let permits = only_number(0, u64::MAX, rest)?;
             Ok(Task::Give(Input::Begin(Call::Post(permits))))
+        }
+        Form::Operand(operation) => {
+            let value = only_value(rest)?;
+            Ok(Task::Give(Input::Begin(operation.with_value(value))))
+        }
+        Form::Exchange => {
+            let (from, to) = only_two_values(rest)?;
+            Ok(Task::Give(Input::Begin(Call::CompareExchange(from, to))))
+        }
+        Form::ExchangeWeak => {
+            let (from, to) = only_two_values(rest)?;
+            Ok(Task::Give(Input::Begin(Call::CompareExchangeWeak(from, to))))
         }
     }
 }

@@ -133,6 +133,12 @@ impl<T: TextInteger> Header<T> {
                 object: Object::Lazy(value),
                 parties,
             })
+        } else if T::is_atomic(name) {
+            let (parties, value) = parties_and_value(rest)?;
+            Ok(Header {
+                object: Object::Atomic(value),
+                parties,
+            })
         } else {
             Err(LineFault::NoObject)
         }

@@ -1,10 +1,11 @@
 //! The integers that the values of a text may be.
-ghost use Rattle.std.specs.Prelude.{◌≡◌, ◌++◌, false, OnOk, string_bytes};
-ghost use Rattle.sync_play.specs.Numerals.{Numerals, ReadsValues, u64_numerals};
+ghost use Rattle.std.specs.Prelude.{◌≡◌, ◌++◌, true, false, OnOk, string_bytes};
+ghost use Rattle.std.specs.Str.{bytes_eq};
+ghost use Rattle.sync_play.specs.Numerals.{Numerals, ReadsValues, u64_numerals, u128_numerals, i64_numerals, i128_numerals};
 ghost use Rattle.sync_play.specs.NumeralLaws as laws;
 
 use crate::fault::LineFault;
-use crate::lexer::number_within;
+use crate::lexer::{is, number_within, signed_number, wide_number};
 use std::alloc::AllocError;
 use steps_events::atomic::internal::AtomicInteger;
 
@@ -13,7 +14,11 @@ pub trait TextInteger: AtomicInteger {
     /// How a text writes its values.
     ghost numerals: { Numerals Self };
 
-    /// The value that a word writes in decimal.
+    /// Whether this is the name of an atomic that holds such values.
+    fn is_atomic(name: &[u8]) -> bool
+        ensures { result ≡ bytes_eq name.now numerals.atomic };
+
+    /// The value that a word writes in decimal. A word that is no number and one that is beyond the type are `BadNumber`.
     fn parse(word: &[u8]) -> Result<Self, LineFault>
         ensures { result ≡ numerals.value_of word.now };
 
@@ -28,10 +33,79 @@ pub trait TextInteger: AtomicInteger {
 impl TextInteger for u64 {
     ghost numerals = { u64_numerals };
 
-    ghost reads = { laws.unsigned_reads false };
+    ghost reads = { laws.unsigned_reads u64_numerals.atomic false };
+
+    fn is_atomic(name: &[u8]) -> bool {
+        is(name, b"atomic_u64")
+    }
 
     fn parse(word: &[u8]) -> Result<Self, LineFault> {
         number_within(0, u64::MAX, word)
+    }
+
+    fn print(self, out: &mut String) -> Result<(), AllocError> {
+        write!(out, "{self}")
+    }
+}
+
+impl TextInteger for u128 {
+    ghost numerals = { u128_numerals };
+
+    ghost reads = { laws.unsigned_reads u128_numerals.atomic true };
+
+    fn is_atomic(name: &[u8]) -> bool {
+        is(name, b"atomic_u128")
+    }
+
+    fn parse(word: &[u8]) -> Result<Self, LineFault> {
+        match wide_number(word) {
+            Some(number) => Ok(number),
+            None => Err(LineFault::BadNumber),
+        }
+    }
+
+    fn print(self, out: &mut String) -> Result<(), AllocError> {
+        write!(out, "{self}")
+    }
+}
+
+impl TextInteger for i64 {
+    ghost numerals = { i64_numerals };
+
+    ghost reads = { laws.signed_reads i64_numerals.atomic false };
+
+    fn is_atomic(name: &[u8]) -> bool {
+        is(name, b"atomic_i64")
+    }
+
+    fn parse(word: &[u8]) -> Result<Self, LineFault> {
+        match signed_number(word) {
+            Some(number) if i128::from(i64::MIN) <= number && number <= i128::from(i64::MAX) => {
+                Ok(number as i64)
+            }
+            _ => Err(LineFault::BadNumber),
+        }
+    }
+
+    fn print(self, out: &mut String) -> Result<(), AllocError> {
+        i128::from(self).print(out)
+    }
+}
+
+impl TextInteger for i128 {
+    ghost numerals = { i128_numerals };
+
+    ghost reads = { laws.signed_reads i128_numerals.atomic true };
+
+    fn is_atomic(name: &[u8]) -> bool {
+        is(name, b"atomic_i128")
+    }
+
+    fn parse(word: &[u8]) -> Result<Self, LineFault> {
+        match signed_number(word) {
+            Some(number) => Ok(number),
+            None => Err(LineFault::BadNumber),
+        }
     }
 
     fn print(self, out: &mut String) -> Result<(), AllocError> {

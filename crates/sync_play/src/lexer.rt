@@ -1,5 +1,5 @@
 //! The lines of a text, the words of a line, and the numbers that words write.
-ghost use Rattle.std.specs.Prelude.{◌≡◌, ◌<◌, ◌≤◌, ◌==◌, ◌^◌, List, length, not, position, IfSome, IfOk};
+ghost use Rattle.std.specs.Prelude.{◌≡◌, ◌<◌, ◌≤◌, ◌==◌, ◌^◌, true, List, length, not, position, IfSome, IfOk};
 ghost use Rattle.std.specs.Str.{bytes_eq};
 ghost use Rattle.sync_play.specs.Lexer as meaning;
 
@@ -95,6 +95,37 @@ fn number(word: &[u8]) -> Option<u64>
     Some(number)
 }
 
+/// The number of a word of decimal digits, where it fits 128 bits.
+pub fn wide_number(word: &[u8]) -> Option<u128>
+    ensures { result ≡ meaning.fitting (2 ^ 128) (meaning.number_of word.now) }
+{
+    if word.is_empty() {
+        return None;
+    }
+    let mut number: u128 = 0;
+    for byte in word {
+        if !byte.is_ascii_digit() {
+            return None;
+        }
+        number = number
+            .checked_mul(10)?
+            .checked_add(u128::from(*byte - b'0'))?;
+    }
+    Some(number)
+}
+
+/// The number of a word of decimal digits, with a minus before them where it is negative, where it fits 128 bits with a sign.
+pub fn signed_number(word: &[u8]) -> Option<i128>
+    ensures { result ≡ meaning.fitting_signed true (meaning.signed_of word.now) }
+{
+    let (first, digits) = word.split_first()?;
+    if *first == b'-' {
+        0i128.checked_sub_unsigned(wide_number(digits)?)
+    } else {
+        0i128.checked_add_unsigned(wide_number(word)?)
+    }
+}
+
 /// The number of a word, in a range.
 pub fn number_within(low: u64, high: u64, word: &[u8]) -> Result<u64, LineFault>
     ensures read { result ≡ meaning.number_within low high word.now }
@@ -125,6 +156,26 @@ pub fn only_number(low: u64, high: u64, rest: &[u8]) -> Result<u64, LineFault>
     };
     match next_word(rest) {
         None => number_within(low, high, word),
+        Some(_) => Err(LineFault::BadLine),
+    }
+}
+
+/// The two values that alone are left of a line.
+pub fn only_two_values<T: TextInteger>(rest: &[u8]) -> Result<(T, T), LineFault>
+    ensures { result ≡ meaning.only_two T.numerals.value_of (meaning.words_of rest.now) }
+{
+    let Some((first, rest)) = next_word(rest) else {
+        return Err(LineFault::BadLine);
+    };
+    let Some((second, rest)) = next_word(rest) else {
+        return Err(LineFault::BadLine);
+    };
+    match next_word(rest) {
+        None => {
+            let first = T::parse(first)?;
+            let second = T::parse(second)?;
+            Ok((first, second))
+        }
         Some(_) => Err(LineFault::BadLine),
     }
 }

@@ -8,6 +8,9 @@
 //! [`walk::next_stride`] then plays one stride after the other at a machine of that object. It plays no more than it tells, so whoever walks
 //! can ask the machine after each for its words and for who holds what, and keeps of the steps what it likes: a program that shows
 //! a run stands on it, as [`text`] does.
+//!
+//! All of it is generic in the integer type of a text's values ([`integer`]), which is that of the atomic that the first line names
+//! ([`value_type`]); [`by_value_type!`] calls a function with it.
 #![tactic(auto)]
 
 pub mod command;
@@ -22,4 +25,5 @@ pub mod run;
 #[cfg(test)]
 mod tests;
 pub mod text;
+pub mod value_type;
 pub mod walk;

@@ -1,6 +1,7 @@
 //! Each text is played by `run`, from a slice to a vector.
 ghost use Rattle.std.specs.Prelude.{◌≡◌, true};
 
+mod atomic;
 mod barrier;
 mod condvar;
 mod faults;

@@ -7,13 +7,13 @@ mod headline;
 mod machine;
 pub mod mutex;
 pub mod once;
-mod place;
+pub mod place;
 mod playing;
 pub mod rw_reader;
 pub mod rw_writer;
 pub mod semaphore;
 mod spins;
-mod turn;
+pub mod turn;
 
 pub use fault::PlayFault;
 pub use headline::at_every_front;

@@ -122,6 +122,7 @@ kind_words kinds.Write = codes " writes"
 abbrev pub holder_words : {T : Type 0} → Object T → ℕ → HoldKind → List ℕ
 holder_words objects.ReaderLock party kind = decimal (party + 1) ++ kind_words kind
 holder_words objects.WriterLock party kind = decimal (party + 1) ++ kind_words kind
+holder_words (objects.Atomic v) party kind = decimal (party + 1) ++ kind_words kind
 holder_words objects.Mutex party kind = decimal (party + 1)
 holder_words objects.Spin party kind = decimal (party + 1)
 holder_words (objects.Semaphore initial) party kind = decimal (party + 1)
@@ -129,7 +130,6 @@ holder_words (objects.Barrier n) party kind = decimal (party + 1)
 holder_words objects.Condvar party kind = decimal (party + 1)
 holder_words objects.Once party kind = decimal (party + 1)
 holder_words (objects.Lazy v) party kind = decimal (party + 1)
-holder_words (objects.Atomic v) party kind = decimal (party + 1)
 
 abbrev pub after_comma : List ℕ → List ℕ
 after_comma [] = []

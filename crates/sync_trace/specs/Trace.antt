@@ -2,12 +2,12 @@
 use Rattle.std.specs.Prelude.{◌≡◌, ℕ, List, [], ◌∷◌, Option, Some, None, Result, Ok, Err}
 use Rattle.steps_events.specs.declared.event.Event.{Event}
 use Rattle.steps_events.specs.Arithmetic.{Arithmetic}
-use Rattle.steps_events.specs.Integers.{u64_arithmetic}
 use Rattle.steps_events.specs.Runs.{after}
 use Rattle.sync_steps.specs.Machine.{Configuration, StandsAt}
 use Rattle.sync_play.specs.declared.header.Header.{Header}
 use Rattle.sync_play.specs.Lexer.{lines_of}
-use Rattle.sync_play.specs.Numerals.{Numerals, u64_numerals}
+use Rattle.sync_play.specs.Numerals.{Numerals}
+use Rattle.sync_play.specs.ValueTypes.{values_in}
 use Rattle.sync_play.specs.declared.fault.FaultyLine.{FaultyLine}
 use Rattle.sync_play.specs.declared.walk.Step.{Step}
 use Rattle.sync_play.specs.WalkOutput.{events_in}
@@ -71,4 +71,4 @@ module _ {T : Type 0} (z : Arithmetic T) (numerals : Numerals T) where
 
 -- the trace of a text, by the type of its values
 abbrev pub trace_of : List ℕ → Written
-trace_of text = typed_trace u64_arithmetic u64_numerals (lines_of text)
+trace_of text = typed_trace (values_in text).arithmetic (values_in text).numerals (lines_of text)

@@ -1,6 +1,6 @@
 //! Texts are traced by `run`, from a slice or a reader that fails, to a vector or a writer that fails.
 
-use crate::run::run;
+use crate::run::{Failed, run};
 use std::alloc::{AllocError, Global};
 use std::io;
 use std::io::{ErrorKind, Read, Write};
@@ -16,7 +16,8 @@ fn traced(alloc: Global, text: &[u8]) -> Result<String, AllocError> {
     for byte in &written {
         shown.push(char::from(*byte))?;
     }
-    if let Err(fault) = ended {
+    if let Err(failed) = ended {
+        let fault = failed.fault;
         let status = fault.status();
         write!(shown, "{fault}, status {status}")?;
     }
@@ -160,13 +161,21 @@ impl Write for Takes {
     }
 }
 
+/// How a run ended early, if it did.
+fn fault_of(ended: Result<(), Failed>) -> Option<RunFault> {
+    match ended {
+        Ok(()) => None,
+        Err(failed) => Some(failed.fault),
+    }
+}
+
 #[test]
 fn streams_that_fail(rt: HostRuntime) -> Result<(), Fail> {
     let text: &[u8] = b"mutex 1\n1 try_lock\n1 run\n1 lock\n";
     let mut reader = Fails { before: text };
     let mut written: Vec<u8> = Vec::new(rt.alloc());
     let ended = run(rt.alloc(), &mut reader, &mut written);
-    assert_eq!(rt; ended, Err(RunFault::Read));
+    assert_eq!(rt; fault_of(ended), Some(RunFault::Read));
     assert!(rt; written.is_empty());
 
     // Where the trace up to a fault cannot be written whole, that is what is told.
@@ -176,7 +185,7 @@ fn streams_that_fail(rt: HostRuntime) -> Result<(), Fail> {
         limit: 21,
     };
     let ended = run(rt.alloc(), &mut reader, &mut writer);
-    assert_eq!(rt; ended, Err(RunFault::Write));
+    assert_eq!(rt; fault_of(ended), Some(RunFault::Write));
     assert_eq!(rt; writer.held.as_slice(), b"step  times  line  pa".as_slice());
     let mut reader = text;
     let mut writer = Takes {
@@ -185,6 +194,109 @@ fn streams_that_fail(rt: HostRuntime) -> Result<(), Fail> {
     };
     let ended = run(rt.alloc(), &mut reader, &mut writer);
     let fault = sync_play::fault::LineFault::Holding;
-    assert_eq!(rt; ended, Err(RunFault::Text { line: 4, fault }));
+    assert_eq!(rt; fault_of(ended), Some(RunFault::Text { line: 4, fault }));
+    Ok(())
+}
+
+/// What is advised of a text with a fault.
+fn advised(alloc: Global, text: &[u8]) -> Result<Vec<u8>, Fail> {
+    let mut reader = text;
+    let mut written: Vec<u8> = Vec::new(alloc);
+    match run(alloc, &mut reader, &mut written) {
+        Err(
+            Failed {
+                advice: Some(advice),
+                ..
+            },
+        ) => Ok(advice),
+        _ => Err(Fail::from("nothing was advised")),
+    }
+}
+
+#[test]
+fn what_would_be_right(rt: HostRuntime) -> Result<(), Fail> {
+    let cases: [(&[u8], &[u8]); 20] = [
+        (
+            b"",
+            b"\na text begins with its object: mutex, spin, semaphore, barrier, rwreader, rwwriter, condvar, once, lazy, atomic_u64, atomic_u128, atomic_i64, atomic_i128\n",
+        ),
+        (
+            b"\xef\xbb\xbfmutex 1\n",
+            b"\xef\xbb\xbfmutex 1\nthe first line has a byte-order mark\n",
+        ),
+        (
+            b"semaphore 2\n",
+            b"semaphore 2\na semaphore's first line has a number of parties, and a value: semaphore 2 5\n",
+        ),
+        (
+            b"mutex 2 1\n",
+            b"mutex 2 1\na mutex's first line has a number of parties, and no value: mutex 2\n",
+        ),
+        (
+            b"barrier 2 4294967296\n",
+            b"barrier 2 4294967296\nthere are 1 to 64 parties, and 0 to 4294967295 arrivals open a round, in decimal digits\n",
+        ),
+        (
+            b"mutex 2\n1 lokc\n",
+            b"1 lokc\na mutex has no call `lokc`: lock, try_lock, unlock\n",
+        ),
+        (b"mutex 2\n\n# both\n", b"# both\na text has no comments\n"),
+        (
+            b"mutex 2\nlock 1\n",
+            b"lock 1\na line begins with the number of a party, and then says what it does: lock, try_lock, unlock\n",
+        ),
+        (
+            b"mutex 2\n1\n",
+            b"1\na line has a party and what it does: lock, try_lock, unlock\n",
+        ),
+        (
+            b"semaphore 1 0\n1 post\n",
+            b"1 post\na number follows `post`, and may follow `go`, and none follows the others\n",
+        ),
+        (
+            b"mutex 1\n1 go 0\n",
+            b"1 go 0\n`go` makes 1 to 100000 steps\n",
+        ),
+        (
+            b"mutex 1\n2 lock\n",
+            b"2 lock\nthe parties are numbered from 1, and the first line says how many there are\n",
+        ),
+        (
+            b"mutex 1\n1 lock\n1 lock\n",
+            b"1 lock\nthe party has a call under way: `go` and `run` move it on\n",
+        ),
+        (
+            b"mutex 1\n1 lock\n1 run\n1 lock\n",
+            b"1 lock\nthe party has a hold already: `unlock` gives it back\n",
+        ),
+        (
+            b"mutex 1\n1 unlock\n",
+            b"1 unlock\nthe party has no hold, and this call needs one\n",
+        ),
+        (
+            b"once 1\n1 run\n",
+            b"1 run\nthe party has no call under way, and begins one by its name: call_once, is_completed\n",
+        ),
+        (
+            b"semaphore 1 0\n1 start_wait\n1 run\n1 go\n",
+            b"1 go\nthe call stands at its closure, which answers `wait` or `abort`\n",
+        ),
+        (
+            b"semaphore 1 5\n1 wait\n",
+            b"1 wait\nto begin the call, write start_wait\n",
+        ),
+        (
+            b"mutex 1\r\n1 abort\r\n",
+            b"1 abort\nno closure waits for this answer: `go` and `run` move a call on\n",
+        ),
+        (
+            b"spin 2\n1 lock\n1 run\n2 lock\n2 run\n",
+            b"2 run\nin 100000 steps the call came to no end: another party may have to move first\n",
+        ),
+    ];
+    for (text, wanted) in cases {
+        let advice = advised(rt.alloc(), text)?;
+        assert_eq!(rt; advice.as_slice(), wanted);
+    }
     Ok(())
 }

@@ -10,6 +10,7 @@ use crate::cells::cells_of;
 use crate::rows::{Row, add};
 use crate::table::table;
 use std::alloc::{AllocError, Global};
+use sync_play::by_value_type;
 use sync_play::fault::FaultyLine;
 use sync_play::header::Header;
 use sync_play::integer::TextInteger;
@@ -93,5 +94,5 @@ fn trace_typed<T: TextInteger>(alloc: Global, text: &[u8]) -> Result<Trace, Allo
 pub fn trace_text(alloc: Global, text: &[u8]) -> Result<Trace, AllocError>
     ensures { IfOk result (λ trace. meaning.written_of trace ≡ meaning.trace_of text.now) }
 {
-    trace_typed::<u64>(alloc, text)
+    by_value_type!(text, trace_typed(alloc, text))
 }

@@ -12,4 +12,6 @@ pub mod RwWriterRule
 pub mod RwWriterTally
 pub mod MutexScript
 pub mod SemaphoreScript
+pub mod BarrierScript
+pub mod RwReaderScript
 pub mod Shown

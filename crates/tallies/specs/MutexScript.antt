@@ -1,5 +1,5 @@
 -- The model that a mutex plays.
-use Rattle.std.specs.Prelude.{◌≡◌, ℕ, List}
+use Rattle.std.specs.Prelude.{ℕ, List}
 use Rattle.steps_events.specs.declared.event.Event.{Event}
 use Rattle.steps_events.specs.Integers.{u64_arithmetic}
 use Rattle.steps_events.specs.Runs.{IsPast}

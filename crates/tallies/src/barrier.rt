@@ -1,7 +1,35 @@
-//! What a pass of a barrier counts and knows.
+//! The model that a barrier plays, and what its pass counts and knows beside.
 
 use passes::{Rule, Tally};
+use playing::{Played, Script};
 use std::marker::Model;
+use steps_barrier::BarrierPlace;
+
+/// The model that a barrier plays: its one word is that of the rounds. The key is the number of waiters, a `u32`.
+pub struct BarrierScript;
+
+impl Script<u32, BarrierPlace> for BarrierScript {
+    ghost use Rattle.std.specs.Prelude.{[], ◌∷◌, ◌%◌, ◌^◌};
+    ghost use Rattle.steps_events.specs.declared.event.Word.TheVariants as words;
+    ghost use Rattle.steps_barrier.specs.Table.{barrier_table};
+    ghost use Rattle.steps_barrier.specs.Law.{KeepsBarrier};
+    ghost use Rattle.tallies.specs.BarrierScript.{barrier_lawful};
+
+    ghost table = { λ key. barrier_table (key % 2 ^ 32) };
+
+    ghost law = { λ key. KeepsBarrier (key % 2 ^ 32) };
+
+    ghost lawful = { barrier_lawful };
+
+    ghost names = { words.State ∷ [] };
+
+    ghost apart = { (tt, tt) };
+
+    ghost handed = { λ _. words.State };
+}
+
+/// What a pass of a barrier is in its model, and counts and knows beside.
+pub type PlayedBarrier = Played<BarrierScript, BarrierPlace, Rounds>;
 
 /// How often a pass arrived in each round, the first round first. No value of it is made.
 #[derive(Drop)]
@@ -44,9 +72,10 @@ impl Tally for Rounds {
 /// The rounds that were opened have as many arrivals as the barrier was made for, and the word is the epoch and the arrivals of the
 /// round that fills. The key is the number of waiters.
 impl Rule<(), u32> for Rounds {
+    ghost use Rattle.std.specs.Prelude.{◌%◌, ◌^◌};
     ghost use Rattle.tallies.specs.BarrierRule.{no_rounds, BarrierAgrees};
 
     ghost first = { λ _. no_rounds };
 
-    ghost agrees = { BarrierAgrees };
+    ghost agrees = { λ key. BarrierAgrees (key % 2 ^ 32) };
 }

@@ -5,13 +5,15 @@
 mod barrier;
 mod held;
 mod mutex;
+mod rw_reader;
 mod rw_writer;
 mod semaphore;
 mod wait_word;
 
-pub use barrier::{Arrivals, Rounds};
+pub use barrier::{Arrivals, BarrierScript, PlayedBarrier, Rounds};
 pub use held::{Held, Known};
 pub use mutex::{Holds, MutexScript, PlayedMutex};
+pub use rw_reader::{PlayedRwReader, RwReaderScript};
 pub use rw_writer::MarkedHolds;
 pub use semaphore::{Permits, PlayedSemaphore, SemaphoreScript};
 pub use wait_word::WaitWord;

@@ -1,7 +1,7 @@
 //! The word that wait and wake closures see.
 ghost use Rattle.std.specs.Prelude.{◌≡◌};
 
-use crate::{Held, MarkedHolds, PlayedMutex, PlayedSemaphore, Rounds};
+use crate::{MarkedHolds, PlayedBarrier, PlayedMutex, PlayedRwReader, PlayedSemaphore};
 use passes::Word;
 use playing::Shown;
 
@@ -15,10 +15,10 @@ pub struct WaitWord<'t> {
 #[derive(Drop)]
 enum AnyWord<'t> {
     Mutex(Word<'t, (), PlayedMutex>),
-    ReaderLock(Word<'t, (), Held<()>>),
+    ReaderLock(Word<'t, (), PlayedRwReader>),
     WriterLock(Word<'t, (), MarkedHolds>),
     Semaphore(Word<'t, u64, PlayedSemaphore>),
-    Barrier(Word<'t, u32, Rounds>),
+    Barrier(Word<'t, u32, PlayedBarrier>),
 }
 
 impl WaitWord<'_> {
@@ -58,9 +58,14 @@ impl<'t> From<Word<'t, (), PlayedMutex>> for WaitWord<'t> {
     }
 }
 
-impl<'t> From<Word<'t, (), Held<()>>> for WaitWord<'t> {
+impl<'t> From<Word<'t, (), PlayedRwReader>> for WaitWord<'t> {
+    ghost use Rattle.tallies.specs.Shown.{object_shown, index_shown};
+
     #[inline(always)]
-    fn from(word: Word<'t, (), Held<()>>) -> WaitWord<'t> {
+    fn from(word: Word<'t, (), PlayedRwReader>) -> WaitWord<'t>
+        ensures object { object_shown result ≡ word.entry.shared.now.table_id }
+        ensures index { index_shown result ≡ word.entry.index }
+    {
         WaitWord {
             word: AnyWord::ReaderLock(word),
         }
@@ -91,9 +96,14 @@ impl<'t> From<Word<'t, u64, PlayedSemaphore>> for WaitWord<'t> {
     }
 }
 
-impl<'t> From<Word<'t, u32, Rounds>> for WaitWord<'t> {
+impl<'t> From<Word<'t, u32, PlayedBarrier>> for WaitWord<'t> {
+    ghost use Rattle.tallies.specs.Shown.{object_shown, index_shown};
+
     #[inline(always)]
-    fn from(word: Word<'t, u32, Rounds>) -> WaitWord<'t> {
+    fn from(word: Word<'t, u32, PlayedBarrier>) -> WaitWord<'t>
+        ensures object { object_shown result ≡ word.entry.shared.now.table_id }
+        ensures index { index_shown result ≡ word.entry.index }
+    {
         WaitWord {
             word: AnyWord::Barrier(word),
         }

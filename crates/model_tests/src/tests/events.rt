@@ -1,10 +1,8 @@
 //! The public calls at the ends of their types.
 use steps_events::atomic::internal::AtomicInteger;
-use steps_events::event::{Act, Answer, Then, Wake, Word};
-use steps_events::patience::Patience;
-use steps_events::row::{After, Intent};
+use steps_events::event::{Act, Word};
+use steps_events::row::Intent;
 use steps_events::words::{Words, failed_after};
-use steps_events::{SPIN_REPETITIONS, WaitAction};
 
 /// The same calls for any integer of the atomics.
 fn and_back<T: AtomicInteger>(value: T) -> T {
@@ -37,81 +35,6 @@ fn integers_go_into_words_and_back(rt: HostRuntime) {
     assert_eq!(rt; AtomicInteger::overflowing_add(u64::MAX, 1), (0, true));
     assert_eq!(rt; AtomicInteger::overflowing_sub(5u64, 5), (0, false));
     assert_eq!(rt; AtomicInteger::overflowing_sub(0u64, 1), (u64::MAX, true));
-}
-
-#[test]
-fn a_call_spins_asks_and_gives_up(rt: HostRuntime) {
-    assert_eq!(rt; SPIN_REPETITIONS, 10000);
-    let mut patience = Patience::FRESH;
-    for spin in 0..10000 {
-        match patience.refused::<u64>(u64::MAX) {
-            After::At(spun) => {
-                assert_eq!(rt; spun.spins, spin + 1);
-                assert!(rt; spun.keep);
-                patience = spun;
-            }
-            _ => assert!(rt; false, "it goes on by itself"),
-        }
-    }
-    assert!(rt;
-        matches!(
-            patience.refused::<u64>(u64::MAX),
-            After::Waits(
-                Patience {
-                    spins: 10000,
-                    keep: true
-                },
-                u64::MAX
-            )
-        )
-    );
-    let asked = patience.answered(WaitAction::Continue);
-    assert!(rt;
-        matches!(
-            asked.refused::<u64>(u64::MAX),
-            After::Waits(
-                Patience {
-                    spins: 10000,
-                    keep: true
-                },
-                u64::MAX
-            )
-        )
-    );
-    let aborted = asked.answered(WaitAction::Abort);
-    assert!(rt;
-        matches!(
-            aborted.refused::<u64>(u64::MAX),
-            After::Ends(Answer::Interrupted)
-        )
-    );
-    let asked_again = aborted.answered(WaitAction::Continue);
-    assert!(rt;
-        matches!(
-            asked_again.refused::<u64>(u64::MAX),
-            After::Ends(Answer::Interrupted)
-        )
-    );
-}
-
-#[test]
-fn a_row_is_told_and_wrapped(rt: HostRuntime) {
-    let waits = After::<u64, u64>::Waits(3, u64::MAX);
-    assert!(rt; matches!(waits.outcome(), Then::Waits(u64::MAX)));
-    let chooses = After::<u64, u64>::Chooses(3, u64::MAX);
-    assert!(rt; matches!(chooses.outcome(), Then::Chooses(u64::MAX)));
-    assert!(rt; matches!(After::<u64, u64>::At(3).outcome(), Then::GoesOn));
-    let within = waits.within(|place| (place, true));
-    assert!(rt; matches!(within, After::Waits((3, true), u64::MAX)));
-    let failed = Act::<u64>::Exchange {
-        word: Word::State,
-        from: 0,
-        to: 1,
-        found: u64::MAX,
-        done: false,
-    };
-    assert_eq!(rt; failed.told(), Some(u64::MAX));
-    assert_eq!(rt; Act::<u64>::Woke(Wake::All).told(), None);
 }
 
 #[test]

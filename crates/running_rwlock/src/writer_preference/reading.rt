@@ -12,15 +12,14 @@ impl<A: Allocator> RwLockWriterPreference<A> {
     ghost use Rattle.passes.specs.Answers.{MayAnswerAbort, HasAsked, HasWoken};
     ghost use Rattle.passes.specs.Objects.{IsPassOf};
     ghost use Rattle.passes.specs.Passes.{part_of, tally_of, sights_of, WasRefused, WasRefusedAt};
-    ghost use Rattle.running_rwlock.specs.RwShown.{WasTurnedAway};
     ghost use Rattle.running_rwlock.specs.RwWriterSteps.{IsOnly};
-    ghost use Rattle.running_rwlock.specs.RwWriterShown.{IsRwWriterPass, IsAloneWithin, IsShut, pass_in, sights_in, reads_of, HasEnteredToRead, HasReadAtOnce, HasLeftReading};
+    ghost use Rattle.running_rwlock.specs.RwWriterShown.{IsRwWriterPass, IsAloneWithin, IsShut, pass_in, sights_in, reads_of, HasEnteredToRead, HasReadAtOnce, HasLeftReading, WasTurnedAway};
 
     /// What `try_read_lock` does, and whether the hold is on.
     #[inline(always)]
     pub(super) fn try_to_read(&self, pass: &mut Pass<MarkedHolds>) -> bool
         requires own { IsPassOf self.now.words pass.old }
-        ensures entered { MatchBool result (HasEnteredToRead pass.old pass.new) (WasTurnedAway IsShut pass.old pass.new) }
+        ensures entered { MatchBool result (HasEnteredToRead pass.old pass.new) (WasTurnedAway pass.old pass.new) }
         ensures at_once { result ≡ true → HasReadAtOnce pass.old pass.new }
         ensures exact { IsAloneWithin pass.old → result ≡ true }
     {

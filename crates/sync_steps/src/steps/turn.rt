@@ -93,7 +93,7 @@ fn move_on<T: Copy>(doing: &mut Option<Doing<T>>, after: &After<T, Place<T>>)
 }
 
 /// A party begins a call.
-pub(crate) fn begin<T: AtomicInteger>(
+pub fn begin<T: AtomicInteger>(
     object: &Object<T>,
     party: &mut Party<T>,
     call: Call<T>,
@@ -123,7 +123,7 @@ pub(crate) fn begin<T: AtomicInteger>(
 /// A party makes the step at the place of its call. Of all turns it is the one that comes by the million: so what the step does not
 /// change stays where it is.
 #[inline(always)]
-pub(crate) fn go<T: AtomicInteger>(
+pub fn go<T: AtomicInteger>(
     object: &Object<T>,
     party: &mut Party<T>,
     words: &Words,
@@ -144,7 +144,7 @@ pub(crate) fn go<T: AtomicInteger>(
 }
 
 /// The wait closure of a party answers.
-pub(crate) fn answer<T: AtomicInteger>(
+pub fn answer<T: AtomicInteger>(
     party: &mut Party<T>,
     action: WaitAction,
 ) -> Result<(Act<T>, Then<T>), StepFault>

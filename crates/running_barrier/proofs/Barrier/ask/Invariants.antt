@@ -1,6 +1,7 @@
 use Rattle.std.proofs.Common.{◌≡◌, ◌%◌, ◌^◌}
-use Rattle.passes.specs.Passes.{view}
+use Rattle.playing.specs.Passes.{parties_of, counted}
 use Rattle.steps_barrier.specs.Rounds.{epoch_of}
+use Rattle.running_barrier.specs.BarrierParties.{Looks, OnceLooking}
 use Rattle.running_barrier.specs.BarrierSteps.{HasAll}
 use Rattle.running_barrier.specs.BarrierShown.{waiters_of, reached_of, HasStayed}
 use Rattle.running_barrier.proofs.Barrier.ask.Given as goal
@@ -9,5 +10,6 @@ abbrev pub invariant-loop : goal.invariant-loop
 invariant-loop g l = record {
   stayed : HasStayed l.fn.pass l.pass;
   epoch : epoch_of l.seen ≡ reached_of l.pass % 2 ^ 32;
-  all : HasAll (waiters_of l.fn.self) (view l.pass);
+  all : HasAll (waiters_of l.fn.self) (counted l.pass);
+  looks : OnceLooking (waiters_of l.fn.self) l.own_epoch 10000 l.fn.seen (parties_of l.fn.pass) (λ done. Looks (waiters_of l.fn.self) l.own_epoch 10000 l.seen done (parties_of l.pass));
 }

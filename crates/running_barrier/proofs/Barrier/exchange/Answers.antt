@@ -1,7 +1,17 @@
 use Rattle.std.proofs.Common.{arith}
 use Rattle.running_barrier.proofs.BarrierKeeps.{exchanges}
+use Rattle.running_barrier.proofs.BarrierPlays.{may_arrive, has_joined, looked_again}
 use Rattle.running_barrier.proofs.Barrier.exchange.Goals as goal
 
-pub compare_exchange-requires-clause-update : goal.compare_exchange-requires-clause-update
-compare_exchange-requires-clause-update g c = let next = c.requires.next in
+pub exchange-requires-clause-may : goal.exchange-requires-clause-may
+exchange-requires-clause-may g c = may_arrive _ _ _ c.requires.looked.0 _ c.requires.next c.requires.looked.1
+
+pub exchange-requires-clause-update : goal.exchange-requires-clause-update
+exchange-requires-clause-update g c = let next = c.requires.next in
     exchanges _ _ _ _ (record { room = next.room; last = λ fills. let to = next.last fills in omega arith; early = λ more. let to = next.early more in omega arith })
+
+pub returns-clause-joined : goal.returns-clause-joined
+returns-clause-joined g c = λ hit done at. has_joined _ _ _ done _ _ c.requires.next.room hit at c.exchange.ensures.went
+
+pub returns-clause-again : goal.returns-clause-again
+returns-clause-again g c = λ miss done at. looked_again _ _ _ done _ _ c.requires.next.room miss at c.exchange.ensures.went

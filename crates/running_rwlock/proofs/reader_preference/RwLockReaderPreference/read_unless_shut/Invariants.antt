@@ -1,8 +1,11 @@
 use Rattle.std.proofs.Common.{◌≡◌}
 use Rattle.passes.specs.Parts.{IsWhole}
 use Rattle.passes.specs.Sights.{HasLooked}
-use Rattle.passes.specs.Passes.{view, part_of, sights_of, tally_of, HasOnlySeen}
+use Rattle.passes.specs.Passes.{part_of, sights_of}
 use Rattle.passes.specs.Views.{looked}
+use Rattle.playing.specs.Passes.{parties_of, counts_of, counted}
+use Rattle.playing.specs.Counts.{HasOnlySeen}
+use Rattle.running_rwlock.specs.RwReaderParties.{OnceReading, HasLooked as HasLookedThere}
 use Rattle.running_rwlock.specs.RwReaderSteps.{word_of}
 use Rattle.running_rwlock.proofs.reader_preference.RwLockReaderPreference.read_unless_shut.Given as goal
 
@@ -11,6 +14,7 @@ abbrev pub invariant-loop : goal.invariant-loop
 invariant-loop g l = record {
   stayed : HasOnlySeen l.fn.pass l.pass;
   last : HasLooked (λ n. n ≡ l.seen) 1 (sights_of l.fn.pass) (sights_of l.pass);
-  once : IsWhole (part_of l.fn.pass) → view l.pass ≡ looked (view l.fn.pass) l.seen;
-  exact : IsWhole (part_of l.fn.pass) → l.seen ≡ word_of (tally_of l.fn.pass);
+  once : IsWhole (part_of l.fn.pass) → counted l.pass ≡ looked (counted l.fn.pass) l.seen;
+  exact : IsWhole (part_of l.fn.pass) → l.seen ≡ word_of (counts_of l.fn.pass);
+  at : OnceReading g.E.Entry.coming (parties_of l.fn.pass) (λ patience done. HasLookedThere patience l.seen done (parties_of l.pass));
 }

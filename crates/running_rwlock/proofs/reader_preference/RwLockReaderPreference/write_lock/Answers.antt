@@ -4,13 +4,15 @@ use Rattle.running_rwlock.proofs.reader_preference.RwLockReaderPreference.write_
 
 pub returns : goal.returns
 returns g c =
-    let gave_up = MatchBool-at_false _ _ c.if-wait_to_write.false c.wait_to_write.ensures.entered in (
-      (refl, λ _. tt, gave_up),
+    let gave_up = MatchBool-at_false _ _ c.if-wait_to_write.false c.wait_to_write.ensures.entered in
+    let played = MatchBool-at_false _ _ c.if-wait_to_write.false c.wait_to_write.ensures.played in (
+      (refl, λ _. tt, (gave_up, played)),
       record {
         refused = tt;
         same_borrow = tt;
         kind = tt;
         granted = tt;
+        played = tt;
         exact = λ alone. let entered = c.wait_to_write.ensures.exact alone in let not = c.if-wait_to_write.false in cc;
         aborted = c.wait_to_write.ensures.aborted c.if-wait_to_write.false;
       },

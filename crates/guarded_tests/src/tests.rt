@@ -1,0 +1,5 @@
+mod drops;
+mod holding;
+mod refusals;
+mod threads;
+mod when;

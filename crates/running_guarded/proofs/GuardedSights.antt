@@ -1,0 +1,149 @@
+-- What becomes of what a pass knows over several exchanges.
+use Rattle.std.proofs.Common.{◌≡◌, ◌≤◌, ◌<◌, ℕ, ◌+◌, [], ◌∷◌, refl, ap, ◌∙◌, subst, arith}
+use Rattle.std.specs.Prelude.{Bool, true, false, MatchBool, Some, None, List}
+use Rattle.std.specs.Borrow.{Bor}
+use Rattle.std.specs.Fn.{Shared}
+use Rattle.passes.specs.declared.part.Sights.{Sights}
+use Rattle.passes.specs.Answers.{MayAnswerContinue}
+use Rattle.passes.proofs.Attempts.{read_twice, read_and_written}
+use Rattle.steps_events.specs.declared.WaitAction.{WaitAction}
+use Rattle.steps_events.specs.declared.event.Call.TheVariants as calls
+use Rattle.steps_events.specs.declared.event.Word.TheVariants as words
+use Rattle.steps_events.specs.declared.row.Intent.TheVariants as intents
+use Rattle.steps_events.specs.Rows.{answered}
+use Rattle.steps_events.specs.declared.hold.HoldKind.TheVariants as kinds
+use Rattle.steps_events.specs.declared.patience.Patience.{Patience}
+use Rattle.steps_mutex.specs.declared.MutexPlace.TheVariants as places
+use Rattle.steps_mutex.specs.Table.{mutex_table}
+use Rattle.steps_mutex.specs.Law.{KeepsMutex}
+use Rattle.playing.specs.Slots.{Slot, all_of}
+use Rattle.playing.specs.Plays.{Coming, Going, Beginning, Answered, ComesBy, MayStep}
+use Rattle.playing.specs.Tries.{spun, IsGranted, IsRefused, IsStanding}
+use Rattle.playing.proofs.Patience.{spins_on, stands, tries_on}
+use Rattle.tallies.specs.declared.mutex.Holds.{Holds}
+use Rattle.running_mutex.specs.MutexParties.{HasMutex}
+use Rattle.running_mutex.specs.MutexShown.{IsLocked}
+use Rattle.running_mutex.specs.MutexSteps.{granted}
+use Rattle.running_mutex.proofs.MutexPlays.{may_lock, lock_begins, lock_goes, granted_has}
+use Rattle.running_guarded.specs.GuardedRule.{MutexView}
+use Rattle.running_guarded.specs.GuardedSteps.{Locks, SeesLocked, Tries, Enters, SeesLockedOften, GivesUp}
+
+pub sees_none : (v : MutexView) → IsLocked v.sights.last → SeesLockedOften 0 v v
+sees_none v last = record { only = record { counts = refl; part = refl; saw = record { more = omega arith; still = λ _. refl } }; count = omega arith; last = last }
+
+pub sees_once : (v w : MutexView) → SeesLocked v w → SeesLockedOften 1 v w
+sees_once v w is = let count = ap (λ u. u.sights.count) is in record {
+  only = record { counts = ap (λ u. u.tally) is; part = ap (λ u. u.part) is; saw = record { more = omega (arith, count); still = λ same. absurd (omega (arith, count, same)) } };
+  count = count;
+  last = ap (λ u. u.sights.last) is;
+}
+
+pub sees_on : (n m : ℕ) (u v w : MutexView) → SeesLockedOften n u v → SeesLockedOften m v w → SeesLockedOften (n + m) u w
+sees_on n m u v w first second = let one = first.count in let two = second.count in record {
+  only = record {
+    counts = second.only.counts ∙ first.only.counts;
+    part = second.only.part ∙ first.only.part;
+    saw = read_twice u.sights v.sights w.sights first.only.saw second.only.saw;
+  };
+  count = omega (arith, one, two);
+  last = second.last;
+}
+
+pub enters_now : (v w : MutexView) → Locks v w → Enters v w
+enters_now v w locks = let count = ap (λ u. u.sights.count) locks.1 in record {
+  off = locks.0;
+  on = ap (λ u. u.tally) locks.1;
+  part = ap (λ u. u.part) locks.1;
+  saw = record { more = omega (arith, count); not_fresh = ap (λ u. u.sights.fresh) locks.1; still = λ _. ap (λ u. u.sights) locks.1 };
+}
+
+pub enters_later : (n : ℕ) (u v w : MutexView) → SeesLockedOften n u v → Enters v w → Enters u w
+enters_later n u v w seen enters = record {
+  off = subst (λ (t : Holds). t.holds ≡ 0) seen.only.counts enters.off;
+  on = enters.on ∙ ap granted seen.only.counts;
+  part = enters.part ∙ seen.only.part;
+  saw = read_and_written u.sights v.sights w.sights seen.only.saw enters.saw;
+}
+
+-- so far it was seen locked once after each answer of the wait closure, and each was Continue
+pub record GoesOn {F W : Type 0} (g : Shared F (Bor W × (Bor ℕ × Unit {0})) WaitAction) (wait : F) (v w : MutexView) : Type 0 where
+  pub answers : ℕ
+  pub seen : SeesLockedOften answers v w
+  pub before : 1 ≤ answers → MayAnswerContinue g wait IsLocked
+
+module _ {F W : Type 0} (g : Shared F (Bor W × (Bor ℕ × Unit {0})) WaitAction) (wait : F) where
+  pub goes_first : (v : MutexView) → IsLocked v.sights.last → GoesOn g wait v v
+  goes_first v last = record { answers = 0; seen = sees_none v last; before = λ some. absurd (omega (arith, some)) }
+
+  pub goes_on : (u v w : MutexView) → GoesOn g wait u v → MayAnswerContinue g wait IsLocked → SeesLocked v w → GoesOn g wait u w
+  goes_on u v w gone answer once = record { answers = gone.answers + 1; seen = sees_on gone.answers 1 u v w gone.seen (sees_once v w once); before = λ _. answer }
+
+  pub gives_up : (u v w : MutexView) → GoesOn g wait u v → SeesLocked v w → GivesUp 0 g wait u w
+  gives_up u v w gone once = record {
+    more = gone.answers + 1;
+    refused = subst (λ n. SeesLockedOften n u w) (omega arith) (sees_on gone.answers 1 u v w gone.seen (sees_once v w once));
+    some = omega arith;
+    again = λ often. gone.before (omega (arith, often));
+  }
+
+  pub gives_up_later : (n : ℕ) (u v w : MutexView) → SeesLockedOften n u v → GivesUp 0 g wait v w → GivesUp n g wait u w
+  gives_up_later n u v w seen gives = record { more = gives.more; refused = sees_on n gives.more u v w seen (subst (λ n. SeesLockedOften n v w) (omega arith) gives.refused); some = gives.some; again = gives.again }
+
+-- The exchanges of `lock`: that they may be made, and where they lead.
+
+abbrev Granted : List Slot → MutexView → Type 0
+Granted done v = IsGranted mutex_table KeepsMutex calls.Lock places.Lock (Some kinds.Write) done v.tally.parties
+
+abbrev Refused : Patience → List Slot → MutexView → Type 0
+Refused patience done v = IsRefused mutex_table KeepsMutex calls.Lock places.Lock patience 1 done v.tally.parties
+
+abbrev Stands : List Slot → MutexView → Type 0
+Stands done v = IsStanding mutex_table KeepsMutex calls.Lock places.Lock 1 done v.tally.parties
+
+abbrev MayExchange : Coming → MutexView → Type 0
+MayExchange coming v = MayStep mutex_table KeepsMutex (words.State ∷ []) coming 0 (λ w. intents.Exchange w 0 1) v.tally.parties
+
+led : (free : Bool) (coming : Coming) (patience : Patience) (done : List Slot) (v w : MutexView) → Tries coming free v w
+    → ComesBy mutex_table KeepsMutex coming calls.Lock (places.Lock patience) None done v.tally.parties → MatchBool free (Granted done w) (Refused patience done w)
+led free coming patience done v w t comes = lock_goes free coming t.0 patience done v.tally.parties w.tally.parties t.1 t.2 comes
+
+-- the first
+
+pub may_begin : (v : MutexView) → MayExchange (Beginning calls.Lock) v
+may_begin v = may_lock (Beginning calls.Lock) v.tally.parties 1 refl (record { patience = spun 0; done = all_of v.tally.parties; comes = lock_begins v.tally.parties })
+
+pub led_first : (free : Bool) (v w : MutexView) → Tries (Beginning calls.Lock) free v w → MatchBool free (Granted (all_of v.tally.parties) w) (Refused (spun 0) (all_of v.tally.parties) w)
+led_first free v w t = led free (Beginning calls.Lock) (spun 0) (all_of v.tally.parties) v w t (lock_begins v.tally.parties)
+
+-- those by itself
+
+pub may_spin : (n : ℕ) (done : List Slot) (v : MutexView) → n < 10000 → Refused (spun n) done v → MayExchange Going v
+may_spin n done v below at = may_lock Going v.tally.parties 1 refl (record { patience = spun (n + 1); done = done; comes = spins_on mutex_table KeepsMutex calls.Lock places.Lock n 1 done v.tally.parties below at })
+
+pub led_spinning : (free : Bool) (n : ℕ) (done : List Slot) (v w : MutexView) → n < 10000 → Tries Going free v w → Refused (spun n) done v → MatchBool free (Granted done w) (Refused (spun (n + 1)) done w)
+led_spinning free n done v w below t at = led free Going (spun (n + 1)) done v w t (spins_on mutex_table KeepsMutex calls.Lock places.Lock n 1 done v.tally.parties below at)
+
+pub stands_at_last : (n : ℕ) (done : List Slot) (v : MutexView) → n ≡ 10000 → Refused (spun n) done v → Stands done v
+stands_at_last n done v all at = stands mutex_table KeepsMutex calls.Lock places.Lock n 1 done v.tally.parties all at
+
+-- those after an answer of the wait closure
+
+pub may_try : (action : WaitAction) (done : List Slot) (v : MutexView) → Stands done v → MayExchange (Answered action) v
+may_try action done v at = may_lock (Answered action) v.tally.parties 1 refl (record { patience = answered (spun 10000) action; done = done; comes = tries_on mutex_table KeepsMutex calls.Lock places.Lock (λ p a. refl) action 1 done v.tally.parties at })
+
+pub led_answered : (free : Bool) (action : WaitAction) (done : List Slot) (v w : MutexView) → Tries (Answered action) free v w → Stands done v → MatchBool free (Granted done w) (Refused (answered (spun 10000) action) done w)
+led_answered free action done v w t at = led free (Answered action) (answered (spun 10000) action) done v w t (tries_on mutex_table KeepsMutex calls.Lock places.Lock (λ p a. refl) action 1 done v.tally.parties at)
+
+-- who was granted the lock has it
+pub has_now : (done : List Slot) (v w : MutexView) → done ≡ all_of v.tally.parties → Granted done w → HasMutex w.tally.parties
+has_now done v w is granted = granted_has calls.Lock v.tally.parties w.tally.parties (subst (λ d. Granted d w) is granted)
+
+-- how a call that asked ended, by whether its last exchange was done
+module _ {F W : Type 0} (g : Shared F (Bor W × (Bor ℕ × Unit {0})) WaitAction) (wait : F) where
+  pub ended : (b : Bool) (u v w : MutexView) → GoesOn g wait u v → MatchBool b (Locks v w) (SeesLocked v w) → MatchBool b (Enters u w) (GivesUp 0 g wait u w)
+  ended true u v w gone locks = enters_later gone.answers u v w gone.seen (enters_now v w locks)
+  ended false u v w gone sees = gives_up g wait u v w gone sees
+
+  pub ended_later : (n : ℕ) (b : Bool) (u v w : MutexView) → SeesLockedOften n u v → MatchBool b (Enters v w) (GivesUp 0 g wait v w) → MatchBool b (Enters u w) (GivesUp n g wait u w)
+  ended_later n true u v w seen enters = enters_later n u v w seen enters
+  ended_later n false u v w seen gives = gives_up_later g wait n u v w seen gives

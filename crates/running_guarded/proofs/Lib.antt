@@ -1,0 +1,4 @@
+pub mod GuardedKeeps
+pub mod GuardedSights
+pub mod SameGuard
+pub mod Acting

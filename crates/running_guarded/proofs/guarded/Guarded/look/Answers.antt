@@ -1,0 +1,5 @@
+use Rattle.running_guarded.proofs.Acting.{acts}
+use Rattle.running_guarded.proofs.guarded.Guarded.look.Goals as goal
+
+pub returns-in-Some-clause-acted : goal.returns-in-Some-clause-acted
+returns-in-Some-clause-acted g c = acts g.F.FnMut _ _ _ _ c.in-Some.given c.in-Some.ensures

@@ -1,0 +1,10 @@
+use Rattle.running_mutex.specs.CondShown.{HasStayed as HasWaitedAtMost}
+use Rattle.running_guarded.specs.GuardedShown.{HasStayed}
+use Rattle.running_guarded.proofs.guarded.Guarded.when.Given as goal
+
+abbrev pub invariant-loop : goal.invariant-loop
+invariant-loop g l = record {
+  stayed : HasStayed l.fn.pass l.pass;
+  waited : HasWaitedAtMost l.fn.changed_pass l.changed_pass;
+  callable : goal.F-IsAlwaysCallable g l.act;
+}

@@ -1,0 +1,5 @@
+use Rattle.std.proofs.Common.{refl}
+use Rattle.running_guarded.proofs.guarded.Guarded.with.Goals as goal
+
+pub returns-clause-acted : goal.returns-clause-acted
+returns-clause-acted g c = record { found = c.take-value.result; left = _; says = record { shown = _; shows = refl; left = _; met = c.act-given.ensures; leaves = refl } }

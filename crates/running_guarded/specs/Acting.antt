@@ -1,0 +1,28 @@
+-- What a closure did that acts on a value, or cannot yet.
+use Rattle.std.specs.Borrow.{MutBor}
+use Rattle.std.specs.Fn.{Mut, CalledAtMut}
+use Rattle.std.specs.Prelude.{Option, Some}
+use Rattle.running_guarded.specs.declared.when.Looked.{Looked}
+use Rattle.running_guarded.specs.declared.when.Looked.TheVariants.{Acted, Again, GaveUp}
+
+-- By what the closure promises of its calls, one of them acted and gave this, in some state of the closure, and made some value of the
+-- one that it was lent.
+pub record ActsOn {F T X : Type 0} (g : Mut F (MutBor T × Unit {0}) (Option X × (MutBor T × Unit {0}))) (given : X) : Type 0 where
+  pub before : F
+  pub after : F
+  pub found : T
+  pub left : T
+  pub says : CalledAtMut g before found (Some given) after left
+
+module _ {X : Type 0} where
+  -- P holds of what was given
+  abbrev pub IfActed : Looked X → (X → Type 0) → Type 0
+  IfActed (Acted x) P = P x
+  IfActed Again P = Unit {0}
+  IfActed GaveUp P = Unit {0}
+
+  -- P holds where it gave up
+  abbrev pub IfGaveUp : Looked X → Type 0 → Type 0
+  IfGaveUp (Acted x) P = Unit {0}
+  IfGaveUp Again P = Unit {0}
+  IfGaveUp GaveUp P = P

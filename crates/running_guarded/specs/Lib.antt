@@ -1,0 +1,4 @@
+pub mod GuardedRule
+pub mod GuardedSteps
+pub mod GuardedShown
+pub mod Acting

@@ -1,0 +1,55 @@
+//! What a holder has.
+ghost use Rattle.std.specs.Prelude.{◌≡◌, ◌<◌, true};
+ghost use Rattle.running_spin_lock.specs.SpinSteps.{has_vacant_slot};
+ghost use Rattle.running_mutex.specs.MutexParties.{HasMutex};
+
+use crate::guarded::Guarded;
+use crate::pass::GuardedPass;
+use atomic_table::Seat;
+use passes::View;
+use std::alloc::{Allocator, Global};
+use std::ops::{Deref, DerefMut};
+use tallies::PlayedMutex;
+
+/// The value is locked by the pass that is lent to the guard, and the guard lends it. It must be spent, by `Guarded::unlock`. The value
+/// lies in the guard, so it is copied out and back: box a large one.
+pub struct Guard<'p, T, A: Allocator = Global> {
+    pub(crate) of: &'p Guarded<T, A>,
+    pub(crate) pass: &'p mut GuardedPass,
+    pub(crate) seat: Seat<Option<T>, View<PlayedMutex>>,
+    pub(crate) value: T,
+    ghost own: { seat.table_id ≡ of.now.table.shared.table_id },
+    ghost on: { seat.me.0.tally.counts.holds ≡ 1 },
+    ghost has: { HasMutex seat.me.0.tally.parties },
+    ghost alive: { 0 < seat.me.0.part.share },
+    ghost out: { has_vacant_slot seat.me.1 ≡ true },
+}
+
+impl<T, A: Allocator> Deref for Guard<'_, T, A> {
+    ghost use Rattle.running_guarded.specs.GuardedShown.{value_of};
+
+    type Target = T;
+
+    #[inline(always)]
+    fn deref(&self) -> &T
+        ensures { result.now ≡ value_of self.now }
+    {
+        &self.value
+    }
+}
+
+impl<T, A: Allocator> DerefMut for Guard<'_, T, A> {
+    ghost use Rattle.std.specs.Prelude.{[]};
+    ghost use mir.Syntax.{named};
+    ghost use Rattle.std.specs.Borrow.{sem, Lends};
+    ghost use Rattle.running_guarded.specs.contracts.guard.Guard.{the_row};
+    ghost use Rattle.running_guarded.specs.GuardedShown.{value_of, guard_with};
+
+    #[inline(always)]
+    fn deref_mut(&mut self) -> &mut T
+        ensures* writes_back { sem 𝓛 (Lends (the_row (record { mir = named 1; lft = [] }) T.row A.row A.Allocator) T.row self.entry result (guard_with self.old)) }
+        ensures value { result.now ≡ value_of self.old }
+    {
+        &mut self.value
+    }
+}

@@ -1,0 +1,195 @@
+//! A call that waits until it can act on the value.
+ghost use Rattle.std.specs.Prelude.{◌≡◌, ◌<◌, IfSome, true, false, None};
+ghost use Rattle.passes.specs.Answers.{IfSuccess, IfInterrupted, MayAnswerAbort};
+ghost use Rattle.running_semaphore.specs.SemaphoreShown.{IsEmpty};
+ghost use Rattle.running_mutex.specs.MutexParties.{HasMutex};
+ghost use Rattle.running_mutex.specs.CondShown.{IsCondPass, HasStayed as HasWaitedAtMost};
+ghost use Rattle.running_spin_lock.specs.SpinSteps.{has_vacant_slot};
+ghost use Rattle.running_guarded.specs.GuardedSteps.{Lets};
+ghost use Rattle.running_guarded.specs.GuardedShown.{IsGuardedPass, HasStayed, object_of, number_of, view, id_of};
+ghost use Rattle.running_guarded.specs.Acting.{ActsOn, IfActed, IfGaveUp};
+
+use crate::guarded::Guarded;
+use crate::pass::GuardedPass;
+use crate::word::GuardedWord;
+use atomic_table::Seat;
+use passes::{View, WaitResult};
+use running_mutex::condition_variable::{CondPass, ConditionVariable};
+use std::alloc::Allocator;
+use std::sync::Wait;
+use steps_events::WaitAction;
+use tallies::{PlayedMutex, WaitWord};
+
+/// What a look at the value came to.
+enum Looked<X> {
+    /// The closure acted, and gave this.
+    Acted(X),
+    /// It could not act, and a notify came.
+    Again,
+    /// It could not act, and the wait closure had answered `Abort`.
+    GaveUp,
+}
+
+impl<T: Drop, A: Allocator> Guarded<T, A> {
+    /// Calls `act` with the value until it acts: where it answers `None` the call lets the value go, waits at the condition variable to be
+    /// notified, and calls it again. `Success` with what it gave. `Interrupted` where `wait` had answered `Abort` and `act`, called once
+    /// more, still did not act.
+    ///
+    /// The lock is waited for by yielding, without end; `wake_one` is called at each unlock. Nobody is notified: that is the caller's to
+    /// do, at the condition variable of those that wait for what it did.
+    pub fn when<
+        X,
+        B: Allocator,
+        R: Wait,
+        K: Fn(&GuardedWord<'_, T>),
+        W: Fn(&WaitWord, &u64) -> WaitAction,
+        F: FnMut(&mut T) -> Option<X>,
+    >(
+        &self,
+        rt: &R,
+        pass: &mut GuardedPass,
+        wake_one: K,
+        changed: &ConditionVariable<B>,
+        changed_pass: &mut CondPass,
+        wait: W,
+        act: F,
+    ) -> WaitResult<X>
+        requires own { IsGuardedPass self.now pass.old × IsCondPass changed.now changed_pass.old }
+        requires may { K.IsAlwaysCallable wake_one × W.IsAlwaysCallable wait × F.IsAlwaysCallable act }
+        ensures stayed { HasStayed pass.old pass.new }
+        ensures waited { HasWaitedAtMost changed_pass.old changed_pass.new }
+        ensures acted { IfSuccess result (ActsOn F.FnMut) }
+        ensures aborted { IfInterrupted result (MayAnswerAbort W.Fn wait IsEmpty) }
+    {
+        let mut act = act;
+        for _ in rt.forever() {
+            match self.look(rt, pass, &wake_one, changed, changed_pass, &wait, &mut act) {
+                Looked::Acted(given) => return WaitResult::Success(given),
+                Looked::Again => {}
+                Looked::GaveUp => {
+                    return match self.look_last(rt, pass, &wake_one, &mut act) {
+                        Some(given) => WaitResult::Success(given),
+                        None => WaitResult::Interrupted,
+                    };
+                }
+            }
+        }
+        unreachable!()
+    }
+
+    /// Calls `act` once, and waits once where it does not act.
+    fn look<
+        X,
+        B: Allocator,
+        R: Wait,
+        K: Fn(&GuardedWord<'_, T>),
+        W: Fn(&WaitWord, &u64) -> WaitAction,
+        F: FnMut(&mut T) -> Option<X>,
+    >(
+        &self,
+        rt: &R,
+        pass: &mut GuardedPass,
+        wake_one: &K,
+        changed: &ConditionVariable<B>,
+        changed_pass: &mut CondPass,
+        wait: &W,
+        act: &mut F,
+    ) -> Looked<X>
+        requires own { IsGuardedPass self.now pass.old × IsCondPass changed.now changed_pass.old }
+        requires may { K.IsAlwaysCallable wake_one.now × W.IsAlwaysCallable wait.now × F.IsAlwaysCallable act.old }
+        ensures callable { F.IsAlwaysCallable act.new }
+        ensures stayed { HasStayed pass.old pass.new }
+        ensures waited { HasWaitedAtMost changed_pass.old changed_pass.new }
+        ensures acted { IfActed result (ActsOn F.FnMut) }
+        ensures aborted { IfGaveUp result (MayAnswerAbort W.Fn wait.now IsEmpty) }
+    {
+        let mut seat = pass.rise();
+        let mut value = self.enter_soon(&mut seat, rt);
+        match act(&mut value) {
+            Some(given) => {
+                *pass = self.sit(seat, value, wake_one);
+                Looked::Acted(given)
+            }
+            None => {
+                let (left, notified) = self.sleep(
+                    rt,
+                    seat,
+                    value,
+                    wake_one,
+                    changed,
+                    changed_pass,
+                    wait,
+                );
+                *pass = left;
+                if notified {
+                    Looked::Again
+                } else {
+                    Looked::GaveUp
+                }
+            }
+        }
+    }
+
+    /// Lets the value go, and waits once; whether a notify came.
+    fn sleep<
+        B: Allocator,
+        R: Wait,
+        K: Fn(&GuardedWord<'_, T>),
+        W: Fn(&WaitWord, &u64) -> WaitAction,
+    >(
+        &self,
+        rt: &R,
+        seat: Seat<Option<T>, View<PlayedMutex>>,
+        value: T,
+        wake_one: &K,
+        changed: &ConditionVariable<B>,
+        changed_pass: &mut CondPass,
+        wait: &W,
+    ) -> (GuardedPass, bool)
+        requires own { (seat.table_id ≡ id_of self.now) × IsCondPass changed.now changed_pass.old }
+        requires has { (seat.me.0.tally.counts.holds ≡ 1) × HasMutex seat.me.0.tally.parties }
+        requires there { 0 < seat.me.0.part.share × (has_vacant_slot seat.me.1 ≡ true) }
+        requires may { K.IsAlwaysCallable wake_one.now × W.IsAlwaysCallable wait.now }
+        ensures same { (object_of result.0 ≡ seat.table_id) × (number_of result.0 ≡ seat.id) }
+        ensures off { Lets seat.me.0 (view result.0) }
+        ensures waited { HasWaitedAtMost changed_pass.old changed_pass.new }
+        ensures aborted { result.1 ≡ false → MayAnswerAbort W.Fn wait.now IsEmpty }
+    {
+        let (left, slept) = changed.wait_around(
+            rt,
+            changed_pass,
+            move || -> GuardedPass
+                requires { (seat.table_id ≡ id_of self.now) × (seat.me.0.tally.counts.holds ≡ 1) × HasMutex seat.me.0.tally.parties × 0 < seat.me.0.part.share × (has_vacant_slot seat.me.1 ≡ true) × K.IsAlwaysCallable wake_one.now }
+                ensures { (object_of result ≡ seat.table_id) × (number_of result ≡ seat.id) × Lets seat.me.0 (view result) }
+            { self.sit(seat, value, wake_one) },
+            |word: &WaitWord, seen: &u64| -> WaitAction
+                requires { W.IsAlwaysCallable wait.now }
+                ensures { W.post wait.entry.now word.entry seen.entry result }
+            { wait(word, seen) },
+        );
+        match slept {
+            WaitResult::Success(()) => (left, true),
+            WaitResult::Interrupted => (left, false),
+        }
+    }
+
+    /// Calls `act` once more, and does not wait.
+    fn look_last<X, R: Wait, K: Fn(&GuardedWord<'_, T>), F: FnMut(&mut T) -> Option<X>>(
+        &self,
+        rt: &R,
+        pass: &mut GuardedPass,
+        wake_one: &K,
+        act: &mut F,
+    ) -> Option<X>
+        requires own { IsGuardedPass self.now pass.old }
+        requires may { K.IsAlwaysCallable wake_one.now × F.IsAlwaysCallable act.old }
+        ensures stayed { HasStayed pass.old pass.new }
+        ensures acted { IfSome result (ActsOn F.FnMut) }
+    {
+        let mut seat = pass.rise();
+        let mut value = self.enter_soon(&mut seat, rt);
+        let given = act(&mut value);
+        *pass = self.sit(seat, value, wake_one);
+        given
+    }
+}

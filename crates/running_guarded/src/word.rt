@@ -1,0 +1,23 @@
+//! The word that wait and wake closures see.
+ghost use Rattle.std.specs.Prelude.{◌≡◌};
+
+use crate::rule::GuardedRule;
+use atomic_table::Shared;
+use passes::View;
+use tallies::PlayedMutex;
+
+/// The word of a guarded value, as wait and wake closures see it. It can be loaded, and no more.
+#[derive(Drop)]
+pub struct GuardedWord<'t, T> {
+    pub(crate) shared: &'t Shared<Option<T>, View<PlayedMutex>, (), GuardedRule>,
+    ghost one_word: { shared.now.table_id.words ≡ 1 },
+}
+
+impl<T> GuardedWord<'_, T> {
+    /// The word as it is now: 0 where it is free, and 1 where it is locked. Another party may write it right after, so the answer
+    /// promises nothing.
+    #[inline(always)]
+    pub fn load(&self) -> u64 {
+        self.shared.peek(0)
+    }
+}

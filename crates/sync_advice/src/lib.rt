@@ -1,0 +1,60 @@
+//! What would be right where a schedule text has a fault.
+//!
+//! The fault's own line is two words, which programs read. A person wants to know what to write: [`explain`] shows the line of the text, and
+//! says in one sentence what would be right there.
+#![tactic(auto)]
+
+mod objects;
+mod sentence;
+
+ghost use Rattle.std.specs.Prelude.{◌≡◌, IfOk};
+ghost use Rattle.sync_play.specs.Lexer.{lines_of};
+ghost use Rattle.sync_advice.specs.Advice as meaning;
+
+use crate::objects::object_named;
+use crate::sentence::say;
+use std::alloc::{AllocError, Global};
+use sync_play::fault::FaultyLine;
+use sync_play::lexer::{next_line, next_word};
+use sync_steps::steps::Object;
+
+/// A line of a text, counted from 1, without its end. Empty where the text has no such line.
+fn line_of(text: &[u8], number: u64) -> &[u8]
+    ensures { result.now ≡ meaning.line_of number (lines_of text.now) }
+{
+    let mut rest = text;
+    for at in 1..number {
+        match next_line(rest) {
+            Some((_, more)) => rest = more,
+            None => return &[],
+        }
+    }
+    match next_line(rest) {
+        Some((line, _)) => line,
+        None => &[],
+    }
+}
+
+/// The object that the first line of a text names.
+fn object_of(text: &[u8]) -> Option<Object<u64>>
+    ensures { result ≡ meaning.object_of (lines_of text.now) }
+{
+    let (line, _) = next_line(text)?;
+    let (name, _) = next_word(line)?;
+    object_named(name)
+}
+
+/// The line of a text that has this fault, and, on a line of its own, a sentence that says what would be right there.
+///
+/// It says so by the line, the fault and the object alone: what was played before the line it does not look at.
+pub fn explain(alloc: Global, text: &[u8], found: FaultyLine) -> Result<Vec<u8>, AllocError>
+    ensures { IfOk result (λ bytes. bytes.items ≡ meaning.explained (lines_of text.now) found) }
+{
+    let line = line_of(text, found.line);
+    let mut out = Vec::new(alloc);
+    out.extend_from_slice(line)?;
+    out.extend_from_slice(b"\n")?;
+    say(&mut out, object_of(text), line, found)?;
+    out.extend_from_slice(b"\n")?;
+    Ok(out)
+}

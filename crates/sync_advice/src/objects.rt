@@ -1,0 +1,188 @@
+//! What each object is called, how it is opened, and which calls it has.
+ghost use Rattle.std.specs.Prelude.{◌≡◌};
+ghost use Rattle.sync_play.specs.Command.{calls_of};
+ghost use Rattle.sync_advice.specs.Advice as meaning;
+
+use sync_play::lexer::is;
+use sync_steps::steps::Object;
+
+/// The object of this name; what it is opened with stays open, and is 0 here.
+pub fn object_named(name: &[u8]) -> Option<Object<u64>>
+    ensures { result ≡ meaning.object_named name.now }
+{
+    if is(name, b"mutex") {
+        Some(Object::Mutex)
+    } else if is(name, b"spin") {
+        Some(Object::Spin)
+    } else if is(name, b"semaphore") {
+        Some(Object::Semaphore(0))
+    } else if is(name, b"barrier") {
+        Some(Object::Barrier(0))
+    } else if is(name, b"rwreader") {
+        Some(Object::ReaderLock)
+    } else if is(name, b"rwwriter") {
+        Some(Object::WriterLock)
+    } else if is(name, b"condvar") {
+        Some(Object::Condvar)
+    } else if is(name, b"once") {
+        Some(Object::Once)
+    } else if is(name, b"lazy") {
+        Some(Object::Lazy(0))
+    } else if is_atomic(name) {
+        Some(Object::Atomic(0))
+    } else {
+        None
+    }
+}
+
+/// Whether this names an atomic.
+fn is_atomic(name: &[u8]) -> bool
+    ensures { result ≡ meaning.is_atomic name.now }
+{
+    is(name, b"atomic_u64")
+        || is(name, b"atomic_u128")
+        || is(name, b"atomic_i64")
+        || is(name, b"atomic_i128")
+}
+
+/// The names of the calls that a text may begin at the object, all of them.
+pub fn calls(object: Object<u64>) -> &'static [u8]
+    ensures { result.now ≡ meaning.listed (calls_of object) }
+{
+    match object {
+        Object::Mutex => b"lock, try_lock, unlock",
+        Object::Spin => b"lock, blocking_lock, try_lock, unlock",
+        Object::Semaphore(_) => b"value, post, start_wait, try_wait",
+        Object::Barrier(_) => b"start_wait",
+        Object::ReaderLock | Object::WriterLock => {
+            b"read_lock, try_read_lock, write_lock, try_write_lock, unlock"
+        }
+        Object::Condvar => b"lock, try_lock, unlock, notify_one, notify_all, start_wait",
+        Object::Once => b"call_once, is_completed",
+        Object::Lazy(_) => b"force",
+        Object::Atomic(_) => {
+            b"load, store, swap, compare_exchange, compare_exchange_weak, fetch_add, fetch_sub, fetch_and, fetch_or, fetch_xor, fetch_nand, fetch_max, fetch_min, fetch_update"
+        }
+    }
+}
+
+/// That it has no call of a name, up to the name.
+pub fn has_no_call(object: Object<u64>) -> &'static [u8]
+    ensures { result.now ≡ meaning.has_no_call object }
+{
+    match object {
+        Object::Mutex => b"a mutex has no call `",
+        Object::Spin => b"a spin lock has no call `",
+        Object::Semaphore(_) => b"a semaphore has no call `",
+        Object::Barrier(_) => b"a barrier has no call `",
+        Object::ReaderLock | Object::WriterLock => b"a reader-writer lock has no call `",
+        Object::Condvar => b"a condition variable has no call `",
+        Object::Once => b"a once has no call `",
+        Object::Lazy(_) => b"a lazy value has no call `",
+        Object::Atomic(_) => b"an atomic has no call `",
+    }
+}
+
+/// How it is opened.
+pub fn first_line(object: Object<u64>) -> &'static [u8]
+    ensures { result.now ≡ meaning.first_line object }
+{
+    match object {
+        Object::Mutex => b"a mutex's first line has a number of parties, and no value: mutex 2",
+        Object::Spin => b"a spin lock's first line has a number of parties, and no value: spin 2",
+        Object::Semaphore(_) => {
+            b"a semaphore's first line has a number of parties, and a value: semaphore 2 5"
+        }
+        Object::Barrier(_) => {
+            b"a barrier's first line has a number of parties, and how many open a round: barrier 2 2"
+        }
+        Object::ReaderLock | Object::WriterLock => {
+            b"a reader-writer lock's first line has a number of parties, and no value: rwreader 2"
+        }
+        Object::Condvar => {
+            b"a condition variable's first line has a number of parties, and no value: condvar 2"
+        }
+        Object::Once => b"a once's first line has a number of parties, and no value: once 2",
+        Object::Lazy(_) => {
+            b"a lazy value's first line has a number of parties, and the value that its closure gives: lazy 2 5"
+        }
+        Object::Atomic(_) => {
+            b"an atomic's first line has a number of parties, and a value: atomic_u64 2 5"
+        }
+    }
+}
+
+/// Which numbers its first line may have.
+pub fn first_numbers(object: Object<u64>) -> &'static [u8]
+    ensures { result.now ≡ meaning.first_numbers object }
+{
+    match object {
+        Object::Barrier(_) => {
+            b"there are 1 to 64 parties, and 0 to 4294967295 arrivals open a round, in decimal digits"
+        }
+        Object::Semaphore(_) | Object::Lazy(_) => {
+            b"there are 1 to 64 parties, and the value is 0 to 18446744073709551615, in decimal digits"
+        }
+        Object::Atomic(_) => {
+            b"there are 1 to 64 parties, and the value is one of the atomic's type, in decimal digits"
+        }
+        Object::Mutex
+        | Object::Spin
+        | Object::ReaderLock
+        | Object::WriterLock
+        | Object::Condvar
+        | Object::Once => b"there are 1 to 64 parties, in decimal digits",
+    }
+}
+
+/// Which numbers follow its verbs.
+pub fn numbers_after(object: Object<u64>) -> &'static [u8]
+    ensures { result.now ≡ meaning.numbers_after object }
+{
+    match object {
+        Object::Semaphore(_) => {
+            b"a number follows `post`, and may follow `go`, and none follows the others"
+        }
+        Object::Atomic(_) => {
+            b"two values follow `compare_exchange`, one follows `some` and each call but `load` and `fetch_update`, and a number may follow `go`"
+        }
+        _ => b"a number may follow `go`, and none follows the others",
+    }
+}
+
+/// The range of the numbers that follow.
+pub fn numbers_within(object: Object<u64>) -> &'static [u8]
+    ensures { result.now ≡ meaning.numbers_within object }
+{
+    match object {
+        Object::Semaphore(_) => {
+            b"`go` makes 1 to 100000 steps, and `post` gives 0 to 18446744073709551615 permits"
+        }
+        Object::Atomic(_) => {
+            b"`go` makes 1 to 100000 steps, and a value is one of the atomic's type, in decimal digits"
+        }
+        _ => b"`go` makes 1 to 100000 steps",
+    }
+}
+
+/// How its closure is answered.
+pub fn answers(object: Object<u64>) -> &'static [u8]
+    ensures { result.now ≡ meaning.answers object }
+{
+    match object {
+        Object::Atomic(_) => {
+            b"the call stands at its closure, which answers `some` and a value, or `none`"
+        }
+        _ => b"the call stands at its closure, which answers `wait` or `abort`",
+    }
+}
+
+/// Whether it has a call that is written `start_wait`.
+pub fn has_start_wait(object: Object<u64>) -> bool
+    ensures { result ≡ meaning.has_start_wait object }
+{
+    matches!(
+        object,
+        Object::Semaphore(_) | Object::Barrier(_) | Object::Condvar
+    )
+}

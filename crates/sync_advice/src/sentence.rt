@@ -1,0 +1,195 @@
+//! The sentence that says what would be right in the place of a line with a fault.
+ghost use Rattle.std.specs.Prelude.{◌≡◌, ◌++◌, OnOk};
+ghost use Rattle.sync_play.specs.Command.{calls_of};
+ghost use Rattle.sync_play.specs.Lexer.{words_of};
+ghost use Rattle.sync_advice.specs.Advice as meaning;
+
+use crate::objects::{
+    answers, calls, first_line, first_numbers, has_no_call, has_start_wait, numbers_after,
+    numbers_within,
+};
+use std::alloc::AllocError;
+use sync_play::command::is_known;
+use sync_play::fault::{FaultyLine, LineFault};
+use sync_play::lexer::{is, next_word, number_within};
+use sync_steps::steps::Object;
+
+/// Adds words, and then the names of all calls of the object.
+fn list_calls(out: &mut Vec<u8>, words: &[u8], object: Object<u64>) -> Result<(), AllocError>
+    ensures { OnOk result (out.new.items ≡ out.old.items ++ (words.now ++ meaning.listed (calls_of object))) }
+{
+    out.extend_from_slice(words)?;
+    out.extend_from_slice(calls(object))
+}
+
+/// Adds that the object has no call of this name, and which it has.
+fn refuse_name(out: &mut Vec<u8>, object: Object<u64>, name: &[u8]) -> Result<(), AllocError>
+    ensures { OnOk result (out.new.items ≡ out.old.items ++ meaning.of_unknown object name.now) }
+{
+    out.extend_from_slice(has_no_call(object))?;
+    out.extend_from_slice(name)?;
+    list_calls(out, b"`: ", object)
+}
+
+/// Whether a word begins as a comment does in many languages.
+fn is_comment(word: &[u8]) -> bool
+    ensures { result ≡ meaning.is_comment word.now }
+{
+    match word.first() {
+        Some(byte) => *byte == b'#' || *byte == b'/' || *byte == b';' || *byte == b'%',
+        None => false,
+    }
+}
+
+/// Whether the first line begins with a byte-order mark.
+fn is_marked(line: &[u8]) -> bool
+    ensures { result ≡ meaning.is_marked line.now }
+{
+    line.len() >= 3 && line[0] == 0xef && line[1] == 0xbb && line[2] == 0xbf
+}
+
+/// Of a line with this verb, whose words are no command of the object.
+fn of_verb(out: &mut Vec<u8>, object: Object<u64>, name: &[u8]) -> Result<(), AllocError>
+    ensures { OnOk result (out.new.items ≡ out.old.items ++ meaning.of_verb object name.now) }
+{
+    if is_known(object, name) {
+        out.extend_from_slice(numbers_after(object))
+    } else {
+        refuse_name(out, object, name)
+    }
+}
+
+/// Of a line with this first word, whose words are no command of the object.
+fn of_words(
+    out: &mut Vec<u8>,
+    object: Object<u64>,
+    party: &[u8],
+    rest: &[u8],
+) -> Result<(), AllocError>
+    ensures { OnOk result (out.new.items ≡ out.old.items ++ meaning.of_words object party.now (words_of rest.now)) }
+{
+    if is_comment(party) {
+        out.extend_from_slice(b"a text has no comments")
+    } else if number_within(0, u64::MAX, party).is_err() {
+        list_calls(
+            out,
+            b"a line begins with the number of a party, and then says what it does: ",
+            object,
+        )
+    } else {
+        match next_word(rest) {
+            Some((name, _)) => of_verb(out, object, name),
+            None => list_calls(out, b"a line has a party and what it does: ", object),
+        }
+    }
+}
+
+/// Of a line whose words are no command of the object.
+fn of_bad_line(out: &mut Vec<u8>, object: Object<u64>, line: &[u8]) -> Result<(), AllocError>
+    ensures { OnOk result (out.new.items ≡ out.old.items ++ meaning.of_bad_line object (words_of line.now)) }
+{
+    match next_word(line) {
+        Some((party, rest)) => of_words(out, object, party, rest),
+        None => list_calls(out, b"a line has a party and what it does: ", object),
+    }
+}
+
+/// Whether a line answers `wait` at an object that has a call of this name in Rust, which a text begins by another.
+fn means_to_begin(object: Object<u64>, line: &[u8]) -> bool
+    ensures { result ≡ meaning.means_to_begin object (words_of line.now) }
+{
+    let Some((_, rest)) = next_word(line) else {
+        return false;
+    };
+    match next_word(rest) {
+        Some((name, _)) => is(name, b"wait") && has_start_wait(object),
+        None => false,
+    }
+}
+
+/// Of a line that answers a closure where none waits for an answer of this kind.
+fn of_early_answer(out: &mut Vec<u8>, object: Object<u64>, line: &[u8]) -> Result<(), AllocError>
+    ensures { OnOk result (out.new.items ≡ out.old.items ++ meaning.of_early_answer object (words_of line.now)) }
+{
+    if means_to_begin(object, line) {
+        out.extend_from_slice(b"to begin the call, write start_wait")
+    } else {
+        out.extend_from_slice(b"no closure waits for this answer: `go` and `run` move a call on")
+    }
+}
+
+/// Of a first line that names this object.
+fn of_first_line(out: &mut Vec<u8>, object: Object<u64>, fault: LineFault) -> Result<(), AllocError>
+    ensures { OnOk result (out.new.items ≡ out.old.items ++ meaning.of_first_line object fault) }
+{
+    match fault {
+        LineFault::BadNumber => out.extend_from_slice(first_numbers(object)),
+        _ => out.extend_from_slice(first_line(object)),
+    }
+}
+
+/// Of a line after the first.
+fn of_line(
+    out: &mut Vec<u8>,
+    object: Object<u64>,
+    line: &[u8],
+    fault: LineFault,
+) -> Result<(), AllocError>
+    ensures { OnOk result (out.new.items ≡ out.old.items ++ meaning.of_line object line.now fault) }
+{
+    match fault {
+        LineFault::NoObject | LineFault::BadLine => of_bad_line(out, object, line),
+        LineFault::BadNumber => out.extend_from_slice(numbers_within(object)),
+        LineFault::NoParty => out.extend_from_slice(
+            b"the parties are numbered from 1, and the first line says how many there are",
+        ),
+        LineFault::Busy => out.extend_from_slice(
+            b"the party has a call under way: `go` and `run` move it on",
+        ),
+        LineFault::Holding => out.extend_from_slice(
+            b"the party has a hold already: `unlock` gives it back",
+        ),
+        LineFault::NoHold => out.extend_from_slice(
+            b"the party has no hold, and this call needs one",
+        ),
+        LineFault::Idle => list_calls(
+            out,
+            b"the party has no call under way, and begins one by its name: ",
+            object,
+        ),
+        LineFault::Waiting => out.extend_from_slice(answers(object)),
+        LineFault::NotWaiting => of_early_answer(out, object, line),
+        LineFault::StepLimit => out.extend_from_slice(
+            b"in 100000 steps the call came to no end: another party may have to move first",
+        ),
+    }
+}
+
+/// Of a text that names no object.
+fn of_no_object(out: &mut Vec<u8>, line: &[u8]) -> Result<(), AllocError>
+    ensures { OnOk result (out.new.items ≡ out.old.items ++ meaning.of_no_object line.now) }
+{
+    if is_marked(line) {
+        out.extend_from_slice(b"the first line has a byte-order mark")
+    } else {
+        out.extend_from_slice(
+            b"a text begins with its object: mutex, spin, semaphore, barrier, rwreader, rwwriter, condvar, once, lazy, atomic_u64, atomic_u128, atomic_i64, atomic_i128",
+        )
+    }
+}
+
+/// Adds what would be right in the place of a line with this fault, of a text of this object.
+pub fn say(
+    out: &mut Vec<u8>,
+    object: Option<Object<u64>>,
+    line: &[u8],
+    found: FaultyLine,
+) -> Result<(), AllocError>
+    ensures { OnOk result (out.new.items ≡ out.old.items ++ meaning.sentence_of object line.now found) }
+{
+    match object {
+        None => of_no_object(out, line),
+        Some(object) if found.line == 1 => of_first_line(out, object, found.fault),
+        Some(object) => of_line(out, object, line, found.fault),
+    }
+}

@@ -1,0 +1,12 @@
+-- The model that a reader-preferring lock plays.
+use Rattle.std.specs.Prelude.{ℕ, List}
+use Rattle.steps_events.specs.declared.event.Event.{Event}
+use Rattle.steps_events.specs.Integers.{u64_arithmetic}
+use Rattle.steps_events.specs.Runs.{IsPast}
+use Rattle.steps_rw_reader.specs.Table.{rw_reader_table}
+use Rattle.steps_rw_reader.specs.Law.{KeepsRwReader}
+use Rattle.steps_rw_reader.proofs.AnswerLaws.{keeps_rw_reader}
+
+-- every run keeps the lock's law
+pub rw_reader_lawful : (parties : ℕ) (past : List (Event ℕ)) → IsPast u64_arithmetic rw_reader_table parties past → KeepsRwReader past
+rw_reader_lawful parties past run = keeps_rw_reader u64_arithmetic parties past run

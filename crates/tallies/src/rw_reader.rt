@@ -1,0 +1,31 @@
+//! The model that a reader-preferring lock plays; what its pass counts beside are its holds.
+
+use crate::held::Held;
+use playing::{Played, Script};
+use steps_rw_reader::RwReaderPlace;
+
+/// The model that a reader-preferring lock plays: its one word is the lock's.
+pub struct RwReaderScript;
+
+impl Script<(), RwReaderPlace> for RwReaderScript {
+    ghost use Rattle.std.specs.Prelude.{[], ◌∷◌};
+    ghost use Rattle.steps_events.specs.declared.event.Word.TheVariants as words;
+    ghost use Rattle.steps_rw_reader.specs.Table.{rw_reader_table};
+    ghost use Rattle.steps_rw_reader.specs.Law.{KeepsRwReader};
+    ghost use Rattle.tallies.specs.RwReaderScript.{rw_reader_lawful};
+
+    ghost table = { λ _. rw_reader_table };
+
+    ghost law = { λ _. KeepsRwReader };
+
+    ghost lawful = { λ _. rw_reader_lawful };
+
+    ghost names = { words.State ∷ [] };
+
+    ghost apart = { (tt, tt) };
+
+    ghost handed = { λ _. words.State };
+}
+
+/// What a pass of a reader-preferring lock is in its model, and counts beside.
+pub type PlayedRwReader = Played<RwReaderScript, RwReaderPlace, Held<()>>;

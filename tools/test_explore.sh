@@ -1,0 +1,13 @@
+# Each question of examples/explore is answered: NAME.txt has beside it the answer (NAME.out), NAME.err for standard error where it is not
+# empty, and NAME.status where the status is not 0. Each text in an answer is played by sync-play, and prints what its line says.
+test_explore() {
+    local text
+    source tools/test_examples.sh
+    is_built sync-explore || return
+    is_built sync-play || return
+    for text in examples/explore/*.txt; do
+        play_example sync-explore out "${text%.txt}"
+        attempt python3 tools/replayed.py "$text" "${text%.txt}.out"
+        judge "the texts in ${text%.txt}.out" 0 /dev/null /dev/null
+    done
+}
