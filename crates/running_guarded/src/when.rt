@@ -14,7 +14,7 @@ use crate::pass::GuardedPass;
 use crate::word::GuardedWord;
 use atomic_table::Seat;
 use passes::{View, WaitResult};
-use running_mutex::condition_variable::{CondPass, ConditionVariable};
+use running_mutex::condition_variable::{CondPass, ConditionVariable, CountedWait};
 use std::alloc::Allocator;
 use std::sync::Wait;
 use steps_events::WaitAction;
@@ -158,7 +158,7 @@ impl<T: Drop, A: Allocator> Guarded<T, A> {
         let (left, slept) = changed.wait_around(
             rt,
             changed_pass,
-            move || -> GuardedPass
+            move |_: &CountedWait<'_>| -> GuardedPass
                 requires { (seat.table_id ≡ id_of self.now) × (seat.me.0.tally.counts.holds ≡ 1) × HasMutex seat.me.0.tally.parties × 0 < seat.me.0.part.share × (has_vacant_slot seat.me.1 ≡ true) × K.IsAlwaysCallable wake_one.now }
                 ensures { (object_of result ≡ seat.table_id) × (number_of result ≡ seat.id) × Lets seat.me.0 (view result) }
             { self.sit(seat, value, wake_one) },

@@ -1,7 +1,7 @@
 -- What contracts see of a condition variable and its pass, and what a call changes in a pass.
 use Rattle.std.specs.Prelude.{◌≡◌, ℕ, Some, None}
 use Rattle.std.specs.Borrow.{Bor}
-use Rattle.std.specs.Fn.{Shared}
+use Rattle.std.specs.Fn.{Shared, Once, FnOnceReturnsAt}
 use Rattle.steps_events.specs.declared.WaitAction.{WaitAction}
 use Rattle.passes.specs.declared.part.Part.{Part}
 use Rattle.passes.specs.declared.pass.Pass.{Pass}
@@ -21,6 +21,7 @@ use Rattle.running_semaphore.specs.SemaphoreSteps.{gave}
 use Rattle.running_mutex.specs.declared.condition_variable.Waits.{Waits}
 use Rattle.running_mutex.specs.declared.condition_variable.CondPass.{CondPass}
 use Rattle.running_mutex.specs.declared.condition_variable.ConditionVariable.{ConditionVariable}
+use Rattle.running_mutex.specs.declared.condition_variable.CountedWait.{CountedWait}
 use Rattle.running_mutex.specs.declared.condition_variable.CondResult.{CondResult}
 use Rattle.running_mutex.specs.declared.condition_variable.CondResult.TheVariants as answers
 use Rattle.running_mutex.specs.declared.condition_variable.Woken.{Woken}
@@ -108,3 +109,8 @@ pub record HasLeft {F W : Type 0} (g : Shared F (Bor W × (Bor ℕ × Unit {0}))
   pub part : part_of q ≡ part_of p
   pub looked : HasLooked IsLocked 10002 (sights_of p) (sights_of q)
   pub asked : HasAsked g wait IsLocked 10001 p q
+
+-- by what the closure that lets a lock go promises of its calls, one that was handed a wait that is counted in gave this
+pub record LeavesCounted {F Y : Type 0} (g : Once F (Bor CountedWait × Unit {0}) Y) (leave : F) (left : Y) : Type 0 where
+  pub counted : CountedWait
+  pub says : FnOnceReturnsAt g leave counted left

@@ -70,6 +70,13 @@ pub struct CondPass {
     ghost outside: { (tally_of waits).inside ≡ 0 },
 }
 
+/// That a wait is counted as waiting. Nobody else makes one than `wait_around`, which lends it to the closure that lets the lock go.
+#[derive(Drop)]
+pub struct CountedWait<'p> {
+    waits: &'p Pass<Waits>,
+    ghost inside: { (tally_of waits.now).inside ≡ 1 },
+}
+
 /// What a wait came to that has the mutex again.
 #[derive(Debug, Drop, PartialEq, Eq)]
 pub enum Woken<H> {
@@ -174,7 +181,7 @@ impl<A: Allocator> ConditionVariable<A> {
     ghost use Rattle.running_mutex.specs.CondRule.{no_waits, Loaded, went_in, went_out};
     ghost use Rattle.running_semaphore.specs.SemaphoreShown.{worth_of, HasTaken};
     ghost use Rattle.running_mutex.specs.MutexShown.{holds_of, pass_of, borrow_of, HasUnlocked};
-    ghost use Rattle.running_mutex.specs.CondShown.{IsCondPass, waits_in, permits_in, HasGiven, HasNotified, held_by, woken_of, IfSignalled, IfUnsignalled, HasWaited, HasNotTaken, HasRegained, HasLeft};
+    ghost use Rattle.running_mutex.specs.CondShown.{IsCondPass, waits_in, permits_in, HasGiven, HasNotified, held_by, woken_of, IfSignalled, IfUnsignalled, HasWaited, HasNotTaken, HasRegained, HasLeft, LeavesCounted};
 
     /// A condition variable at which nobody waits, and the pass that is whole. `Err` where there was no memory; then nothing was made.
     pub fn new(alloc: A) -> Result<(ConditionVariable<A>, CondPass), AllocError>
@@ -315,25 +322,26 @@ impl<A: Allocator> ConditionVariable<A> {
     /// Counts the wait in, calls `leave`, by which its caller lets a lock of its own go, waits for a permit as the semaphore's `wait` does,
     /// and counts the wait out. What `leave` gave, and `Success` where a permit was taken.
     ///
-    /// It serves a lock of another kind than the mutex. `leave` is called after the count, so a notify that comes once the lock is free
-    /// sees the wait. The lock is the caller's to take again.
+    /// It serves a lock of another kind than the mutex. `leave` is handed what only a counted wait has, so a notify that comes once the
+    /// lock is free sees the wait. The lock is the caller's to take again.
     #[inline(always)]
-    pub fn wait_around<R: Wait, Y, F: FnOnce() -> Y, W: Fn(&WaitWord, &u64) -> WaitAction>(
-        &self,
-        rt: &R,
-        cond_pass: &mut CondPass,
-        leave: F,
-        wait: W,
-    ) -> (Y, WaitResult<()>)
+    pub fn wait_around<
+        R: Wait,
+        Y,
+        F: FnOnce(&CountedWait<'_>) -> Y,
+        W: Fn(&WaitWord, &u64) -> WaitAction,
+    >(&self, rt: &R, cond_pass: &mut CondPass, leave: F, wait: W) -> (Y, WaitResult<()>)
         requires own { IsCondPass self.now cond_pass.old }
         requires may { F.IsAlwaysCallable leave × W.IsAlwaysCallable wait }
-        ensures left { F.post leave result.0 }
+        ensures left { LeavesCounted F.FnOnce leave result.0 }
         ensures counted { HasWaited cond_pass.old cond_pass.new }
         ensures signalled { IfSuccess result.1 (λ _. HasTaken (permits_in cond_pass.old) (permits_in cond_pass.new)) }
         ensures unsignalled { IfInterrupted result.1 (HasNotTaken W.Fn wait cond_pass.old cond_pass.new) }
     {
         self.count_in(&mut cond_pass.waits);
-        let left = leave();
+        let left = leave(&CountedWait {
+            waits: &cond_pass.waits,
+        });
         let slept = self.semaphore.wait(rt, &mut cond_pass.permits, wait);
         self.count_out(&mut cond_pass.waits);
         match slept {

@@ -2,5 +2,5 @@
 
 pub use running_mutex::Mutex;
 pub use running_mutex::condition_variable::{
-    CondPass, CondResult, ConditionVariable, Waits, Woken, count_is_those_inside,
+    CondPass, CondResult, ConditionVariable, CountedWait, Waits, Woken, count_is_those_inside,
 };
