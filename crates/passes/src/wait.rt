@@ -9,7 +9,7 @@ use steps_events::WaitAction;
 pub enum WaitResult<H> {
     /// It got what it came for, a hold where it came for one.
     Success(H),
-    /// It gave up, and has changed nothing.
+    /// It gave up, and has nothing that it came for. What a call has written meanwhile, as a waiting writer's mark, it has taken back.
     Interrupted,
 }
 

@@ -4,8 +4,10 @@
 //! its place in `LINES`, its name and its call. The name is said once more in `specs/Lines.antt` and in the tests.
 ghost use Rattle.std.specs.Prelude.{◌≡◌, ◌≤◌};
 
+mod atomic;
 mod barrier;
 mod condvar;
+mod guarded;
 mod lazy_lock;
 mod mutex;
 mod once;
@@ -49,7 +51,17 @@ pub enum Line {
     BareSwaps,
     StdMutexAddUnlock,
     SpinLockUnlock,
+    GuardedAddUnlock,
     LazyForce,
+    BareLoadExchangeLoadsSubtract,
+    AtomicLoad,
+    AtomicWideLoad,
+    BareExchangeStores,
+    AtomicStore,
+    BareExchangeLoadsStores,
+    AtomicFetchAdd,
+    AtomicWideFetchAdd,
+    AtomicCompareExchange,
     BareLoadAdd,
     StdCondvarNotifyOne,
     CondvarNotifyOne,
@@ -58,7 +70,7 @@ pub enum Line {
 }
 
 /// Every line, in the order of the table.
-pub const LINES: [Line; 30] = [
+pub const LINES: [Line; 40] = [
     Line::BareExchangeStore,
     Line::StdMutexLockUnlock,
     Line::MutexLockUnlock,
@@ -83,7 +95,17 @@ pub const LINES: [Line; 30] = [
     Line::BareSwaps,
     Line::StdMutexAddUnlock,
     Line::SpinLockUnlock,
+    Line::GuardedAddUnlock,
     Line::LazyForce,
+    Line::BareLoadExchangeLoadsSubtract,
+    Line::AtomicLoad,
+    Line::AtomicWideLoad,
+    Line::BareExchangeStores,
+    Line::AtomicStore,
+    Line::BareExchangeLoadsStores,
+    Line::AtomicFetchAdd,
+    Line::AtomicWideFetchAdd,
+    Line::AtomicCompareExchange,
     Line::BareLoadAdd,
     Line::StdCondvarNotifyOne,
     Line::CondvarNotifyOne,
@@ -123,7 +145,17 @@ impl Line {
             Line::BareSwaps => "bare swaps",
             Line::StdMutexAddUnlock => "std mutex add unlock",
             Line::SpinLockUnlock => "spin lock unlock",
+            Line::GuardedAddUnlock => "guarded add unlock",
             Line::LazyForce => "lazy force",
+            Line::BareLoadExchangeLoadsSubtract => "bare load exchange loads subtract",
+            Line::AtomicLoad => "atomic u64 load",
+            Line::AtomicWideLoad => "atomic u128 load",
+            Line::BareExchangeStores => "bare exchange stores",
+            Line::AtomicStore => "atomic u64 store",
+            Line::BareExchangeLoadsStores => "bare exchange loads stores",
+            Line::AtomicFetchAdd => "atomic u64 fetch_add",
+            Line::AtomicWideFetchAdd => "atomic u128 fetch_add",
+            Line::AtomicCompareExchange => "atomic u64 compare_exchange",
             Line::BareLoadAdd => "bare load add",
             Line::StdCondvarNotifyOne => "std condvar notify_one",
             Line::CondvarNotifyOne => "condvar notify_one",
@@ -162,7 +194,19 @@ impl Line {
             Line::BareSwaps => Ok(yardsticks::bare_swaps()),
             Line::StdMutexAddUnlock => Ok(yardsticks::std_mutex_add_unlock(rt)),
             Line::SpinLockUnlock => spin_lock::lock_unlock(rt, alloc),
+            Line::GuardedAddUnlock => guarded::add_unlock(rt, alloc),
             Line::LazyForce => lazy_lock::force(rt, alloc),
+            Line::BareLoadExchangeLoadsSubtract => Ok(
+                yardsticks::bare_load_exchange_loads_subtract(),
+            ),
+            Line::AtomicLoad => atomic::load(rt, alloc),
+            Line::AtomicWideLoad => atomic::load_wide(rt, alloc),
+            Line::BareExchangeStores => Ok(yardsticks::bare_exchange_stores()),
+            Line::AtomicStore => atomic::store(rt, alloc),
+            Line::BareExchangeLoadsStores => Ok(yardsticks::bare_exchange_loads_stores()),
+            Line::AtomicFetchAdd => atomic::fetch_add(rt, alloc),
+            Line::AtomicWideFetchAdd => atomic::fetch_add_wide(rt, alloc),
+            Line::AtomicCompareExchange => atomic::compare_exchange(rt, alloc),
             Line::BareLoadAdd => Ok(yardsticks::bare_load_add()),
             Line::StdCondvarNotifyOne => Ok(yardsticks::std_condvar_notify_one()),
             Line::CondvarNotifyOne => condvar::notify_one(alloc),

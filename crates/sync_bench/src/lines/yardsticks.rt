@@ -281,6 +281,94 @@ impl<R: Wait> Operation for StdAdd<'_, R> {
     }
 }
 
+/// Counts a reader in and out of a bare word, and reads two others between: the least that a read of two words under a lock can do.
+pub fn bare_load_exchange_loads_subtract() -> u32 {
+    successes(&mut BareRead {
+        word: AtomicU64::new(0),
+        low: AtomicU64::new(0),
+        high: AtomicU64::new(0),
+    })
+}
+
+#[derive(Drop)]
+struct BareRead {
+    word: AtomicU64,
+    low: AtomicU64,
+    high: AtomicU64,
+}
+
+impl Operation for BareRead {
+    #[inline(always)]
+    fn once(&mut self) -> bool {
+        let word = &self.word;
+        let seen = word.load(Ordering::SeqCst);
+        let more = seen.wrapping_add(1);
+        let entered = word.compare_exchange(seen, more, Ordering::SeqCst, Ordering::SeqCst);
+        let low = self.low.load(Ordering::SeqCst);
+        let high = self.high.load(Ordering::SeqCst);
+        word.fetch_sub(1, Ordering::SeqCst);
+        entered.is_ok() && low == high
+    }
+}
+
+/// Takes a bare word, writes two others, and frees it: the least that a write of two words under a lock can do.
+pub fn bare_exchange_stores() -> u32 {
+    successes(&mut BareWrite {
+        word: AtomicU64::new(0),
+        low: AtomicU64::new(0),
+        high: AtomicU64::new(0),
+    })
+}
+
+#[derive(Drop)]
+struct BareWrite {
+    word: AtomicU64,
+    low: AtomicU64,
+    high: AtomicU64,
+}
+
+impl Operation for BareWrite {
+    #[inline(always)]
+    fn once(&mut self) -> bool {
+        let word = &self.word;
+        let entered = word.compare_exchange(0, u64::MAX, Ordering::SeqCst, Ordering::SeqCst);
+        self.low.store(7, Ordering::SeqCst);
+        self.high.store(0, Ordering::SeqCst);
+        word.store(0, Ordering::SeqCst);
+        entered.is_ok()
+    }
+}
+
+/// Takes a bare word, reads two others and writes them, and frees it: the least that a change of two words under a lock can do.
+pub fn bare_exchange_loads_stores() -> u32 {
+    successes(&mut BareChange {
+        word: AtomicU64::new(0),
+        low: AtomicU64::new(0),
+        high: AtomicU64::new(0),
+    })
+}
+
+#[derive(Drop)]
+struct BareChange {
+    word: AtomicU64,
+    low: AtomicU64,
+    high: AtomicU64,
+}
+
+impl Operation for BareChange {
+    #[inline(always)]
+    fn once(&mut self) -> bool {
+        let word = &self.word;
+        let entered = word.compare_exchange(0, u64::MAX, Ordering::SeqCst, Ordering::SeqCst);
+        let low = self.low.load(Ordering::SeqCst);
+        let high = self.high.load(Ordering::SeqCst);
+        self.low.store(low.wrapping_add(7), Ordering::SeqCst);
+        self.high.store(high, Ordering::SeqCst);
+        word.store(0, Ordering::SeqCst);
+        entered.is_ok()
+    }
+}
+
 /// Looks at a bare word, and adds the lesser of 1 and what it saw to another: the least that a notify of one can do.
 pub fn bare_load_add() -> u32 {
     successes(&mut BareNotify {

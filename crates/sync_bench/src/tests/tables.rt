@@ -6,7 +6,7 @@ use std::test::Fail;
 use std::time::{Clock, Duration};
 
 /// The names of the lines, in the order of the table.
-const NAMES: [&str; 30] = [
+const NAMES: [&str; 40] = [
     "bare exchange store",
     "std mutex lock unlock",
     "mutex lock unlock",
@@ -31,7 +31,17 @@ const NAMES: [&str; 30] = [
     "bare swaps",
     "std mutex add unlock",
     "spin lock unlock",
+    "guarded add unlock",
     "lazy force",
+    "bare load exchange loads subtract",
+    "atomic u64 load",
+    "atomic u128 load",
+    "bare exchange stores",
+    "atomic u64 store",
+    "bare exchange loads stores",
+    "atomic u64 fetch_add",
+    "atomic u128 fetch_add",
+    "atomic u64 compare_exchange",
     "bare load add",
     "std condvar notify_one",
     "condvar notify_one",
