@@ -11,6 +11,7 @@ use Rattle.steps_events.specs.declared.event.Event.{Event}
 use Rattle.steps_events.specs.declared.hold.HoldKind.{HoldKind}
 use Rattle.steps_events.specs.declared.patience.Patience.{Patience}
 use Rattle.steps_events.specs.declared.row.Intent.TheVariants as intents
+use Rattle.steps_events.specs.declared.row.After.TheVariants as afters
 use Rattle.steps_events.specs.Tables.{Table}
 use Rattle.steps_events.specs.Rows.{within, refused}
 use Rattle.playing.specs.Slots.{Slot, Parties}
@@ -85,3 +86,19 @@ module _ {P : Type 0} (t : Table ℕ P) (Law : List (Event ℕ) → Type 0) (nam
     pub who : Wake
     pub wakes : t.intent place hold ≡ intents.Wake who
     pub word : IsNamed names index (handed place)
+
+  -- the next two that it does are so: it calls its wake closure of the word at the first index, and then that of the word at the second
+  pub record IsToWakeTwice (first second : ℕ) (p : Parties) : Type 0 where
+    pub call : Call ℕ
+    pub place : P
+    pub hold : Option HoldKind
+    pub done : List Slot
+    pub at : IsAt t Law call place thens.GoesOn hold done p
+    pub who : Wake
+    pub wakes : t.intent place hold ≡ intents.Wake who
+    pub word : IsNamed names first (handed place)
+    pub later : P
+    pub goes_on : t.after place None ≡ afters.At later
+    pub also : Wake
+    pub wakes_also : t.intent later hold ≡ intents.Wake also
+    pub word_also : IsNamed names second (handed later)

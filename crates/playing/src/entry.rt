@@ -24,6 +24,12 @@ impl Entry for GoesOn {
     ghost coming = { Going };
 }
 
+impl AddEntry for GoesOn {
+    ghost use Rattle.playing.specs.Plays.{Going};
+
+    ghost coming = { λ _. Going };
+}
+
 /// A wait closure has answered `Continue`.
 pub struct Continued;
 

@@ -1,15 +1,16 @@
-//! The words that closures see, and how a call that plays a model calls a closure that answers nothing.
+//! The words that closures see, and how a call that plays a model calls its closures.
 ghost use Rattle.std.specs.Prelude.{◌≡◌, ℕ};
 ghost use Rattle.atomic_table.specs.Seated.{TableId};
-ghost use Rattle.passes.specs.Answers.{HasWoken};
+ghost use Rattle.passes.specs.Answers.{MayAnswer, HasWoken};
 ghost use Rattle.playing.specs.Passes.{parties_of};
-ghost use Rattle.playing.specs.Tries.{IsToWake, StandsToWait, HasTold};
+ghost use Rattle.playing.specs.Tries.{IsToWake, IsToWakeTwice, StandsToWait, HasTold};
 
 use crate::played::Played;
 use crate::script::Script;
 use crate::stage::Stage;
 use passes::{Pass, Rule};
 use std::alloc::Allocator;
+use steps_events::WaitAction;
 
 /// A word of an object, as closures see it.
 pub trait Shown {
@@ -43,6 +44,26 @@ impl<K, M: Script<K, P>, P, C: Rule<(), K>, A: Allocator> Stage<K, M, P, C, A> {
         wait(word, &told);
     }
 
+    /// Calls a wait closure that answers whether the call may give up, at which a call of the pass stands. It is handed the word that
+    /// the model names for that place, and told what the model tells it there.
+    #[inline(always)]
+    pub fn ask<X: Shown, W: Fn(&X, &u64) -> WaitAction>(
+        &self,
+        pass: &Pass<Played<M, P, C>>,
+        word: &X,
+        told: u64,
+        wait: &W,
+    ) -> WaitAction
+        requires own { IsPassOf self.now pass.now }
+        requires word { X.object word.now ≡ id_of self.now }
+        requires stands { StandsToWait (M.table (key_of self.now)) (M.law (key_of self.now)) M.names M.handed (X.index word.now) told (parties_of pass.now) }
+        requires may { W.IsAlwaysCallable wait.now }
+        ensures answered { MayAnswer W.Fn wait.now (λ n. n ≡ told) result }
+    {
+        let _pass = pass;
+        wait(word, &told)
+    }
+
     /// Calls the wake closure that a call of the pass is to call next, of the word that the model names for that place.
     #[inline(always)]
     pub fn wake<X: Shown, W: Fn(&X)>(&self, pass: &Pass<Played<M, P, C>>, word: &X, wake: &W)
@@ -54,5 +75,28 @@ impl<K, M: Script<K, P>, P, C: Rule<(), K>, A: Allocator> Stage<K, M, P, C, A> {
     {
         let _pass = pass;
         passes::wake(wake, word);
+    }
+    /// Calls the two wake closures that a call of the pass is to call next, one after the other, each of the word that the model names
+    /// for its place.
+    #[inline(always)]
+    pub fn wake_twice<X: Shown, W: Fn(&X), V: Fn(&X)>(
+        &self,
+        pass: &Pass<Played<M, P, C>>,
+        first: &X,
+        wake_first: &W,
+        second: &X,
+        wake_second: &V,
+    )
+        requires own { IsPassOf self.now pass.now }
+        requires words { (X.object first.now ≡ id_of self.now) × (X.object second.now ≡ id_of self.now) }
+        requires wakes { IsToWakeTwice (M.table (key_of self.now)) (M.law (key_of self.now)) M.names M.handed (X.index first.now) (X.index second.now) (parties_of pass.now) }
+        requires may_first { W.IsAlwaysCallable wake_first.now }
+        requires may_second { V.IsAlwaysCallable wake_second.now }
+        ensures woke_first { HasWoken W.Fn wake_first.now }
+        ensures woke_second { HasWoken V.Fn wake_second.now }
+    {
+        let _pass = pass;
+        passes::wake(wake_first, first);
+        passes::wake(wake_second, second);
     }
 }

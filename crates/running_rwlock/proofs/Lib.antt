@@ -1,5 +1,6 @@
 pub mod RwReaderKeeps
 pub mod RwReaderPlays
 pub mod RwWriterKeeps
+pub mod RwWriterPlays
 pub mod RwReaderUnlocks
 pub mod RwReaderJoins

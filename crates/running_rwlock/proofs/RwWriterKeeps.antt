@@ -1,23 +1,28 @@
 -- Each step of a writer-preferring lock keeps its rule.
-use Rattle.std.proofs.Common.{◌≡◌, ◌≢◌, ℕ, ◌+◌, ◌-◌, ◌*◌, ◌%◌, ◌^◌, ◌<◌, ◌≤◌, eqb, List, [], ◌∷◌, get_or, set, refl, sym, ap, ◌∙◌, subst, arith, length-set, get_or-set_same}
+use Rattle.std.proofs.Common.{◌≡◌, ◌≢◌, ℕ, ◌+◌, ◌-◌, ◌*◌, ◌%◌, ◌^◌, ◌<◌, ◌≤◌, ◌==◌, ◌&&◌, Bool, true, inr, eqb, List, [], ◌∷◌, get_or, set, refl, sym, ap, ◌∙◌, subst, arith, length-set, get_or-set_same}
 use Rattle.std.proofs.lemmas.List.{get_or-set_other}
 use mathlib.Core.Logic.{dite}
 use native.Mathlib.Decide.{ℕ_discrete}
 use prog.Atomic.{either}
 use Rattle.passes.specs.declared.part.Sights.{Sights}
+use Rattle.steps_events.proofs.Holds.{eqb_same}
 use Rattle.passes.specs.declared.view.View.{View}
+use Rattle.passes.specs.declared.pass.Pass.{Pass}
+use Rattle.passes.specs.Passes.{IsSamePass, sights_of}
 use Rattle.passes.specs.Parts.{IsWhole, Each}
 use Rattle.passes.specs.Sights.{seen, seen_instead}
 use Rattle.passes.specs.Views.{view_of, looked, missed, wrote, sum_of, Updates}
 use Rattle.passes.proofs.Sums.{sum_of_two}
 use Rattle.passes.proofs.Updates.{by_look, by_exchange}
+use Rattle.playing.specs.Passes.{none_played, both_played, core_played, played_add_up, counts_of, counted}
 use Rattle.tallies.specs.declared.rw_writer.MarkedHolds.{MarkedHolds}
 use Rattle.tallies.specs.Held.{read_holds, write_holds, Knows, Locks}
 use Rattle.tallies.specs.HeldTally.{same_nothing, tells_same_nothing}
 use Rattle.tallies.specs.RwReaderRule.{Holds, no_holds, both_holds}
 use Rattle.tallies.specs.RwWriterRule.{nothing_marked, both_marked, IsMarkedOrHeld, RwWriterAgrees}
 use Rattle.tallies.specs.RwWriterTally.{marked_add_up}
-use Rattle.running_rwlock.specs.RwWriterSteps.{NoHoldBesideTheWriter, NoMarkWithoutAFlag, IsMarked, word_of, read, no_more_read, written, no_more_written, flagged, SaysAlone, Loaded, IsSeenByWriter, LoadedToWrite, ReaderIn, ReaderOut, WriterIn, WriterOut, SetsMark, TakesMark, Unchanged}
+use Rattle.running_rwlock.specs.RwWriterShown.{HasTried, HasJustSeen, MayGiveUp}
+use Rattle.running_rwlock.specs.RwWriterSteps.{PlayedRwWriter, NoHoldBesideTheWriter, NoMarkWithoutAFlag, IsMarked, word_of, read, no_more_read, written, no_more_written, flagged, SaysAlone, Loaded, IsSeenByWriter, LoadedToWrite, ReaderIn, ReaderOut, WriterIn, WriterOut, SetsMark, TakesMark, Unchanged}
 use Rattle.tallies.proofs.HeldKeeps.{comes_in, goes_out, takes_over, steps_down, parts, only_writes, only_reads}
 
 -- how many holds stand, as the word of a lock without a mark would say it
@@ -244,23 +249,28 @@ counts_add v = record {
 pub none_beside : NoHoldBesideTheWriter
 none_beside s r i j v w here there writes some = dite (ℕ_discrete i j) (λ same. same)
     (λ apart.
-    let two = sum_of_two nothing_marked both_marked (λ _. nothing_marked) marked_add_up s.views i j v w here there apart in
-    let others : Holds = both_holds w.tally.held two.0.held in
-    let all : IsMarkedOrHeld s.words (both_marked v.tally (both_marked w.tally two.0)) = subst (λ t. IsMarkedOrHeld s.words t) two.1 r.agree in
-    let nobody : others ≡ no_holds = (parts same_nothing tells_same_nothing tt v.tally.held others all.knows).alone writes in
-    let theirs = parts same_nothing tells_same_nothing tt w.tally.held two.0.held (subst (λ t. Knows tt t) (sym nobody) tt) in
+    let two = sum_of_two (none_played nothing_marked) (both_played both_marked) (core_played (λ _. nothing_marked)) (played_add_up nothing_marked both_marked (λ _. nothing_marked) marked_add_up) s.views i j v w here there apart in
+    let rest : MarkedHolds = two.0.counts in
+    let others : Holds = both_holds w.tally.counts.held rest.held in
+    let all : IsMarkedOrHeld s.words (both_marked v.tally.counts (both_marked w.tally.counts rest)) = subst (λ t. IsMarkedOrHeld s.words t) (ap (λ t. t.counts) two.1) r.agree.1 in
+    let nobody : others ≡ no_holds = (parts same_nothing tells_same_nothing tt v.tally.counts.held others all.knows).alone writes in
+    let theirs = parts same_nothing tells_same_nothing tt w.tally.counts.held rest.held (subst (λ t. Knows tt t) (sym nobody) tt) in
     let reads = ap (λ (t : Holds). read_holds t) nobody in let written = ap (λ (t : Holds). write_holds t) nobody in
     absurd (omega (arith, reads, written, theirs.reads, theirs.writes, some)))
 
 -- where no flag is up there is no mark
 
-no_flag_up : (views : List (View MarkedHolds)) → Each (λ v. v.tally.flags ≡ 0) views → (sum_of nothing_marked both_marked views).flags ≡ 0
+abbrev sum_played : List (View PlayedRwWriter) → PlayedRwWriter
+sum_played views = sum_of (none_played nothing_marked) (both_played both_marked) views
+
+no_flag_up : (views : List (View PlayedRwWriter)) → Each (λ v. v.tally.counts.flags ≡ 0) views → (sum_played views).counts.flags ≡ 0
 no_flag_up [] down = refl
 no_flag_up (v ∷ views) down = let rest = no_flag_up views down.1 in let one = down.0 in omega arith
 
 pub no_mark : NoMarkWithoutAFlag
-no_mark s r down set = let is = r.agree in let flags = no_flag_up s.views down in let odd = set.odd in let unwritten = set.unwritten in
-    unmarked_word is.mark (read_holds (sum_of nothing_marked both_marked s.views).held) (write_holds (sum_of nothing_marked both_marked s.views).held) (get_or s.words 0 0) is.word_is is.one_mark (omega (arith, is.flagged, flags)) (λ on. only_writes tt (sum_of nothing_marked both_marked s.views).held is.knows on) odd unwritten
+no_mark s r down marked = let is = r.agree.1 in let flags = no_flag_up s.views down in let odd = marked.odd in let unwritten = marked.unwritten in
+    let all = (sum_played s.views).counts in
+    unmarked_word is.mark (read_holds all.held) (write_holds all.held) (get_or s.words 0 0) is.word_is is.one_mark (omega (arith, is.flagged, flags)) (λ on. only_writes tt all.held is.knows on) odd unwritten
   where
     unmarked_word : (mark reads writes word : ℕ) → word ≡ 2 * reads + mark + writes * (2 ^ 64 - 1) → mark + writes ≤ 1 → mark ≡ 0 → (writes ≡ 1 → reads ≡ 0) → word % 2 ≡ 1 → word ≢ 2 ^ 64 - 1 → ⊥
     unmarked_word mark reads writes word is one none_set only odd unwritten = dite (ℕ_discrete writes 1) (λ on. let no_reads = only on in unwritten (omega (arith, is, none_set, no_reads, on))) (λ off. absurd (omega (arith, is, one, none_set, off, odd)))
@@ -272,3 +282,25 @@ opens = record { two_words = refl; mark = 0; word_is = omega arith; one_mark = o
 -- at the end the word is what the pass's holds come to, since its flag is down
 pub closes : (words : List ℕ) (t : MarkedHolds) (found : ℕ) → IsMarkedOrHeld words t → get_or words 0 0 ≡ found → t.flags ≡ 0 → found ≡ word_of t
 closes words t found is here down = let word = is.word_is in let flagged = is.flagged in omega (arith, word, flagged, here, down)
+
+-- what a writer knows whose exchange from the value that it had just seen found another
+pub missed_it : (p q : Pass PlayedRwWriter) (seen found : ℕ) → IsSamePass p q → HasJustSeen seen p → found ≢ seen → WriterIn seen (counted p) found (counted q) → HasTried 0 p q × HasJustSeen found q × MayGiveUp q
+missed_it p q seen found same just other told =
+    let sight = told.failed other in
+    let sights : sights_of q ≡ seen_instead (sights_of p) seen found = ap (λ (v : View MarkedHolds). v.sights) sight.sees in
+    let tally : counts_of q ≡ flagged sight.flags (counts_of p) = ap (λ (v : View MarkedHolds). v.tally) sight.sees in
+    let flags : (counts_of q).flags ≡ sight.flags = ap (λ (t : MarkedHolds). t.flags) tally in
+    let count : (sights_of q).count ≡ (sights_of p).count + 1 = ap (λ (s : Sights). s.count) sights in
+    let missed : (sights_of q).missed ≡ ((sights_of p).fresh && ((sights_of p).last == seen)) = ap (λ (s : Sights). s.missed) sights in (
+      record {
+        same = same;
+        part = ap (λ (v : View MarkedHolds). v.part) sight.sees;
+        tally = tally ∙ ap (λ (n : ℕ). flagged n (counts_of p)) (sym flags);
+        more = omega (arith, count);
+      },
+      record { last = ap (λ (s : Sights). s.last) sights; fresh = ap (λ (s : Sights). s.fresh) sights; down = λ unset. flags ∙ sight.down unset },
+      inr (missed ∙ both_true ((sights_of p).fresh) ((sights_of p).last) seen just.fresh just.last),
+    )
+  where
+    both_true : (fresh : Bool) (last from : ℕ) → fresh ≡ true → last ≡ from → (fresh && (last == from)) ≡ true
+    both_true fresh last from one is = rw (one, is, eqb_same from) refl

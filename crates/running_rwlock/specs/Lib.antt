@@ -4,3 +4,4 @@ pub mod RwReaderSteps
 pub mod RwReaderShown
 pub mod RwWriterSteps
 pub mod RwWriterShown
+pub mod RwWriterParties

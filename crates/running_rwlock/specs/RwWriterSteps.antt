@@ -1,25 +1,40 @@
 -- What holds whenever the rule of a writer-preferring lock does, and what a step changes in a pass.
-use Rattle.std.specs.Prelude.{◌≡◌, ◌≢◌, ℕ, ◌+◌, ◌-◌, ◌*◌, ◌%◌, ◌^◌, ◌<◌, ◌≤◌, slice_index}
+use Rattle.std.specs.Prelude.{◌≡◌, ◌≢◌, ℕ, ◌+◌, ◌-◌, ◌*◌, ◌%◌, ◌^◌, ◌<◌, ◌≤◌, [], ◌∷◌, slice_index}
 use mathlib.Core.Option.{some}
 use lib.ListN.{get_elem?}
 use Rattle.atomic_table.specs.Table.{State}
+use Rattle.steps_events.specs.declared.event.Word.TheVariants as words
+use Rattle.steps_rw_writer.specs.declared.RwWriterPlace.{RwWriterPlace}
+use Rattle.steps_rw_writer.specs.Table.{rw_writer_table}
+use Rattle.steps_rw_writer.specs.Law.{KeepsRwWriter}
 use Rattle.passes.specs.declared.part.Part.{Part}
 use Rattle.passes.specs.declared.part.Sights.{Sights}
 use Rattle.passes.specs.declared.view.View.{View}
 use Rattle.passes.specs.Parts.{IsWhole, Each}
 use Rattle.passes.specs.Sights.{seen, seen_instead}
 use Rattle.passes.specs.Views.{view_of, looked, missed, wrote, IsCounted}
+use Rattle.playing.specs.declared.played.Played.{Played}
+use Rattle.playing.specs.Passes.{none_played, both_played, PlaysAndCounts}
 use Rattle.tallies.specs.declared.held.Held.TheVariants.{Writing}
+use Rattle.tallies.specs.declared.rw_writer.RwWriterScript.{RwWriterScript}
 use Rattle.tallies.specs.declared.rw_writer.MarkedHolds.{MarkedHolds}
 use Rattle.tallies.specs.Held.{read_holds, write_holds, reader_in, reader_out}
 use Rattle.tallies.specs.HeldTally.{same_nothing}
 use Rattle.tallies.specs.RwReaderRule.{no_holds}
 use Rattle.tallies.specs.RwWriterRule.{marked, nothing_marked, both_marked, RwWriterAgrees}
 
--- whenever the rule holds, no pass has a hold where another has a write hold
+-- what a pass of a writer-preferring lock is in its model, and counts beside
+abbrev pub PlayedRwWriter : Type 0
+PlayedRwWriter = Played RwWriterScript RwWriterPlace MarkedHolds
+
+-- the rule of a lock holds
+abbrev pub IsRuled : State (Unit {0}) (View PlayedRwWriter) → Type 0
+IsRuled s = IsCounted (none_played nothing_marked) (both_played both_marked) (PlaysAndCounts rw_writer_table KeepsRwWriter (words.State ∷ words.Counter ∷ []) RwWriterAgrees) s
+
+-- whenever it does, no pass has a hold where another has a write hold
 abbrev pub NoHoldBesideTheWriter : Type 0
-NoHoldBesideTheWriter = (s : State (Unit {0}) (View MarkedHolds)) → IsCounted nothing_marked both_marked RwWriterAgrees s → (i j : ℕ) (v w : View MarkedHolds) → get_elem? s.views i ≡ some v → get_elem? s.views j ≡ some w
-    → write_holds v.tally.held ≡ 1 → 0 < read_holds w.tally.held + write_holds w.tally.held → i ≡ j
+NoHoldBesideTheWriter = (s : State (Unit {0}) (View PlayedRwWriter)) → IsRuled s → (i j : ℕ) (v w : View PlayedRwWriter) → get_elem? s.views i ≡ some v → get_elem? s.views j ≡ some w
+    → write_holds v.tally.counts.held ≡ 1 → 0 < read_holds w.tally.counts.held + write_holds w.tally.counts.held → i ≡ j
 
 -- the mark is set on the word: it is odd, and does not say that a writer is in
 pub record IsMarked (word : ℕ) : Type 0 where
@@ -28,7 +43,7 @@ pub record IsMarked (word : ℕ) : Type 0 where
 
 -- whenever the rule holds, and no pass has its flag up, the mark is not set
 abbrev pub NoMarkWithoutAFlag : Type 0
-NoMarkWithoutAFlag = (s : State (Unit {0}) (View MarkedHolds)) → IsCounted nothing_marked both_marked RwWriterAgrees s → Each (λ v. v.tally.flags ≡ 0) s.views → ¬ IsMarked (slice_index s.words 0)
+NoMarkWithoutAFlag = (s : State (Unit {0}) (View PlayedRwWriter)) → IsRuled s → Each (λ v. v.tally.counts.flags ≡ 0) s.views → ¬ IsMarked (slice_index s.words 0)
 
 -- the word where no other pass has counted anything, and no flag is up
 abbrev pub word_of : MarkedHolds → ℕ

@@ -5,6 +5,7 @@
 //! says which holds other passes have meanwhile, and nothing of what other threads do.
 #![tactic(auto)]
 
+mod begins;
 mod hold;
 mod reader_preference;
 mod writer_preference;

@@ -5,6 +5,7 @@ ghost use Rattle.playing.specs.Passes.{parties_of, counts_of as tally_of, counte
 ghost use Rattle.playing.specs.Stages.{count_of};
 ghost use Rattle.running_rwlock.specs.RwReaderSteps.{NoHoldBesideAWriteHold};
 
+use crate::begins::{ReadBegins, TryReadBegins, TryWriteBegins, UnlockBegins, WriteBegins};
 use crate::hold::{ReadHold, RwHold, WriteHold};
 use passes::{Deed, Origin, Pass, WaitResult};
 use playing::{Attempt, Entry, GoesOn, Stage, try_again};
@@ -82,56 +83,6 @@ impl Deed<(), Held<()>> for LeaveWriting {
     ghost use Rattle.running_rwlock.specs.RwReaderSteps.{WriterOut};
 
     ghost tells = { λ _ _ _ before _ after. WriterOut before after };
-}
-
-/// A `TryReadLock` begins.
-struct TryReadBegins;
-
-impl Entry for TryReadBegins {
-    ghost use Rattle.steps_events.specs.declared.event.Call.TheVariants as calls;
-    ghost use Rattle.playing.specs.Plays.{Beginning};
-
-    ghost coming = { Beginning calls.TryReadLock };
-}
-
-/// A `ReadLock` begins.
-struct ReadBegins;
-
-impl Entry for ReadBegins {
-    ghost use Rattle.steps_events.specs.declared.event.Call.TheVariants as calls;
-    ghost use Rattle.playing.specs.Plays.{Beginning};
-
-    ghost coming = { Beginning calls.ReadLock };
-}
-
-/// A `TryWriteLock` begins.
-struct TryWriteBegins;
-
-impl Entry for TryWriteBegins {
-    ghost use Rattle.steps_events.specs.declared.event.Call.TheVariants as calls;
-    ghost use Rattle.playing.specs.Plays.{Beginning};
-
-    ghost coming = { Beginning calls.TryWriteLock };
-}
-
-/// A `WriteLock` begins.
-struct WriteBegins;
-
-impl Entry for WriteBegins {
-    ghost use Rattle.steps_events.specs.declared.event.Call.TheVariants as calls;
-    ghost use Rattle.playing.specs.Plays.{Beginning};
-
-    ghost coming = { Beginning calls.WriteLock };
-}
-
-/// An `Unlock` begins, by the party that has the hold.
-struct UnlockBegins;
-
-impl Entry for UnlockBegins {
-    ghost use Rattle.steps_events.specs.declared.event.Call.TheVariants as calls;
-    ghost use Rattle.playing.specs.Plays.{Continuing};
-
-    ghost coming = { Continuing calls.Unlock };
 }
 
 impl<A: Allocator> RwLockReaderPreference<A> {

@@ -2,7 +2,7 @@
 //! plus a mark of 0 or 1, or 2^64 - 1 with a write hold; beside it stands a counter, which grows where a waiting writer may have to
 //! look again.
 ghost use Rattle.std.specs.Prelude.{◌≡◌};
-ghost use Rattle.passes.specs.Objects.{count_of};
+ghost use Rattle.playing.specs.Stages.{count_of};
 ghost use Rattle.running_rwlock.specs.RwWriterSteps.{NoHoldBesideTheWriter, NoMarkWithoutAFlag};
 
 mod deeds;
@@ -13,17 +13,19 @@ mod writing;
 
 use crate::hold::{ReadHold, RwHold, WriteHold};
 pub use pass::RwWriterPass;
-use passes::{WaitResult, Words};
+use passes::WaitResult;
+use playing::Stage;
 use std::alloc::{AllocError, Allocator, Global};
 use std::sync::Wait;
 use steps_events::WaitAction;
-use tallies::{MarkedHolds, WaitWord};
+use steps_rw_writer::RwWriterPlace;
+use tallies::{MarkedHolds, RwWriterScript, WaitWord};
 
 /// A lock of many readers or one writer. Where a writer waits it sets a mark, and no reader enters until the mark is taken away.
 #[derive(Drop)]
 pub struct RwLockWriterPreference<A: Allocator = Global> {
-    words: Words<(), MarkedHolds, A>,
-    ghost two_words: { count_of words ≡ 2 },
+    stage: Stage<(), RwWriterScript, RwWriterPlace, MarkedHolds, A>,
+    ghost two_words: { count_of stage ≡ 2 },
 }
 
 /// Which of the two words is the lock's, and which is the wake counter.
@@ -33,25 +35,30 @@ const COUNTER: usize = 1;
 
 impl<A: Allocator> RwLockWriterPreference<A> {
     ghost use Rattle.std.specs.Borrow.{sem};
-    ghost use Rattle.std.specs.Prelude.{◌^◌, ◌<◌, IfOk};
+    ghost use Rattle.std.specs.Prelude.{◌^◌, ◌<◌, IfOk, Some, None};
+    ghost use Rattle.steps_events.specs.declared.event.Call.TheVariants as calls;
+    ghost use Rattle.steps_events.specs.declared.event.Answer.TheVariants as answers;
+    ghost use Rattle.steps_events.specs.declared.hold.HoldKind.TheVariants as kinds;
     ghost use Rattle.passes.specs.Answers.{IfSuccess, IfInterrupted, IsSuccess, RestsIfInterrupted, MayAnswerAbort, HasAsked, HasWoken};
     ghost use Rattle.passes.specs.Parts.{IsWhole};
-    ghost use Rattle.passes.specs.Passes.{tally_of, WasRefused};
+    ghost use Rattle.playing.specs.Slots.{no_parties};
+    ghost use Rattle.playing.specs.Passes.{played, counts_of as tally_of};
+    ghost use Rattle.playing.specs.Counts.{WasRefused};
     ghost use Rattle.passes.specs.Views.{first_view};
     ghost use Rattle.running_rwlock.specs.contracts.writer_preference.pass.RwWriterPass.{the_row};
     ghost use Rattle.tallies.specs.RwWriterRule.{nothing_marked};
     ghost use Rattle.running_rwlock.specs.RwShown.{IsReadHold, IsWriteHold, pass_of, borrow_of};
     ghost use Rattle.running_rwlock.specs.RwWriterSteps.{IsMarked, word_of};
-    ghost use Rattle.running_rwlock.specs.RwWriterShown.{IsRwWriterPass, IsAlone, IsShut, pass_in, known_by, part_in, sights_in, HasEnteredToRead, HasEnteredToWrite, HasReadAtOnce, HasWrittenAtOnce, HasSeenTaken, HasGivenUpWriting, HasUnlocked, WasTurnedAway};
+    ghost use Rattle.running_rwlock.specs.RwWriterShown.{IsRwWriterPass, IsAlone, IsShut, pass_in, known_by, part_in, sights_in, HasEnteredToRead, HasEnteredToWrite, HasReadAtOnce, HasWrittenAtOnce, HasSeenTaken, HasGivenUpWriting, HasUnlocked, WasTurnedAway, HasPlayed, HasPlayedGivingUp, HasPlayedUnlock};
 
     /// A lock that is free, and the pass that is whole. `Err` where there was no memory; then nothing was made.
     #[tactic(auto, using(crate::proofs::RwWriterKeeps::opens))]
     pub fn new(alloc: A) -> Result<(RwLockWriterPreference<A>, RwWriterPass), AllocError>
         ensures own { IfOk result (λ made. IsRwWriterPass made.0 made.1) }
-        ensures first { IfOk result (λ made. known_by made.1 ≡ first_view nothing_marked) }
+        ensures first { IfOk result (λ made. known_by made.1 ≡ first_view (played no_parties nothing_marked)) }
     {
-        let (words, pass) = Words::new(alloc, &[0, 0], &())?;
-        Ok((RwLockWriterPreference { words }, RwWriterPass { pass }))
+        let (stage, pass) = Stage::new(alloc, &[0, 0], &())?;
+        Ok((RwLockWriterPreference { stage }, RwWriterPass { pass }))
     }
 
     /// Locks for reading: one look and, where a reader enters, one exchange. `Interrupted` where a writer is in or waits, or there is no
@@ -62,11 +69,12 @@ impl<A: Allocator> RwLockWriterPreference<A> {
         this: &Self,
     ) -> WaitResult<RwHold<'p, RwWriterPass>>
         requires own { IsRwWriterPass this.now pass.old }
-        ensures* refused { sem 𝓛 (RestsIfInterrupted the_row pass.entry borrow_of result (λ q. WasTurnedAway (pass_in pass.old) (pass_in q))) }
+        ensures* refused { sem 𝓛 (RestsIfInterrupted the_row pass.entry borrow_of result (λ q. WasTurnedAway (pass_in pass.old) (pass_in q) × HasPlayed calls.TryReadLock answers.Interrupted None (pass_in pass.old) (pass_in q))) }
         ensures same_borrow { IfSuccess result (λ hold. borrow_of hold ≡ pass.entry.ghost_name) }
         ensures kind { IfSuccess result IsReadHold }
         ensures granted { IfSuccess result (λ hold. HasEnteredToRead (pass_in pass.old) (pass_in (pass_of hold))) }
         ensures at_once { IfSuccess result (λ hold. HasReadAtOnce (pass_in pass.old) (pass_in (pass_of hold))) }
+        ensures played { IfSuccess result (λ hold. HasPlayed calls.TryReadLock answers.Success (Some kinds.Read) (pass_in pass.old) (pass_in (pass_of hold))) }
         ensures exact { IsAlone pass.old → IsSuccess result }
     {
         if this.try_to_read(&mut pass.pass) {
@@ -88,10 +96,11 @@ impl<A: Allocator> RwLockWriterPreference<A> {
     ) -> WaitResult<RwHold<'p, RwWriterPass>>
         requires own { IsRwWriterPass this.now pass.old }
         requires may { W.IsAlwaysCallable wait }
-        ensures* refused { sem 𝓛 (RestsIfInterrupted the_row pass.entry borrow_of result (λ q. WasRefused IsShut 10002 (pass_in pass.old) (pass_in q) × (IsWhole (part_in pass.old) → HasAsked W.Fn wait IsShut 10001 (pass_in pass.old) (pass_in q)))) }
+        ensures* refused { sem 𝓛 (RestsIfInterrupted the_row pass.entry borrow_of result (λ q. WasRefused IsShut 10002 (pass_in pass.old) (pass_in q) × (IsWhole (part_in pass.old) → HasAsked W.Fn wait IsShut 10001 (pass_in pass.old) (pass_in q)) × HasPlayed calls.ReadLock answers.Interrupted None (pass_in pass.old) (pass_in q))) }
         ensures same_borrow { IfSuccess result (λ hold. borrow_of hold ≡ pass.entry.ghost_name) }
         ensures kind { IfSuccess result IsReadHold }
         ensures granted { IfSuccess result (λ hold. HasEnteredToRead (pass_in pass.old) (pass_in (pass_of hold))) }
+        ensures played { IfSuccess result (λ hold. HasPlayed calls.ReadLock answers.Success (Some kinds.Read) (pass_in pass.old) (pass_in (pass_of hold))) }
         ensures exact { IsAlone pass.old → IsSuccess result }
         ensures aborted { IfInterrupted result (MayAnswerAbort W.Fn wait IsShut) }
     {
@@ -116,6 +125,7 @@ impl<A: Allocator> RwLockWriterPreference<A> {
         requires may_all { V.IsAlwaysCallable wake_all }
         ensures same_borrow { result.ghost_name ≡ borrow_of hold.entry }
         ensures released { HasUnlocked hold.entry result.now }
+        ensures played { HasPlayedUnlock hold.entry result.now }
         ensures woke_one { IsReadHold hold.entry → (sights_in result.now).last ≡ 3 → HasWoken W.Fn wake_one }
         ensures woke_both { IsWriteHold hold.entry → HasWoken W.Fn wake_one × HasWoken V.Fn wake_all }
     {
@@ -133,11 +143,12 @@ impl<A: Allocator> RwLockWriterPreference<A> {
         this: &Self,
     ) -> WaitResult<RwHold<'p, RwWriterPass>>
         requires own { IsRwWriterPass this.now pass.old }
-        ensures* refused { sem 𝓛 (RestsIfInterrupted the_row pass.entry borrow_of result (λ q. HasSeenTaken (pass_in pass.old) (pass_in q))) }
+        ensures* refused { sem 𝓛 (RestsIfInterrupted the_row pass.entry borrow_of result (λ q. HasSeenTaken (pass_in pass.old) (pass_in q) × HasPlayed calls.TryWriteLock answers.Interrupted None (pass_in pass.old) (pass_in q))) }
         ensures same_borrow { IfSuccess result (λ hold. borrow_of hold ≡ pass.entry.ghost_name) }
         ensures kind { IfSuccess result IsWriteHold }
         ensures granted { IfSuccess result (λ hold. HasEnteredToWrite (pass_in pass.old) (pass_in (pass_of hold))) }
         ensures at_once { IfSuccess result (λ hold. HasWrittenAtOnce (pass_in pass.old) (pass_in (pass_of hold))) }
+        ensures played { IfSuccess result (λ hold. HasPlayed calls.TryWriteLock answers.Success (Some kinds.Write) (pass_in pass.old) (pass_in (pass_of hold))) }
         ensures exact { IsAlone pass.old → IsSuccess result }
     {
         if this.try_to_write(&mut pass.pass) {
@@ -171,11 +182,12 @@ impl<A: Allocator> RwLockWriterPreference<A> {
         requires may { W.IsAlwaysCallable wait }
         requires may_one { K.IsAlwaysCallable wake_one }
         requires may_all { V.IsAlwaysCallable wake_all }
-        ensures* refused { sem 𝓛 (RestsIfInterrupted the_row pass.entry borrow_of result (λ q. HasGivenUpWriting 10003 (pass_in pass.old) (pass_in q) × (IsMarked (sights_in q).last → HasWoken K.Fn wake_one × HasWoken V.Fn wake_all))) }
+        ensures* refused { sem 𝓛 (RestsIfInterrupted the_row pass.entry borrow_of result (λ q. HasGivenUpWriting 10003 (pass_in pass.old) (pass_in q) × (IsMarked (sights_in q).last → HasWoken K.Fn wake_one × HasWoken V.Fn wake_all) × HasPlayedGivingUp (pass_in pass.old) (pass_in q))) }
         ensures same_borrow { IfSuccess result (λ hold. borrow_of hold ≡ pass.entry.ghost_name) }
         ensures kind { IfSuccess result IsWriteHold }
         ensures granted { IfSuccess result (λ hold. HasEnteredToWrite (pass_in pass.old) (pass_in (pass_of hold))) }
         ensures free { IfSuccess result (λ hold. (sights_in (pass_of hold)).last < 2) }
+        ensures played { IfSuccess result (λ hold. HasPlayed calls.WriteLock answers.Success (Some kinds.Write) (pass_in pass.old) (pass_in (pass_of hold))) }
         ensures exact { IsAlone pass.old → IsSuccess result }
         ensures aborted { IfInterrupted result (MayAnswerAbort W.Fn wait (λ n. n < 2 ^ 64)) }
     {
@@ -193,9 +205,9 @@ impl<A: Allocator> RwLockWriterPreference<A> {
         ensures exact { IsWhole (part_in pass) → result ≡ word_of (tally_of (pass_in pass)) }
         ensures free { IsAlone pass → result ≡ 0 }
     {
-        let RwLockWriterPreference { words } = self;
+        let RwLockWriterPreference { stage } = self;
         let RwWriterPass { pass } = pass;
-        words.close(pass, LOCK)
+        stage.close(pass, LOCK)
     }
 }
 

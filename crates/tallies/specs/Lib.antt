@@ -14,4 +14,5 @@ pub mod MutexScript
 pub mod SemaphoreScript
 pub mod BarrierScript
 pub mod RwReaderScript
+pub mod RwWriterScript
 pub mod Shown

@@ -14,6 +14,6 @@ pub use barrier::{Arrivals, BarrierScript, PlayedBarrier, Rounds};
 pub use held::{Held, Known};
 pub use mutex::{Holds, MutexScript, PlayedMutex};
 pub use rw_reader::{PlayedRwReader, RwReaderScript};
-pub use rw_writer::MarkedHolds;
+pub use rw_writer::{MarkedHolds, PlayedRwWriter, RwWriterScript};
 pub use semaphore::{Permits, PlayedSemaphore, SemaphoreScript};
 pub use wait_word::WaitWord;

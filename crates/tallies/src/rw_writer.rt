@@ -1,7 +1,36 @@
-//! What a pass of a writer-preferring lock counts.
+//! The model that a writer-preferring lock plays, and what its pass counts beside.
 
-use crate::Held;
+use crate::held::Held;
 use passes::{Rule, Tally};
+use playing::{Played, Script};
+use steps_rw_writer::RwWriterPlace;
+
+/// The model that a writer-preferring lock plays: its words are the lock's and the wake counter.
+pub struct RwWriterScript;
+
+impl Script<(), RwWriterPlace> for RwWriterScript {
+    ghost use Rattle.std.specs.Prelude.{[], ◌∷◌};
+    ghost use Rattle.std.proofs.Common.{refl};
+    ghost use Rattle.steps_events.specs.declared.event.Word.TheVariants as words;
+    ghost use Rattle.steps_rw_writer.specs.Table.{rw_writer_table};
+    ghost use Rattle.steps_rw_writer.specs.Law.{KeepsRwWriter};
+    ghost use Rattle.tallies.specs.RwWriterScript.{rw_writer_lawful, rw_writer_handed};
+
+    ghost table = { λ _. rw_writer_table };
+
+    ghost law = { λ _. KeepsRwWriter };
+
+    ghost lawful = { λ _. rw_writer_lawful };
+
+    ghost names = { words.State ∷ words.Counter ∷ [] };
+
+    ghost apart = { ((refl, refl, tt), (tt, tt)) };
+
+    ghost handed = { rw_writer_handed };
+}
+
+/// What a pass of a writer-preferring lock is in its model, and counts beside.
+pub type PlayedRwWriter = Played<RwWriterScript, RwWriterPlace, MarkedHolds>;
 
 /// What a pass of a writer-preferring lock counts. No value of it is made, and its numbers have no limit.
 pub struct MarkedHolds {

@@ -1,7 +1,7 @@
 //! The word that wait and wake closures see.
 ghost use Rattle.std.specs.Prelude.{◌≡◌};
 
-use crate::{MarkedHolds, PlayedBarrier, PlayedMutex, PlayedRwReader, PlayedSemaphore};
+use crate::{PlayedBarrier, PlayedMutex, PlayedRwReader, PlayedRwWriter, PlayedSemaphore};
 use passes::Word;
 use playing::Shown;
 
@@ -16,7 +16,7 @@ pub struct WaitWord<'t> {
 enum AnyWord<'t> {
     Mutex(Word<'t, (), PlayedMutex>),
     ReaderLock(Word<'t, (), PlayedRwReader>),
-    WriterLock(Word<'t, (), MarkedHolds>),
+    WriterLock(Word<'t, (), PlayedRwWriter>),
     Semaphore(Word<'t, u64, PlayedSemaphore>),
     Barrier(Word<'t, u32, PlayedBarrier>),
 }
@@ -73,9 +73,14 @@ impl<'t> From<Word<'t, (), PlayedRwReader>> for WaitWord<'t> {
 }
 
 /// Either word of a writer-preferring lock: its own, or its wake counter.
-impl<'t> From<Word<'t, (), MarkedHolds>> for WaitWord<'t> {
+impl<'t> From<Word<'t, (), PlayedRwWriter>> for WaitWord<'t> {
+    ghost use Rattle.tallies.specs.Shown.{object_shown, index_shown};
+
     #[inline(always)]
-    fn from(word: Word<'t, (), MarkedHolds>) -> WaitWord<'t> {
+    fn from(word: Word<'t, (), PlayedRwWriter>) -> WaitWord<'t>
+        ensures object { object_shown result ≡ word.entry.shared.now.table_id }
+        ensures index { index_shown result ≡ word.entry.index }
+    {
         WaitWord {
             word: AnyWord::WriterLock(word),
         }

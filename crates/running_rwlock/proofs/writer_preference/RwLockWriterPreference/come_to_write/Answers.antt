@@ -1,5 +1,8 @@
 use Rattle.running_rwlock.proofs.RwWriterKeeps.{writers_in}
 use Rattle.running_rwlock.proofs.writer_preference.RwLockWriterPreference.come_to_write.Goals as goal
 
-pub compare_exchange-requires-clause-update : goal.compare_exchange-requires-clause-update
-compare_exchange-requires-clause-update g c = writers_in _ _ _ c.requires.free c.write_locked.ensures
+pub exchange-requires-clause-may : goal.exchange-requires-clause-may
+exchange-requires-clause-may g c = c.requires.may _ c.write_locked.ensures
+
+pub exchange-requires-clause-update : goal.exchange-requires-clause-update
+exchange-requires-clause-update g c = writers_in _ _ _ c.requires.free c.write_locked.ensures

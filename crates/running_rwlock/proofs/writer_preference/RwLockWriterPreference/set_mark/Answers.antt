@@ -1,5 +1,15 @@
 use Rattle.running_rwlock.proofs.RwWriterKeeps.{marks_set}
+use Rattle.running_rwlock.proofs.RwWriterPlays.{may_mark, marked, mark_missed}
 use Rattle.running_rwlock.proofs.writer_preference.RwLockWriterPreference.set_mark.Goals as goal
 
-pub compare_exchange-found-requires-clause-update : goal.compare_exchange-found-requires-clause-update
-compare_exchange-found-requires-clause-update g c = marks_set _ _ _ c.requires.even c.requires.other c.requires.marked
+pub exchange-found-requires-clause-may : goal.exchange-found-requires-clause-may
+exchange-found-requires-clause-may g c = may_mark c.requires.at.0 _ _ c.requires.at.1 _ c.requires.even c.requires.other c.requires.marked c.requires.at.2
+
+pub exchange-found-requires-clause-update : goal.exchange-found-requires-clause-update
+exchange-found-requires-clause-update g c = marks_set _ _ _ c.requires.even c.requires.other c.requires.marked
+
+pub returns-then-found-seen-clause-spins : goal.returns-then-found-seen-clause-spins
+returns-then-found-seen-clause-spins g c = λ patience done at. marked patience _ _ done _ _ c.requires.even c.requires.other c.if-found-seen.true at c.exchange-found.ensures.went
+
+pub returns-else-found-seen-clause-looks : goal.returns-else-found-seen-clause-looks
+returns-else-found-seen-clause-looks g c = λ patience done at. mark_missed patience _ _ done _ _ c.requires.even c.requires.other c.if-found-seen.false at c.exchange-found.ensures.went

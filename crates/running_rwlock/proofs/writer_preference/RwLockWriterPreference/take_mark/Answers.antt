@@ -1,5 +1,15 @@
 use Rattle.running_rwlock.proofs.RwWriterKeeps.{marks_taken}
+use Rattle.running_rwlock.proofs.RwWriterPlays.{may_unmark, unmarked, unmark_missed}
 use Rattle.running_rwlock.proofs.writer_preference.RwLockWriterPreference.take_mark.Goals as goal
 
-pub compare_exchange-found-requires-clause-update : goal.compare_exchange-found-requires-clause-update
-compare_exchange-found-requires-clause-update g c = marks_taken _ _ _ c.requires.set c.requires.unmarked
+pub exchange-found-requires-clause-may : goal.exchange-found-requires-clause-may
+exchange-found-requires-clause-may g c = may_unmark _ _ c.requires.at.0 _ c.requires.set c.requires.unmarked c.requires.at.1
+
+pub exchange-found-requires-clause-update : goal.exchange-found-requires-clause-update
+exchange-found-requires-clause-update g c = marks_taken _ _ _ c.requires.set c.requires.unmarked
+
+pub returns-then-found-seen-clause-counts : goal.returns-then-found-seen-clause-counts
+returns-then-found-seen-clause-counts g c = unmarked _ _ _ _ c.requires.set c.if-found-seen.true c.exchange-found.ensures.went
+
+pub returns-else-found-seen-clause-looks : goal.returns-else-found-seen-clause-looks
+returns-else-found-seen-clause-looks g c = unmark_missed _ _ _ _ c.requires.set c.if-found-seen.false c.exchange-found.ensures.went

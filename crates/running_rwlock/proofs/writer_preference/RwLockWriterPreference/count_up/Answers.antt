@@ -1,0 +1,12 @@
+use Rattle.running_rwlock.proofs.RwWriterKeeps.{counts_add}
+use Rattle.running_rwlock.proofs.RwWriterPlays.{may_count, counted}
+use Rattle.running_rwlock.proofs.writer_preference.RwLockWriterPreference.count_up.Goals as goal
+
+pub add-requires-clause-may : goal.add-requires-clause-may
+add-requires-clause-may g c = may_count c.requires.at.0 _ c.requires.at.1
+
+pub add-requires-clause-update : goal.add-requires-clause-update
+add-requires-clause-update g c = counts_add _
+
+pub returns-clause-counted : goal.returns-clause-counted
+returns-clause-counted g c = counted _ _ _ c.add.ensures.went

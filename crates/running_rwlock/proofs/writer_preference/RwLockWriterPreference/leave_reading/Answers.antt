@@ -1,0 +1,12 @@
+use Rattle.running_rwlock.proofs.RwWriterKeeps.{readers_out}
+use Rattle.running_rwlock.proofs.RwWriterPlays.{may_leave_reading, leaves_reading}
+use Rattle.running_rwlock.proofs.writer_preference.RwLockWriterPreference.leave_reading.Goals as goal
+
+pub subtract-requires-clause-may : goal.subtract-requires-clause-may
+subtract-requires-clause-may g c = may_leave_reading _ c.requires.has
+
+pub subtract-requires-clause-update : goal.subtract-requires-clause-update
+subtract-requires-clause-update g c = readers_out _ c.requires.on
+
+pub returns-clause-played : goal.returns-clause-played
+returns-clause-played g c = leaves_reading _ _ _ c.subtract.ensures.went

@@ -1,0 +1,12 @@
+use Rattle.running_rwlock.proofs.RwWriterKeeps.{counts_load}
+use Rattle.running_rwlock.proofs.RwWriterPlays.{may_load_count, counter_loaded}
+use Rattle.running_rwlock.proofs.writer_preference.RwLockWriterPreference.load_count.Goals as goal
+
+pub load-requires-clause-may : goal.load-requires-clause-may
+load-requires-clause-may g c = may_load_count c.requires.at.0 c.requires.at.1 _ c.requires.at.2
+
+pub load-requires-clause-update : goal.load-requires-clause-update
+load-requires-clause-update g c = counts_load _
+
+pub returns-clause-loaded : goal.returns-clause-loaded
+returns-clause-loaded g c = counter_loaded _ _ _ c.load.ensures.went

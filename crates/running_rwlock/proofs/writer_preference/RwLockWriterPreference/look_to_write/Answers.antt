@@ -1,0 +1,12 @@
+use Rattle.running_rwlock.proofs.RwWriterKeeps.{loads_to_write}
+use Rattle.running_rwlock.proofs.RwWriterPlays.{may_look_to_write, looked_to_write}
+use Rattle.running_rwlock.proofs.writer_preference.RwLockWriterPreference.look_to_write.Goals as goal
+
+pub load-requires-clause-may : goal.load-requires-clause-may
+load-requires-clause-may g c = let w = c.requires.comes in may_look_to_write _ w.0 w.1 _ w.2
+
+pub load-requires-clause-update : goal.load-requires-clause-update
+load-requires-clause-update g c = loads_to_write _
+
+pub returns-clause-looked : goal.returns-clause-looked
+returns-clause-looked g c = looked_to_write _ _ _ _ c.load.ensures.went

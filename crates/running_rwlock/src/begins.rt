@@ -1,0 +1,53 @@
+//! How the calls of a reader-writer lock begin.
+
+use playing::Entry;
+
+/// A `TryReadLock` begins.
+pub(crate) struct TryReadBegins;
+
+impl Entry for TryReadBegins {
+    ghost use Rattle.steps_events.specs.declared.event.Call.TheVariants as calls;
+    ghost use Rattle.playing.specs.Plays.{Beginning};
+
+    ghost coming = { Beginning calls.TryReadLock };
+}
+
+/// A `ReadLock` begins.
+pub(crate) struct ReadBegins;
+
+impl Entry for ReadBegins {
+    ghost use Rattle.steps_events.specs.declared.event.Call.TheVariants as calls;
+    ghost use Rattle.playing.specs.Plays.{Beginning};
+
+    ghost coming = { Beginning calls.ReadLock };
+}
+
+/// A `TryWriteLock` begins.
+pub(crate) struct TryWriteBegins;
+
+impl Entry for TryWriteBegins {
+    ghost use Rattle.steps_events.specs.declared.event.Call.TheVariants as calls;
+    ghost use Rattle.playing.specs.Plays.{Beginning};
+
+    ghost coming = { Beginning calls.TryWriteLock };
+}
+
+/// A `WriteLock` begins.
+pub(crate) struct WriteBegins;
+
+impl Entry for WriteBegins {
+    ghost use Rattle.steps_events.specs.declared.event.Call.TheVariants as calls;
+    ghost use Rattle.playing.specs.Plays.{Beginning};
+
+    ghost coming = { Beginning calls.WriteLock };
+}
+
+/// An `Unlock` begins, by the party that has the hold.
+pub(crate) struct UnlockBegins;
+
+impl Entry for UnlockBegins {
+    ghost use Rattle.steps_events.specs.declared.event.Call.TheVariants as calls;
+    ghost use Rattle.playing.specs.Plays.{Continuing};
+
+    ghost coming = { Continuing calls.Unlock };
+}
