@@ -1,5 +1,5 @@
 -- The steps of a writer-preferring lock are those of its table.
-use Rattle.std.proofs.Common.{◌≡◌, ◌≢◌, ℕ, ◌+◌, ◌-◌, ◌%◌, ◌^◌, ◌<◌, ◌≤◌, ◌==◌, ◌&&◌, not, Bool, true, false, cond, refl, sym, ap, subst, ◌∙◌, List, [], ◌∷◌, Option, Some, None, ◌⊎◌, inl, inr, arith}
+use Rattle.std.proofs.Common.{◌≡◌, ◌≢◌, ℕ, ◌+◌, ◌-◌, ◌%◌, ◌^◌, ◌<◌, ◌≤◌, ◌==◌, ◌&&◌, not, Bool, true, false, cond, refl, sym, ap, subst, ◌∙◌, List, [], ◌∷◌, Option, Some, None, inl, inr, arith}
 use Rattle.std.specs.Prelude.{nat_lt, MatchBool}
 use mathlib.Core.Logic.{dite}
 use native.Mathlib.Decide.{ℕ_discrete}
@@ -13,7 +13,6 @@ use Rattle.steps_events.specs.declared.event.Call.{Call}
 use Rattle.steps_events.specs.declared.event.Call.TheVariants as calls
 use Rattle.steps_events.specs.declared.event.Answer.{Answer}
 use Rattle.steps_events.specs.declared.event.Answer.TheVariants as answers
-use Rattle.steps_events.specs.declared.event.Then.TheVariants as thens
 use Rattle.steps_events.specs.declared.hold.HoldKind.{HoldKind}
 use Rattle.steps_events.specs.declared.hold.HoldKind.TheVariants as kinds
 use Rattle.steps_events.specs.declared.patience.Patience.{Patience}
@@ -29,7 +28,7 @@ use Rattle.steps_rw_writer.specs.declared.RwWriterPlace.{RwWriterPlace}
 use Rattle.steps_rw_writer.specs.declared.RwWriterPlace.TheVariants as places
 use Rattle.steps_rw_writer.specs.Table.{rw_writer_intent, rw_writer_grant, rw_writer_table, is_odd, lets_readers_in, lets_writer_in, lets_mark, is_marked, is_blocked, try_read_look, read_look, spins, marks_or_spins, unmarks_or_leaves, write_refused, write_look, last_look, released}
 use Rattle.steps_rw_writer.specs.Law.{KeepsRwWriter}
-use Rattle.steps_rw_writer.proofs.WordLaws.{no_mark, is_marking}
+use Rattle.steps_rw_writer.proofs.WordLaws.{is_marking}
 use Rattle.playing.specs.Slots.{Slot, Parties, all_of}
 use Rattle.playing.specs.Words.{IsNamed, IsStepOn}
 use Rattle.playing.specs.Plays.{Coming, Going, Beginning, Continuing, Answered, ComesBy, IsHolding, Led, HasCalled, HasEnded}
@@ -38,7 +37,7 @@ use Rattle.playing.proofs.Holding.{holding_told, holding_is}
 use Rattle.tallies.specs.RwWriterScript.{rw_writer_handed}
 use Rattle.running_rwlock.specs.RwWriterSteps.{IsMarked}
 use Rattle.running_rwlock.specs.RwWriterShown.{IsShut}
-use Rattle.running_rwlock.specs.RwWriterParties.{has_hold, TableHas, TableLed, CallGoes, WriteGoes, GoesFromTo, SomeCallGoes, ComesToWrite, given_up, ComesToGiveUp, WriteIsGranted, WriteGivesUp, OnceWriting, WakesBoth, IsToWakeBoth, Unlocks, unlocked}
+use Rattle.running_rwlock.specs.RwWriterParties.{has_hold, TableHas, TableLed, CallGoes, WriteGoes, GoesFromTo, SomeCallGoes, ComesToWrite, ComesToGiveUp, WriteIsGranted, IsToWakeBoth, Unlocks, unlocked}
 
 abbrev Comes : Coming → Call ℕ → RwWriterPlace → List Slot → Parties → Type 0
 Comes way call place done p = ComesBy rw_writer_table KeepsRwWriter way call place None done p

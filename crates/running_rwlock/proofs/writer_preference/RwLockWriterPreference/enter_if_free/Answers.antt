@@ -1,6 +1,6 @@
 use Rattle.std.proofs.Common.{rules}
 use Rattle.running_rwlock.proofs.RwWriterKeeps.{missed_it}
-use Rattle.running_rwlock.proofs.RwWriterPlays.{comes_to_enter, not_free, may_enter, entered, enter_missed}
+use Rattle.running_rwlock.proofs.RwWriterPlays.{comes_to_enter, may_enter, entered, enter_missed}
 use Rattle.running_rwlock.proofs.writer_preference.RwLockWriterPreference.enter_if_free.Goals as goal
 
 pub come_to_write-found-requires-clause-may : goal.come_to_write-found-requires-clause-may

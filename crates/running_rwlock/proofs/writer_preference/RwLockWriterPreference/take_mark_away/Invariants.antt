@@ -1,4 +1,3 @@
-use Rattle.std.proofs.Common.{◌≡◌}
 use Rattle.steps_rw_writer.specs.Table.{unmarks_or_leaves}
 use Rattle.playing.specs.Passes.{parties_of}
 use Rattle.running_rwlock.specs.RwWriterParties.{OnceWriting, WriteGoes}
