@@ -12,7 +12,7 @@ use std::alloc::Global;
 use std::sync::Wait;
 use std::sync::atomic::{AtomicU64, Ordering};
 use std::test::Fail;
-use std::thread;
+use std::{mem, thread};
 use steps_events::WaitAction;
 
 /// A bounded buffer of numbers. Who puts waits for room, and who takes waits for a number, each at a condition variable of its own.
@@ -199,5 +199,94 @@ fn a_call_that_cannot_act_gives_up(rt: HostRuntime) -> Result<(), Fail> {
         wait_for_nothing(&rt, &guarded, &mut pass, &changed, &mut changed_pass),
         Some((1, 2))
     );
+    Ok(())
+}
+
+/// Waits until the number is this, and answers it.
+fn wait_for<R: Wait>(
+    rt: &R,
+    guarded: &Guarded<u64>,
+    mut pass: GuardedPass,
+    changed: &ConditionVariable,
+    mut changed_pass: CondPass,
+    wanted: u64,
+) -> u64
+    requires own { IsGuardedPass guarded.now pass × IsCondPass changed.now changed_pass }
+{
+    let looked = guarded.when(
+        rt,
+        &mut pass,
+        |_| (),
+        changed,
+        &mut changed_pass,
+        |_, _| go_on(),
+        |number| (*number == wanted).then_some(wanted),
+    );
+    match looked {
+        WaitResult::Success(seen) => seen,
+        WaitResult::Interrupted => unreachable!(),
+    }
+}
+
+/// Changes the number twice: what it was before the second, and how often the closure that wakes all was called.
+fn change_twice<R: Wait>(
+    rt: &R,
+    guarded: &Guarded<u64>,
+    mut pass: GuardedPass,
+    changed: &ConditionVariable,
+    mut changed_pass: CondPass,
+) -> (u64, u64)
+    requires own { IsGuardedPass guarded.now pass × IsCondPass changed.now changed_pass }
+{
+    let woken = AtomicU64::new(0);
+    let mut old = 0;
+    for number in 1..3u64 {
+        old = guarded.change(
+            rt,
+            &mut pass,
+            |_| (),
+            changed,
+            &mut changed_pass,
+            |_| {
+                woken.fetch_add(1, Ordering::SeqCst);
+            },
+            |value| mem::replace(value, number),
+        );
+    }
+    (old, woken.load(Ordering::SeqCst))
+}
+
+/// Two threads wait for the second of two changes, each in a turn of its own; one notify of all lets both go on.
+#[test]
+fn a_change_is_seen_by_all_that_wait(rt: HostRuntime) -> Result<(), Fail> {
+    let (changed, changed_pass) = ConditionVariable::new(rt.alloc())?;
+    let Ok((guarded, pass)) = Guarded::new(rt.alloc(), 0u64) else {
+        return Err("no memory")?;
+    };
+    let Ok((one, rest)) = pass.split(&guarded) else {
+        unreachable!()
+    };
+    let Ok((two, three)) = rest.split(&guarded) else {
+        unreachable!()
+    };
+    let Ok((one_changed, rest_changed)) = changed_pass.split(&changed) else {
+        unreachable!()
+    };
+    let Ok((two_changed, three_changed)) = rest_changed.split(&changed) else {
+        unreachable!()
+    };
+    let ((seen_by_one, seen_by_two), (old, woken)) = thread::join(
+        &rt,
+        || {
+            thread::join(
+                &rt,
+                || wait_for(&rt, &guarded, one, &changed, one_changed, 2),
+                || wait_for(&rt, &guarded, two, &changed, two_changed, 2),
+            )
+        },
+        || change_twice(&rt, &guarded, three, &changed, three_changed),
+    );
+    assert_eq!(rt; (seen_by_one, seen_by_two), (2, 2));
+    assert_eq!(rt; (old, woken), (1, 2));
     Ok(())
 }
