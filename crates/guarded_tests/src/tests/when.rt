@@ -12,6 +12,7 @@ use std::alloc::Global;
 use std::sync::Wait;
 use std::sync::atomic::{AtomicU64, Ordering};
 use std::test::Fail;
+use std::thread::Threads;
 use std::{mem, thread};
 use steps_events::WaitAction;
 
@@ -228,65 +229,106 @@ fn wait_for<R: Wait>(
     }
 }
 
-/// Changes the number twice: what it was before the second, and how often the closure that wakes all was called.
+/// Changes the number to this, and answers what it was.
+fn change_to<R: Wait>(
+    rt: &R,
+    guarded: &Guarded<u64>,
+    pass: &mut GuardedPass,
+    changed: &ConditionVariable,
+    changed_pass: &mut CondPass,
+    woken: &AtomicU64,
+    number: u64,
+) -> u64
+    requires own { IsGuardedPass guarded.now pass.old × IsCondPass changed.now changed_pass.old }
+    ensures own { IsGuardedPass guarded.now pass.new × IsCondPass changed.now changed_pass.new }
+{
+    guarded.change(
+        rt,
+        pass,
+        |_| (),
+        changed,
+        changed_pass,
+        |_| {
+            woken.fetch_add(1, Ordering::SeqCst);
+        },
+        |value| mem::replace(value, number),
+    )
+}
+
+/// Changes the number to 1 and then to 2: what it was before each, and how often the closure that wakes all was called.
 fn change_twice<R: Wait>(
     rt: &R,
     guarded: &Guarded<u64>,
     mut pass: GuardedPass,
     changed: &ConditionVariable,
     mut changed_pass: CondPass,
-) -> (u64, u64)
+) -> (u64, u64, u64)
     requires own { IsGuardedPass guarded.now pass × IsCondPass changed.now changed_pass }
 {
     let woken = AtomicU64::new(0);
-    let mut old = 0;
-    for number in 1..3u64 {
-        old = guarded.change(
-            rt,
-            &mut pass,
-            |_| (),
-            changed,
-            &mut changed_pass,
-            |_| {
-                woken.fetch_add(1, Ordering::SeqCst);
-            },
-            |value| mem::replace(value, number),
-        );
-    }
-    (old, woken.load(Ordering::SeqCst))
+    let first = change_to(
+        rt,
+        guarded,
+        &mut pass,
+        changed,
+        &mut changed_pass,
+        &woken,
+        1,
+    );
+    let second = change_to(
+        rt,
+        guarded,
+        &mut pass,
+        changed,
+        &mut changed_pass,
+        &woken,
+        2,
+    );
+    (first, second, woken.load(Ordering::SeqCst))
 }
 
-/// Two threads wait for the second of two changes, each in a turn of its own; one notify of all lets both go on.
+/// Two threads wait for 2, with parts of these passes.
+fn wait_by_two<R: Threads + Wait + Sync>(
+    rt: &R,
+    guarded: &Guarded<u64>,
+    pass: GuardedPass,
+    changed: &ConditionVariable,
+    changed_pass: CondPass,
+) -> (u64, u64)
+    requires own { IsGuardedPass guarded.now pass × IsCondPass changed.now changed_pass }
+{
+    let Ok((one, two)) = pass.split(guarded) else {
+        unreachable!()
+    };
+    let Ok((one_changed, two_changed)) = changed_pass.split(changed) else {
+        unreachable!()
+    };
+    thread::join(
+        rt,
+        || wait_for(rt, guarded, one, changed, one_changed, 2),
+        || wait_for(rt, guarded, two, changed, two_changed, 2),
+    )
+}
+
+/// Two threads wait for the second of two changes. Each may be woken by the first, and take the permit that was for the other.
 #[test]
 fn a_change_is_seen_by_all_that_wait(rt: HostRuntime) -> Result<(), Fail> {
     let (changed, changed_pass) = ConditionVariable::new(rt.alloc())?;
     let Ok((guarded, pass)) = Guarded::new(rt.alloc(), 0u64) else {
         return Err("no memory")?;
     };
-    let Ok((one, rest)) = pass.split(&guarded) else {
+    let Ok((one, two)) = pass.split(&guarded) else {
         unreachable!()
     };
-    let Ok((two, three)) = rest.split(&guarded) else {
+    let Ok((one_changed, two_changed)) = changed_pass.split(&changed) else {
         unreachable!()
     };
-    let Ok((one_changed, rest_changed)) = changed_pass.split(&changed) else {
-        unreachable!()
-    };
-    let Ok((two_changed, three_changed)) = rest_changed.split(&changed) else {
-        unreachable!()
-    };
-    let ((seen_by_one, seen_by_two), (old, woken)) = thread::join(
+    let (seen, told) = thread::join(
         &rt,
-        || {
-            thread::join(
-                &rt,
-                || wait_for(&rt, &guarded, one, &changed, one_changed, 2),
-                || wait_for(&rt, &guarded, two, &changed, two_changed, 2),
-            )
-        },
-        || change_twice(&rt, &guarded, three, &changed, three_changed),
+        || wait_by_two(&rt, &guarded, one, &changed, one_changed),
+        || change_twice(&rt, &guarded, two, &changed, two_changed),
     );
-    assert_eq!(rt; (seen_by_one, seen_by_two), (2, 2));
-    assert_eq!(rt; (old, woken), (1, 2));
+    assert_eq!(rt; seen, (2, 2));
+    assert_eq!(rt; told, (0, 1, 2));
     Ok(())
 }
