@@ -505,7 +505,7 @@ impl<T, A: Allocator + Clone> Guarded<T, A> {
 
 /// The answer of a wait that always goes on. It yields first, so that whoever has the value can run, also where there are more threads
 /// than processors.
-fn go_on() -> WaitAction
+pub(crate) fn go_on() -> WaitAction
     ensures { result ≡ actions.Continue }
 {
     thread::yield_now();

@@ -1,15 +1,15 @@
-//! A call that waits until it can act on the value.
+//! A call that waits until it can act on the value, and one that changes it for those that wait.
 ghost use Rattle.std.specs.Prelude.{◌≡◌, ◌<◌, IfSome, true, false, None};
-ghost use Rattle.passes.specs.Answers.{IfSuccess, IfInterrupted, MayAnswerAbort};
+ghost use Rattle.passes.specs.Answers.{IfSuccess, IfInterrupted, MayAnswerAbort, HasWoken};
 ghost use Rattle.running_semaphore.specs.SemaphoreShown.{IsEmpty};
 ghost use Rattle.running_mutex.specs.MutexParties.{HasMutex};
-ghost use Rattle.running_mutex.specs.CondShown.{IsCondPass, HasStayed as HasWaitedAtMost};
+ghost use Rattle.running_mutex.specs.CondShown.{IsCondPass, HasNotified, HasStayed as HasWaitedAtMost};
 ghost use Rattle.running_spin_lock.specs.SpinSteps.{has_vacant_slot};
-ghost use Rattle.running_guarded.specs.GuardedSteps.{Lets};
-ghost use Rattle.running_guarded.specs.GuardedShown.{IsGuardedPass, HasStayed, object_of, number_of, view, id_of};
+ghost use Rattle.running_guarded.specs.GuardedSteps.{Acts, Lets, PlaysBoth};
+ghost use Rattle.running_guarded.specs.GuardedShown.{IsGuardedPass, HasStayed, HasLockedOnce, object_of, number_of, view, id_of};
 ghost use Rattle.running_guarded.specs.Acting.{ActsOn, IfActed, IfGaveUp};
 
-use crate::guarded::Guarded;
+use crate::guarded::{Guarded, go_on};
 use crate::pass::GuardedPass;
 use crate::word::GuardedWord;
 use atomic_table::Seat;
@@ -75,6 +75,45 @@ impl<T: Drop, A: Allocator> Guarded<T, A> {
             }
         }
         unreachable!()
+    }
+
+    /// Calls `act` with the value, and then notifies all that wait at the condition variable, so that each looks again.
+    ///
+    /// The lock is waited for by yielding, without end. `wake_one` is called at the unlock, and `wake_all` once after the notify, also where
+    /// nobody waits.
+    pub fn change<
+        X,
+        B: Allocator,
+        R: Wait,
+        K: Fn(&GuardedWord<'_, T>),
+        N: Fn(&WaitWord),
+        F: FnOnce(&mut T) -> X,
+    >(
+        &self,
+        rt: &R,
+        pass: &mut GuardedPass,
+        wake_one: K,
+        changed: &ConditionVariable<B>,
+        changed_pass: &mut CondPass,
+        wake_all: N,
+        act: F,
+    ) -> X
+        requires own { IsGuardedPass self.now pass.old × IsCondPass changed.now changed_pass.old }
+        requires may { K.IsAlwaysCallable wake_one × N.IsAlwaysCallable wake_all × F.IsAlwaysCallable act }
+        ensures stayed { HasStayed pass.old pass.new }
+        ensures granted { HasLockedOnce pass.old pass.new }
+        ensures played { PlaysBoth (view pass.old) (view pass.new) }
+        ensures acted { Acts F.FnOnce act result }
+        ensures notified { HasNotified (λ waiting. waiting) changed_pass.old changed_pass.new }
+        ensures woke { HasWoken K.Fn wake_one × HasWoken N.Fn wake_all }
+    {
+        match self.with(rt, pass, |_, _| go_on(), wake_one, act) {
+            WaitResult::Success(given) => {
+                changed.notify_all(changed_pass, wake_all);
+                given
+            }
+            WaitResult::Interrupted => unreachable!(),
+        }
     }
 
     /// Calls `act` once, and waits once where it does not act.

@@ -12,7 +12,8 @@ use std::alloc::Global;
 use std::sync::Wait;
 use std::sync::atomic::{AtomicU64, Ordering};
 use std::test::Fail;
-use std::thread;
+use std::thread::Threads;
+use std::{mem, thread};
 use steps_events::WaitAction;
 
 /// A bounded buffer of numbers. Who puts waits for room, and who takes waits for a number, each at a condition variable of its own.
@@ -199,5 +200,135 @@ fn a_call_that_cannot_act_gives_up(rt: HostRuntime) -> Result<(), Fail> {
         wait_for_nothing(&rt, &guarded, &mut pass, &changed, &mut changed_pass),
         Some((1, 2))
     );
+    Ok(())
+}
+
+/// Waits until the number is this, and answers it.
+fn wait_for<R: Wait>(
+    rt: &R,
+    guarded: &Guarded<u64>,
+    mut pass: GuardedPass,
+    changed: &ConditionVariable,
+    mut changed_pass: CondPass,
+    wanted: u64,
+) -> u64
+    requires own { IsGuardedPass guarded.now pass × IsCondPass changed.now changed_pass }
+{
+    let looked = guarded.when(
+        rt,
+        &mut pass,
+        |_| (),
+        changed,
+        &mut changed_pass,
+        |_, _| go_on(),
+        |number| (*number == wanted).then_some(wanted),
+    );
+    match looked {
+        WaitResult::Success(seen) => seen,
+        WaitResult::Interrupted => unreachable!(),
+    }
+}
+
+/// Changes the number to this, and answers what it was.
+fn change_to<R: Wait>(
+    rt: &R,
+    guarded: &Guarded<u64>,
+    pass: &mut GuardedPass,
+    changed: &ConditionVariable,
+    changed_pass: &mut CondPass,
+    woken: &AtomicU64,
+    number: u64,
+) -> u64
+    requires own { IsGuardedPass guarded.now pass.old × IsCondPass changed.now changed_pass.old }
+    ensures own { IsGuardedPass guarded.now pass.new × IsCondPass changed.now changed_pass.new }
+{
+    guarded.change(
+        rt,
+        pass,
+        |_| (),
+        changed,
+        changed_pass,
+        |_| {
+            woken.fetch_add(1, Ordering::SeqCst);
+        },
+        |value| mem::replace(value, number),
+    )
+}
+
+/// Changes the number to 1 and then to 2: what it was before each, and how often the closure that wakes all was called.
+fn change_twice<R: Wait>(
+    rt: &R,
+    guarded: &Guarded<u64>,
+    mut pass: GuardedPass,
+    changed: &ConditionVariable,
+    mut changed_pass: CondPass,
+) -> (u64, u64, u64)
+    requires own { IsGuardedPass guarded.now pass × IsCondPass changed.now changed_pass }
+{
+    let woken = AtomicU64::new(0);
+    let first = change_to(
+        rt,
+        guarded,
+        &mut pass,
+        changed,
+        &mut changed_pass,
+        &woken,
+        1,
+    );
+    let second = change_to(
+        rt,
+        guarded,
+        &mut pass,
+        changed,
+        &mut changed_pass,
+        &woken,
+        2,
+    );
+    (first, second, woken.load(Ordering::SeqCst))
+}
+
+/// Two threads wait for 2, with parts of these passes.
+fn wait_by_two<R: Threads + Wait + Sync>(
+    rt: &R,
+    guarded: &Guarded<u64>,
+    pass: GuardedPass,
+    changed: &ConditionVariable,
+    changed_pass: CondPass,
+) -> (u64, u64)
+    requires own { IsGuardedPass guarded.now pass × IsCondPass changed.now changed_pass }
+{
+    let Ok((one, two)) = pass.split(guarded) else {
+        unreachable!()
+    };
+    let Ok((one_changed, two_changed)) = changed_pass.split(changed) else {
+        unreachable!()
+    };
+    thread::join(
+        rt,
+        || wait_for(rt, guarded, one, changed, one_changed, 2),
+        || wait_for(rt, guarded, two, changed, two_changed, 2),
+    )
+}
+
+/// Two threads wait for the second of two changes. Each may be woken by the first, and take the permit that was for the other.
+#[test]
+fn a_change_is_seen_by_all_that_wait(rt: HostRuntime) -> Result<(), Fail> {
+    let (changed, changed_pass) = ConditionVariable::new(rt.alloc())?;
+    let Ok((guarded, pass)) = Guarded::new(rt.alloc(), 0u64) else {
+        return Err("no memory")?;
+    };
+    let Ok((one, two)) = pass.split(&guarded) else {
+        unreachable!()
+    };
+    let Ok((one_changed, two_changed)) = changed_pass.split(&changed) else {
+        unreachable!()
+    };
+    let (seen, told) = thread::join(
+        &rt,
+        || wait_by_two(&rt, &guarded, one, &changed, one_changed),
+        || change_twice(&rt, &guarded, two, &changed, two_changed),
+    );
+    assert_eq!(rt; seen, (2, 2));
+    assert_eq!(rt; told, (0, 1, 2));
     Ok(())
 }

@@ -1,0 +1,13 @@
+# The storms in full: ten times as many turns as `rt ci` runs. Not part of the whole test; a minute or a few.
+test_storms() {
+    local line
+    if ! (cd crates/storm && rt run) </dev/null >/dev/null 2>"$room/err"; then
+        fail storms "$(tail -n 3 -- "$room/err")"
+        return
+    fi
+    echo 10000 | timeout 600 crates/storm/out/storm >"$room/out" 2>"$room/err"
+    status=${PIPESTATUS[1]}
+    cat -- "$room/out"
+    sed 's/000 calls/0000 calls/' crates/storm/stdout >"$room/storms"
+    judge storms 0 "$room/storms" /dev/null
+}
