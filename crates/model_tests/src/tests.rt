@@ -4,8 +4,10 @@ ghost use Rattle.std.specs.Prelude.{◌≡◌, ◌≤◌, true, length};
 
 mod atomic;
 mod barrier;
+mod calls;
 mod condvar;
 mod events;
+mod growths;
 mod mutex;
 mod once;
 mod rw_reader;
@@ -13,8 +15,7 @@ mod rw_writer;
 mod semaphore;
 mod strides;
 
-use linked_list_allocator::LocalHeap;
-use std::alloc::{AllocError, Allocator, Global};
+use std::alloc::{AllocError, Global};
 use std::test::Fail;
 use steps_events::hold::HoldKind;
 use sync_steps::atomic::internal::AtomicInteger;
@@ -246,52 +247,6 @@ fn a_lock_that_gives_up_after_two_stands(rt: HostRuntime) -> Result<(), Fail> {
     );
     assert_eq!(rt; machine.failed(), 10003);
     assert_eq!(rt; machine.word(), 1);
-    Ok(())
-}
-
-#[test]
-fn a_machine_that_finds_no_memory(rt: HostRuntime) -> Result<(), Fail> {
-    for (size, parties, room) in [
-        (0, 1, false),
-        (64, 1, false),
-        (64, 1000, false),
-        (4096, 1, true),
-    ] {
-        let heap = LocalHeap::new(rt.alloc(), size)?;
-        let made = Machine::<u64, _>::new(&heap, Object::Mutex, parties);
-        assert_eq!(rt; made.is_ok(), room);
-        assert_eq!(rt; heap.used() > 0, room);
-        drop(made);
-        assert_eq!(rt; heap.used(), 0);
-    }
-    Ok(())
-}
-
-/// Whether the events of a schedule find no memory.
-fn find_no_memory<A: Allocator>(
-    alloc: A,
-    machine: &mut Machine<u64>,
-    schedule: &[(usize, Input<u64>)],
-) -> bool {
-    match play(alloc, machine, schedule) {
-        Err(PlayFault::Memory) => true,
-        Ok(_) | Err(PlayFault::Step { .. }) => false,
-    }
-}
-
-#[test]
-fn events_that_find_no_memory(rt: HostRuntime) -> Result<(), Fail> {
-    for (size, count) in [(0, 1), (64, 21), (4096, 20000)] {
-        let mut machine = Machine::<u64>::new(rt.alloc(), Object::Mutex, 1)?;
-        let schedule = rounds(rt.alloc(), count)?;
-        let heap = LocalHeap::new(rt.alloc(), size)?;
-        assert_eq!(rt; find_no_memory(&heap, &mut machine, &schedule), true);
-        assert_eq!(rt; heap.used(), 0);
-        // The machine is as it was, so the same schedule is played where there is memory.
-        assert_eq!(rt; find_no_memory(rt.alloc(), &mut machine, &schedule), false);
-        assert_eq!(rt; machine.word(), 0);
-        assert!(rt; matches!(machine.step(0, Input::Go), Err(StepFault::Idle)));
-    }
     Ok(())
 }
 

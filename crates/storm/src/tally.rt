@@ -6,6 +6,9 @@ use steps_events::WaitAction;
 
 const ORDER: Ordering = Ordering::SeqCst;
 
+/// How often one that is inside yields to those that come, at most.
+const STAY: u64 = 100;
+
 /// What a storm came to.
 #[derive(Drop)]
 pub struct Outcome {
@@ -106,9 +109,20 @@ impl Tally {
         if self.inside.fetch_add(1, ORDER) >= most {
             self.saw_torn();
         }
+        self.await_others(most);
     }
 
-    /// It lets others in beside it, and leaves.
+    /// Stays a while, until so many are inside, so that they meet.
+    fn await_others(&self, most: u64) {
+        for _ in 0..STAY {
+            if self.inside.load(ORDER) >= most {
+                return;
+            }
+            thread::yield_now();
+        }
+    }
+
+    /// It lets one more in beside it, if it may come, and leaves.
     pub fn leave(&self) {
         thread::yield_now();
         self.inside.fetch_sub(1, ORDER);

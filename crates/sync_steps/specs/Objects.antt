@@ -1,5 +1,7 @@
--- What each object is: its places and its table of steps, what it may be opened with, and the words that it has.
+-- What each object is: its places and its table of steps, what it may be opened with, and the words and the calls that it has.
 use Rattle.std.specs.Prelude.{◌<◌, ◌^◌, Bool, true, false}
+use Rattle.steps_events.specs.declared.event.Call.{Call}
+use Rattle.steps_events.specs.declared.event.Call.TheVariants as calls
 use Rattle.steps_events.specs.declared.event.Object.{Object}
 use Rattle.steps_events.specs.declared.event.Object.TheVariants as objects
 use Rattle.steps_events.specs.declared.event.Word.{Word}
@@ -73,3 +75,66 @@ has_word objects.Condvar words.Value = true
 has_word (objects.Atomic v) words.Low = true
 has_word (objects.Atomic v) words.High = true
 has_word o word = false
+
+abbrev pub is_rw_call : {T : Type 0} → Call T → Bool
+is_rw_call calls.ReadLock = true
+is_rw_call calls.TryReadLock = true
+is_rw_call calls.WriteLock = true
+is_rw_call calls.TryWriteLock = true
+is_rw_call calls.Unlock = true
+is_rw_call other = false
+
+abbrev pub is_register_call : {T : Type 0} → Call T → Bool
+is_register_call calls.Load = true
+is_register_call (calls.Store new) = true
+is_register_call (calls.Swap new) = true
+is_register_call (calls.CompareExchange current new) = true
+is_register_call (calls.CompareExchangeWeak current new) = true
+is_register_call (calls.FetchAdd x) = true
+is_register_call (calls.FetchSub x) = true
+is_register_call (calls.FetchAnd x) = true
+is_register_call (calls.FetchOr x) = true
+is_register_call (calls.FetchXor x) = true
+is_register_call (calls.FetchNand x) = true
+is_register_call (calls.FetchMax x) = true
+is_register_call (calls.FetchMin x) = true
+is_register_call calls.FetchUpdate = true
+is_register_call other = false
+
+-- The calls that an object has. A table that begins one more, or one less, is refused by `has_call` of `src/steps/place.rt`.
+abbrev pub has_call : {T : Type 0} → Object T → Call T → Bool
+has_call objects.Mutex calls.Lock = true
+has_call objects.Mutex calls.TryLock = true
+has_call objects.Mutex calls.Unlock = true
+has_call objects.Spin calls.Lock = true
+has_call objects.Spin calls.BlockingLock = true
+has_call objects.Spin calls.TryLock = true
+has_call objects.Spin calls.Unlock = true
+has_call (objects.Semaphore initial) calls.Value = true
+has_call (objects.Semaphore initial) (calls.Post n) = true
+has_call (objects.Semaphore initial) calls.Wait = true
+has_call (objects.Semaphore initial) calls.TryWait = true
+has_call (objects.Barrier n) calls.Wait = true
+has_call objects.ReaderLock call = is_rw_call call
+has_call objects.WriterLock call = is_rw_call call
+has_call objects.Condvar calls.Lock = true
+has_call objects.Condvar calls.TryLock = true
+has_call objects.Condvar calls.Unlock = true
+has_call objects.Condvar calls.Wait = true
+has_call objects.Condvar calls.NotifyOne = true
+has_call objects.Condvar calls.NotifyAll = true
+has_call objects.Once calls.CallOnce = true
+has_call objects.Once calls.IsCompleted = true
+has_call (objects.Lazy v) calls.Force = true
+has_call (objects.Atomic v) call = is_register_call call
+has_call o call = false
+
+-- those that only a party with a hold may begin
+abbrev pub wants_hold : {T : Type 0} → Object T → Call T → Bool
+wants_hold objects.Mutex calls.Unlock = true
+wants_hold objects.Spin calls.Unlock = true
+wants_hold objects.ReaderLock calls.Unlock = true
+wants_hold objects.WriterLock calls.Unlock = true
+wants_hold objects.Condvar calls.Unlock = true
+wants_hold objects.Condvar calls.Wait = true
+wants_hold o call = false

@@ -1,5 +1,7 @@
 //! Where the parties of a machine are, and which primitive's row that is.
-ghost use Rattle.std.specs.Prelude.{◌≡◌};
+ghost use Rattle.std.specs.Prelude.{◌≡◌, is_some};
+ghost use Rattle.steps_events.specs.declared.event.Object.TheVariants as objects;
+ghost use Rattle.sync_steps.specs.Objects.{has_call as listed_call, is_rw_call as rw_call, is_register_call as register_call, wants_hold};
 ghost use Rattle.sync_steps.specs.Machine.Places.{begins_at, intent_at, after_at, answered_at, chosen_at, grant_at, needs_hold_at};
 
 use std::alloc::AllocError;
@@ -186,9 +188,78 @@ pub fn grant<T: AtomicInteger>(
     }
 }
 
+fn is_rw_call<T>(call: &Call<T>) -> bool
+    ensures { result ≡ rw_call call.now }
+{
+    matches!(
+        call,
+        Call::ReadLock | Call::TryReadLock | Call::WriteLock | Call::TryWriteLock | Call::Unlock
+    )
+}
+
+fn is_condvar_call<T>(call: &Call<T>) -> bool
+    ensures { result ≡ listed_call objects.Condvar call.now }
+{
+    matches!(
+        call,
+        Call::Lock | Call::TryLock | Call::Unlock | Call::Wait | Call::NotifyOne | Call::NotifyAll
+    )
+}
+
+fn is_register_call<T>(call: &Call<T>) -> bool
+    ensures { result ≡ register_call call.now }
+{
+    matches!(
+        call,
+        Call::Load
+            | Call::Store(_)
+            | Call::Swap(_)
+            | Call::CompareExchange(_, _)
+            | Call::CompareExchangeWeak(_, _)
+            | Call::FetchAdd(_)
+            | Call::FetchSub(_)
+            | Call::FetchAnd(_)
+            | Call::FetchOr(_)
+            | Call::FetchXor(_)
+            | Call::FetchNand(_)
+            | Call::FetchMax(_)
+            | Call::FetchMin(_)
+            | Call::FetchUpdate
+    )
+}
+
+/// Whether the object has the call. The model's tables begin those that it has, and no other.
+pub fn has_call<T: AtomicInteger>(object: &Object<T>, call: &Call<T>) -> bool
+    ensures listed { result ≡ listed_call object.now call.now }
+    ensures table { result ≡ is_some (begins_at T.arithmetic object.now call.now) }
+{
+    match object {
+        Object::Mutex => matches!(call, Call::Lock | Call::TryLock | Call::Unlock),
+        Object::Spin => {
+            matches!(
+                call,
+                Call::Lock | Call::BlockingLock | Call::TryLock | Call::Unlock
+            )
+        }
+        Object::Semaphore(_) => {
+            matches!(
+                call,
+                Call::Value | Call::Post(_) | Call::Wait | Call::TryWait
+            )
+        }
+        Object::Barrier(_) => matches!(call, Call::Wait),
+        Object::ReaderLock | Object::WriterLock => is_rw_call(call),
+        Object::Condvar => is_condvar_call(call),
+        Object::Once => matches!(call, Call::CallOnce | Call::IsCompleted),
+        Object::Lazy(_) => matches!(call, Call::Force),
+        Object::Atomic(_) => is_register_call(call),
+    }
+}
+
 /// Whether only a party with a hold may begin the call.
 pub fn needs_hold<T: AtomicInteger>(object: &Object<T>, call: &Call<T>) -> bool
-    ensures { result ≡ needs_hold_at T.arithmetic object.now call.now }
+    ensures listed { result ≡ wants_hold object.now call.now }
+    ensures table { result ≡ needs_hold_at T.arithmetic object.now call.now }
 {
     match object {
         Object::Mutex | Object::Spin | Object::ReaderLock | Object::WriterLock => {

@@ -1,0 +1,78 @@
+//! Which calls an object has, and which of them need a hold: a machine refuses just the others.
+use std::test::Fail;
+use sync_steps::steps::place::{has_call, needs_hold};
+use sync_steps::steps::{Call, Input, Machine, Object, StepFault};
+
+/// Every call.
+const CALLS: [Call<u64>; 31] = [
+    Call::Lock,
+    Call::TryLock,
+    Call::BlockingLock,
+    Call::Unlock,
+    Call::Value,
+    Call::Post(1),
+    Call::Wait,
+    Call::TryWait,
+    Call::ReadLock,
+    Call::TryReadLock,
+    Call::WriteLock,
+    Call::TryWriteLock,
+    Call::NotifyOne,
+    Call::NotifyAll,
+    Call::CallOnce,
+    Call::IsCompleted,
+    Call::Force,
+    Call::Load,
+    Call::Store(1),
+    Call::Swap(1),
+    Call::CompareExchange(1, 2),
+    Call::CompareExchangeWeak(1, 2),
+    Call::FetchAdd(1),
+    Call::FetchSub(1),
+    Call::FetchAnd(1),
+    Call::FetchOr(1),
+    Call::FetchXor(1),
+    Call::FetchNand(1),
+    Call::FetchMax(1),
+    Call::FetchMin(1),
+    Call::FetchUpdate,
+];
+
+/// Each object, how many calls it has, and how many of them need a hold.
+const OBJECTS: [(Object<u64>, usize, usize); 10] = [
+    (Object::Mutex, 3, 1),
+    (Object::Spin, 4, 1),
+    (Object::Semaphore(5), 4, 0),
+    (Object::Barrier(2), 1, 0),
+    (Object::ReaderLock, 5, 1),
+    (Object::WriterLock, 5, 1),
+    (Object::Condvar, 6, 2),
+    (Object::Once, 2, 0),
+    (Object::Lazy(7), 1, 0),
+    (Object::Atomic(7), 14, 0),
+];
+
+#[test]
+fn a_machine_begins_the_calls_of_its_object(rt: HostRuntime) -> Result<(), Fail> {
+    for (object, has, needs) in OBJECTS {
+        let mut begun = 0usize;
+        let mut without = 0usize;
+        for call in CALLS {
+            let mut machine = Machine::<u64>::new(rt.alloc(), object, 1)?;
+            let refused = match machine.step(0, Input::Begin(call)) {
+                Ok(_) => None,
+                Err(fault) => Some(fault),
+            };
+            assert_eq!(rt; refused != Some(StepFault::OtherObject), has_call(&object, &call));
+            assert_eq!(rt; refused == Some(StepFault::NoHold), needs_hold(&object, &call));
+            if refused != Some(StepFault::OtherObject) {
+                begun += 1;
+            }
+            if refused == Some(StepFault::NoHold) {
+                without += 1;
+            }
+        }
+        assert_eq!(rt; (begun, without), (has, needs));
+    }
+    Ok(())
+}

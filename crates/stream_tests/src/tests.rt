@@ -1,0 +1,178 @@
+//! Each program reads a text of each object from streams that fail at every byte, and from such as give and take little.
+
+mod programs;
+mod streams;
+
+use programs::{Draws, Ended, Explores, Plays, Program, Traces};
+use std::alloc::{AllocError, Global};
+use std::io::ErrorKind;
+use std::test::Fail;
+use streams::{Fails, Gives, Takes};
+
+/// A text of each object.
+const TEXTS: [&str; 13] = [
+    "mutex 2\n1 lock\n1 run\n2 lock\n2 go 1\n",
+    "spin 1\n1 lock\n1 run\n",
+    "semaphore 1 2\n1 post 3\n1 run\n",
+    "barrier 1 1\n1 start_wait\n1 run\n",
+    "rwreader 1\n1 read_lock\n1 run\n",
+    "rwwriter 1\n1 write_lock\n1 run\n1 unlock\n1 run\n",
+    "condvar 1\n1 notify_one\n1 run\n",
+    "once 1\n1 call_once\n1 run\n",
+    "lazy 1 7\n1 force\n1 run\n",
+    "atomic_u64 1 7\n1 load\n1 run\n",
+    "atomic_u128 1 7\n1 store 18446744073709551616\n1 run\n",
+    "atomic_i64 1 -7\n1 fetch_add 1\n1 run\n",
+    "atomic_i128 1 -7\n1 fetch_update\n1 run\n1 some -8\n1 run\n",
+];
+
+/// A question for each object that has some.
+const QUESTIONS: [&str; 9] = [
+    "mutex 2\n1 lock, unlock\n2 try_lock\n",
+    "spin 1\n1 lock\n",
+    "semaphore 1 2\n1 try_wait\n",
+    "barrier 1 1\n1 start_wait\n",
+    "rwreader 1\n1 read_lock\n",
+    "rwwriter 1\n1 try_write_lock\n",
+    "condvar 1\n1 notify_all\n",
+    "once 1\n1 call_once\n",
+    "lazy 1 7\n1 force\n",
+];
+
+/// A text whose last line has a fault.
+const FAULTY: &str = "mutex 1\n1 try_lock\n1 run\n1 lock\n";
+
+/// What a program writes of a text.
+fn output<P: Program>(alloc: Global, text: &str) -> Vec<u8> {
+    let mut reader = text.as_bytes();
+    let mut written: Vec<u8> = Vec::new(alloc);
+    P::run(alloc, &mut reader, &mut written);
+    written
+}
+
+/// A writer that takes so many bytes at once, and fails once it holds so many.
+fn takes(alloc: Global, at_once: usize, limit: usize) -> Takes {
+    Takes {
+        held: Vec::new(alloc),
+        at_once,
+        limit,
+        kind: ErrorKind::Other,
+    }
+}
+
+/// How often a reader that fails was answered otherwise than by `reading failed` with nothing written: at each byte of the text, and its end.
+fn failing_readers<P: Program>(alloc: Global, text: &str) -> u64 {
+    let mut wrong = 0;
+    for at in 0..=text.len() {
+        for kind in [ErrorKind::Interrupted, ErrorKind::Other] {
+            let mut reader = Fails {
+                before: &text.as_bytes()[..at],
+                kind,
+            };
+            let mut written: Vec<u8> = Vec::new(alloc);
+            let ended = P::run(alloc, &mut reader, &mut written);
+            if ended != Ended::Reading || !written.is_empty() {
+                wrong += 1;
+            }
+        }
+    }
+    wrong
+}
+
+/// How often a writer that fails was answered otherwise than by `writing failed` with what it took: at each byte of the output.
+fn failing_writers<P: Program>(alloc: Global, text: &str) -> u64 {
+    let whole = output::<P>(alloc, text);
+    let mut wrong = 0;
+    for limit in 0..whole.len() {
+        let mut reader = text.as_bytes();
+        let mut writer = takes(alloc, usize::MAX, limit);
+        let ended = P::run(alloc, &mut reader, &mut writer);
+        if ended != Ended::Writing || writer.held.as_slice() != &whole[..limit] {
+            wrong += 1;
+        }
+    }
+    wrong
+}
+
+/// How often less at once made another output.
+fn small_pieces<P: Program>(alloc: Global, text: &str) -> u64 {
+    let whole = output::<P>(alloc, text);
+    let mut wrong = 0;
+    for (given, taken) in [(1, 1), (1, usize::MAX), (7, 3), (usize::MAX, 1), (3, 7)] {
+        let mut reader = Gives {
+            left: text.as_bytes(),
+            at_once: given,
+        };
+        let mut writer = takes(alloc, taken, usize::MAX);
+        let ended = P::run(alloc, &mut reader, &mut writer);
+        if ended != Ended::Whole || writer.held.as_slice() != whole.as_slice() {
+            wrong += 1;
+        }
+    }
+    wrong
+}
+
+/// Whether a writer that takes nothing is told of, and holds nothing.
+fn takes_nothing<P: Program>(alloc: Global, text: &str) -> bool {
+    let mut reader = text.as_bytes();
+    let mut writer = takes(alloc, 0, usize::MAX);
+    P::run(alloc, &mut reader, &mut writer) == Ended::Writing && writer.held.is_empty()
+}
+
+/// How often something was wrong with the texts, in all.
+fn wrong_with<P: Program>(alloc: Global, texts: &[&str]) -> u64 {
+    let mut wrong = 0;
+    for text in texts {
+        wrong += failing_readers::<P>(alloc, text)
+            + failing_writers::<P>(alloc, text)
+            + small_pieces::<P>(alloc, text);
+        if !takes_nothing::<P>(alloc, text) || output::<P>(alloc, text).len() < 10 {
+            wrong += 1;
+        }
+    }
+    wrong
+}
+
+#[test]
+fn sync_play_at_every_byte(rt: HostRuntime) {
+    assert_eq!(rt; wrong_with::<Plays>(rt.alloc(), &TEXTS), 0);
+}
+
+#[test]
+fn sync_trace_at_every_byte(rt: HostRuntime) {
+    assert_eq!(rt; wrong_with::<Traces>(rt.alloc(), &TEXTS), 0);
+}
+
+#[test]
+fn sync_draw_at_every_byte(rt: HostRuntime) {
+    assert_eq!(rt; wrong_with::<Draws>(rt.alloc(), &TEXTS), 0);
+}
+
+#[test]
+fn sync_explore_at_every_byte(rt: HostRuntime) {
+    assert_eq!(rt; wrong_with::<Explores>(rt.alloc(), &QUESTIONS), 0);
+}
+
+/// A text with a fault: `sync-trace` writes the trace up to it, and tells of a write that fails before it tells of the text; the others write
+/// nothing.
+#[test]
+fn a_text_with_a_fault(rt: HostRuntime) {
+    let traced = output::<Traces>(rt.alloc(), FAULTY);
+    assert!(rt; traced.len() > 10);
+    for limit in 0..traced.len() {
+        let mut reader = FAULTY.as_bytes();
+        let mut writer = takes(rt.alloc(), 7, limit);
+        let ended = Traces::run(rt.alloc(), &mut reader, &mut writer);
+        assert_eq!(rt; ended, Ended::Writing);
+        assert_eq!(rt; writer.held.as_slice(), &traced[..limit]);
+    }
+    assert_eq!(rt; output::<Plays>(rt.alloc(), FAULTY).len(), 0);
+    assert_eq!(rt; output::<Draws>(rt.alloc(), FAULTY).len(), 0);
+    let mut reader = FAULTY.as_bytes();
+    let mut writer = takes(rt.alloc(), 7, usize::MAX);
+    assert_eq!(rt;
+        Traces::run(rt.alloc(), &mut reader, &mut writer),
+        Ended::Other
+    );
+    assert_eq!(rt; writer.held.as_slice(), traced.as_slice());
+}

@@ -1,0 +1,84 @@
+//! The programs, by one name.
+
+use std::alloc::Global;
+use std::io::{Read, Write};
+use sync_explore::fault::ExploreFault;
+use sync_play::fault::RunFault;
+
+/// How a run ended.
+#[derive(Clone, Copy, Debug, PartialEq, Eq)]
+pub enum Ended {
+    /// All was read and written.
+    Whole,
+    /// `reading failed`.
+    Reading,
+    /// `writing failed`.
+    Writing,
+    /// Another fault.
+    Other,
+}
+
+impl Ended {
+    fn of(fault: RunFault) -> Self {
+        match fault {
+            RunFault::Read => Ended::Reading,
+            RunFault::Write => Ended::Writing,
+            _ => Ended::Other,
+        }
+    }
+}
+
+/// A program that reads a text to its end, and writes what it makes of it.
+pub trait Program {
+    fn run<R: Read, W: Write>(alloc: Global, reader: &mut R, writer: &mut W) -> Ended;
+}
+
+/// `sync-play`.
+pub struct Plays;
+
+impl Program for Plays {
+    fn run<R: Read, W: Write>(alloc: Global, reader: &mut R, writer: &mut W) -> Ended {
+        match sync_play::run::run(alloc, reader, writer) {
+            Ok(()) => Ended::Whole,
+            Err(fault) => Ended::of(fault),
+        }
+    }
+}
+
+/// `sync-trace`.
+pub struct Traces;
+
+impl Program for Traces {
+    fn run<R: Read, W: Write>(alloc: Global, reader: &mut R, writer: &mut W) -> Ended {
+        match sync_trace::run::run(alloc, reader, writer) {
+            Ok(()) => Ended::Whole,
+            Err(failed) => Ended::of(failed.fault),
+        }
+    }
+}
+
+/// `sync-draw`.
+pub struct Draws;
+
+impl Program for Draws {
+    fn run<R: Read, W: Write>(alloc: Global, reader: &mut R, writer: &mut W) -> Ended {
+        match sync_draw::run::run(alloc, reader, writer) {
+            Ok(()) => Ended::Whole,
+            Err(fault) => Ended::of(fault),
+        }
+    }
+}
+
+/// `sync-explore`.
+pub struct Explores;
+
+impl Program for Explores {
+    fn run<R: Read, W: Write>(alloc: Global, reader: &mut R, writer: &mut W) -> Ended {
+        match sync_explore::run::run(alloc, reader, writer) {
+            Ok(()) => Ended::Whole,
+            Err(ExploreFault::Read) => Ended::Reading,
+            Err(ExploreFault::Write) => Ended::Writing,
+            Err(_) => Ended::Other,
+        }
+    }
+}

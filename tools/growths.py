@@ -1,0 +1,98 @@
+"""Every public call that takes memory, with what refuses it memory in turn.
+
+    tools/growths.py
+
+A call that has a parameter `alloc` and no row here is wrong, and so is a row whose call or whose test is not there. Prints what is wrong, and
+then how many calls there are. The status is 0 where nothing is wrong.
+"""
+
+import glob
+import re
+import sys
+
+# Each call that takes an allocator, and the test that sweeps its heap from nothing to enough.
+TESTED = {
+    "job_queue JobQueue::new": "a_queue_that_finds_no_memory",
+    "job_queue QueueState::new": "a_state_that_finds_no_memory",
+    "job_queue QueueState::starting_at": "a_state_that_finds_no_memory",
+    "running_atomic Atomic::new": "an_atomic_that_finds_no_memory",
+    "running_barrier Barrier::new": "a_barrier_that_finds_no_memory",
+    "running_guarded Guarded::new": "a_value_comes_back_where_there_is_no_memory",
+    "running_lazy_lock LazyLock::new": "a_lazy_value_that_finds_no_memory_hands_its_closure_back",
+    "running_lazy_lock LazyLock::keeping": "a_lazy_value_that_finds_no_memory_hands_its_closure_back",
+    "running_mutex ConditionVariable::new": "a_condition_variable_that_finds_no_memory",
+    "running_mutex Mutex::new": "a_mutex_that_finds_no_memory",
+    "running_once Once::new": "a_once_that_finds_no_memory",
+    "running_rwlock RwLockReaderPreference::new": "a_reader_preferring_lock_that_finds_no_memory",
+    "running_rwlock RwLockWriterPreference::new": "a_writer_preferring_lock_that_finds_no_memory",
+    "running_semaphore Semaphore::new": "a_semaphore_that_finds_no_memory",
+    "running_spin_lock SpinLock::new": "a_spin_lock_that_finds_no_memory_hands_its_value_back",
+    "sync_steps Machine::new": "a_machine_that_finds_no_memory",
+    "sync_steps play": "events_that_find_no_memory",
+    # What the running types are made of: each `new` above is one of these.
+    "passes Words::new": "a_once_that_finds_no_memory",
+    "playing Stage::new": "a_mutex_that_finds_no_memory",
+}
+
+# The libraries of the programs, whose calls take memory of the system alone. `./test streams` sweeps the limit of each program.
+SWEPT = {"sync_play", "sync_advice", "sync_trace", "sync_draw", "markup", "sync_search", "sync_explore"}
+
+# Programs that nobody calls, and tests.
+APART = re.compile(r".*_tests|.*_main|sync_bench|bench_.*|storm|two_threads|spin_counter|four_meet|patient_writer|.*_pool|closures")
+
+FUNCTION = re.compile(r"^ *pub fn (\w+)", re.M)
+OWNER = re.compile(r"^impl\b(?:<.*>)? (?:[\w:]+(?:<.*>)? for )?(\w+)", re.M)
+
+
+def end_of(source, at, opening, closing):
+    """Where the bracket that opens at `at` is closed."""
+    depth = 0
+    for place in range(at, len(source)):
+        if source[place] == opening:
+            depth += 1
+        elif source[place] == closing and source[place - 1] != "-":
+            depth -= 1
+            if depth == 0:
+                return place + 1
+    raise ValueError(source[at : at + 40])
+
+
+def parameters(source, at):
+    """The parameters of a function whose name ends there."""
+    if source[at] == "<":
+        at = end_of(source, at, "<", ">")
+    return source[at : end_of(source, at, "(", ")")]
+
+
+def calls_of(crate, source):
+    """The public calls of a file that take memory."""
+    for found in FUNCTION.finditer(source):
+        if not re.search(r"\balloc:", parameters(source, found.end())):
+            continue
+        owner = ""
+        if found[0].startswith(" "):
+            owner = OWNER.findall(source[: found.start()])[-1] + "::"
+        yield f"{crate} {owner}{found[1]}"
+
+
+def main():
+    taking = set()
+    tests = set()
+    for path in glob.glob("crates/*/src/**/*.rt", recursive=True):
+        crate = path.split("/")[1]
+        source = open(path).read()
+        if "/tests" in path:
+            tests.update(re.findall(r"fn (\w+)", source))
+        elif crate not in SWEPT and not APART.fullmatch(crate):
+            taking.update(calls_of(crate, source))
+    wrong = [f"{call}: nothing refuses it memory" for call in sorted(taking - TESTED.keys())]
+    wrong += [f"{call}: there is no such call" for call in sorted(TESTED.keys() - taking)]
+    wrong += [f"{call}: there is no test {test}" for call, test in sorted(TESTED.items()) if test not in tests]
+    for line in wrong:
+        print(line)
+    print(f"{len(taking)} calls that take memory, {len(wrong)} wrong")
+    return 1 if wrong else 0
+
+
+if __name__ == "__main__":
+    sys.exit(main())
