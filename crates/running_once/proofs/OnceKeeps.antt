@@ -83,7 +83,7 @@ stores v on = record {
 
 -- the law
 
-sum_of_all : List OnceView → Runs
+abbrev sum_of_all : List OnceView → Runs
 sum_of_all views = (sum_of (none_played no_runs) (both_played both_runs) views).counts
 
 total_begun : (views : List OnceView) → total (λ u. u.tally.counts.running + u.tally.counts.ended) views ≡ (sum_of_all views).running + (sum_of_all views).ended

@@ -94,14 +94,14 @@ may_begin done p put is at = record {
   on = refl;
 }
 
-missed_so : (found : ℕ) (free : Bool) (done : List Slot) (q : Parties) → (found == 0) ≡ free → free ≡ false → LedFrom calls.CallOnce places.Begin found done q → ComesToStay done q
-missed_so found true done q test miss led = absurd cc
-missed_so found false done q test miss led = rw test at led
+went_so : (found : ℕ) (done : List Slot) (p q : Parties) → ComesToBegin done p → Went once_table KeepsOnce Going p found q → LedFrom calls.CallOnce places.Begin found done q
+went_so found done p q at went = went calls.CallOnce places.Begin None done at
 
-pub begins_or_stays : (begun : Bool) (found : ℕ) (done : List Slot) (p q : Parties) → MatchBool begun (found ≡ 0) (found ≢ 0) → ComesToBegin done p → Went once_table KeepsOnce Going p found q →
-    MatchBool begun (IsRunning done q) (ComesToStay done q)
-begins_or_stays true found done p q hit at went = subst (λ n. LedFrom calls.CallOnce places.Begin n done q) hit (went calls.CallOnce places.Begin None done at)
-begins_or_stays false found done p q miss at went = missed_so found (found == 0) done q refl (ne_eqb found 0 miss) (went calls.CallOnce places.Begin None done at)
+pub runs : (found : ℕ) (done : List Slot) (p q : Parties) → (found == 0) ≡ true → ComesToBegin done p → Went once_table KeepsOnce Going p found q → IsRunning done q
+runs found done p q hit at went = let led = went_so found done p q at went in rw hit at led
+
+pub stays : (found : ℕ) (done : List Slot) (p q : Parties) → (found == 0) ≡ false → ComesToBegin done p → Went once_table KeepsOnce Going p found q → ComesToStay done q
+stays found done p q miss at went = let led = went_so found done p q at went in rw miss at led
 
 -- the closure's end, and the store that follows it
 

@@ -326,7 +326,8 @@ impl<A: Allocator> Once<A> {
         requires comes { (done : List Slot) × ComesToBegin done (parties_of pass.old) }
         ensures begun { MatchBool result (HasBegun pass.old pass.new) (HasOnlyWaited pass.old pass.new) }
         ensures refused { result ≡ false → HasLooked IsTaken 1 (sights_of pass.old) (sights_of pass.new) }
-        ensures went { WhereBegins (parties_of pass.old) (λ done. MatchBool result (IsRunning done (parties_of pass.new)) (ComesToStay done (parties_of pass.new))) }
+        ensures runs { result ≡ true → WhereBegins (parties_of pass.old) (λ done. IsRunning done (parties_of pass.new)) }
+        ensures stays { result ≡ false → WhereBegins (parties_of pass.old) (λ done. ComesToStay done (parties_of pass.new)) }
     {
         self.stage.exchange::<GoesOn, Begin>(pass, 0, 0, running()) == 0
     }
