@@ -29,7 +29,7 @@ use Rattle.steps_events.proofs.Steps.{carried_goes_on, carried_stage}
 use Rattle.playing.specs.Slots.{Slot, Free, Mine, Torn, both, all, slot_at, only, Parties, parties, all_of, both_parties}
 use Rattle.playing.specs.SlotLaws.{free_adds, group_all, all_of_both, slot_of_all, slot_of_only, slot_of_other, slot_past_end}
 use Rattle.playing.specs.Words.{AllHold, AreApart, IsNamed, IsStepOn, IsAside, effect}
-use Rattle.playing.specs.Plays.{events_of, Matches, fresh_call, Coming, Going, Beginning, Continuing, Answered, Aside, IsPlayed, IsAt, WasAnswered, HasEnded, MayBegin, Begins, BeginsHolding, GoesOnAfter, GoesOnAside, ComesBy, act_at, hold_then, Leads, Led}
+use Rattle.playing.specs.Plays.{events_of, Matches, fresh_call, Coming, Going, Beginning, Continuing, Answered, Aside, IsPlayed, IsAt, WasAnswered, HasEnded, MayBegin, Begins, BeginsHolding, GoesOnAfter, ComesBy, act_at, hold_then, Leads, Led}
 use Rattle.playing.proofs.Own.{events_of_other, own_call, own_hold, absent}
 use Rattle.playing.proofs.Next.{run_of_more, begins_next, answers_next, goes_next}
 use Rattle.playing.proofs.Asides.{aside_tells_nothing, aside_leaves_words, aside_leaves_holds}
@@ -231,7 +231,7 @@ module _ {P : Type 0} (t : Table ℕ P) (Law : List (Event ℕ) → Type 0) (nam
       let led : t.after from (value_told act) ≡ afters.At place = ap (t.after from) (aside_tells_nothing (t.intent from hold) (word_in t r.past) aside) ∙ leads in
       let here : IsNext u64_arithmetic t r.parties r.past q inputs.Go (event q act (outcome_of (t.after from (value_told act)))) =
       subst (λ (k : Option HoldKind). IsNext u64_arithmetic t r.parties r.past q inputs.Go (event q (carried_out (t.intent from k) (word_in t r.past)) (outcome_of (t.after from (value_told (carried_out (t.intent from k) (word_in t r.past))))))) r.has
-          (goes_next u64_arithmetic t r.parties r.past q r.pending from r.there r.under_way r.stage (rw r.left refl)) in
+      (goes_next u64_arithmetic t r.parties r.past q r.pending from r.there r.under_way r.stage (rw r.left refl)) in
       record {
         parties = r.parties;
         past = e ∷ r.past;
