@@ -1,6 +1,7 @@
 pub mod Own
 pub mod Next
 pub mod Words
+pub mod Asides
 pub mod Same
 pub mod Ready
 pub mod Updates
@@ -9,3 +10,4 @@ pub mod Attempts
 pub mod Patience
 pub mod Holding
 pub mod Counter
+pub mod Endings

@@ -28,10 +28,11 @@ use Rattle.steps_events.proofs.Holds.{call_of_same, hold_of_same}
 use Rattle.steps_events.proofs.Steps.{carried_goes_on, carried_stage}
 use Rattle.playing.specs.Slots.{Slot, Free, Mine, Torn, both, all, slot_at, only, Parties, parties, all_of, both_parties}
 use Rattle.playing.specs.SlotLaws.{free_adds, group_all, all_of_both, slot_of_all, slot_of_only, slot_of_other, slot_past_end}
-use Rattle.playing.specs.Words.{AllHold, AreApart, IsNamed, IsStepOn, effect}
-use Rattle.playing.specs.Plays.{events_of, Matches, fresh_call, Coming, Going, Beginning, Continuing, Answered, IsPlayed, IsAt, WasAnswered, HasEnded, MayBegin, Begins, BeginsHolding, GoesOnAfter, ComesBy, act_at, hold_then, Leads, Led}
+use Rattle.playing.specs.Words.{AllHold, AreApart, IsNamed, IsStepOn, IsAside, effect}
+use Rattle.playing.specs.Plays.{events_of, Matches, fresh_call, Coming, Going, Beginning, Continuing, Answered, Aside, IsPlayed, IsAt, WasAnswered, HasEnded, MayBegin, Begins, BeginsHolding, GoesOnAfter, ComesBy, act_at, hold_then, Leads, Led}
 use Rattle.playing.proofs.Own.{events_of_other, own_call, own_hold, absent}
 use Rattle.playing.proofs.Next.{run_of_more, begins_next, answers_next, goes_next}
+use Rattle.playing.proofs.Asides.{aside_tells_nothing, aside_leaves_words, aside_leaves_holds}
 use Rattle.playing.proofs.Words.{hold_at, same_hold, set_holds, effect_here, effect_there, carried_here}
 
 dec : (p q : ℕ) → (p ≡ q) ⊎ (p ≢ q)
@@ -220,12 +221,41 @@ module _ {P : Type 0} (t : Table ℕ P) (Law : List (Event ℕ) → Type 0) (nam
         apart = others_on others r.past q act thens.GoesOn here.0;
       }
 
+  -- its call has made a step on no word
+  step_aside : (found : List ℕ) (others : List Slot) (call : Call ℕ) (from place : P) (hold : Option HoldKind) → Ready found others call from hold → IsAside (t.intent from hold) →
+      t.after from None ≡ afters.At place → Ready found others call place hold
+  step_aside found others call from place hold r aside leads =
+      let q : ℕ = r.party in
+      let act : Act ℕ = carried_out (t.intent from hold) (word_in t r.past) in
+      let e : Event ℕ = event q act thens.GoesOn in
+      let led : t.after from (value_told act) ≡ afters.At place = ap (t.after from) (aside_tells_nothing (t.intent from hold) (word_in t r.past) aside) ∙ leads in
+      let here : IsNext u64_arithmetic t r.parties r.past q inputs.Go (event q act (outcome_of (t.after from (value_told act)))) =
+      subst (λ (k : Option HoldKind). IsNext u64_arithmetic t r.parties r.past q inputs.Go (event q (carried_out (t.intent from k) (word_in t r.past)) (outcome_of (t.after from (value_told (carried_out (t.intent from k) (word_in t r.past))))))) r.has
+      (goes_next u64_arithmetic t r.parties r.past q r.pending from r.there r.under_way r.stage (rw r.left refl)) in
+      record {
+        parties = r.parties;
+        past = e ∷ r.past;
+        run = ((inputs.Go, subst (λ (o : Then ℕ). IsNext u64_arithmetic t r.parties r.past q inputs.Go (event q act o)) (ap outcome_of led) here), r.run);
+        words = same_hold names found (word_in t r.past) (word_in t (e ∷ r.past)) r.words (λ n. aside_leaves_words n (t.intent from hold) (word_in t r.past) (word_in t r.past n) aside);
+        party = q;
+        there = r.there;
+        pending = record { call = r.pending.call; own = e ∷ r.pending.own };
+        under_way = call_of_same q act thens.GoesOn r.past ∙ ap (call_going_on act e) r.under_way ∙ carried_goes_on (t.intent from hold) (word_in t r.past) e r.pending;
+        called = r.called;
+        stage = ap (next_stage t act) r.stage ∙ carried_stage t from (t.intent from hold) (word_in t r.past) ∙ ap place_after led;
+        left = refl;
+        has = hold_of_same t q act thens.GoesOn r.past ∙ aside_leaves_holds t (t.intent from hold) (word_in t r.past) (call_of q r.past) (hold_of t q r.past) aside ∙ r.has;
+        apart = others_on others r.past q act thens.GoesOn r.apart;
+      }
+
   pub ready : (coming : Coming) (found : List ℕ) (p rest : Parties) (call : Call ℕ) (place : P) (hold : Option HoldKind) (done : List Slot) →
       IsPlayed t Law names found (both_parties p rest) → ComesBy t Law coming call place hold done p → Ready found (all done (all_of rest)) call place hold
   ready Going found p rest call place hold done r comes = ready_at found p rest call place hold done r comes
   ready (Beginning begun) found p rest call place hold done r comes = ready_begins found p rest call place hold done r comes.1
   ready (Continuing begun) found p rest call place hold done r comes = ready_continues found p rest call place hold done r comes.1
   ready (Answered action) found p rest call place hold done r comes = ready_answered found p rest action call place hold done r comes
+  ready Aside found p rest call place hold done r comes =
+      step_aside found (all done (all_of rest)) call comes.from place hold (ready_at found p rest call comes.from hold done r comes.at) comes.aside comes.leads
 
   -- The step is made.
 

@@ -1,16 +1,17 @@
 -- A pass stands at one place of one call.
-use Rattle.std.proofs.Common.{◌≡◌, ℕ, zero, suc, refl, sym, ap, ◌∙◌, List, Option, Some}
+use Rattle.std.proofs.Common.{◌≡◌, ℕ, zero, suc, refl, sym, ap, ◌∙◌, List, Option, Some, None}
 use Rattle.steps_events.specs.declared.event.Call.{Call}
 use Rattle.steps_events.specs.declared.event.Event.{Event}
 use Rattle.steps_events.specs.declared.event.Then.{Then}
 use Rattle.steps_events.specs.declared.event.Then.TheVariants as thens
 use Rattle.steps_events.specs.declared.hold.HoldKind.{HoldKind}
 use Rattle.steps_events.specs.Tables.{Table}
+use Rattle.steps_events.specs.Rows.{place_after}
 use Rattle.steps_events.specs.Past.{PendingCall, call_of, hold_of}
 use Rattle.steps_events.specs.Moves.{stage_of}
 use Rattle.steps_events.proofs.Holds.{some_same}
 use Rattle.playing.specs.Slots.{Slot, Mine, only, Parties}
-use Rattle.playing.specs.Plays.{Coming, Going, Beginning, Continuing, Answered, IsAt, IsHolding, ComesBy}
+use Rattle.playing.specs.Plays.{Coming, Going, Beginning, Continuing, Answered, Aside, IsAt, IsHolding, ComesBy}
 
 pub only_one : (q p : ℕ) (own other : List (Event ℕ)) → only q (Mine own) ≡ only p (Mine other) → (q ≡ p) × (own ≡ other)
 only_one zero zero own other same = (refl, cc)
@@ -64,6 +65,14 @@ module _ {P : Type 0} (t : Table ℕ P) (Law : List (Event ℕ) → Type 0) wher
       record {
         same_call = same.same_call;
         same_place = a.answered ∙ ap (λ (s : P). t.answered s action) same.same_place ∙ sym b.answered;
+        same_hold = same.same_hold;
+        same_done = same.same_done;
+      }
+  same_coming Aside call other place there hold kept done rest p a b =
+      let same = same_at call other a.from b.from thens.GoesOn thens.GoesOn hold kept done rest p a.at b.at in
+      record {
+        same_call = same.same_call;
+        same_place = some_same place there (ap place_after (sym a.leads ∙ ap (λ (s : P). t.after s None) same.same_place ∙ b.leads));
         same_hold = same.same_hold;
         same_done = same.same_done;
       }

@@ -8,3 +8,4 @@ pub mod Counts
 pub mod Tries
 pub mod Holding
 pub mod Counter
+pub mod Ending

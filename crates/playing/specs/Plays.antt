@@ -19,7 +19,7 @@ use Rattle.steps_events.specs.Past.{PendingCall, call_of, hold_of, hold_after, w
 use Rattle.steps_events.specs.Moves.{stage_of, hold_fault, CallValues}
 use Rattle.steps_events.specs.Runs.{IsPast}
 use Rattle.playing.specs.Slots.{Slot, Free, Mine, Torn, all, slot_at, only, Parties, all_of}
-use Rattle.playing.specs.Words.{AllHold, IsNamed, IsStepOn}
+use Rattle.playing.specs.Words.{AllHold, IsNamed, IsStepOn, IsAside}
 
 -- the events of a party
 abbrev pub events_of : ℕ → List (Event ℕ) → List (Event ℕ)
@@ -48,6 +48,8 @@ pub data Coming : Type 0 where
   Continuing : Call ℕ → Coming
   -- its wait closure has answered so
   Answered : WaitAction → Coming
+  -- its call first makes a step on no word, as its closure's end
+  Aside : Coming
 
 -- `Law` is what the model is known to keep, at every front of every run.
 module _ {P : Type 0} (t : Table ℕ P) (Law : List (Event ℕ) → Type 0) where
@@ -150,12 +152,20 @@ module _ {P : Type 0} (t : Table ℕ P) (Law : List (Event ℕ) → Type 0) wher
     pub at : IsAt call stood (thens.Waits told) hold done p
     pub answered : place ≡ t.answered stood action
 
+  -- from where the step on no word is made
+  pub record GoesOnAside (call : Call ℕ) (place : P) (hold : Option HoldKind) (done : List Slot) (p : Parties) : Type 0 where
+    pub from : P
+    pub at : IsAt call from thens.GoesOn hold done p
+    pub aside : IsAside (t.intent from hold)
+    pub leads : t.after from None ≡ afters.At place
+
   -- by this way the pass comes to a step of this call at this place
   abbrev pub ComesBy : Coming → Call ℕ → P → Option HoldKind → List Slot → Parties → Type 0
   ComesBy Going call place hold done p = IsAt call place thens.GoesOn hold done p
   ComesBy (Beginning begun) call place hold done p = (begun ≡ call) × Begins call place hold done p
   ComesBy (Continuing begun) call place hold done p = (begun ≡ call) × BeginsHolding call place hold done p
   ComesBy (Answered action) call place hold done p = GoesOnAfter action call place hold done p
+  ComesBy Aside call place hold done p = GoesOnAside call place hold done p
 
   -- Where a step leads.
 

@@ -66,6 +66,15 @@ pub record HasTold {F W : Type 0} (g : Shared F (Bor W × (Bor ℕ × Unit {0}))
   pub named : seen.now ≡ told
   pub says : FnReturns g wait (word, (seen, tt)) tt
 
+-- the next that a call of the pass does is to end its closure
+pub record IsToEnd {P : Type 0} (t : Table ℕ P) (Law : List (Event ℕ) → Type 0) (p : Parties) : Type 0 where
+  pub call : Call ℕ
+  pub place : P
+  pub hold : Option HoldKind
+  pub done : List Slot
+  pub at : IsAt t Law call place thens.GoesOn hold done p
+  pub ends : t.intent place hold ≡ intents.End
+
 module _ {P : Type 0} (t : Table ℕ P) (Law : List (Event ℕ) → Type 0) (names : List Word) (handed : P → Word) where
   -- a call of the pass stands at its wait closure, which is to be told this, and handed the word at this index
   pub record StandsToWait (index told : ℕ) (p : Parties) : Type 0 where

@@ -37,6 +37,13 @@ IsStepOn w (intents.Subtract v less) = v ≡ w
 IsStepOn w (intents.Exchange v from to) = v ≡ w
 IsStepOn w other = ⊥
 
+-- the intent is a step on no word: a wake, a closure's end or a read of a cell
+abbrev pub IsAside : Intent ℕ → Type 0
+IsAside (intents.Wake who) = Unit {0}
+IsAside intents.End = Unit {0}
+IsAside (intents.ReadCell value) = Unit {0}
+IsAside other = ⊥
+
 -- what it leaves in the word
 abbrev pub effect : Intent ℕ → ℕ → ℕ
 effect (intents.Store v put) n = put

@@ -49,3 +49,12 @@ impl Entry for Aborted {
 
     ghost coming = { Answered actions.Abort };
 }
+
+/// A call has made a step on no word, as its closure's end.
+pub struct AfterAside;
+
+impl Entry for AfterAside {
+    ghost use Rattle.playing.specs.Plays.{Aside};
+
+    ghost coming = { Aside };
+}

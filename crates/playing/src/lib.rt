@@ -3,6 +3,7 @@
 #![tactic(auto)]
 
 mod attempt;
+mod ending;
 mod entry;
 mod played;
 mod script;
@@ -12,7 +13,7 @@ mod tests;
 mod wait;
 
 pub use attempt::{Attempt, ask, try_again};
-pub use entry::{Aborted, AddEntry, Continued, Entry, GoesOn};
+pub use entry::{Aborted, AddEntry, AfterAside, Continued, Entry, GoesOn};
 pub use played::{Parties, Played};
 pub use script::Script;
 pub use stage::Stage;

@@ -1,4 +1,5 @@
-//! Each step once, by a counter that plays a model of one step a call, and counts nothing beside.
+//! Each step once, by a counter that plays a model of one step a call, and counts nothing beside. And a call that ends a closure between
+//! two steps.
 ghost use Rattle.std.specs.Prelude.{◌≡◌, None};
 ghost use Rattle.steps_events.specs.declared.event.Call.TheVariants as calls;
 ghost use Rattle.steps_events.specs.declared.event.Answer.TheVariants as answers;
@@ -8,8 +9,9 @@ ghost use Rattle.playing.specs.Passes.{parties_of};
 ghost use Rattle.playing.specs.Stages.{IsPassOf, count_of};
 ghost use Rattle.playing.specs.Plays.{HasCalled};
 ghost use Rattle.playing.specs.Counter.{counter_table, KeepsNothing};
+ghost use Rattle.playing.specs.Ending.{ending_table};
 
-use crate::entry::{AddEntry, Entry};
+use crate::entry::{AddEntry, AfterAside, Entry};
 use crate::played::Played;
 use crate::script::Script;
 use crate::stage::Stage;
@@ -153,5 +155,68 @@ fn a_counter_plays_its_model(rt: HostRuntime) -> Result<(), Fail> {
     assert_eq!(rt; counter.word(0).load(), 6);
     assert_eq!(rt; clear_and_try(&counter, &mut pass), 0);
     assert_eq!(rt; counter.close(pass, 0), 1);
+    Ok(())
+}
+
+/// The model of a call that ends a closure.
+struct EndingScript;
+
+impl Script<(), Intent<u64>> for EndingScript {
+    ghost use Rattle.std.specs.Prelude.{[], ◌∷◌};
+    ghost use Rattle.steps_events.specs.declared.event.Word.TheVariants as words;
+    ghost use Rattle.playing.specs.Counter.{KeepsNothing};
+    ghost use Rattle.playing.specs.Ending.{ending_table};
+
+    ghost table = { λ _. ending_table };
+
+    ghost law = { λ _. KeepsNothing };
+
+    ghost lawful = { λ _ _ _ _. tt };
+
+    ghost names = { words.State ∷ [] };
+
+    ghost apart = { (tt, tt) };
+
+    ghost handed = { λ _. words.State };
+}
+
+struct Calls;
+
+impl Entry for Calls {
+    ghost use Rattle.steps_events.specs.declared.event.Call.TheVariants as calls;
+    ghost use Rattle.playing.specs.Plays.{Beginning};
+
+    ghost coming = { Beginning calls.CallOnce };
+}
+
+type Ending = Stage<(), EndingScript, Intent<u64>, Nothing>;
+
+type EndingPass = Pass<Played<EndingScript, Intent<u64>, Nothing>>;
+
+/// Looks, runs a closure to its end, and stores 7.
+fn run_and_store(ending: &Ending, pass: &mut EndingPass) -> u64
+    requires own { IsPassOf ending.now pass.old }
+    requires one_word { count_of ending.now ≡ 1 }
+    ensures same { IsSamePass pass.old pass.new }
+    ensures gave { result ≡ 5 }
+    ensures played { HasCalled ending_table KeepsNothing calls.CallOnce answers.Done None (parties_of pass.old) (parties_of pass.new) }
+{
+    ending.load::<Calls, Untold>(pass, 0);
+    let given = ending.run(
+        pass,
+        &mut (),
+        |_: &mut ()| -> u64
+            ensures { result ≡ 5 }
+        { 5 },
+    );
+    ending.store::<AfterAside, Untold>(pass, 0, 7);
+    given
+}
+
+#[test]
+fn a_call_ends_its_closure_between_two_steps(rt: HostRuntime) -> Result<(), Fail> {
+    let (ending, mut pass) = Stage::new(rt.alloc(), &[0], &())?;
+    assert_eq!(rt; run_and_store(&ending, &mut pass), 5);
+    assert_eq!(rt; ending.word(0).load(), 7);
     Ok(())
 }

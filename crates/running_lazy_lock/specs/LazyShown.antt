@@ -1,5 +1,7 @@
 -- What contracts see of a lazy value and its pass, and what a call changes in a pass.
 use Rattle.std.specs.Prelude.{◌≡◌, ℕ, ◌<◌}
+use Rattle.steps_events.specs.declared.event.Call.TheVariants as calls
+use Rattle.steps_events.specs.declared.event.Answer.TheVariants as answers
 use Rattle.passes.specs.declared.part.Part.{Part}
 use Rattle.passes.specs.declared.view.View.{View}
 use Rattle.running_once.specs.declared.Runs.{Runs}
@@ -50,6 +52,10 @@ pub record HasForced (p q : LazyPass) : Type 0 where
   pub init : spin.HasStayed (init_in p) (init_in q)
   pub untouched : ended_of q ≡ ended_of p → init_in q ≡ init_in p
   pub took : ended_of p < ended_of q → spin.HasLockedOnce (init_in p) (init_in q)
+
+-- The pass as a party of the once's model: it made one `CallOnce`, which was answered `Done`.
+abbrev pub HasPlayed : LazyPass → LazyPass → Type 0
+HasPlayed p q = once.HasPlayed calls.CallOnce answers.Done (once_in p) (once_in q)
 
 -- the word was seen once, and nothing else changed but that the pass may know of the end
 abbrev pub HasSeenOnce : LazyPass → LazyPass → Type 0

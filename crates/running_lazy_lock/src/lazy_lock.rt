@@ -83,7 +83,7 @@ impl<T: Drop, F: Drop, G: Gives<T, F>, A: Allocator + Clone> LazyLock<T, F, G, A
 impl<T: Drop, F: FnOnce() -> T + Drop, G: Gives<T, F>, A: Allocator> LazyLock<T, F, G, A> {
     ghost use Rattle.passes.specs.Parts.{IsWhole};
     ghost use Rattle.running_spin_lock.specs.SpinShown.{IsSpinPass, HasLockedOnce};
-    ghost use Rattle.running_lazy_lock.specs.LazyShown.{IsLazyPass, IsComplete, HasForced, HasSeenOnce, ended_of, part_of};
+    ghost use Rattle.running_lazy_lock.specs.LazyShown.{IsLazyPass, IsComplete, HasForced, HasSeenOnce, HasPlayed, ended_of, part_of};
 
     /// The value. Calls the closure for it, if no other call has begun to; else comes back once that has ended. A closure that forces
     /// this value itself waits for ever.
@@ -96,6 +96,7 @@ impl<T: Drop, F: FnOnce() -> T + Drop, G: Gives<T, F>, A: Allocator> LazyLock<T,
         ensures made { ended_of pass.old < ended_of pass.new → IsGiven G.may F.post result.now }
         ensures kept { IsComplete pass.old → HasSeenOnce pass.old pass.new }
         ensures exact { IsWhole (part_of pass.old) → ended_of pass.new ≡ 1 }
+        ensures played { HasPlayed pass.old pass.new }
     {
         let made = this.once.call_once_on(
             rt,

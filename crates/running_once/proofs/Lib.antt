@@ -1,1 +1,2 @@
 pub mod OnceKeeps
+pub mod OncePlays

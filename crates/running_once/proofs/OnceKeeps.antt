@@ -7,8 +7,9 @@ use Rattle.passes.specs.Parts.{IsWhole, total}
 use Rattle.passes.specs.Views.{looked, missed, wrote, sum_of, Updates}
 use Rattle.passes.proofs.Sums.{others, sum_at}
 use Rattle.passes.proofs.Updates.{by_look, by_exchange}
+use Rattle.playing.specs.Passes.{none_played, both_played, core_played, played_add_up}
 use Rattle.running_once.specs.declared.Runs.{Runs}
-use Rattle.running_once.specs.OnceRule.{no_runs, both_runs, known_runs, IsRun, OnceAgrees, OneClosure, KnownHasEnded, learns, began, ended, Says, Loaded, Exchanged, Stored}
+use Rattle.running_once.specs.OnceRule.{no_runs, both_runs, known_runs, IsRun, OnceAgrees, OnceView, OneClosure, KnownHasEnded, learns, began, ended, Says, Loaded, Exchanged, Stored}
 use Rattle.running_once.specs.OnceTally.{runs_add_up}
 
 -- one of the two is true
@@ -82,17 +83,23 @@ stores v on = record {
 
 -- the law
 
-total_begun : (views : List (View Runs)) → total (λ u. u.tally.running + u.tally.ended) views ≡ (sum_of no_runs both_runs views).running + (sum_of no_runs both_runs views).ended
+abbrev sum_of_all : List OnceView → Runs
+sum_of_all views = (sum_of (none_played no_runs) (both_played both_runs) views).counts
+
+total_begun : (views : List OnceView) → total (λ u. u.tally.counts.running + u.tally.counts.ended) views ≡ (sum_of_all views).running + (sum_of_all views).ended
 total_begun [] = refl
 total_begun (v ∷ views) = let rest = total_begun views in omega arith
 
-total_ended : (views : List (View Runs)) → total (λ u. u.tally.ended) views ≡ (sum_of no_runs both_runs views).ended
+total_ended : (views : List OnceView) → total (λ u. u.tally.counts.ended) views ≡ (sum_of_all views).ended
 total_ended [] = refl
 total_ended (v ∷ views) = let rest = total_ended views in omega arith
 
 pub one_closure : OneClosure
-one_closure s r = let begun = total_begun s.views in let one = r.agree.one in omega arith
+one_closure s r = let begun = total_begun s.views in let one = r.agree.1.one in omega arith
 
 pub known_has_ended : KnownHasEnded
-known_has_ended s r i v here complete = let known = ap (λ (t : Runs). t.complete) (sum_at no_runs both_runs known_runs runs_add_up s.views i v here) in
-    total_ended s.views ∙ r.agree.known (known ∙ or_true v.tally.complete (others no_runs both_runs s.views i).complete complete)
+known_has_ended s r i v here complete =
+    let at = sum_at (none_played no_runs) (both_played both_runs) (core_played known_runs) (played_add_up no_runs both_runs known_runs runs_add_up) s.views i v here in
+    let known = ap (λ t. t.counts.complete) at in
+    total_ended s.views
+    ∙ r.agree.1.known (known ∙ or_true v.tally.counts.complete (others (none_played no_runs) (both_played both_runs) s.views i).counts.complete complete)

@@ -1,3 +1,5 @@
+pub mod OnceScript
 pub mod OnceRule
 pub mod OnceTally
+pub mod OnceParties
 pub mod OnceShown

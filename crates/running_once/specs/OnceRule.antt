@@ -1,13 +1,20 @@
 -- What a pass of a once counts and knows, the rule over all passes, and what a step changes.
-use Rattle.std.specs.Prelude.{◌≡◌, ◌≢◌, ℕ, ◌+◌, ◌*◌, ◌≤◌, Bool, true, false, ◌||◌, ◌==◌, List, length, slice_index}
+use Rattle.std.specs.Prelude.{◌≡◌, ◌≢◌, ℕ, ◌+◌, ◌*◌, ◌≤◌, Bool, true, false, ◌||◌, ◌==◌, List, [], ◌∷◌, length, slice_index}
 use mathlib.Core.Option as maybe
 use mathlib.Core.Option.{some}
 use lib.ListN.{get_elem?}
 use Rattle.atomic_table.specs.Table.{State}
+use Rattle.steps_events.specs.declared.event.Word.TheVariants as words
+use Rattle.steps_once.specs.declared.OncePlace.{OncePlace}
+use Rattle.steps_once.specs.Table.{once_table}
+use Rattle.steps_once.specs.Law.{KeepsOnce}
 use Rattle.passes.specs.declared.view.View.{View}
 use Rattle.passes.specs.Parts.{IsWhole, total}
 use Rattle.passes.specs.Views.{view_of, looked, missed, wrote, IsCounted}
+use Rattle.playing.specs.declared.played.Played.{Played}
+use Rattle.playing.specs.Passes.{none_played, both_played, PlaysAndCounts}
 use Rattle.running_once.specs.declared.Runs.{Runs}
+use Rattle.running_once.specs.declared.OnceScript.{OnceScript}
 
 abbrev pub runs : ℕ → ℕ → Bool → Runs
 runs running ended complete = record { running = running; ended = ended; complete = complete }
@@ -37,13 +44,21 @@ pub record IsRun (words : List ℕ) (t : Runs) : Type 0 where
 abbrev pub OnceAgrees : List ℕ → List (maybe.Option (Unit {0})) → Runs → Type 0
 OnceAgrees words homes = IsRun words
 
--- whenever the rule holds, all passes together began one closure at most
-abbrev pub OneClosure : Type 0
-OneClosure = (s : State (Unit {0}) (View Runs)) → IsCounted no_runs both_runs OnceAgrees s → total (λ u. u.tally.running + u.tally.ended) s.views ≤ 1
+-- what the pass of a once is in its model, and knows
+abbrev pub OnceView : Type 0
+OnceView = View (Played OnceScript OncePlace Runs)
 
--- whenever the rule holds, and a pass knows that a closure has ended, one of all passes' has
+-- the rule of a once holds
+abbrev pub IsRuled : State (Unit {0}) OnceView → Type 0
+IsRuled s = IsCounted (none_played no_runs) (both_played both_runs) (PlaysAndCounts once_table KeepsOnce (words.State ∷ []) OnceAgrees) s
+
+-- whenever it does, all passes together began one closure at most
+abbrev pub OneClosure : Type 0
+OneClosure = (s : State (Unit {0}) OnceView) → IsRuled s → total (λ u. u.tally.counts.running + u.tally.counts.ended) s.views ≤ 1
+
+-- whenever it does, and a pass knows that a closure has ended, one of all passes' has
 abbrev pub KnownHasEnded : Type 0
-KnownHasEnded = (s : State (Unit {0}) (View Runs)) → IsCounted no_runs both_runs OnceAgrees s → (i : ℕ) (v : View Runs) → get_elem? s.views i ≡ some v → v.tally.complete ≡ true → total (λ u. u.tally.ended) s.views ≡ 1
+KnownHasEnded = (s : State (Unit {0}) OnceView) → IsRuled s → (i : ℕ) (v : OnceView) → get_elem? s.views i ≡ some v → v.tally.counts.complete ≡ true → total (λ u. u.tally.counts.ended) s.views ≡ 1
 
 -- at 2 the pass knows that a closure has ended
 abbrev pub learns : ℕ → View Runs → View Runs

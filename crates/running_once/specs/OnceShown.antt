@@ -1,27 +1,44 @@
 -- What contracts see of a once and its pass, and what a call changes in a pass.
-use Rattle.std.specs.Prelude.{◌≡◌, ◌≢◌, ℕ, ◌<◌, ◌≤◌, ◌⊎◌, true}
+use Rattle.std.specs.Prelude.{◌≡◌, ◌≢◌, ℕ, ◌<◌, ◌≤◌, ◌⊎◌, true, None}
+use Rattle.steps_events.specs.declared.event.Call.{Call}
+use Rattle.steps_events.specs.declared.event.Answer.{Answer}
+use Rattle.steps_once.specs.declared.OncePlace.{OncePlace}
+use Rattle.steps_once.specs.Table.{once_table}
+use Rattle.steps_once.specs.Law.{KeepsOnce}
 use Rattle.passes.specs.declared.part.Part.{Part}
 use Rattle.passes.specs.declared.part.Sights.{Sights}
 use Rattle.passes.specs.declared.view.View.{View}
 use Rattle.passes.specs.declared.pass.Pass.{Pass}
-use Rattle.passes.specs.Passes.{IsSamePass, view, part_of, sights_of, tally_of}
+use Rattle.passes.specs.Passes.{IsSamePass, part_of, sights_of}
 use Rattle.passes.specs.Views.{looked, wrote}
-use Rattle.passes.specs.Objects.{IsPassOf}
+use Rattle.playing.specs.declared.played.Played.{Played}
+use Rattle.playing.specs.Slots.{Parties}
+use Rattle.playing.specs.Plays.{HasCalled}
+use Rattle.playing.specs.Passes.{parties_of, counts_of, counted}
+use Rattle.playing.specs.Stages.{IsPassOf}
 use Rattle.running_once.specs.declared.Runs.{Runs}
+use Rattle.running_once.specs.declared.OnceScript.{OnceScript}
 use Rattle.running_once.specs.declared.Once.{Once}
 use Rattle.running_once.specs.declared.OncePass.{OncePass}
 use Rattle.running_once.specs.OnceRule.{learns, began, ended}
 
--- the pass inside, between two calls
-abbrev pub pass_in : OncePass → Pass Runs
+-- the pass inside
+abbrev pub PlayedPass : Type 0
+PlayedPass = Pass (Played OnceScript OncePlace Runs)
+
+abbrev pub pass_in : OncePass → PlayedPass
 pass_in p = p.pass
 
 abbrev pub IsOncePass : {A : Type 0} → Once A → OncePass → Type 0
-IsOncePass o p = IsPassOf o.words (pass_in p)
+IsOncePass o p = IsPassOf o.stage (pass_in p)
 
 -- what the pass knows
 abbrev pub known_by : OncePass → View Runs
-known_by p = view (pass_in p)
+known_by p = counted (pass_in p)
+
+-- the parties of the model that it is
+abbrev pub parties_of_once : OncePass → Parties
+parties_of_once p = parties_of (pass_in p)
 
 abbrev pub part_of_once : OncePass → Part
 part_of_once p = part_of (pass_in p)
@@ -31,11 +48,11 @@ sights_of_once p = sights_of (pass_in p)
 
 -- how many closures its owner ran to their end
 abbrev pub ended_of : OncePass → ℕ
-ended_of p = (tally_of (pass_in p)).ended
+ended_of p = (counts_of (pass_in p)).ended
 
 -- it knows that a closure has ended
 abbrev pub IsComplete : OncePass → Type 0
-IsComplete p = (tally_of (pass_in p)).complete ≡ true
+IsComplete p = (counts_of (pass_in p)).complete ≡ true
 
 -- the word was seen once, and nothing else changed but that the pass may know of the end
 abbrev pub HasSeenOnce : OncePass → OncePass → Type 0
@@ -43,7 +60,7 @@ HasSeenOnce p q = IsSamePass (pass_in p) (pass_in q) × (known_by q ≡ learns (
 
 -- the word was seen once, a closure began and ended, and nothing else changed
 abbrev pub HasRun : OncePass → OncePass → Type 0
-HasRun p q = IsSamePass (pass_in p) (pass_in q) × (known_by q ≡ wrote (looked (known_by p) (sights_of_once q).last) (ended (tally_of (pass_in p))))
+HasRun p q = IsSamePass (pass_in p) (pass_in q) × (known_by q ≡ wrote (looked (known_by p) (sights_of_once q).last) (ended (counts_of (pass_in p))))
 
 -- The pass knows that a closure has ended. It ran none, and has looked; or it ran one, which is the first.
 pub record HasCompleted (p q : OncePass) : Type 0 where
@@ -54,19 +71,24 @@ pub record HasCompleted (p q : OncePass) : Type 0 where
   pub saw : (sights_of_once p).count < (sights_of_once q).count
 
 -- within a call: a closure began, which is the first
-pub record HasBegun (p q : Pass Runs) : Type 0 where
+pub record HasBegun (p q : PlayedPass) : Type 0 where
   pub same : IsSamePass p q
-  pub first : (tally_of p).ended ≡ 0
-  pub begins : view q ≡ wrote (view p) (began (tally_of p))
+  pub first : (counts_of p).ended ≡ 0
+  pub begins : counted q ≡ wrote (counted p) (began (counts_of p))
 
 -- the values at which no closure begins
 abbrev pub IsTaken : ℕ → Type 0
 IsTaken word = word ≢ 0
 
 -- within a call: nothing was counted, and nothing changed but what was seen
-pub record HasOnlyWaited (p q : Pass Runs) : Type 0 where
+pub record HasOnlyWaited (p q : PlayedPass) : Type 0 where
   pub same : IsSamePass p q
   pub part : part_of q ≡ part_of p
-  pub running : (tally_of q).running ≡ (tally_of p).running
-  pub ended : (tally_of q).ended ≡ (tally_of p).ended
+  pub running : (counts_of q).running ≡ (counts_of p).running
+  pub ended : (counts_of q).ended ≡ (counts_of p).ended
   pub saw : (sights_of p).count ≤ (sights_of q).count
+
+-- The pass as a party of the model: there is a run of it, which keeps the once's law, in which a party of the pass has just been answered
+-- so by this call. It is the one call that the pass has made since, as a party that is new.
+abbrev pub HasPlayed : Call ℕ → Answer ℕ → OncePass → OncePass → Type 0
+HasPlayed call answer p q = HasCalled once_table KeepsOnce call answer None (parties_of_once p) (parties_of_once q)

@@ -1,18 +1,46 @@
 //! A closure that runs once. The word is 0 where none has begun, 1 while it runs, and 2 once it has ended.
 //!
-//! It does what `once` of the Rust crate does: calls that meet spin until the closure of one of them has ended.
+//! It does what `once` of the Rust crate does: calls that meet spin until the closure of one of them has ended. It plays its model: a pass
+//! makes the steps that the model's table has.
 #![tactic(auto)]
 
 ghost use Rattle.std.specs.Prelude.{◌≡◌, IfOk};
-ghost use Rattle.passes.specs.Objects.{count_of};
-ghost use Rattle.passes.specs.Passes.{tally_of};
+ghost use Rattle.playing.specs.Passes.{counts_of};
+ghost use Rattle.playing.specs.Stages.{count_of};
 ghost use Rattle.running_once.specs.OnceRule.{OneClosure, KnownHasEnded};
 
-use passes::{Deed, Pass, Rule, Tally, Words};
+use passes::{Deed, Pass, Rule, Tally};
+use playing::{AfterAside, Entry, GoesOn, Played, Script, Stage};
 use std::alloc::{AllocError, Allocator, Global};
 use std::hint::spin_loop;
 use std::sync::Wait;
-use steps_once::begun;
+use steps_once::{OncePlace, begun};
+
+/// The model that a once plays: its one word is the once's.
+pub struct OnceScript;
+
+impl Script<(), OncePlace> for OnceScript {
+    ghost use Rattle.std.specs.Prelude.{[], ◌∷◌};
+    ghost use Rattle.steps_events.specs.declared.event.Word.TheVariants as words;
+    ghost use Rattle.steps_once.specs.Table.{once_table};
+    ghost use Rattle.steps_once.specs.Law.{KeepsOnce};
+    ghost use Rattle.running_once.specs.OnceScript.{once_lawful};
+
+    ghost table = { λ _. once_table };
+
+    ghost law = { λ _. KeepsOnce };
+
+    ghost lawful = { λ _. once_lawful };
+
+    ghost names = { words.State ∷ [] };
+
+    ghost apart = { (tt, tt) };
+
+    ghost handed = { λ _. words.State };
+}
+
+/// What a pass of a once is in its model, and counts and knows beside.
+pub type PlayedOnce = Played<OnceScript, OncePlace, Runs>;
 
 /// What a pass of a once counts and knows. No value of it is made.
 pub struct Runs {
@@ -49,15 +77,15 @@ impl Rule<(), ()> for Runs {
 /// A closure that runs once.
 #[derive(Drop)]
 pub struct Once<A: Allocator = Global> {
-    words: Words<(), Runs, A>,
-    ghost one_word: { count_of words ≡ 1 },
+    stage: Stage<(), OnceScript, OncePlace, Runs, A>,
+    ghost one_word: { count_of stage ≡ 1 },
 }
 
 /// The right to call a once, and what its owner did and saw there. No closure of its owner runs.
 #[derive(Drop)]
 pub struct OncePass {
-    pass: Pass<Runs>,
-    ghost settled: { (tally_of pass).running ≡ 0 },
+    pass: Pass<PlayedOnce>,
+    ghost settled: { (counts_of pass).running ≡ 0 },
 }
 
 /// A load.
@@ -87,13 +115,34 @@ impl Deed<(), Runs> for End {
     ghost tells = { λ _ _ _ before _ after. Stored before after };
 }
 
+/// A `CallOnce` begins.
+struct CallBegins;
+
+impl Entry for CallBegins {
+    ghost use Rattle.steps_events.specs.declared.event.Call.TheVariants as calls;
+    ghost use Rattle.playing.specs.Plays.{Beginning};
+
+    ghost coming = { Beginning calls.CallOnce };
+}
+
+/// An `IsCompleted` begins.
+struct AskingBegins;
+
+impl Entry for AskingBegins {
+    ghost use Rattle.steps_events.specs.declared.event.Call.TheVariants as calls;
+    ghost use Rattle.playing.specs.Plays.{Beginning};
+
+    ghost coming = { Beginning calls.IsCompleted };
+}
+
 impl OncePass {
     ghost use Rattle.std.specs.Prelude.{true, is_ok};
     ghost use Rattle.passes.specs.declared.part.Part.{Part};
     ghost use Rattle.passes.specs.Parts.{half, IsAgain, IsSamePart, AddUp};
     ghost use Rattle.passes.specs.Views.{left_view, right_view, joined_view};
+    ghost use Rattle.playing.specs.Slots.{no_parties, both_parties};
     ghost use Rattle.running_once.specs.OnceRule.{both_runs, known_runs};
-    ghost use Rattle.running_once.specs.OnceShown.{IsOncePass, known_by, part_of_once};
+    ghost use Rattle.running_once.specs.OnceShown.{IsOncePass, known_by, parties_of_once, part_of_once};
 
     /// Two passes of the same once. What they counted adds up to what this one had counted, and both know what it knew; they weigh
     /// together what it weighed. `Err`, which never comes today, would hand the pass back.
@@ -102,10 +151,11 @@ impl OncePass {
         ensures never_refused { is_ok result ≡ true }
         ensures own { IfOk result (λ parts. IsOncePass of.now parts.0 × IsOncePass of.now parts.1) }
         ensures views { IfOk result (λ parts. (known_by parts.0 ≡ left_view (known_by self)) × (known_by parts.1 ≡ right_view known_runs (known_by self))) }
+        ensures parties { IfOk result (λ parts. (parties_of_once parts.0 ≡ parties_of_once self) × (parties_of_once parts.1 ≡ no_parties)) }
         ensures weights { IfOk result (λ parts. AddUp (part_of_once self) (part_of_once parts.0) (part_of_once parts.1)) }
     {
         let OncePass { pass } = self;
-        let Ok((one, other)) = pass.split(&of.words) else {
+        let Ok((one, other)) = pass.split(&of.stage) else {
             unreachable!()
         };
         Ok((OncePass { pass: one }, OncePass { pass: other }))
@@ -122,12 +172,13 @@ impl OncePass {
         ensures never_refused { is_ok result ≡ true }
         ensures own { IfOk result (IsOncePass of.now) }
         ensures views { IfOk result (λ both. known_by both ≡ joined_view both_runs (known_by a) (known_by b)) }
+        ensures parties { IfOk result (λ both. parties_of_once both ≡ both_parties (parties_of_once a) (parties_of_once b)) }
         ensures weights { IfOk result (λ both. AddUp (part_of_once both) (part_of_once a) (part_of_once b)) }
         ensures again { (p : Part) → IsSamePart (part_of_once a) (half p) → IsSamePart (part_of_once b) (half p) → IfOk result (λ both. IsAgain p (part_of_once both)) }
     {
         let OncePass { pass: one } = a;
         let OncePass { pass: other } = b;
-        let Ok(pass) = Pass::join(one, other, &of.words) else {
+        let Ok(pass) = Pass::join(one, other, &of.stage) else {
             unreachable!()
         };
         Ok(OncePass { pass })
@@ -136,22 +187,34 @@ impl OncePass {
 
 impl<A: Allocator> Once<A> {
     ghost use Rattle.std.specs.Fn.{FnOnceTakesAtMut, FnOnceReturnsAtMut};
-    ghost use Rattle.std.specs.Prelude.{IfSome, IfNone, true, false, ◌+◌, ◌*◌, ◌<◌, ◌≢◌, MatchBool};
+    ghost use Rattle.std.specs.Prelude.{IfSome, IfNone, true, false, ◌+◌, ◌*◌, ◌<◌, ◌≢◌, MatchBool, List, [], ◌∷◌};
+    ghost use Rattle.steps_events.specs.declared.event.Word.TheVariants as words;
+    ghost use Rattle.steps_events.specs.declared.event.Call.TheVariants as calls;
+    ghost use Rattle.steps_events.specs.declared.event.Answer.TheVariants as answers;
+    ghost use Rattle.steps_events.specs.declared.row.Intent.TheVariants as intents;
+    ghost use Rattle.steps_once.specs.Table.{once_table};
+    ghost use Rattle.steps_once.specs.Law.{KeepsOnce};
     ghost use Rattle.passes.specs.Parts.{IsWhole};
     ghost use Rattle.passes.specs.Views.{first_view};
-    ghost use Rattle.passes.specs.Objects.{IsPassOf};
     ghost use Rattle.passes.specs.Sights.{HasLooked};
-    ghost use Rattle.passes.specs.Passes.{view, part_of, sights_of, IsSamePass, HasDone};
+    ghost use Rattle.passes.specs.Passes.{part_of, sights_of, IsSamePass};
+    ghost use Rattle.playing.specs.Slots.{Slot, no_parties};
+    ghost use Rattle.playing.specs.Plays.{MayStep, Went};
+    ghost use Rattle.playing.specs.Passes.{parties_of, counted};
+    ghost use Rattle.playing.specs.Counts.{HasDone};
+    ghost use Rattle.playing.specs.Stages.{IsPassOf};
     ghost use Rattle.running_once.specs.OnceRule.{no_runs, ended, Amounts, Loaded};
-    ghost use Rattle.running_once.specs.OnceShown.{IsOncePass, IsComplete, HasSeenOnce, HasCompleted, HasBegun, HasOnlyWaited, IsTaken, known_by, part_of_once, sights_of_once, ended_of};
+    ghost use Rattle.running_once.specs.OnceParties.{ComesToBegin, IsRunning, ComesToStay, HasLeft, WhereBegins, WhereRuns, WhereStays};
+    ghost use Rattle.running_once.specs.OnceShown.{IsOncePass, IsComplete, HasSeenOnce, HasCompleted, HasBegun, HasOnlyWaited, HasPlayed, IsTaken, known_by, parties_of_once, part_of_once, sights_of_once, ended_of};
 
     /// A once whose closure has not run, and the pass that is whole. `Err` where there was no memory; then nothing was made.
     pub fn new(alloc: A) -> Result<(Once<A>, OncePass), AllocError>
         ensures own { IfOk result (λ made. IsOncePass made.0 made.1) }
         ensures first { IfOk result (λ made. known_by made.1 ≡ first_view no_runs) }
+        ensures nobody { IfOk result (λ made. parties_of_once made.1 ≡ no_parties) }
     {
-        let (words, pass) = Words::new(alloc, &[0], &())?;
-        Ok((Once { words }, OncePass { pass }))
+        let (stage, pass) = Stage::new(alloc, &[0], &())?;
+        Ok((Once { stage }, OncePass { pass }))
     }
 
     /// Runs the closure, if no other has begun; else lets it go, and comes back once the one that began has ended. A closure that
@@ -164,6 +227,7 @@ impl<A: Allocator> Once<A> {
         ensures ran { ended_of pass.old < ended_of pass.new → F.post f tt }
         ensures kept { IsComplete pass.old → HasSeenOnce pass.old pass.new }
         ensures exact { IsWhole (part_of_once pass.old) → ended_of pass.new ≡ 1 }
+        ensures played { HasPlayed calls.CallOnce answers.Done pass.old pass.new }
     {
         self.call_once_on(
             rt,
@@ -196,12 +260,13 @@ impl<A: Allocator> Once<A> {
         ensures let_go { IfNone result ((ended_of pass.new ≡ ended_of pass.old) × (on.new ≡ on.old)) }
         ensures kept { IsComplete pass.old → HasSeenOnce pass.old pass.new }
         ensures exact { IsWhole (part_of_once pass.old) → ended_of pass.new ≡ 1 }
+        ensures played { HasPlayed calls.CallOnce answers.Done pass.old pass.new }
     {
-        if self.look(&mut pass.pass) == COMPLETE {
+        if self.look::<CallBegins>(&mut pass.pass) == COMPLETE {
             return None;
         }
         if self.begin(&mut pass.pass) {
-            let given = f(on);
+            let given = self.stage.run(&pass.pass, on, f);
             self.end(&mut pass.pass);
             return Some(given);
         }
@@ -218,19 +283,22 @@ impl<A: Allocator> Once<A> {
         ensures complete { result ≡ true → IsComplete pass.new }
         ensures known { IsComplete pass.old → result ≡ true }
         ensures exact { IsWhole (part_of_once pass.old) → MatchBool result (ended_of pass.old ≡ 1) (ended_of pass.old ≡ 0) }
+        ensures played { HasPlayed calls.IsCompleted (answers.Flag result) pass.old pass.new }
     {
-        self.look(&mut pass.pass) == COMPLETE
+        self.look::<AskingBegins>(&mut pass.pass) == COMPLETE
     }
 
     /// Looks until the word says that a closure has ended.
-    fn stay<R: Wait>(&self, rt: &R, pass: &mut Pass<Runs>)
-        requires own { IsPassOf self.now.words pass.old }
+    fn stay<R: Wait>(&self, rt: &R, pass: &mut Pass<PlayedOnce>)
+        requires own { IsPassOf self.now.stage pass.old }
+        requires comes { (done : List Slot) × ComesToStay done (parties_of pass.old) }
         ensures stayed { HasOnlyWaited pass.old pass.new }
-        ensures complete { (tally_of pass.new).complete ≡ true }
-        ensures alone { IsWhole (part_of pass.old) → Amounts 2 (tally_of pass.old) }
+        ensures complete { (counts_of pass.new).complete ≡ true }
+        ensures alone { IsWhole (part_of pass.old) → Amounts 2 (counts_of pass.old) }
+        ensures left { WhereStays (parties_of pass.old) (λ done. HasLeft done (parties_of pass.new)) }
     {
         for _ in rt.forever() {
-            if self.look(pass) == COMPLETE {
+            if self.look::<GoesOn>(pass) == COMPLETE {
                 return;
             }
             spin_loop();
@@ -241,33 +309,40 @@ impl<A: Allocator> Once<A> {
     /// A load.
     #[tactic(auto, using(crate::proofs::OnceKeeps::loads))]
     #[inline(always)]
-    fn look(&self, pass: &mut Pass<Runs>) -> u64
-        requires own { IsPassOf self.now.words pass.old }
+    fn look<E: Entry>(&self, pass: &mut Pass<PlayedOnce>) -> u64
+        requires own { IsPassOf self.now.stage pass.old }
+        requires may { MayStep once_table KeepsOnce (words.State ∷ []) E.coming 0 (λ w. intents.Load w) (parties_of pass.old) }
         ensures same { IsSamePass pass.old pass.new }
-        ensures told { Loaded (view pass.old) result (view pass.new) }
+        ensures told { Loaded (counted pass.old) result (counted pass.new) }
+        ensures went { Went once_table KeepsOnce E.coming (parties_of pass.old) result (parties_of pass.new) }
     {
-        self.words.load::<Look>(pass, 0)
+        self.stage.load::<E, Look>(pass, 0)
     }
 
     /// An exchange of 0 for 1, and whether it was done.
     #[inline(always)]
-    fn begin(&self, pass: &mut Pass<Runs>) -> bool
-        requires own { IsPassOf self.now.words pass.old }
+    fn begin(&self, pass: &mut Pass<PlayedOnce>) -> bool
+        requires own { IsPassOf self.now.stage pass.old }
+        requires comes { (done : List Slot) × ComesToBegin done (parties_of pass.old) }
         ensures begun { MatchBool result (HasBegun pass.old pass.new) (HasOnlyWaited pass.old pass.new) }
         ensures refused { result ≡ false → HasLooked IsTaken 1 (sights_of pass.old) (sights_of pass.new) }
+        ensures runs { result ≡ true → WhereBegins (parties_of pass.old) (λ done. IsRunning done (parties_of pass.new)) }
+        ensures stays { result ≡ false → WhereBegins (parties_of pass.old) (λ done. ComesToStay done (parties_of pass.new)) }
     {
-        self.words.compare_exchange::<Begin>(pass, 0, 0, running()) == 0
+        self.stage.exchange::<GoesOn, Begin>(pass, 0, 0, running()) == 0
     }
 
-    /// A store of 2, by the pass whose closure runs.
+    /// A store of 2, by the pass whose closure has ended.
     #[tactic(auto, using(crate::proofs::OnceKeeps::stores))]
     #[inline(always)]
-    fn end(&self, pass: &mut Pass<Runs>)
-        requires own { IsPassOf self.now.words pass.old }
-        requires on { (tally_of pass.old).running ≡ 1 }
+    fn end(&self, pass: &mut Pass<PlayedOnce>)
+        requires own { IsPassOf self.now.stage pass.old }
+        requires on { (counts_of pass.old).running ≡ 1 }
+        requires runs { (done : List Slot) × IsRunning done (parties_of pass.old) }
         ensures ended { HasDone ended pass.old pass.new }
+        ensures left { WhereRuns (parties_of pass.old) (λ done. HasLeft done (parties_of pass.new)) }
     {
-        self.words.store::<End>(pass, 0, COMPLETE);
+        self.stage.store::<AfterAside, End>(pass, 0, COMPLETE);
     }
 }
 

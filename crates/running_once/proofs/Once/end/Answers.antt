@@ -1,0 +1,8 @@
+use Rattle.running_once.proofs.OncePlays.{may_complete, completes}
+use Rattle.running_once.proofs.Once.end.Goals as goal
+
+pub store-requires-clause-may : goal.store-requires-clause-may
+store-requires-clause-may g c = may_complete c.requires.runs.0 _ c.requires.runs.1
+
+pub returns-clause-left : goal.returns-clause-left
+returns-clause-left g c = λ done at. completes done _ _ at c.store.ensures.went
