@@ -9,5 +9,3 @@ pub mod Opening
 pub mod Attempts
 pub mod Patience
 pub mod Holding
-pub mod Counter
-pub mod Endings

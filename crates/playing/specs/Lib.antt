@@ -7,5 +7,3 @@ pub mod Stages
 pub mod Counts
 pub mod Tries
 pub mod Holding
-pub mod Counter
-pub mod Ending

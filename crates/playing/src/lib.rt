@@ -8,8 +8,6 @@ mod entry;
 mod played;
 mod script;
 mod stage;
-#[cfg(test)]
-mod tests;
 mod wait;
 
 pub use attempt::{Attempt, ask, try_again};

@@ -1,0 +1,37 @@
+-- The steps of the tests' counter are those of its table.
+use Rattle.std.proofs.Common.{◌≡◌, ℕ, refl, List, [], ◌∷◌, Some, None}
+use mathlib.Core.Option as maybe
+use Rattle.steps_events.specs.declared.event.Word.{Word}
+use Rattle.steps_events.specs.declared.event.Word.TheVariants as words
+use Rattle.steps_events.specs.declared.event.Call.{Call}
+use Rattle.steps_events.specs.declared.row.Intent.{Intent}
+use Rattle.steps_events.specs.Integers.{u64_arithmetic}
+use Rattle.steps_events.specs.Moves.{hold_fault, CallValues}
+use Rattle.passes.specs.declared.view.View.{View}
+use Rattle.passes.specs.Views.{Updates}
+use Rattle.playing.specs.Slots.{Parties, all_of}
+use Rattle.playing.specs.Words.{IsStepOn}
+use Rattle.playing.specs.Plays.{Beginning, ComesBy, MayStep}
+use Rattle.pass_tests.specs.Staging.{counter_begins, counter_table, KeepsNothing}
+
+pub begins : (call : Call ℕ) (place : Intent ℕ) (p : Parties) → counter_begins call ≡ Some place → hold_fault counter_table call None ≡ None → CallValues u64_arithmetic call →
+    ComesBy counter_table KeepsNothing (Beginning call) call place None (all_of p) p
+begins call place p is free values = (refl, record { may = record { begins = is; free = free; values = values }; new = refl; others = refl })
+
+pub may : (call : Call ℕ) (intent : Word → Intent ℕ) (p : Parties) → counter_begins call ≡ Some (intent words.State) → hold_fault counter_table call None ≡ None → CallValues u64_arithmetic call →
+    IsStepOn words.State (intent words.State) → MayStep counter_table KeepsNothing (words.State ∷ []) (Beginning call) 0 intent p
+may call intent p is free values on = record {
+  call = call;
+  place = intent words.State;
+  hold = None;
+  done = all_of p;
+  comes = begins call (intent words.State) p is free values;
+  name = words.State;
+  named = refl;
+  intends = refl;
+  on = on;
+}
+
+pub counts_nothing : (v : View (Unit {0})) (i : ℕ) (f : ℕ → ℕ) →
+    Updates tt (λ (_ _ : Unit {0}). tt) (λ (_ : List ℕ) (_ : List (maybe.Option (Unit {0}))) (_ : Unit {0}). Unit {0}) v i f (λ (_ : ℕ) (_ : View (Unit {0})). Unit {0})
+counts_nothing v i f = record { may = λ found homes rest is alone fits. (v, refl, tt, tt) }

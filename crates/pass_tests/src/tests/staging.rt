@@ -1,0 +1,219 @@
+//! Each step once, by a counter that plays a model of one step a call, and counts nothing beside. And a call that ends a closure between
+//! two steps.
+ghost use Rattle.std.specs.Prelude.{◌≡◌, None};
+ghost use Rattle.steps_events.specs.declared.event.Call.TheVariants as calls;
+ghost use Rattle.steps_events.specs.declared.event.Answer.TheVariants as answers;
+ghost use Rattle.passes.specs.Passes.{IsSamePass};
+ghost use Rattle.playing.specs.Slots.{Parties};
+ghost use Rattle.playing.specs.Passes.{parties_of};
+ghost use Rattle.playing.specs.Stages.{IsPassOf, count_of};
+ghost use Rattle.playing.specs.Plays.{HasCalled};
+ghost use Rattle.pass_tests.specs.Ending.{ending_table};
+ghost use Rattle.pass_tests.specs.Staging.{counter_table, KeepsNothing};
+
+use passes::{Deed, Pass, Rule, Tally};
+use playing::{AddEntry, AfterAside, Entry, Played, Script, Stage};
+use std::marker::{Model, PhantomData};
+use std::test::Fail;
+use steps_events::row::Intent;
+
+/// The model of the counter.
+struct CounterScript;
+
+impl Script<(), Intent<u64>> for CounterScript {
+    ghost use Rattle.std.specs.Prelude.{[], ◌∷◌};
+    ghost use Rattle.steps_events.specs.declared.event.Word.TheVariants as words;
+    ghost use Rattle.pass_tests.specs.Staging.{counter_table, KeepsNothing};
+
+    ghost table = { λ _. counter_table };
+
+    ghost law = { λ _. KeepsNothing };
+
+    ghost lawful = { λ _ _ _ _. tt };
+
+    ghost names = { words.State ∷ [] };
+
+    ghost apart = { (tt, tt) };
+
+    ghost handed = { λ _. words.State };
+}
+
+/// What a pass counts beside: nothing. No value of it is made.
+struct Nothing {
+    of: PhantomData<()>,
+}
+
+impl Model for Nothing {
+    ghost Value = { Unit {0} };
+
+    ghost view = { λ _. tt };
+}
+
+impl Tally for Nothing {
+    ghost use Rattle.pass_tests.specs.Staging.{nothing_adds_up};
+
+    ghost none = { tt };
+
+    ghost add = { λ _ _. tt };
+
+    ghost core = { λ _. tt };
+
+    ghost adds_up = { nothing_adds_up };
+}
+
+impl Rule<(), ()> for Nothing {
+    ghost first = { λ _. tt };
+
+    ghost agrees = { λ _ _ _ _. Unit {0} };
+}
+
+/// A step that tells nothing beside.
+struct Untold;
+
+impl Deed<(), Nothing> for Untold {
+    ghost tells = { λ _ _ _ _ _ _. Unit {0} };
+}
+
+struct Looks;
+
+impl Entry for Looks {
+    ghost use Rattle.steps_events.specs.declared.event.Call.TheVariants as calls;
+    ghost use Rattle.playing.specs.Plays.{Beginning};
+
+    ghost coming = { Beginning calls.Value };
+}
+
+struct Adds;
+
+impl AddEntry for Adds {
+    ghost use Rattle.steps_events.specs.declared.event.Call.TheVariants as calls;
+    ghost use Rattle.playing.specs.Plays.{Beginning};
+
+    ghost coming = { λ more. Beginning (calls.Post more) };
+}
+
+struct Subtracts;
+
+impl Entry for Subtracts {
+    ghost use Rattle.steps_events.specs.declared.event.Call.TheVariants as calls;
+    ghost use Rattle.playing.specs.Plays.{Beginning};
+
+    ghost coming = { Beginning calls.TryWait };
+}
+
+struct Clears;
+
+impl Entry for Clears {
+    ghost use Rattle.steps_events.specs.declared.event.Call.TheVariants as calls;
+    ghost use Rattle.playing.specs.Plays.{Beginning};
+
+    ghost coming = { Beginning calls.NotifyAll };
+}
+
+struct Tries;
+
+impl Entry for Tries {
+    ghost use Rattle.steps_events.specs.declared.event.Call.TheVariants as calls;
+    ghost use Rattle.playing.specs.Plays.{Beginning};
+
+    ghost coming = { Beginning calls.TryLock };
+}
+
+type Counter = Stage<(), CounterScript, Intent<u64>, Nothing>;
+
+type CounterPass = Pass<Played<CounterScript, Intent<u64>, Nothing>>;
+
+/// Adds 7 to the counter, takes 1 away again, and looks.
+fn count(counter: &Counter, pass: &mut CounterPass) -> u64
+    requires own { IsPassOf counter.now pass.old }
+    requires one_word { count_of counter.now ≡ 1 }
+    ensures same { IsSamePass pass.old pass.new }
+    ensures looked { (before : Parties) × HasCalled counter_table KeepsNothing calls.Value (answers.Number result) None before (parties_of pass.new) }
+{
+    counter.add::<Adds, Untold>(pass, 0, 7);
+    counter.subtract::<Subtracts, Untold>(pass, 0, 1);
+    counter.load::<Looks, Untold>(pass, 0)
+}
+
+/// Stores 0, and puts 1 where it finds 0.
+fn clear_and_try(counter: &Counter, pass: &mut CounterPass) -> u64
+    requires own { IsPassOf counter.now pass.old }
+    requires one_word { count_of counter.now ≡ 1 }
+    ensures same { IsSamePass pass.old pass.new }
+{
+    counter.store::<Clears, Untold>(pass, 0, 0);
+    counter.exchange::<Tries, Untold>(pass, 0, 0, 1)
+}
+
+#[test]
+fn a_counter_plays_its_model(rt: HostRuntime) -> Result<(), Fail> {
+    let (counter, mut pass) = Stage::new(rt.alloc(), &[0], &())?;
+    assert_eq!(rt; count(&counter, &mut pass), 6);
+    assert_eq!(rt; counter.word(0).load(), 6);
+    assert_eq!(rt; clear_and_try(&counter, &mut pass), 0);
+    assert_eq!(rt; counter.close(pass, 0), 1);
+    Ok(())
+}
+
+/// The model of a call that ends a closure.
+struct EndingScript;
+
+impl Script<(), Intent<u64>> for EndingScript {
+    ghost use Rattle.std.specs.Prelude.{[], ◌∷◌};
+    ghost use Rattle.steps_events.specs.declared.event.Word.TheVariants as words;
+    ghost use Rattle.pass_tests.specs.Staging.{KeepsNothing};
+    ghost use Rattle.pass_tests.specs.Ending.{ending_table};
+
+    ghost table = { λ _. ending_table };
+
+    ghost law = { λ _. KeepsNothing };
+
+    ghost lawful = { λ _ _ _ _. tt };
+
+    ghost names = { words.State ∷ [] };
+
+    ghost apart = { (tt, tt) };
+
+    ghost handed = { λ _. words.State };
+}
+
+struct Calls;
+
+impl Entry for Calls {
+    ghost use Rattle.steps_events.specs.declared.event.Call.TheVariants as calls;
+    ghost use Rattle.playing.specs.Plays.{Beginning};
+
+    ghost coming = { Beginning calls.CallOnce };
+}
+
+type Ending = Stage<(), EndingScript, Intent<u64>, Nothing>;
+
+type EndingPass = Pass<Played<EndingScript, Intent<u64>, Nothing>>;
+
+/// Looks, runs a closure to its end, and stores 7.
+fn run_and_store(ending: &Ending, pass: &mut EndingPass) -> u64
+    requires own { IsPassOf ending.now pass.old }
+    requires one_word { count_of ending.now ≡ 1 }
+    ensures same { IsSamePass pass.old pass.new }
+    ensures gave { result ≡ 5 }
+    ensures played { HasCalled ending_table KeepsNothing calls.CallOnce answers.Done None (parties_of pass.old) (parties_of pass.new) }
+{
+    ending.load::<Calls, Untold>(pass, 0);
+    let given = ending.run(
+        pass,
+        &mut (),
+        |_: &mut ()| -> u64
+            ensures { result ≡ 5 }
+        { 5 },
+    );
+    ending.store::<AfterAside, Untold>(pass, 0, 7);
+    given
+}
+
+#[test]
+fn a_call_ends_its_closure_between_two_steps(rt: HostRuntime) -> Result<(), Fail> {
+    let (ending, mut pass) = Stage::new(rt.alloc(), &[0], &())?;
+    assert_eq!(rt; run_and_store(&ending, &mut pass), 5);
+    assert_eq!(rt; ending.word(0).load(), 7);
+    Ok(())
+}

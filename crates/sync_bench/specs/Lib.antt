@@ -1,7 +1,0 @@
-pub mod Lines
-pub mod Faults
-pub mod Rounds
-pub mod Figures
-pub mod Columns
-pub mod Table
-pub mod Runs
