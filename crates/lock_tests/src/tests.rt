@@ -3,3 +3,4 @@ mod condition_variable;
 mod mutex;
 mod rwreader;
 mod rwwriter;
+mod sleepers;

@@ -23,10 +23,15 @@ impl Signal {
         self.given.store(true, Ordering::SeqCst);
     }
 
+    /// Whether it is given.
+    pub fn is_given(&self) -> bool {
+        self.given.load(Ordering::SeqCst)
+    }
+
     /// Yields until the signal is given, a million times at most, and tells whether it was.
     pub fn awaited(&self) -> bool {
         for _ in 0..1_000_000u64 {
-            if self.given.load(Ordering::SeqCst) {
+            if self.is_given() {
                 return true;
             }
             thread::yield_now();

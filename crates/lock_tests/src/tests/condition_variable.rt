@@ -302,7 +302,7 @@ fn wait_twice<R: Wait>(
 }
 
 /// Locks, waits with these closures, and unlocks. Whether the wait took a permit, where it has the mutex.
-fn wait_once<R: Wait, K: Fn(&WaitWord), W: Fn(&WaitWord, &u64) -> WaitAction>(
+pub(super) fn wait_once<R: Wait, K: Fn(&WaitWord), W: Fn(&WaitWord, &u64) -> WaitAction>(
     rt: &R,
     cond: &ConditionVariable,
     pass: &mut CondPass,

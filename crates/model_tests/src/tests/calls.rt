@@ -63,13 +63,19 @@ fn a_machine_begins_the_calls_of_its_object(rt: HostRuntime) -> Result<(), Fail>
                 Ok(_) => None,
                 Err(fault) => Some(fault),
             };
-            assert_eq!(rt; refused != Some(StepFault::OtherObject), has_call(&object, &call));
-            assert_eq!(rt; refused == Some(StepFault::NoHold), needs_hold(&object, &call));
+            assert_eq!(rt;
+                refused != Some(StepFault::OtherObject),
+                has_call(&object, &call)
+            );
+            assert_eq!(rt;
+                refused == Some(StepFault::NoHold),
+                needs_hold(&object, &call)
+            );
             if refused != Some(StepFault::OtherObject) {
-                begun += 1;
+                begun = begun.wrapping_add(1);
             }
             if refused == Some(StepFault::NoHold) {
-                without += 1;
+                without = without.wrapping_add(1);
             }
         }
         assert_eq!(rt; (begun, without), (has, needs));

@@ -83,20 +83,19 @@ fn events_that_find_no_memory(rt: HostRuntime) -> Result<(), Fail> {
     assert_eq!(rt; machine.failed(), 1);
     let schedule = rounds(rt.alloc(), 20)?;
     let before = reads(&machine);
-    let mut refused = 0;
     for blocks in 0..4096usize {
         let heap = LocalHeap::new(rt.alloc(), 16 * blocks)?;
         match play(&heap, &mut machine, &schedule) {
             Ok(events) => {
+                assert!(rt; blocks > 100);
                 assert_eq!(rt; events.len(), schedule.len());
-                break;
+                return Ok(());
             }
-            Err(PlayFault::Memory) => refused += 1,
+            Err(PlayFault::Memory) => {}
             Err(PlayFault::Step { .. }) => return Err("it is allowed")?,
         }
         assert_eq!(rt; heap.used(), 0);
         assert_eq!(rt; reads(&machine), before);
     }
-    assert!(rt; refused > 100);
-    Ok(())
+    Err("no heap is enough")?
 }
