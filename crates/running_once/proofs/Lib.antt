@@ -1,2 +1,3 @@
 pub mod OnceKeeps
 pub mod OncePlays
+pub mod OnceAnswers

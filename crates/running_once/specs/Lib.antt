@@ -3,3 +3,4 @@ pub mod OnceRule
 pub mod OnceTally
 pub mod OnceParties
 pub mod OnceShown
+pub mod OnceLaws

@@ -8,6 +8,7 @@ ghost use Rattle.std.specs.Prelude.{◌≡◌, IfOk};
 ghost use Rattle.playing.specs.Passes.{counts_of};
 ghost use Rattle.playing.specs.Stages.{count_of};
 ghost use Rattle.running_once.specs.OnceRule.{OneClosure, KnownHasEnded};
+ghost use Rattle.running_once.specs.OnceLaws.{DoneComesAfterTheEnd, TrueComesAfterTheEnd};
 
 use passes::{Deed, Pass, Rule, Tally};
 use playing::{AfterAside, Entry, GoesOn, Played, Script, Stage};
@@ -366,4 +367,12 @@ fn running() -> u64
 pub fn one_closure_at_most()
     ensures one { OneClosure }
     ensures known { KnownHasEnded }
+{}
+
+/// In the run in which a `CallOnce` was answered `Done`, or an `IsCompleted` `true`, the closure had ended before. Says so of the model
+/// alone, and does nothing.
+#[tactic(auto, using(crate::proofs::OnceAnswers::done_comes_after, crate::proofs::OnceAnswers::true_comes_after))]
+pub fn answers_come_after_the_end()
+    ensures done { DoneComesAfterTheEnd }
+    ensures flag { TrueComesAfterTheEnd }
 {}
