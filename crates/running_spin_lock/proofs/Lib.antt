@@ -1,3 +1,4 @@
-pub mod SpinKeeps
+pub mod ValueKeeps
+pub mod SpinPlays
 pub mod SpinSights
 pub mod SameGuard
