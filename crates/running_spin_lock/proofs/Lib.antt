@@ -1,4 +1,5 @@
 pub mod ValueKeeps
+pub mod ValueSights
 pub mod SpinPlays
 pub mod SpinSights
 pub mod SameGuard
