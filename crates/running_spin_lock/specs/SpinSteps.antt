@@ -1,11 +1,15 @@
 -- What a step on the word of a spin lock changes in what a seat knows, and what the seat is in the model.
-use Rattle.std.specs.Prelude.{ℕ, Option}
+use Rattle.std.specs.Prelude.{ℕ, Option, Some}
 use Rattle.steps_events.specs.declared.event.Call.{Call}
 use Rattle.steps_events.specs.declared.event.Answer.{Answer}
+use Rattle.steps_events.specs.declared.event.Answer.TheVariants as answers
 use Rattle.steps_events.specs.declared.hold.HoldKind.{HoldKind}
+use Rattle.steps_events.specs.declared.hold.HoldKind.TheVariants as kinds
 use Rattle.steps_spin.specs.Table.{spin_table}
 use Rattle.steps_spin.specs.Law.{KeepsSpin}
 use Rattle.passes.specs.Sights.{seen}
+use Rattle.playing.specs.Slots.{Parties}
+use Rattle.playing.specs.Plays.{HasCalled}
 use Rattle.running_spin_lock.specs.ValueSteps.{Sees, Plays}
 use Rattle.running_spin_lock.specs.SpinRule.{SpinView}
 use Rattle.running_spin_lock.specs.SpinParties.{Unlocks}
@@ -24,3 +28,7 @@ HasPlayed call answer hold v w = Plays spin_table KeepsSpin call answer hold v w
 -- the party that had the lock has begun an `Unlock`, stored 0 and was answered `Done`
 abbrev pub HasPlayedUnlock : SpinView → SpinView → Type 0
 HasPlayedUnlock v w = Unlocks v.tally.parties w.tally.parties
+
+-- the pass has made this call, which was granted, and then, as that party, an `Unlock`
+abbrev pub HasPlayedBoth : Call ℕ → SpinView → SpinView → Type 0
+HasPlayedBoth call v w = (held : Parties) × HasCalled spin_table KeepsSpin call answers.Success (Some kinds.Write) v.tally.parties held × Unlocks held w.tally.parties
