@@ -30,7 +30,7 @@ TESTED = {
     "sync_steps Machine::new": "a_machine_that_finds_no_memory",
     "sync_steps play": "events_that_find_no_memory",
     # What the running types are made of: each `new` above is one of these.
-    "passes Words::new": "a_once_that_finds_no_memory",
+    "passes Words::new": "an_atomic_that_finds_no_memory",
     "playing Stage::new": "a_mutex_that_finds_no_memory",
 }
 

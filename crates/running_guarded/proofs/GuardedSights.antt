@@ -1,11 +1,10 @@
 -- What becomes of what a pass knows over several exchanges.
-use Rattle.std.proofs.Common.{◌≡◌, ◌≤◌, ◌<◌, ℕ, ◌+◌, [], ◌∷◌, refl, ap, ◌∙◌, subst, arith}
+use Rattle.std.proofs.Common.{◌≡◌, ◌≤◌, ◌<◌, ℕ, ◌+◌, [], ◌∷◌, refl, ap, subst, arith}
 use Rattle.std.specs.Prelude.{Bool, true, false, MatchBool, Some, None, List}
 use Rattle.std.specs.Borrow.{Bor}
 use Rattle.std.specs.Fn.{Shared}
-use Rattle.passes.specs.declared.part.Sights.{Sights}
+use Rattle.passes.specs.Sights.{seen_instead}
 use Rattle.passes.specs.Answers.{MayAnswerContinue}
-use Rattle.passes.proofs.Attempts.{read_twice, read_and_written}
 use Rattle.steps_events.specs.declared.WaitAction.{WaitAction}
 use Rattle.steps_events.specs.declared.event.Call.TheVariants as calls
 use Rattle.steps_events.specs.declared.event.Word.TheVariants as words
@@ -20,50 +19,29 @@ use Rattle.playing.specs.Slots.{Slot, all_of}
 use Rattle.playing.specs.Plays.{Coming, Going, Beginning, Answered, ComesBy, MayStep}
 use Rattle.playing.specs.Tries.{spun, IsGranted, IsRefused, IsStanding}
 use Rattle.playing.proofs.Patience.{spins_on, stands, tries_on}
-use Rattle.tallies.specs.declared.mutex.Holds.{Holds}
 use Rattle.running_mutex.specs.MutexParties.{HasMutex}
 use Rattle.running_mutex.specs.MutexShown.{IsLocked}
-use Rattle.running_mutex.specs.MutexSteps.{granted}
 use Rattle.running_mutex.proofs.MutexPlays.{may_lock, lock_begins, lock_goes, granted_has}
 use Rattle.running_guarded.specs.GuardedRule.{MutexView}
-use Rattle.running_guarded.specs.GuardedSteps.{Locks, SeesLocked, Tries, Enters, SeesLockedOften, GivesUp}
+use Rattle.running_spin_lock.specs.ValueSteps.{Locks, Enters}
+use Rattle.running_spin_lock.proofs.ValueSights as values
+use Rattle.running_guarded.specs.GuardedSteps.{SeesLocked, Tries, SeesLockedOften, GivesUp}
 
 pub sees_none : (v : MutexView) → IsLocked v.sights.last → SeesLockedOften 0 v v
-sees_none v last = record { only = record { counts = refl; part = refl; saw = record { more = omega arith; still = λ _. refl } }; count = omega arith; last = last }
+sees_none v last = record { only = values.sees_none v; count = omega arith; last = last }
 
 pub sees_once : (v w : MutexView) → SeesLocked v w → SeesLockedOften 1 v w
-sees_once v w is = let count = ap (λ u. u.sights.count) is in record {
-  only = record { counts = ap (λ u. u.tally) is; part = ap (λ u. u.part) is; saw = record { more = omega (arith, count); still = λ same. absurd (omega (arith, count, same)) } };
-  count = count;
-  last = ap (λ u. u.sights.last) is;
-}
+sees_once v w is = record { only = values.sees_now (λ s. seen_instead s 0 1) (λ s. refl) v w is; count = ap (λ u. u.sights.count) is; last = ap (λ u. u.sights.last) is }
 
 pub sees_on : (n m : ℕ) (u v w : MutexView) → SeesLockedOften n u v → SeesLockedOften m v w → SeesLockedOften (n + m) u w
-sees_on n m u v w first second = let one = first.count in let two = second.count in record {
-  only = record {
-    counts = second.only.counts ∙ first.only.counts;
-    part = second.only.part ∙ first.only.part;
-    saw = read_twice u.sights v.sights w.sights first.only.saw second.only.saw;
-  };
-  count = omega (arith, one, two);
-  last = second.last;
-}
+sees_on n m u v w first second = let one = first.count in let two = second.count in
+    record { only = values.sees_later u v w first.only second.only; count = omega (arith, one, two); last = second.last }
 
 pub enters_now : (v w : MutexView) → Locks v w → Enters v w
-enters_now v w locks = let count = ap (λ u. u.sights.count) locks.1 in record {
-  off = locks.0;
-  on = ap (λ u. u.tally) locks.1;
-  part = ap (λ u. u.part) locks.1;
-  saw = record { more = omega (arith, count); not_fresh = ap (λ u. u.sights.fresh) locks.1; still = λ _. ap (λ u. u.sights) locks.1 };
-}
+enters_now v w locks = values.enters_now v w locks
 
 pub enters_later : (n : ℕ) (u v w : MutexView) → SeesLockedOften n u v → Enters v w → Enters u w
-enters_later n u v w seen enters = record {
-  off = subst (λ (t : Holds). t.holds ≡ 0) seen.only.counts enters.off;
-  on = enters.on ∙ ap granted seen.only.counts;
-  part = enters.part ∙ seen.only.part;
-  saw = read_and_written u.sights v.sights w.sights seen.only.saw enters.saw;
-}
+enters_later n u v w seen enters = values.enters_later u v w seen.only enters
 
 -- so far it was seen locked once after each answer of the wait closure, and each was Continue
 pub record GoesOn {F W : Type 0} (g : Shared F (Bor W × (Bor ℕ × Unit {0})) WaitAction) (wait : F) (v w : MutexView) : Type 0 where

@@ -1,4 +1,3 @@
-pub mod GuardedKeeps
 pub mod GuardedSights
 pub mod SameGuard
 pub mod Acting

@@ -6,7 +6,7 @@ use Rattle.std.proofs.Math.Bridge.{le_prop}
 use base.Stored.{Coded-set}
 use Rattle.atomic_table.specs.Seated.{table_id_coded}
 use Rattle.running_mutex.specs.MutexParties.{HasMutex}
-use Rattle.running_spin_lock.specs.SpinSteps.{has_vacant_slot}
+use Rattle.running_spin_lock.specs.ValueSteps.{has_vacant_slot}
 use Rattle.running_guarded.specs.declared.guard.Guard.{Guard}
 use Rattle.running_guarded.specs.GuardedShown.{guard_with}
 

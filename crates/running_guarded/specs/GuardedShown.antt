@@ -1,21 +1,20 @@
 -- What contracts see of a guarded value, its pass and its guard, and what a call changes in a pass.
-use Rattle.std.specs.Prelude.{◌≡◌, ℕ, ◌+◌, ◌<◌, ◌≤◌, Option}
+use Rattle.std.specs.Prelude.{◌≡◌, ℕ, ◌+◌, ◌<◌, ◌≤◌}
 use Rattle.std.specs.Borrow.{GName, Bor}
 use Rattle.std.specs.Fn.{Shared}
 use Rattle.atomic_table.specs.Seated.{TableId}
 use Rattle.steps_events.specs.declared.WaitAction.{WaitAction}
-use Rattle.steps_events.specs.declared.event.Call.{Call}
-use Rattle.steps_events.specs.declared.event.Answer.{Answer}
-use Rattle.steps_events.specs.declared.hold.HoldKind.{HoldKind}
 use Rattle.passes.specs.declared.part.Part.{Part}
 use Rattle.passes.specs.declared.part.Sights.{Sights}
 use Rattle.passes.specs.Parts.{IsWhole}
 use Rattle.passes.specs.Sights.{HasWritten}
+use Rattle.running_spin_lock.specs.ValueRule.{view_in}
+use Rattle.running_spin_lock.specs.ValueSteps.{Locks, Lets, Enters}
 use Rattle.running_guarded.specs.declared.pass.GuardedPass.{GuardedPass}
 use Rattle.running_guarded.specs.declared.guard.Guard.{Guard}
 use Rattle.running_guarded.specs.declared.guarded.Guarded.{Guarded}
-use Rattle.running_guarded.specs.GuardedRule.{MutexView, view_in}
-use Rattle.running_guarded.specs.GuardedSteps.{Locks, SeesLocked, Lets, Enters, GivesUp, Plays, PlaysUnlock}
+use Rattle.running_guarded.specs.GuardedRule.{MutexView}
+use Rattle.running_guarded.specs.GuardedSteps.{SeesLocked, GivesUp}
 
 -- which value the pass belongs to, and which of its passes it is
 abbrev pub object_of : GuardedPass → TableId

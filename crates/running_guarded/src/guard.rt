@@ -1,6 +1,6 @@
 //! What a holder has.
 ghost use Rattle.std.specs.Prelude.{◌≡◌, ◌<◌, true};
-ghost use Rattle.running_spin_lock.specs.SpinSteps.{has_vacant_slot};
+ghost use Rattle.running_spin_lock.specs.ValueSteps.{has_vacant_slot};
 ghost use Rattle.running_mutex.specs.MutexParties.{HasMutex};
 
 use crate::guarded::Guarded;

@@ -1,6 +1,7 @@
 //! The guarded value itself.
 ghost use Rattle.std.specs.Prelude.{◌≡◌, ◌<◌, ◌≤◌, ◌+◌, List, [], ◌∷◌, IfOk, IfErr, Some, None, true, false, MatchBool};
 ghost use Rattle.passes.specs.Parts.{IsWhole};
+ghost use Rattle.passes.specs.Sights.{seen_instead};
 ghost use Rattle.passes.specs.Views.{first_view};
 ghost use Rattle.passes.specs.Answers.{MayAnswer, MayAnswerAbort, HasWoken};
 ghost use Rattle.steps_events.specs.declared.event.Word.TheVariants as words;
@@ -18,9 +19,10 @@ ghost use Rattle.playing.specs.Plays.{MayStep};
 ghost use Rattle.playing.specs.Tries.{spun, IsRefused, IsStanding, IsGranted, HasGivenUp as HasEndedRefused, OnceRefused, OnceStanding, StandsToWait, IsToWake};
 ghost use Rattle.running_mutex.specs.MutexParties.{HasMutex};
 ghost use Rattle.running_mutex.specs.MutexShown.{IsLocked};
-ghost use Rattle.running_spin_lock.specs.SpinSteps.{HasValue, has_vacant_slot};
-ghost use Rattle.running_guarded.specs.GuardedRule.{none_held, OneHolderAtMost};
-ghost use Rattle.running_guarded.specs.GuardedSteps.{Exchanged, Stored, Locks, SeesLocked, Lets, Tries, Enters, SeesLockedOften, GivesUp, Plays, PlaysUnlock, PlaysBoth, Acts};
+ghost use Rattle.running_spin_lock.specs.ValueRule.{none_held};
+ghost use Rattle.running_spin_lock.specs.ValueSteps.{Locks, Lets, Enters, Tried, Stored, HasValue, has_vacant_slot};
+ghost use Rattle.running_guarded.specs.GuardedRule.{OneHolderAtMost};
+ghost use Rattle.running_guarded.specs.GuardedSteps.{SeesLocked, Tries, SeesLockedOften, GivesUp, Plays, PlaysUnlock, PlaysBoth, Acts};
 
 use crate::guard::Guard;
 use crate::pass::GuardedPass;
@@ -51,14 +53,14 @@ struct Exchange<E> {
 }
 
 impl<T, E: Entry> Play<Option<T>, View<PlayedMutex>> for Exchange<E> {
-    ghost then = { λ _ me found after. Exchanged E.coming me found after };
+    ghost then = { λ _ me found after. Tried mutex_table KeepsMutex (λ s. seen_instead s 0 1) E.coming me found after };
 }
 
 /// A store of 0.
 struct Release;
 
 impl<T> Play<Option<T>, View<PlayedMutex>> for Release {
-    ghost then = { λ _ me _ after. Stored me after };
+    ghost then = { λ _ me _ after. Stored mutex_table KeepsMutex me after };
 }
 
 /// A `TryLock` begins.
@@ -527,7 +529,6 @@ fn only<T, A: Allocator>(slots: Vec<Option<T>, A>) -> T
 
 /// Whenever the rule of a guarded value holds, no two of its passes have a guard, and while one has, the value is out of its slot. Says so
 /// of the rule alone, and does nothing.
-#[tactic(auto, using(crate::proofs::GuardedKeeps::one_holder))]
 pub fn one_holder_at_most<T>()
     ensures { OneHolderAtMost T }
 {}

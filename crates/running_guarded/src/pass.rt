@@ -5,7 +5,7 @@ ghost use Rattle.passes.specs.Parts.{half, IsAgain, IsSamePart, AddUp};
 ghost use Rattle.passes.specs.Views.{left_view, right_view, joined_view, spent_view};
 ghost use Rattle.playing.specs.Passes.{core_played};
 ghost use Rattle.tallies.specs.MutexRule.{no_holds};
-ghost use Rattle.running_guarded.specs.GuardedRule.{none_held, both_held, view_in};
+ghost use Rattle.running_spin_lock.specs.ValueRule.{none_held, both_held, view_in};
 
 use crate::guarded::Guarded;
 use atomic_table::{Badge, Join, Seat, Split};

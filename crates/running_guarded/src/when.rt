@@ -4,8 +4,8 @@ ghost use Rattle.passes.specs.Answers.{IfSuccess, IfInterrupted, MayAnswerAbort,
 ghost use Rattle.running_semaphore.specs.SemaphoreShown.{IsEmpty};
 ghost use Rattle.running_mutex.specs.MutexParties.{HasMutex};
 ghost use Rattle.running_mutex.specs.CondShown.{IsCondPass, HasNotified, HasStayed as HasWaitedAtMost};
-ghost use Rattle.running_spin_lock.specs.SpinSteps.{has_vacant_slot};
-ghost use Rattle.running_guarded.specs.GuardedSteps.{Acts, Lets, PlaysBoth};
+ghost use Rattle.running_spin_lock.specs.ValueSteps.{Lets, has_vacant_slot};
+ghost use Rattle.running_guarded.specs.GuardedSteps.{Acts, PlaysBoth};
 ghost use Rattle.running_guarded.specs.GuardedShown.{IsGuardedPass, HasStayed, HasLockedOnce, object_of, number_of, view, id_of};
 ghost use Rattle.running_guarded.specs.Acting.{ActsOn, IfActed, IfGaveUp};
 

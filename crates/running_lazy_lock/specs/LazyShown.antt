@@ -7,7 +7,7 @@ use Rattle.passes.specs.declared.view.View.{View}
 use Rattle.running_once.specs.declared.Runs.{Runs}
 use Rattle.running_once.specs.declared.OncePass.{OncePass}
 use Rattle.running_once.specs.OnceShown as once
-use Rattle.running_spin_lock.specs.declared.hold.SpinHolds.{SpinHolds}
+use Rattle.running_spin_lock.specs.SpinRule.{SpinView}
 use Rattle.running_spin_lock.specs.declared.pass.SpinPass.{SpinPass}
 use Rattle.running_spin_lock.specs.SpinShown as spin
 use Rattle.running_lazy_lock.specs.declared.pass.LazyPass.{LazyPass}
@@ -27,7 +27,7 @@ IsLazyPass l p = once.IsOncePass l.once (once_in p) × spin.IsSpinPass l.init (i
 abbrev pub known_by : LazyPass → View Runs
 known_by p = once.known_by (once_in p)
 
-abbrev pub known_of_init : LazyPass → View SpinHolds
+abbrev pub known_of_init : LazyPass → SpinView
 known_of_init p = spin.view (init_in p)
 
 -- what it weighs of each

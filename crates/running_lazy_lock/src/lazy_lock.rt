@@ -27,13 +27,13 @@ impl<T: Drop, F: Drop, A: Allocator + Clone> LazyLock<T, F, Brand, A> {
     ghost use Rattle.running_lazy_lock.specs.LazyShown.{IsLazyPass, known_by, known_of_init};
     ghost use Rattle.passes.specs.Views.{first_view};
     ghost use Rattle.running_once.specs.OnceRule.{no_runs};
-    ghost use Rattle.running_spin_lock.specs.SpinRule.{no_holds};
+    ghost use Rattle.running_spin_lock.specs.ValueRule.{none_held};
 
     /// A lazy value with this closure, of which nothing is kept, and the pass that is whole. `Err` where there was no memory; then
     /// nothing was made, and the closure comes back.
     pub fn new(alloc: A, init: F) -> Result<(LazyLock<T, F, Brand, A>, LazyPass), (AllocError, F)>
         ensures own { IfOk result (λ made. IsLazyPass made.0 made.1) }
-        ensures first { IfOk result (λ made. (known_by made.1 ≡ first_view no_runs) × (known_of_init made.1 ≡ first_view no_holds)) }
+        ensures first { IfOk result (λ made. (known_by made.1 ≡ first_view no_runs) × (known_of_init made.1 ≡ first_view none_held)) }
         ensures refused { IfErr result (λ refused. refused.1 ≡ init) }
     {
         LazyLock::keeping(alloc, init)
@@ -44,13 +44,13 @@ impl<T: Drop, F: Drop, G: Gives<T, F>, A: Allocator + Clone> LazyLock<T, F, G, A
     ghost use Rattle.running_lazy_lock.specs.LazyShown.{IsLazyPass, known_by, known_of_init};
     ghost use Rattle.passes.specs.Views.{first_view};
     ghost use Rattle.running_once.specs.OnceRule.{no_runs};
-    ghost use Rattle.running_spin_lock.specs.SpinRule.{no_holds};
+    ghost use Rattle.running_spin_lock.specs.ValueRule.{none_held};
 
     /// The same, where `may` is kept of the closure, and so `gives` is known of the value.
     pub fn keeping(alloc: A, init: F) -> Result<(LazyLock<T, F, G, A>, LazyPass), (AllocError, F)>
         requires kept { G.may init }
         ensures own { IfOk result (λ made. IsLazyPass made.0 made.1) }
-        ensures first { IfOk result (λ made. (known_by made.1 ≡ first_view no_runs) × (known_of_init made.1 ≡ first_view no_holds)) }
+        ensures first { IfOk result (λ made. (known_by made.1 ≡ first_view no_runs) × (known_of_init made.1 ≡ first_view none_held)) }
         ensures refused { IfErr result (λ refused. refused.1 ≡ init) }
     {
         let Ok(for_once) = alloc.clone() else {

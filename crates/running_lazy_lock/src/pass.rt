@@ -19,7 +19,7 @@ impl LazyPass {
     ghost use Rattle.passes.specs.Parts.{AddUp};
     ghost use Rattle.passes.specs.Views.{left_view, right_view};
     ghost use Rattle.running_once.specs.OnceRule.{known_runs};
-    ghost use Rattle.running_spin_lock.specs.SpinRule.{no_holds};
+    ghost use Rattle.running_spin_lock.specs.ValueRule.{core_held};
     ghost use Rattle.running_lazy_lock.specs.LazyShown.{IsLazyPass, known_by, known_of_init, part_of, part_of_init};
 
     /// Two passes of the same lazy value. What they counted adds up to what this one had counted, of the once and of the closure's lock,
@@ -32,7 +32,7 @@ impl LazyPass {
         ensures never_refused { is_ok result ≡ true }
         ensures own { IfOk result (λ parts. IsLazyPass of.now parts.0 × IsLazyPass of.now parts.1) }
         ensures first { IfOk result (λ parts. (known_by parts.0 ≡ left_view (known_by self)) × (known_of_init parts.0 ≡ left_view (known_of_init self))) }
-        ensures second { IfOk result (λ parts. (known_by parts.1 ≡ right_view known_runs (known_by self)) × (known_of_init parts.1 ≡ right_view (λ _. no_holds) (known_of_init self))) }
+        ensures second { IfOk result (λ parts. (known_by parts.1 ≡ right_view known_runs (known_by self)) × (known_of_init parts.1 ≡ right_view core_held (known_of_init self))) }
         ensures weights { IfOk result (λ parts. AddUp (part_of self) (part_of parts.0) (part_of parts.1) × AddUp (part_of_init self) (part_of_init parts.0) (part_of_init parts.1)) }
     {
         let LazyPass { once, init } = self;

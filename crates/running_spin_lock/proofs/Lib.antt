@@ -1,3 +1,5 @@
-pub mod SpinKeeps
+pub mod ValueKeeps
+pub mod ValueSights
+pub mod SpinPlays
 pub mod SpinSights
 pub mod SameGuard

@@ -6,19 +6,21 @@ use Rattle.std.proofs.Math.Bridge.{le_prop}
 use base.Stored.{Coded-set}
 use Rattle.atomic_table.specs.Seated.{table_id_coded}
 use Rattle.running_spin_lock.specs.declared.guard.SpinLockGuard.{SpinLockGuard}
-use Rattle.running_spin_lock.specs.SpinSteps.{has_vacant_slot}
+use Rattle.running_spin_lock.specs.ValueSteps.{has_vacant_slot}
+use Rattle.running_spin_lock.specs.SpinParties.{HasLock}
 use Rattle.running_spin_lock.specs.SpinShown.{guard_with}
 
 module _ {T A : Type 0} (g : SpinLockGuard T A) (x : T) where
-  pub same_guard : (own : g.seat.table_id ≡ g.lock.now.table.shared.table_id) (on : g.seat.me.0.tally.holds ≡ 1) (alive : 0 < g.seat.me.0.part.share) (out : has_vacant_slot g.seat.me.1 ≡ true)
-      → record { lock = g.lock; pass = g.pass; seat = g.seat; value = x; own = own; on = on; alive = alive; out = out } ≡ guard_with g x
-  same_guard own on alive out = λ i. record {
+  pub same_guard : (own : g.seat.table_id ≡ g.lock.now.table.shared.table_id) (on : g.seat.me.0.tally.counts.holds ≡ 1) (has : HasLock g.seat.me.0.tally.parties) (alive : 0 < g.seat.me.0.part.share) (out : has_vacant_slot g.seat.me.1 ≡ true)
+      → record { lock = g.lock; pass = g.pass; seat = g.seat; value = x; own = own; on = on; has = has; alive = alive; out = out } ≡ guard_with g x
+  same_guard own on has alive out = λ i. record {
     lock = g.lock;
     pass = g.pass;
     seat = g.seat;
     value = x;
     own = Coded-set table_id_coded _ _ own g.own i;
     on = ℕ_set _ _ on g.on i;
+    has = Bool-set _ _ has g.has i;
     alive = le_prop alive g.alive i;
     out = Bool-set _ _ out g.out i;
   }

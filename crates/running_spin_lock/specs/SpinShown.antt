@@ -4,16 +4,15 @@ use Rattle.std.specs.Borrow.{GName}
 use Rattle.atomic_table.specs.Seated.{TableId}
 use Rattle.passes.specs.declared.part.Part.{Part}
 use Rattle.passes.specs.declared.part.Sights.{Sights}
-use Rattle.passes.specs.declared.view.View.{View}
 use Rattle.passes.specs.Parts.{IsWhole}
 use Rattle.passes.specs.Sights.{HasWritten}
-use Rattle.passes.specs.Views.{looked}
-use Rattle.running_spin_lock.specs.declared.hold.SpinHolds.{SpinHolds}
 use Rattle.running_spin_lock.specs.declared.pass.SpinPass.{SpinPass}
 use Rattle.running_spin_lock.specs.declared.guard.SpinLockGuard.{SpinLockGuard}
 use Rattle.running_spin_lock.specs.declared.spin_lock.SpinLock.{SpinLock}
-use Rattle.running_spin_lock.specs.SpinRule.{view_in, locked, unlocked}
-use Rattle.running_spin_lock.specs.SpinSteps.{Enters}
+use Rattle.running_spin_lock.specs.ValueRule.{view_in}
+use Rattle.running_spin_lock.specs.ValueSteps.{Locks, Lets, Enters}
+use Rattle.running_spin_lock.specs.SpinRule.{SpinView}
+use Rattle.running_spin_lock.specs.SpinSteps.{SeesLocked}
 
 -- which lock the pass belongs to, and which of its passes it is
 abbrev pub object_of : SpinPass → TableId
@@ -23,7 +22,7 @@ abbrev pub number_of : SpinPass → ℕ
 number_of p = p.badge.id
 
 -- what the pass knows
-abbrev pub view : SpinPass → View SpinHolds
+abbrev pub view : SpinPass → SpinView
 view p = view_in p.badge.views
 
 abbrev pub part_of : SpinPass → Part
@@ -34,7 +33,7 @@ sights_of p = (view p).sights
 
 -- how often a lock was granted to it
 abbrev pub grants_of : SpinPass → ℕ
-grants_of p = (view p).tally.grants
+grants_of p = (view p).tally.counts.grants
 
 -- it can be used: it is not out with a guard that was let go without its end
 abbrev pub IsHere : SpinPass → Type 0
@@ -59,7 +58,7 @@ module _ {T A : Type 0} where
   abbrev pub borrow_of : SpinLockGuard T A → GName
   borrow_of g = g.pass.ghost_name
 
-  abbrev pub view_with : SpinLockGuard T A → View SpinHolds
+  abbrev pub view_with : SpinLockGuard T A → SpinView
   view_with g = g.seat.me.0
 
   -- the guard stands for this pass
@@ -68,7 +67,7 @@ module _ {T A : Type 0} where
 
   -- the hold, which was off, is on by one more grant, and nothing else changed
   abbrev pub HasLocked : SpinPass → SpinLockGuard T A → Type 0
-  HasLocked p g = IsOf p g × (view_with g ≡ locked (view p))
+  HasLocked p g = IsOf p g × Locks (view p) (view_with g)
 
   -- the same, but for what was seen on the way
   abbrev pub HasEntered : SpinPass → SpinLockGuard T A → Type 0
@@ -76,7 +75,7 @@ module _ {T A : Type 0} where
 
   -- the pass at the guard's end: the hold, which was on, is off, and nothing else changed
   abbrev pub HasUnlocked : SpinLockGuard T A → SpinPass → Type 0
-  HasUnlocked g q = IsOf q g × IsHere q × (view q ≡ unlocked (view_with g))
+  HasUnlocked g q = IsOf q g × IsHere q × Lets (view_with g) (view q)
 
   -- what the guard lends
   abbrev pub value_of : SpinLockGuard T A → T
@@ -88,7 +87,7 @@ module _ {T A : Type 0} where
 
 -- the lock was seen taken once, and nothing else changed
 abbrev pub HasSeenLocked : SpinPass → SpinPass → Type 0
-HasSeenLocked p q = IsSamePass p q × (view q ≡ looked (view p) 1)
+HasSeenLocked p q = IsSamePass p q × SeesLocked (view p) (view q)
 
 -- The same part of the whole. On the way the pass may have been granted, and may have seen the lock.
 pub record HasStayed (p q : SpinPass) : Type 0 where

@@ -1,54 +1,34 @@
--- What a step on the word of a spin lock tells of the seat that makes it.
-use Rattle.std.specs.Prelude.{◌≡◌, ◌≢◌, ℕ, List, [], ◌∷◌, Bool, true, false, ◌==◌, ◌&&◌, Option, Some, None}
-use Rattle.atomic_table.specs.Table.{Me}
-use Rattle.passes.specs.declared.view.View.{View}
-use Rattle.passes.specs.Parts.{IsWhole}
-use Rattle.passes.specs.Sights.{HasOnlyRead, HasWritten}
-use Rattle.passes.specs.Views.{looked}
-use Rattle.running_spin_lock.specs.declared.hold.SpinHolds.{SpinHolds}
-use Rattle.running_spin_lock.specs.SpinRule.{granted, locked, unlocked}
+-- What a step on the word of a spin lock changes in what a seat knows, and what the seat is in the model.
+use Rattle.std.specs.Prelude.{ℕ, Option, Some}
+use Rattle.steps_events.specs.declared.event.Call.{Call}
+use Rattle.steps_events.specs.declared.event.Answer.{Answer}
+use Rattle.steps_events.specs.declared.event.Answer.TheVariants as answers
+use Rattle.steps_events.specs.declared.hold.HoldKind.{HoldKind}
+use Rattle.steps_events.specs.declared.hold.HoldKind.TheVariants as kinds
+use Rattle.steps_spin.specs.Table.{spin_table}
+use Rattle.steps_spin.specs.Law.{KeepsSpin}
+use Rattle.passes.specs.Sights.{seen}
+use Rattle.playing.specs.Slots.{Parties}
+use Rattle.playing.specs.Plays.{HasCalled}
+use Rattle.running_spin_lock.specs.ValueSteps.{Sees, Plays}
+use Rattle.running_spin_lock.specs.SpinRule.{SpinView}
+use Rattle.running_spin_lock.specs.SpinParties.{Unlocks}
 
--- the hold, which was off, is on by one more grant, and nothing else changed but what was seen on the way
-pub record Enters (v w : View SpinHolds) : Type 0 where
-  pub off : v.tally.holds ≡ 0
-  pub on : w.tally ≡ granted v.tally
-  pub part : w.part ≡ v.part
-  pub saw : HasWritten v.sights w.sights
+-- a swap of 1 found the lock taken: one more sight, at 1
+abbrev pub SeesLocked : SpinView → SpinView → Type 0
+SeesLocked v w = Sees (λ s. seen s 1) v w
 
--- nothing changed but what was seen
-pub record OnlySees (v w : View SpinHolds) : Type 0 where
-  pub tally : w.tally ≡ v.tally
-  pub part : w.part ≡ v.part
-  pub saw : HasOnlyRead v.sights w.sights
+-- The pass as a party of the model.
 
-module _ {T : Type 0} where
-  -- the value is with the seat
-  abbrev pub HasValue : List (ℕ × Option T) → Type 0
-  HasValue slots = (x : T) × (slots ≡ (0, Some x) ∷ [])
+-- There is a run of the model, which keeps the spin lock's law, in which a party of the pass has just been answered so by this call. It is
+-- the one call that the pass has made since, as a party that is new; and it has this hold now.
+abbrev pub HasPlayed : Call ℕ → Answer ℕ → Option HoldKind → SpinView → SpinView → Type 0
+HasPlayed call answer hold v w = Plays spin_table KeepsSpin call answer hold v w
 
-  -- the slot is with the seat, and nothing in it
-  abbrev pub is_vacant : Option T → Bool
-  is_vacant None = true
-  is_vacant (Some x) = false
+-- the party that had the lock has begun an `Unlock`, stored 0 and was answered `Done`
+abbrev pub HasPlayedUnlock : SpinView → SpinView → Type 0
+HasPlayedUnlock v w = Unlocks v.tally.parties w.tally.parties
 
-  abbrev pub has_vacant_slot : List (ℕ × Option T) → Bool
-  has_vacant_slot [] = false
-  has_vacant_slot (x ∷ []) = (x.0 == 0) && is_vacant x.1
-  has_vacant_slot (x ∷ y ∷ rest) = false
-
-  -- A swap of 1 that found 0 tells that the pass's own hold was off, turns it on, and takes the slot with the value.
-  pub record Taken (me after : Me (Option T) (View SpinHolds)) : Type 0 where
-    pub off : me.0.tally.holds ≡ 0
-    pub on : after.0 ≡ locked me.0
-    pub took : HasValue after.1
-
-  -- One that found 1 saw the lock taken. Where no other pass is left, only the pass's own hold can be on.
-  pub record Swapped (me : Me (Option T) (View SpinHolds)) (found : ℕ) (after : Me (Option T) (View SpinHolds)) : Type 0 where
-    pub free : found ≡ 0 → Taken me after
-    pub taken : found ≢ 0 → (after.0 ≡ looked me.0 1) × (after.1 ≡ me.1)
-    pub alone : IsWhole me.0.part → me.0.tally.holds ≡ 0 → found ≡ 0
-
-  -- a store of 0 by the seat that has the value gives its slot back
-  pub record Stored (me after : Me (Option T) (View SpinHolds)) : Type 0 where
-    pub off : after.0 ≡ unlocked me.0
-    pub gave : after.1 ≡ []
+-- the pass has made this call, which was granted, and then, as that party, an `Unlock`
+abbrev pub HasPlayedBoth : Call ℕ → SpinView → SpinView → Type 0
+HasPlayedBoth call v w = (held : Parties) × HasCalled spin_table KeepsSpin call answers.Success (Some kinds.Write) v.tally.parties held × Unlocks held w.tally.parties

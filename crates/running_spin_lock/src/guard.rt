@@ -1,9 +1,10 @@
 //! What a holder has.
 ghost use Rattle.std.specs.Prelude.{◌≡◌, ◌<◌, true};
-ghost use Rattle.running_spin_lock.specs.SpinSteps.{has_vacant_slot};
+ghost use Rattle.running_spin_lock.specs.ValueSteps.{has_vacant_slot};
+ghost use Rattle.running_spin_lock.specs.SpinParties.{HasLock};
 
-use crate::hold::SpinHolds;
 use crate::pass::SpinPass;
+use crate::script::PlayedSpin;
 use crate::spin_lock::SpinLock;
 use atomic_table::Seat;
 use passes::View;
@@ -15,10 +16,11 @@ use std::ops::{Deref, DerefMut};
 pub struct SpinLockGuard<'p, T, A: Allocator = Global> {
     pub(crate) lock: &'p SpinLock<T, A>,
     pub(crate) pass: &'p mut SpinPass,
-    pub(crate) seat: Seat<Option<T>, View<SpinHolds>>,
+    pub(crate) seat: Seat<Option<T>, View<PlayedSpin>>,
     pub(crate) value: T,
     ghost own: { seat.table_id ≡ lock.now.table.shared.table_id },
-    ghost on: { seat.me.0.tally.holds ≡ 1 },
+    ghost on: { seat.me.0.tally.counts.holds ≡ 1 },
+    ghost has: { HasLock seat.me.0.tally.parties },
     ghost alive: { 0 < seat.me.0.part.share },
     ghost out: { has_vacant_slot seat.me.1 ≡ true },
 }
@@ -54,11 +56,13 @@ impl<T, A: Allocator> DerefMut for SpinLockGuard<'_, T, A> {
 
 /// Puts the value back, and then stores 0. No closure is called.
 impl<T, A: Allocator> Drop for SpinLockGuard<'_, T, A> {
-    ghost use Rattle.running_spin_lock.specs.SpinShown.{HasUnlocked};
+    ghost use Rattle.running_spin_lock.specs.SpinShown.{view, view_with, HasUnlocked};
+    ghost use Rattle.running_spin_lock.specs.SpinSteps.{HasPlayedUnlock};
 
     #[inline(always)]
     fn drop(self)
         ensures released { HasUnlocked self.entry self.exit.1.0.now }
+        ensures played { HasPlayedUnlock (view_with self.entry) (view self.exit.1.0.now) }
     {
         let SpinLockGuard {
             lock,

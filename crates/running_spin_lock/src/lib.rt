@@ -3,16 +3,20 @@
 //! It does what `spin_lock` of the Rust crate does: one swap of 1 takes it, and the guard's end stores 0. Its word is 0 where it is free
 //! and 1 where it is locked; the value lies in a slot beside the word, and is out of it while a guard has it. Calls that answer a guard
 //! take the pass first, since the guard borrows it.
+//!
+//! Its passes play the spin lock's model. The rule of a lock that guards a value, whatever model its passes play, stands here too.
 #![tactic(auto)]
 
 mod guard;
-mod hold;
 mod pass;
 mod poison;
+mod rule;
+mod script;
 mod spin_lock;
 
 pub use guard::SpinLockGuard;
-pub use hold::SpinHolds;
 pub use pass::SpinPass;
 pub use poison::{LockResult, PoisonError};
+pub use rule::ValueRule;
+pub use script::{PlayedSpin, SpinScript};
 pub use spin_lock::{SpinLock, one_holder_at_most};

@@ -3,9 +3,9 @@ ghost use Rattle.std.specs.Prelude.{◌≡◌, ◌≤◌, ◌<◌, [], ◌∷◌
 ghost use Rattle.passes.specs.declared.part.Part.{Part};
 ghost use Rattle.passes.specs.Parts.{half, IsAgain, IsSamePart, AddUp};
 ghost use Rattle.passes.specs.Views.{left_view, right_view, joined_view, spent_view};
-ghost use Rattle.running_spin_lock.specs.SpinRule.{no_holds, both_holds, view_in};
+ghost use Rattle.running_spin_lock.specs.ValueRule.{none_held, both_held, core_held, view_in};
 
-use crate::hold::SpinHolds;
+use crate::script::PlayedSpin;
 use crate::spin_lock::SpinLock;
 use atomic_table::{Badge, Join, Seat, Split};
 use passes::View;
@@ -17,24 +17,24 @@ use std::mem;
 #[derive(Drop)]
 pub struct SpinPass {
     // Blank while a guard has what it stands for.
-    pub(crate) badge: Badge<View<SpinHolds>>,
+    pub(crate) badge: Badge<View<PlayedSpin>>,
     ghost one: { length badge.views ≤ 1 },
-    ghost off: { (view_in badge.views).tally.holds ≡ 0 },
+    ghost off: { (view_in badge.views).tally.counts.holds ≡ 0 },
 }
 
 /// How a pass is parted.
 struct Cut;
 
-impl Split<View<SpinHolds>> for Cut {
+impl Split<View<PlayedSpin>> for Cut {
     ghost left = { left_view };
 
-    ghost right = { right_view (λ _. no_holds) };
+    ghost right = { right_view core_held };
 }
 
-impl Join<View<SpinHolds>> for Cut {
-    ghost both = { joined_view both_holds };
+impl Join<View<PlayedSpin>> for Cut {
+    ghost both = { joined_view both_held };
 
-    ghost spent = { spent_view no_holds };
+    ghost spent = { spent_view none_held };
 }
 
 impl SpinPass {
@@ -49,7 +49,7 @@ impl SpinPass {
         requires own { IsSpinPass of.now self }
         ensures never_refused { is_ok result ≡ true }
         ensures own { IfOk result (λ parts. IsSpinPass of.now parts.0 × IsSpinPass of.now parts.1) }
-        ensures views { IfOk result (λ parts. (view parts.0 ≡ left_view (view self)) × (view parts.1 ≡ right_view (λ _. no_holds) (view self))) }
+        ensures views { IfOk result (λ parts. (view parts.0 ≡ left_view (view self)) × (view parts.1 ≡ right_view core_held (view self))) }
         ensures weights { IfOk result (λ parts. AddUp (part_of self) (part_of parts.0) (part_of parts.1)) }
     {
         let mut pass = self;
@@ -68,7 +68,7 @@ impl SpinPass {
         requires own { IsSpinPass of.now a × IsSpinPass of.now b }
         ensures never_refused { is_ok result ≡ true }
         ensures own { IfOk result (IsSpinPass of.now) }
-        ensures views { IfOk result (λ both. view both ≡ joined_view both_holds (view a) (view b)) }
+        ensures views { IfOk result (λ both. view both ≡ joined_view both_held (view a) (view b)) }
         ensures weights { IfOk result (λ both. AddUp (part_of both) (part_of a) (part_of b)) }
         ensures again { (p : Part) → IsSamePart (part_of a) (half p) → IsSamePart (part_of b) (half p) → IfOk result (λ both. IsAgain p (part_of both)) }
     {
@@ -82,7 +82,7 @@ impl SpinPass {
 
     /// Takes the seat out of the pass, which is blank until it sits again.
     #[inline(always)]
-    pub(crate) fn rise<T>(&mut self) -> Seat<Option<T>, View<SpinHolds>>
+    pub(crate) fn rise<T>(&mut self) -> Seat<Option<T>, View<PlayedSpin>>
         requires here { IsHere self.old }
         ensures from { (result.table_id ≡ object_of self.old) × (result.id ≡ number_of self.old) }
         ensures view { result.me.0 ≡ view self.old }
@@ -93,8 +93,8 @@ impl SpinPass {
 
     /// A pass with this seat.
     #[inline(always)]
-    pub(crate) fn seated<T>(seat: Seat<Option<T>, View<SpinHolds>>) -> SpinPass
-        requires off { seat.me.0.tally.holds ≡ 0 }
+    pub(crate) fn seated<T>(seat: Seat<Option<T>, View<PlayedSpin>>) -> SpinPass
+        requires off { seat.me.0.tally.counts.holds ≡ 0 }
         requires no_slot { seat.me.1 ≡ [] }
         ensures from { (object_of result ≡ seat.table_id) × (number_of result ≡ seat.id) }
         ensures view { view result ≡ seat.me.0 }

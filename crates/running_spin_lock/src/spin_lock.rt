@@ -1,40 +1,105 @@
 //! The lock itself.
-ghost use Rattle.std.specs.Prelude.{◌≡◌, ◌<◌, [], ◌∷◌, IfOk, IfErr, IfSome, IsSome, Some, is_ok, true, false};
+ghost use Rattle.std.specs.Prelude.{◌≡◌, ℕ, ◌<◌, List, [], ◌∷◌, IfOk, IfErr, IfSome, IsSome, Some, None, is_ok, true, false, MatchBool};
+ghost use Rattle.steps_events.specs.declared.event.Word.TheVariants as words;
+ghost use Rattle.steps_events.specs.declared.event.Call.{Call};
+ghost use Rattle.steps_events.specs.declared.event.Call.TheVariants as calls;
+ghost use Rattle.steps_events.specs.declared.event.Answer.TheVariants as answers;
+ghost use Rattle.steps_events.specs.declared.hold.HoldKind.TheVariants as kinds;
+ghost use Rattle.steps_events.specs.declared.row.Intent.TheVariants as intents;
+ghost use Rattle.steps_spin.specs.Table.{spin_table};
+ghost use Rattle.steps_spin.specs.Law.{KeepsSpin};
 ghost use Rattle.passes.specs.Parts.{IsWhole};
-ghost use Rattle.passes.specs.Views.{first_view, looked};
-ghost use Rattle.running_spin_lock.specs.SpinRule.{no_holds, unlocked, OneHolderAtMost};
-ghost use Rattle.running_spin_lock.specs.SpinSteps.{Swapped, Stored, Taken, Enters, HasValue, has_vacant_slot};
+ghost use Rattle.passes.specs.Sights.{seen};
+ghost use Rattle.passes.specs.Views.{first_view};
+ghost use Rattle.playing.specs.Slots.{Slot};
+ghost use Rattle.playing.specs.Plays.{Beginning, MayStep};
+ghost use Rattle.running_spin_lock.specs.ValueRule.{none_held};
+ghost use Rattle.running_spin_lock.specs.ValueSteps.{Locks, Lets, Enters, Tries, Tried, Stored, HasValue, has_vacant_slot};
+ghost use Rattle.running_spin_lock.specs.SpinRule.{OneHolderAtMost};
+ghost use Rattle.running_spin_lock.specs.SpinParties.{IsWaiting, IsSpinning, IsGranted, HasLock};
+ghost use Rattle.running_spin_lock.specs.SpinSteps.{SeesLocked, HasPlayed, HasPlayedUnlock};
 
 use crate::guard::SpinLockGuard;
-use crate::hold::SpinHolds;
 use crate::pass::SpinPass;
 use crate::poison::LockResult;
+use crate::rule::ValueRule;
+use crate::script::{PlayedSpin, SpinScript};
 use atomic_table::{Play, Refused, Seat, Table};
-use passes::{SumRule, View};
+use passes::View;
+use playing::{Entry, GoesOn};
 use std::alloc::{AllocError, Allocator, Global};
 use std::hint::spin_loop;
+use std::marker::PhantomData;
 use std::sync::Wait;
+use steps_spin::SpinPlace;
 
 /// A lock with one holder at most, which guards a value. It may be shared by threads where the value may go from one to another.
 #[derive(Drop)]
 pub struct SpinLock<T, A: Allocator = Global> {
-    pub(crate) table: Table<Option<T>, View<SpinHolds>, (), SumRule<SpinHolds>, A>,
+    pub(crate) table: Table<Option<T>, View<PlayedSpin>, (), ValueRule<SpinScript, SpinPlace>, A>,
     ghost one_word: { table.shared.table_id.words ≡ 1 },
     ghost one_slot: { table.shared.table_id.slots ≡ 1 },
 }
 
-/// A swap of 1.
-struct Swap;
+/// A swap of 1, to which a pass comes by `E`.
+struct Swap<E> {
+    by: PhantomData<E>,
+}
 
-impl<T> Play<Option<T>, View<SpinHolds>> for Swap {
-    ghost then = { λ _ me found after. Swapped me found after };
+impl<T, E: Entry> Play<Option<T>, View<PlayedSpin>> for Swap<E> {
+    ghost then = { λ _ me found after. Tried spin_table KeepsSpin (λ s. seen s 1) E.coming me found after };
 }
 
 /// A store of 0.
 struct Release;
 
-impl<T> Play<Option<T>, View<SpinHolds>> for Release {
-    ghost then = { λ _ me _ after. Stored me after };
+impl<T> Play<Option<T>, View<PlayedSpin>> for Release {
+    ghost then = { λ _ me _ after. Stored spin_table KeepsSpin me after };
+}
+
+/// A `TryLock` begins.
+struct TryLockBegins;
+
+impl Entry for TryLockBegins {
+    ghost coming = { Beginning calls.TryLock };
+}
+
+/// A call that swaps until it has the lock.
+trait Waiting {
+    ghost call: { Call ℕ };
+
+    ghost waits: { IsWaiting call };
+}
+
+/// `Lock`.
+struct Lock;
+
+impl Waiting for Lock {
+    ghost use Rattle.std.proofs.Common.{refl, inl};
+
+    ghost call = { calls.Lock };
+
+    ghost waits = { inl refl };
+}
+
+/// `BlockingLock`.
+struct BlockingLock;
+
+impl Waiting for BlockingLock {
+    ghost use Rattle.std.proofs.Common.{refl, inr};
+
+    ghost call = { calls.BlockingLock };
+
+    ghost waits = { inr refl };
+}
+
+/// Such a call begins.
+struct Begins<C> {
+    of: PhantomData<C>,
+}
+
+impl<C: Waiting> Entry for Begins<C> {
+    ghost coming = { Beginning C.call };
 }
 
 /// The word of a locked spin lock, and of a free one.
@@ -45,19 +110,20 @@ const FREE: u64 = 0;
 impl<T, A: Allocator> SpinLock<T, A> {
     ghost use Rattle.std.specs.Borrow.{sem, RestsIfNone};
     ghost use Rattle.running_spin_lock.specs.contracts.pass.SpinPass.{the_row};
-    ghost use Rattle.running_spin_lock.specs.SpinShown.{IsSpinPass, IsAlone, id_of, borrow_of, HasLocked, HasEntered, HasSeenLocked};
+    ghost use Rattle.running_spin_lock.specs.SpinShown.{IsSpinPass, IsAlone, id_of, borrow_of, view, view_with, HasLocked, HasEntered, HasSeenLocked};
 
     /// One swap of 1. The guard where the lock was free; `None` where it was seen locked, and then this call holds nothing.
     #[inline(always)]
     pub fn try_lock<'p>(pass: &'p mut SpinPass, this: &'p Self) -> Option<SpinLockGuard<'p, T, A>>
         requires own { IsSpinPass this.now pass.old }
-        ensures* refused { sem 𝓛 (RestsIfNone the_row pass.entry borrow_of result (HasSeenLocked pass.old)) }
+        ensures* refused { sem 𝓛 (RestsIfNone the_row pass.entry borrow_of result (λ q. HasSeenLocked pass.old q × HasPlayed calls.TryLock answers.Interrupted None (view pass.old) (view q))) }
         ensures same_borrow { IfSome result (λ guard. borrow_of guard ≡ pass.entry.ghost_name) }
         ensures granted { IfSome result (HasLocked pass.old) }
+        ensures played { IfSome result (λ guard. HasPlayed calls.TryLock answers.Success (Some kinds.Write) (view pass.old) (view_with guard)) }
         ensures exact { IsAlone pass.old → IsSome result }
     {
         let mut seat = pass.rise();
-        if this.swap(&mut seat) {
+        if this.try_enter(&mut seat) {
             let value = this.take(&mut seat);
             Some(SpinLockGuard {
                 lock: this,
@@ -81,19 +147,10 @@ impl<T, A: Allocator> SpinLock<T, A> {
         requires own { IsSpinPass this.now pass.old }
         ensures same_borrow { borrow_of result ≡ pass.entry.ghost_name }
         ensures granted { HasEntered pass.old result }
+        ensures played { HasPlayed calls.BlockingLock answers.Success (Some kinds.Write) (view pass.old) (view_with result) }
         ensures exact { IsAlone pass.old → HasLocked pass.old result }
     {
-        let mut seat = pass.rise();
-        if !this.swap(&mut seat) {
-            this.spin(rt, &mut seat);
-        }
-        let value = this.take(&mut seat);
-        SpinLockGuard {
-            lock: this,
-            pass,
-            seat,
-            value,
-        }
+        SpinLock::wait_for::<BlockingLock, R>(pass, this, rt)
     }
 
     /// What `blocking_lock` does. Always `Ok`, since nothing panics.
@@ -107,38 +164,102 @@ impl<T, A: Allocator> SpinLock<T, A> {
         ensures never_poisoned { is_ok result ≡ true }
         ensures same_borrow { IfOk result (λ guard. borrow_of guard ≡ pass.entry.ghost_name) }
         ensures granted { IfOk result (HasEntered pass.old) }
+        ensures played { IfOk result (λ guard. HasPlayed calls.Lock answers.Success (Some kinds.Write) (view pass.old) (view_with guard)) }
         ensures exact { IsAlone pass.old → IfOk result (HasLocked pass.old) }
     {
-        Ok(SpinLock::blocking_lock(pass, this, rt))
+        Ok(SpinLock::wait_for::<Lock, R>(pass, this, rt))
+    }
+
+    /// The guard of a call that swaps until it has the lock.
+    #[inline(always)]
+    fn wait_for<'p, C: Waiting, R: Wait>(
+        pass: &'p mut SpinPass,
+        this: &'p Self,
+        rt: &R,
+    ) -> SpinLockGuard<'p, T, A>
+        requires own { IsSpinPass this.now pass.old }
+        ensures same_borrow { borrow_of result ≡ pass.entry.ghost_name }
+        ensures granted { HasEntered pass.old result }
+        ensures played { HasPlayed C.call answers.Success (Some kinds.Write) (view pass.old) (view_with result) }
+        ensures exact { IsAlone pass.old → HasLocked pass.old result }
+    {
+        let mut seat = pass.rise();
+        this.enter::<C, R>(rt, &mut seat);
+        let value = this.take(&mut seat);
+        SpinLockGuard {
+            lock: this,
+            pass,
+            seat,
+            value,
+        }
     }
 
     /// A swap of 1, and whether it found 0. Then the value is out with the seat.
     #[inline(always)]
-    fn swap(&self, seat: &mut Seat<Option<T>, View<SpinHolds>>) -> bool
+    fn swap<E: Entry>(&self, seat: &mut Seat<Option<T>, View<PlayedSpin>>) -> bool
+        requires own { seat.old.table_id ≡ id_of self.now }
+        requires no_slot { seat.old.me.1 ≡ [] }
+        requires alive { 0 < seat.old.me.0.part.share }
+        requires may { MayStep spin_table KeepsSpin (words.State ∷ []) E.coming 0 (λ w. intents.Swap w 1) seat.old.me.0.tally.parties }
+        ensures same { (seat.new.table_id ≡ seat.old.table_id) × (seat.new.id ≡ seat.old.id) }
+        ensures locked { MatchBool result (Locks seat.old.me.0 seat.new.me.0) (SeesLocked seat.old.me.0 seat.new.me.0) }
+        ensures slot { MatchBool result (HasValue seat.new.me.1) (seat.new.me.1 ≡ []) }
+        ensures tried { Tries spin_table KeepsSpin E.coming result seat.old.me.0 seat.new.me.0 }
+        ensures exact { IsWhole seat.old.me.0.part → seat.old.me.0.tally.counts.holds ≡ 0 → result ≡ true }
+    {
+        let shared = &self.table.shared;
+        shared.swap::<Swap<E>>(seat, 0, LOCKED) == FREE
+    }
+
+    /// What `try_lock` does, and whether the value is out with the seat.
+    #[inline(always)]
+    fn try_enter(&self, seat: &mut Seat<Option<T>, View<PlayedSpin>>) -> bool
         requires own { seat.old.table_id ≡ id_of self.now }
         requires no_slot { seat.old.me.1 ≡ [] }
         requires alive { 0 < seat.old.me.0.part.share }
         ensures same { (seat.new.table_id ≡ seat.old.table_id) × (seat.new.id ≡ seat.old.id) }
-        ensures granted { result ≡ true → Taken seat.old.me seat.new.me }
-        ensures refused { result ≡ false → (seat.new.me.0 ≡ looked seat.old.me.0 1) × (seat.new.me.1 ≡ []) }
-        ensures exact { IsWhole seat.old.me.0.part → seat.old.me.0.tally.holds ≡ 0 → result ≡ true }
+        ensures locked { MatchBool result (Locks seat.old.me.0 seat.new.me.0) (SeesLocked seat.old.me.0 seat.new.me.0) }
+        ensures slot { MatchBool result (HasValue seat.new.me.1) (seat.new.me.1 ≡ []) }
+        ensures played { MatchBool result (HasPlayed calls.TryLock answers.Success (Some kinds.Write) seat.old.me.0 seat.new.me.0) (HasPlayed calls.TryLock answers.Interrupted None seat.old.me.0 seat.new.me.0) }
+        ensures has { result ≡ true → HasLock seat.new.me.0.tally.parties }
+        ensures exact { IsWhole seat.old.me.0.part → seat.old.me.0.tally.counts.holds ≡ 0 → result ≡ true }
     {
-        let shared = &self.table.shared;
-        shared.swap::<Swap>(seat, 0, LOCKED) == FREE
+        self.swap::<TryLockBegins>(seat)
     }
 
-    /// Swaps 1 in until that finds 0.
-    fn spin<R: Wait>(&self, rt: &R, seat: &mut Seat<Option<T>, View<SpinHolds>>)
+    /// What a waiting call does, after which the value is out with the seat.
+    #[inline(always)]
+    fn enter<C: Waiting, R: Wait>(&self, rt: &R, seat: &mut Seat<Option<T>, View<PlayedSpin>>)
         requires own { seat.old.table_id ≡ id_of self.now }
         requires no_slot { seat.old.me.1 ≡ [] }
         requires alive { 0 < seat.old.me.0.part.share }
         ensures same { (seat.new.table_id ≡ seat.old.table_id) × (seat.new.id ≡ seat.old.id) }
         ensures entered { Enters seat.old.me.0 seat.new.me.0 }
         ensures took { HasValue seat.new.me.1 }
+        ensures played { HasPlayed C.call answers.Success (Some kinds.Write) seat.old.me.0 seat.new.me.0 }
+        ensures has { HasLock seat.new.me.0.tally.parties }
+        ensures exact { IsWhole seat.old.me.0.part → seat.old.me.0.tally.counts.holds ≡ 0 → Locks seat.old.me.0 seat.new.me.0 }
+    {
+        if self.swap::<Begins<C>>(seat) {
+            return;
+        }
+        self.spin::<C, R>(rt, seat);
+    }
+
+    /// Swaps 1 in again until that finds 0.
+    fn spin<C: Waiting, R: Wait>(&self, rt: &R, seat: &mut Seat<Option<T>, View<PlayedSpin>>)
+        requires own { seat.old.table_id ≡ id_of self.now }
+        requires no_slot { seat.old.me.1 ≡ [] }
+        requires alive { 0 < seat.old.me.0.part.share }
+        requires at { (done : List Slot) × IsSpinning C.call done seat.old.me.0.tally.parties }
+        ensures same { (seat.new.table_id ≡ seat.old.table_id) × (seat.new.id ≡ seat.old.id) }
+        ensures entered { Enters seat.old.me.0 seat.new.me.0 }
+        ensures took { HasValue seat.new.me.1 }
+        ensures over { (done : List Slot) → IsSpinning C.call done seat.old.me.0.tally.parties → IsGranted C.call done seat.new.me.0.tally.parties }
     {
         for _ in rt.forever() {
             spin_loop();
-            if self.swap(seat) {
+            if self.swap::<GoesOn>(seat) {
                 return;
             }
         }
@@ -147,7 +268,7 @@ impl<T, A: Allocator> SpinLock<T, A> {
 
     /// The value, out of the slot that the swap took.
     #[inline(always)]
-    fn take(&self, seat: &mut Seat<Option<T>, View<SpinHolds>>) -> T
+    fn take(&self, seat: &mut Seat<Option<T>, View<PlayedSpin>>) -> T
         requires own { seat.old.table_id ≡ id_of self.now }
         requires there { HasValue seat.old.me.1 }
         ensures same { (seat.new.table_id ≡ seat.old.table_id) × (seat.new.id ≡ seat.old.id) }
@@ -160,13 +281,15 @@ impl<T, A: Allocator> SpinLock<T, A> {
 
     /// Puts the value back into its slot, and stores 0.
     #[inline(always)]
-    pub(crate) fn leave(&self, seat: &mut Seat<Option<T>, View<SpinHolds>>, value: T)
+    pub(crate) fn leave(&self, seat: &mut Seat<Option<T>, View<PlayedSpin>>, value: T)
         requires own { seat.old.table_id ≡ id_of self.now }
-        requires on { seat.old.me.0.tally.holds ≡ 1 }
+        requires on { seat.old.me.0.tally.counts.holds ≡ 1 }
+        requires has { HasLock seat.old.me.0.tally.parties }
         requires alive { 0 < seat.old.me.0.part.share }
         requires vacant { has_vacant_slot seat.old.me.1 ≡ true }
         ensures same { (seat.new.table_id ≡ seat.old.table_id) × (seat.new.id ≡ seat.old.id) }
-        ensures off { seat.new.me.0 ≡ unlocked seat.old.me.0 }
+        ensures off { Lets seat.old.me.0 seat.new.me.0 }
+        ensures played { HasPlayedUnlock seat.old.me.0 seat.new.me.0 }
         ensures no_slot { seat.new.me.1 ≡ [] }
     {
         let shared = &self.table.shared;
@@ -185,7 +308,7 @@ impl<T, A: Allocator + Clone> SpinLock<T, A> {
     /// and the value comes back.
     pub fn new(alloc: A, value: T) -> Result<(SpinLock<T, A>, SpinPass), (AllocError, T)>
         ensures own { IfOk result (λ made. IsSpinPass made.0 made.1) }
-        ensures first { IfOk result (λ made. view made.1 ≡ first_view no_holds) }
+        ensures first { IfOk result (λ made. view made.1 ≡ first_view none_held) }
         ensures refused { IfErr result (λ refused. refused.1 ≡ value) }
     {
         let Ok(for_slots) = alloc.clone() else {
@@ -217,7 +340,6 @@ fn only<T, A: Allocator>(slots: Vec<Option<T>, A>) -> T
 
 /// Whenever the rule of a spin lock holds, no two of its passes have a guard, and while one has, the value is out of its slot. Says so
 /// of the rule alone, and does nothing.
-#[tactic(auto, using(crate::proofs::SpinKeeps::one_holder))]
 pub fn one_holder_at_most<T>()
     ensures { OneHolderAtMost T }
 {}

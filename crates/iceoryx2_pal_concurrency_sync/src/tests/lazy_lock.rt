@@ -4,7 +4,7 @@ mod gives;
 ghost use Rattle.std.specs.Prelude.{◌≡◌};
 ghost use Rattle.passes.specs.Views.{first_view};
 ghost use Rattle.running_once.specs.OnceRule.{no_runs};
-ghost use Rattle.running_spin_lock.specs.SpinRule.{no_holds};
+ghost use Rattle.running_spin_lock.specs.ValueRule.{none_held};
 ghost use Rattle.running_spin_lock.specs.SpinShown.{grants_of};
 ghost use Rattle.running_lazy_lock.specs.LazyShown.{IsLazyPass, known_by, known_of_init, init_in, ended_of};
 
@@ -41,7 +41,7 @@ fn force_twice<F: FnOnce() -> u64 + Drop, R: Wait>(
     requires own { IsLazyPass lazy.now pass.old }
     requires may { (f : F) → F.IsAlwaysCallable f }
     requires once { known_by pass.old ≡ first_view no_runs }
-    requires init { known_of_init pass.old ≡ first_view no_holds }
+    requires init { known_of_init pass.old ≡ first_view none_held }
     ensures ran { ended_of pass.new ≡ 1 }
     ensures granted { grants_of (init_in pass.new) ≡ 1 }
 {

@@ -3,8 +3,11 @@ mod kept;
 mod refusals;
 mod threads;
 
-ghost use Rattle.std.specs.Prelude.{◌≡◌, ◌+◌, ◌*◌, ◌^◌, ◌<◌, IfSome};
-ghost use Rattle.running_spin_lock.specs.SpinShown.{IsSpinPass, IsSamePass, IsAlone, HasStayed, grants_of, value_of};
+ghost use Rattle.std.specs.Prelude.{◌≡◌, ◌+◌, ◌*◌, ◌^◌, ◌<◌, IfSome, None, MatchBool};
+ghost use Rattle.steps_events.specs.declared.event.Call.TheVariants as calls;
+ghost use Rattle.steps_events.specs.declared.event.Answer.TheVariants as answers;
+ghost use Rattle.running_spin_lock.specs.SpinShown.{IsSpinPass, IsSamePass, IsAlone, HasStayed, grants_of, view, value_of};
+ghost use Rattle.running_spin_lock.specs.SpinSteps.{HasPlayed, HasPlayedBoth};
 
 use crate::spin_lock::{PoisonError, SpinLock, SpinLockGuard, SpinPass};
 use std::sync::Wait;
@@ -106,6 +109,52 @@ fn the_value_is_the_one_that_was_left(rt: HostRuntime) -> Result<(), Fail> {
     let (lock, mut pass) = SpinLock::new(rt.alloc(), 40u64)?;
     assert_eq!(rt; add_twice(&rt, &lock, &mut pass, 1), 42);
     assert_eq!(rt; add_twice(&rt, &lock, &mut pass, 0), 42);
+    Ok(())
+}
+
+/// Adds by each locking call, whatever other passes do: each time the pass plays that call, and at the guard's end an `Unlock`.
+fn add_by_blocking_lock<R: Wait>(rt: &R, lock: &SpinLock<u64>, pass: &mut SpinPass, more: u64)
+    requires own { IsSpinPass lock.now pass.old }
+    ensures stayed { HasStayed pass.old pass.new }
+    ensures played { HasPlayedBoth calls.BlockingLock (view pass.old) (view pass.new) }
+{
+    let mut guard = SpinLock::blocking_lock(pass, lock, rt);
+    *guard = guard.wrapping_add(more);
+}
+
+fn add_by_lock<R: Wait>(rt: &R, lock: &SpinLock<u64>, pass: &mut SpinPass, more: u64)
+    requires own { IsSpinPass lock.now pass.old }
+    ensures stayed { HasStayed pass.old pass.new }
+    ensures played { HasPlayedBoth calls.Lock (view pass.old) (view pass.new) }
+{
+    match SpinLock::lock(pass, lock, rt) {
+        Ok(mut guard) => *guard = guard.wrapping_add(more),
+        Err(_) => unreachable!(),
+    }
+}
+
+/// Adds if the lock is free, and whether it was.
+fn add_by_try_lock(lock: &SpinLock<u64>, pass: &mut SpinPass, more: u64) -> bool
+    requires own { IsSpinPass lock.now pass.old }
+    ensures stayed { HasStayed pass.old pass.new }
+    ensures played { MatchBool result (HasPlayedBoth calls.TryLock (view pass.old) (view pass.new)) (HasPlayed calls.TryLock answers.Interrupted None (view pass.old) (view pass.new)) }
+{
+    match SpinLock::try_lock(pass, lock) {
+        Some(mut guard) => {
+            *guard = guard.wrapping_add(more);
+            true
+        }
+        None => false,
+    }
+}
+
+#[test]
+fn each_call_is_one_of_the_model(rt: HostRuntime) -> Result<(), Fail> {
+    let (lock, mut pass) = SpinLock::new(rt.alloc(), 1u64)?;
+    add_by_blocking_lock(&rt, &lock, &mut pass, 10);
+    add_by_lock(&rt, &lock, &mut pass, 100);
+    assert!(rt; add_by_try_lock(&lock, &mut pass, 1000));
+    assert_eq!(rt; add_twice(&rt, &lock, &mut pass, 0), 1111);
     Ok(())
 }
 

@@ -3,8 +3,9 @@ use Rattle.passes.specs.Parts.{IsAgain}
 use Rattle.passes.specs.Views.{joined_view}
 use Rattle.passes.proofs.Parts.{parts_again, joins_weight}
 use Rattle.passes.proofs.Steps.{joins}
-use Rattle.running_guarded.specs.GuardedRule.{MutexView, both_held}
-use Rattle.running_guarded.proofs.GuardedKeeps.{held_add_up}
+use Rattle.running_spin_lock.specs.ValueRule.{both_held}
+use Rattle.running_spin_lock.proofs.ValueKeeps.{held_add_up}
+use Rattle.running_guarded.specs.GuardedRule.{MutexView}
 use Rattle.running_guarded.proofs.pass.GuardedPass.join.Goals as goal
 
 pub join_seat-requires : goal.join_seat-requires

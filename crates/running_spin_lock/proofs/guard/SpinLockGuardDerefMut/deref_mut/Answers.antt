@@ -3,4 +3,4 @@ use Rattle.running_spin_lock.proofs.SameGuard.{same_guard}
 use Rattle.running_spin_lock.proofs.guard.SpinLockGuardDerefMut.deref_mut.Goals as goal
 
 pub returns : goal.returns
-returns g c = ((refl, λ w. same_guard c.args.self.now w _ _ _ _), record { writes_back = tt; value = refl })
+returns g c = ((refl, λ w. same_guard c.args.self.now w _ _ _ _ _), record { writes_back = tt; value = refl })

@@ -1,21 +1,20 @@
 use Rattle.std.proofs.Common.{rules, sym, ap, ◌∙◌, subst}
-use Rattle.passes.specs.declared.view.View.{View}
 use Rattle.passes.specs.Parts.{IsAgain}
 use Rattle.passes.specs.Views.{joined_view}
 use Rattle.passes.proofs.Parts.{parts_again, joins_weight}
 use Rattle.passes.proofs.Steps.{joins}
-use Rattle.running_spin_lock.specs.declared.hold.SpinHolds.{SpinHolds}
-use Rattle.running_spin_lock.specs.SpinRule.{both_holds}
-use Rattle.running_spin_lock.specs.SpinTally.{holds_add_up}
+use Rattle.running_spin_lock.specs.ValueRule.{both_held}
+use Rattle.running_spin_lock.specs.SpinRule.{SpinView}
+use Rattle.running_spin_lock.proofs.ValueKeeps.{held_add_up}
 use Rattle.running_spin_lock.proofs.pass.SpinPass.join.Goals as goal
 
 pub join_seat-requires : goal.join_seat-requires
-join_seat-requires g c = (search rules, search rules, search rules, search rules, joins _ _ _ holds_add_up _ _ _ _ _ (search rules))
+join_seat-requires g c = (search rules, search rules, search rules, search rules, joins _ _ _ held_add_up _ _ _ _ _ (search rules))
 
 pub returns-clause-weights : goal.returns-clause-weights
 returns-clause-weights g c = search (rules, joins_weight)
 
 pub returns-clause-again : goal.returns-clause-again
-returns-clause-again g c = λ p first second. subst (λ (v : View SpinHolds). IsAgain p v.part)
-    (sym (c.seated.ensures.view ∙ ap (λ me. me.0) c.join_seat.ensures.2 ∙ (λ i. joined_view both_holds (c.rise-seat.ensures.view i) (c.rise-other.ensures.view i))))
+returns-clause-again g c = λ p first second. subst (λ (v : SpinView). IsAgain p v.part)
+    (sym (c.seated.ensures.view ∙ ap (λ me. me.0) c.join_seat.ensures.2 ∙ (λ i. joined_view both_held (c.rise-seat.ensures.view i) (c.rise-other.ensures.view i))))
     (parts_again _ _ p first second)

@@ -1,5 +1,7 @@
-use Rattle.std.proofs.Common.{◌≡◌, []}
-use Rattle.running_spin_lock.specs.SpinSteps.{OnlySees}
+use Rattle.std.proofs.Common.{◌≡◌, [], List}
+use Rattle.playing.specs.Slots.{Slot}
+use Rattle.running_spin_lock.specs.ValueSteps.{OnlySees}
+use Rattle.running_spin_lock.specs.SpinParties.{IsSpinning}
 use Rattle.running_spin_lock.proofs.spin_lock.SpinLock.spin.Given as goal
 
 abbrev pub invariant-loop : goal.invariant-loop
@@ -7,4 +9,5 @@ invariant-loop g l = record {
   same : (l.seat.table_id ≡ l.fn.seat.table_id) × (l.seat.id ≡ l.fn.seat.id);
   no_slot : l.seat.me.1 ≡ [];
   saw : OnlySees l.fn.seat.me.0 l.seat.me.0;
+  at : (done : List Slot) → IsSpinning g.C.Waiting.call done l.fn.seat.me.0.tally.parties → IsSpinning g.C.Waiting.call done l.seat.me.0.tally.parties;
 }

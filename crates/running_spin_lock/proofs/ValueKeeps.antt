@@ -1,0 +1,189 @@
+-- Each step of a lock that guards a value keeps its rule, whatever model its passes play.
+use Rattle.std.proofs.Common.{◌≡◌, ◌≢◌, ℕ, ◌<◌, ◌≤◌, eqb, List, [], ◌∷◌, get_or, set, sym, refl, ap, ◌∙◌, subst, arith, true, Option, Some, None, length-set, get_or-set_same, true-eqb}
+use Rattle.std.proofs.lemmas.Bool.{and_parts, false≢true}
+use mathlib.Core.Logic.{dite}
+use mathlib.Core.Option as maybe
+use native.Mathlib.Decide.{ℕ_discrete}
+use lib.ListN.{get_elem?}
+use Rattle.std.specs.Option.{IsSome}
+use Rattle.atomic_table.specs.Table.{State, Me, opening, keeps, takes, gives, put_back, rest, Allows, Final, Seen}
+use Rattle.passes.specs.declared.part.Sights.{Sights}
+use Rattle.passes.specs.declared.view.View.{View}
+use Rattle.passes.specs.Parts.{IsWhole}
+use Rattle.passes.specs.Sights.{stale}
+use Rattle.passes.specs.Views.{first_view, view_of, IsCounted}
+use Rattle.passes.specs.Tallies.{IsTally}
+use Rattle.passes.proofs.Parts.{shared_first, shared_step}
+use Rattle.passes.proofs.Sums.{others, sum_at, sum_set, sum_of_two, alone}
+use Rattle.steps_events.specs.declared.event.Word.{Word}
+use Rattle.steps_events.specs.declared.event.Word.TheVariants as words
+use Rattle.steps_events.specs.declared.event.Call.TheVariants as calls
+use Rattle.steps_events.specs.declared.event.Event.{Event}
+use Rattle.steps_events.specs.declared.row.Intent.{Intent}
+use Rattle.steps_events.specs.declared.row.Intent.TheVariants as intents
+use Rattle.steps_events.specs.Integers.{u64_arithmetic}
+use Rattle.steps_events.specs.Tables.{Table}
+use Rattle.steps_events.specs.Runs.{IsPast}
+use Rattle.playing.specs.declared.played.Played.{Played}
+use Rattle.playing.specs.Words.{effect}
+use Rattle.playing.specs.Plays.{Coming, Continuing, MayStep}
+use Rattle.playing.specs.Passes.{played, played_add_up}
+use Rattle.playing.proofs.Opening as opening_runs
+use Rattle.playing.proofs.Updates.{makes}
+use Rattle.tallies.specs.declared.mutex.Holds.{Holds}
+use Rattle.tallies.specs.MutexRule.{no_holds, both_holds}
+use Rattle.tallies.specs.MutexTally.{holds_add_up}
+use Rattle.running_spin_lock.specs.ValueRule.{none_held, both_held, core_held, ValueAgrees, OneHolder}
+use Rattle.running_spin_lock.specs.ValueSteps.{granted, released, Tried, Stored, is_vacant, has_vacant_slot}
+
+module _ {M Q : Type 0} where
+  pub held_add_up : IsTally {T = Played M Q Holds} none_held both_held core_held
+  held_add_up = played_add_up no_holds both_holds (λ _. no_holds) holds_add_up
+
+  -- the tallies of all passes but one
+  abbrev the_others : List (View (Played M Q Holds)) → ℕ → Played M Q Holds
+  the_others = others none_held both_held
+
+  module _ {P T : Type 0} (t : Table ℕ P) (Law : List (Event ℕ) → Type 0) where
+    abbrev IsKept : State (Option T) (View (Played M Q Holds)) → Type 0
+    IsKept = IsCounted none_held both_held (ValueAgrees t Law)
+
+    -- the rule, with one pass apart
+    apart : (s : State (Option T) (View (Played M Q Holds))) (id : ℕ) (v : View (Played M Q Holds)) → IsKept s → get_elem? s.views id ≡ maybe.some v →
+        ValueAgrees t Law s.words s.homes (both_held v.tally (the_others s.views id))
+    apart s id v r at = subst (ValueAgrees t Law s.words s.homes) (sum_at none_held both_held core_held held_add_up s.views id v at) r.agree
+
+    -- the rule again, once that pass has another view
+    kept_again : (s : State (Option T) (View (Played M Q Holds))) (id : ℕ) (v w : View (Played M Q Holds)) → IsKept s → get_elem? s.views id ≡ maybe.some v → w.part ≡ v.part → 0 < v.part.share
+        → (words : List ℕ) (homes : List (maybe.Option (Option T))) → ValueAgrees t Law words homes (both_held w.tally (the_others s.views id))
+        → IsKept (record { words = words; homes = homes; views = set s.views id w })
+    kept_again s id v w r at same alive words homes is = record {
+      agree = subst (ValueAgrees t Law words homes) (sym (sum_set none_held both_held core_held held_add_up s.views id v w at)) is;
+      shared = shared_step s.views id v w at same alive r.shared;
+    }
+
+    -- A try makes 1 of 0, and leaves a 1.
+    pub tries : ((n : ℕ) (past : List (Event ℕ)) → IsPast u64_arithmetic t n past → Law past) → (slots id : ℕ) (see : Sights → Sights) (coming : Coming) (intent : Word → Intent ℕ) (f : ℕ → ℕ)
+        (me : Me (Option T) (View (Played M Q Holds))) → ((w : Word) (n : ℕ) → effect (intent w) n ≡ f n) → f 0 ≡ 1 → ((n : ℕ) → n ≢ 0 → n ≤ 1 → f n ≡ n) → me.1 ≡ [] → 0 < me.0.part.share
+        → MayStep t Law (words.State ∷ []) coming 0 intent me.0.tally.parties → Allows IsKept slots id me 0 f (Tried t Law see coming me)
+    tries lawful slots id see coming intent f me leaves grants stays none alive may s r wide at fits =
+        let v : View (Played M Q Holds) = me.0 in let more : Played M Q Holds = the_others s.views id in let is = apart s id v r at in
+        let word = is.1.held.word in let one = is.1.held.one in let long = is.1.held.one_word in
+        let x : ℕ = get_or s.words 0 0 in let y : ℕ = f x in
+        let a = makes t Law (words.State ∷ []) lawful (tt, tt) coming s.words v.tally.parties more.parties 0 y x intent may (λ w. leaves w x) (λ w. refl) is.0 in
+        let put : get_or (set s.words 0 y) 0 0 ≡ y = get_or-set_same s.words 0 y 0 (omega (arith, long)) in
+        dite (ℕ_discrete x 0)
+        (λ free. let home = is.1.home (omega (arith, word, free)) in let b : T = home.0 in
+        let is_1 : y ≡ 1 = ap f free ∙ grants in
+        let w : View (Played M Q Holds) = view_of v.part (stale v.sights) (played a.after (granted v.tally.counts)) in (
+          w,
+          takes 0 (Some b),
+          ap (λ hs. get_elem? hs 0) home.1,
+          kept_again s id v w r at refl alive (set s.words 0 y) (set s.homes 0 maybe.none) (
+            a.played,
+            record {
+              held = record { one_word = length-set s.words 0 y ∙ long; word = put ∙ is_1 ∙ omega (arith, word, free); one = omega (arith, word, free) };
+              home = λ off. absurd (omega (arith, off));
+              out = λ _. ap (λ hs. set hs 0 maybe.none) home.1;
+            },
+          ),
+          record {
+            went = a.went;
+            free = λ _. ((omega (arith, word, free), refl), (b, ap (λ l. (0, Some b) ∷ l) none));
+            taken = λ miss. absurd (miss free);
+            alone = λ _ _. free;
+          },
+        ))
+        (λ held.
+        let is_x : y ≡ x = stays x held (omega (arith, word, one)) in
+        let w : View (Played M Q Holds) = view_of v.part (see v.sights) (played a.after v.tally.counts) in (
+          w,
+          keeps,
+          tt,
+          kept_again s id v w r at refl alive (set s.words 0 y) s.homes (
+            a.played,
+            record {
+              held = record { one_word = length-set s.words 0 y ∙ long; word = put ∙ is_x ∙ word; one = one };
+              home = is.1.home;
+              out = is.1.out;
+            },
+          ),
+          record {
+            went = a.went;
+            free = λ hit. absurd (held hit);
+            taken = λ _. (refl, refl);
+            alone = λ whole off. let none_else = ap (λ (t : Played M Q Holds). t.counts.holds) (alone none_held both_held core_held held_add_up s.views id v at whole r.shared) in
+                absurd (held (omega (arith, word, off, none_else)));
+          },
+        ))
+
+    -- A store of 0 by who has the value puts it home.
+    pub stores : ((n : ℕ) (past : List (Event ℕ)) → IsPast u64_arithmetic t n past → Law past) → (slots id : ℕ) (me : Me (Option T) (View (Played M Q Holds))) (b : T) → me.1 ≡ (0, Some b) ∷ []
+        → me.0.tally.counts.holds ≡ 1 → 0 < me.0.part.share → MayStep t Law (words.State ∷ []) (Continuing calls.Unlock) 0 (λ w. intents.Store w 0) me.0.tally.parties
+        → Allows IsKept slots id me 0 (λ _. 0) (λ _. Stored t Law me)
+    stores lawful slots id me b carries on alive may s r wide at fits =
+        let v : View (Played M Q Holds) = me.0 in let more : Played M Q Holds = the_others s.views id in let is = apart s id v r at in
+        let word = is.1.held.word in let one = is.1.held.one in let long = is.1.held.one_word in
+        let a = makes t Law (words.State ∷ []) lawful (tt, tt) (Continuing calls.Unlock) s.words v.tally.parties more.parties 0 0 0 (λ w. intents.Store w 0) may (λ w. refl) (λ w. refl) is.0 in
+        let out = is.1.out (omega (arith, one, on)) in
+        let w : View (Played M Q Holds) = view_of v.part (stale v.sights) (played a.after (released v.tally.counts)) in (
+          w,
+          gives,
+          tt,
+          kept_again s id v w r at refl alive (set s.words 0 0) (put_back s.homes me.1) (
+            a.played,
+            record {
+              held = record { one_word = length-set s.words 0 0 ∙ long; word = get_or-set_same s.words 0 0 0 (omega (arith, long)) ∙ omega (arith, one, on); one = omega (arith, one, on) };
+              home = λ _. (b, λ i. put_back (out i) (carries i));
+              out = λ on_again. absurd (omega (arith, one, on, on_again));
+            },
+          ),
+          record { went = a.went; off = (on, refl); gave = ap rest carries },
+        )
+
+    pub opens : ((n : ℕ) (past : List (Event ℕ)) → IsPast u64_arithmetic t n past → Law past) → 0 ≡ t.opening words.State → (x : T) (slots : List (Option T)) → slots ≡ Some x ∷ []
+        → IsKept (opening (0 ∷ []) slots (first_view none_held))
+    opens lawful free x slots is = subst (λ l. IsKept (opening (0 ∷ []) l (first_view none_held))) (sym is) (record {
+      agree = (
+        opening_runs.opens t Law (words.State ∷ []) (0 ∷ []) lawful (free, tt),
+        record { held = record { one_word = refl; word = refl; one = omega arith }; home = λ _. (x, refl); out = λ on. absurd (omega (arith, on)) },
+      );
+      shared = shared_first (first_view none_held) refl;
+    })
+
+    -- at the end the whole pass finds the value at home
+    pub closes : (words : List ℕ) (slots : List (Option T)) (id : ℕ) (v : View (Played M Q Holds)) → Final (Seen IsKept id v) words slots → IsWhole v.part → v.tally.counts.holds ≡ 0
+        → (x : T) × (get_elem? slots 0 ≡ maybe.some (Some x))
+    closes words slots id v final whole off =
+        let s = final.0 in let r = final.1.0 in let at = final.1.1 in let is = apart s id v r at in
+        let none_else = ap (λ (t : Played M Q Holds). t.counts.holds) (alone none_held both_held core_held held_add_up s.views id v at whole r.shared) in
+        let home = is.1.home (omega (arith, off, none_else)) in
+        (home.0, final.4 0 (Some home.0) (ap (λ hs. get_elem? hs 0) home.1))
+
+    -- two holds would be more than one
+    pub one_holder : (s : State (Option T) (View (Played M Q Holds))) → IsKept s → OneHolder T s
+    one_holder s r = record {
+      one = λ i j v w here there on also. dite (ℕ_discrete i j) (λ same. same)
+          (λ differ. let two = sum_of_two none_held both_held core_held held_add_up s.views i j v w here there differ in
+          let sum = ap (λ (t : Played M Q Holds). t.counts.holds) two.1 in let one = r.agree.1.held.one in absurd (omega (arith, sum, one, on, also)));
+      out = λ i v here on. let is = apart s i v r here in let one = is.1.held.one in is.1.out (omega (arith, one, on));
+    }
+
+module _ {T : Type 0} where
+  -- the one slot that is carried is empty
+  pub vacant : (slots : List (ℕ × Option T)) → has_vacant_slot slots ≡ true → slots ≡ (0, None) ∷ []
+  vacant [] is = absurd (false≢true is)
+  vacant (x ∷ y ∷ more) is = absurd (false≢true is)
+  vacant (x ∷ []) is = let both = and_parts (eqb x.0 0) (is_vacant x.1) is in let number = true-eqb x.0 0 (sym both.0) in let empty = nothing x.1 both.1 in λ i. (number i, empty i) ∷ []
+    where
+      nothing : (o : Option T) → is_vacant o ≡ true → o ≡ None
+      nothing None is = refl
+      nothing (Some x) is = absurd (false≢true is)
+
+  -- once the value is in it, it is the one that is carried
+  pub filled : (before after : List (ℕ × Option T)) (x : T) → has_vacant_slot before ≡ true → after ≡ (0, Some x) ∷ rest before → after ≡ (0, Some x) ∷ []
+  filled before after x is put = put ∙ ap (λ (slots : List (ℕ × Option T)). (0, Some x) ∷ rest slots) (vacant before is)
+
+  -- what was found in the slot is there
+  pub is_there : (slots : List (Option T)) (o : Option T) → (x : T) × (get_elem? slots 0 ≡ maybe.some (Some x)) → get_elem? slots 0 ≡ maybe.some o → IsSome o
+  is_there slots o home at = subst IsSome (maybe.some-injective (Some home.0) o (sym home.1 ∙ at)) refl

@@ -1,0 +1,12 @@
+-- The model that a spin lock plays.
+use Rattle.std.specs.Prelude.{ℕ, List}
+use Rattle.steps_events.specs.declared.event.Event.{Event}
+use Rattle.steps_events.specs.Integers.{u64_arithmetic}
+use Rattle.steps_events.specs.Runs.{IsPast}
+use Rattle.steps_spin.specs.Table.{spin_table}
+use Rattle.steps_spin.specs.Law.{KeepsSpin}
+use Rattle.steps_spin.proofs.Laws.{keeps_spin}
+
+-- every run keeps the spin lock's law
+pub spin_lawful : (parties : ℕ) (past : List (Event ℕ)) → IsPast u64_arithmetic spin_table parties past → KeepsSpin past
+spin_lawful parties past run = keeps_spin u64_arithmetic parties past run

@@ -1,0 +1,110 @@
+-- What a step on the word of a lock that guards a value tells of the seat that makes it, and what several steps change in what the seat
+-- knows.
+use Rattle.std.specs.Prelude.{◌≡◌, ◌≢◌, ℕ, ◌+◌, List, [], ◌∷◌, Bool, true, false, ◌==◌, ◌&&◌, Option, Some, None, MatchBool}
+use Rattle.atomic_table.specs.Table.{Me}
+use Rattle.steps_events.specs.declared.event.Call.{Call}
+use Rattle.steps_events.specs.declared.event.Call.TheVariants as calls
+use Rattle.steps_events.specs.declared.event.Answer.{Answer}
+use Rattle.steps_events.specs.declared.event.Event.{Event}
+use Rattle.steps_events.specs.declared.hold.HoldKind.{HoldKind}
+use Rattle.steps_events.specs.Tables.{Table}
+use Rattle.passes.specs.declared.part.Sights.{Sights}
+use Rattle.passes.specs.declared.view.View.{View}
+use Rattle.passes.specs.Parts.{IsWhole}
+use Rattle.passes.specs.Sights.{HasOnlyRead, HasWritten}
+use Rattle.passes.specs.Views.{view_of, wrote}
+use Rattle.playing.specs.declared.played.Played.{Played}
+use Rattle.playing.specs.Plays.{Coming, Continuing, HasCalled, Went}
+use Rattle.playing.specs.Passes.{counted_in}
+use Rattle.tallies.specs.declared.mutex.Holds.{Holds}
+use Rattle.tallies.specs.MutexRule.{holds}
+
+-- the hold is turned on, by a grant
+abbrev pub granted : Holds → Holds
+granted t = holds 1 (t.grants + 1)
+
+-- the hold is turned off
+abbrev pub released : Holds → Holds
+released t = holds 0 t.grants
+
+abbrev pub locked : View Holds → View Holds
+locked v = wrote v (granted v.tally)
+
+abbrev pub unlocked : View Holds → View Holds
+unlocked v = wrote v (released v.tally)
+
+-- the lock was seen taken, by a step of which this is seen
+abbrev pub saw_taken : (Sights → Sights) → View Holds → View Holds
+saw_taken see v = view_of v.part (see v.sights) v.tally
+
+-- The slot.
+
+module _ {T : Type 0} where
+  -- the value is with the seat
+  abbrev pub HasValue : List (ℕ × Option T) → Type 0
+  HasValue slots = (x : T) × (slots ≡ (0, Some x) ∷ [])
+
+  -- the slot is with the seat, and nothing in it
+  abbrev pub is_vacant : Option T → Bool
+  is_vacant None = true
+  is_vacant (Some x) = false
+
+  abbrev pub has_vacant_slot : List (ℕ × Option T) → Bool
+  has_vacant_slot [] = false
+  has_vacant_slot (x ∷ []) = (x.0 == 0) && is_vacant x.1
+  has_vacant_slot (x ∷ y ∷ rest) = false
+
+module _ {M Q : Type 0} where
+  -- One step.
+
+  -- the hold, which was off, is on by one more grant, and nothing else changed that the pass counts or saw
+  abbrev pub Locks : View (Played M Q Holds) → View (Played M Q Holds) → Type 0
+  Locks v w = (v.tally.counts.holds ≡ 0) × (counted_in w ≡ locked (counted_in v))
+
+  -- the hold, which was on, is off, and nothing else changed so
+  abbrev pub Lets : View (Played M Q Holds) → View (Played M Q Holds) → Type 0
+  Lets v w = (v.tally.counts.holds ≡ 1) × (counted_in w ≡ unlocked (counted_in v))
+
+  -- it was seen locked, and nothing else changed so
+  abbrev pub Sees : (Sights → Sights) → View (Played M Q Holds) → View (Played M Q Holds) → Type 0
+  Sees see v w = counted_in w ≡ saw_taken see (counted_in v)
+
+  -- Several steps.
+
+  -- the hold, which was off, is on by one more grant, and nothing else changed but what was seen on the way
+  pub record Enters (v w : View (Played M Q Holds)) : Type 0 where
+    pub off : v.tally.counts.holds ≡ 0
+    pub on : w.tally.counts ≡ granted v.tally.counts
+    pub part : w.part ≡ v.part
+    pub saw : HasWritten v.sights w.sights
+
+  -- nothing was counted, and nothing changed but what was seen
+  pub record OnlySees (v w : View (Played M Q Holds)) : Type 0 where
+    pub counts : w.tally.counts ≡ v.tally.counts
+    pub part : w.part ≡ v.part
+    pub saw : HasOnlyRead v.sights w.sights
+
+  -- The steps of a table, which keeps a law.
+  module _ {P : Type 0} (t : Table ℕ P) (Law : List (Event ℕ) → Type 0) where
+    -- a try that the table has, to which the pass came so, found the lock free, or not
+    abbrev pub Tries : Coming → Bool → View (Played M Q Holds) → View (Played M Q Holds) → Type 0
+    Tries coming free v w = (found : ℕ) × MatchBool free (found ≡ 0) (found ≢ 0) × Went t Law coming v.tally.parties found w.tally.parties
+
+    -- A try takes the slot with the value where it found 0; else this is seen of it. Where no other pass is left, only the pass's own hold
+    -- can be on.
+    pub record Tried {T : Type 0} (see : Sights → Sights) (coming : Coming) (me : Me (Option T) (View (Played M Q Holds))) (found : ℕ) (after : Me (Option T) (View (Played M Q Holds))) : Type 0 where
+      pub went : Went t Law coming me.0.tally.parties found after.0.tally.parties
+      pub free : found ≡ 0 → Locks me.0 after.0 × HasValue after.1
+      pub taken : found ≢ 0 → Sees see me.0 after.0 × (after.1 ≡ me.1)
+      pub alone : IsWhole me.0.part → me.0.tally.counts.holds ≡ 0 → found ≡ 0
+
+    -- a store of 0 by the seat that has the value gives its slot back
+    pub record Stored {T : Type 0} (me after : Me (Option T) (View (Played M Q Holds))) : Type 0 where
+      pub went : Went t Law (Continuing calls.Unlock) me.0.tally.parties 0 after.0.tally.parties
+      pub off : Lets me.0 after.0
+      pub gave : after.1 ≡ []
+
+    -- There is a run of the model, which keeps its law, in which a party of the pass has just been answered so by this call. It is the one
+    -- call that the pass has made since, as a party that is new; and it has this hold now.
+    abbrev pub Plays : Call ℕ → Answer ℕ → Option HoldKind → View (Played M Q Holds) → View (Played M Q Holds) → Type 0
+    Plays call answer hold v w = HasCalled t Law call answer hold v.tally.parties w.tally.parties

@@ -1,0 +1,23 @@
+//! The rule over all passes of a lock that guards a value.
+ghost use Rattle.passes.specs.Views.{first_view, IsCounted};
+ghost use Rattle.running_spin_lock.specs.ValueRule.{none_held, both_held, ValueAgrees};
+
+use atomic_table::TableRule;
+use passes::View;
+use playing::{Played, Script};
+use std::marker::PhantomData;
+use tallies::Holds;
+
+/// The rule of the table that a lock with a value lies in, whose passes play this model: its word is that of a run of the model, in
+/// which the passes are parties; and the value is in its slot exactly where nobody has a hold.
+pub struct ValueRule<M, P> {
+    of: PhantomData<M>,
+    at: PhantomData<P>,
+}
+
+impl<T, P, M: Script<(), P>> TableRule<Option<T>, View<Played<M, P, Holds>>, ()>
+    for ValueRule<M, P> {
+    ghost holds = { λ key. IsCounted none_held both_held (ValueAgrees (M.table key) (M.law key)) };
+
+    ghost first = { λ _. first_view none_held };
+}

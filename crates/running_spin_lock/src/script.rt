@@ -1,0 +1,32 @@
+//! The model that a spin lock plays, and what its pass counts beside.
+
+use playing::{Played, Script};
+use steps_spin::SpinPlace;
+use tallies::Holds;
+
+/// The model that a spin lock plays: its one word is the lock's.
+pub struct SpinScript;
+
+impl Script<(), SpinPlace> for SpinScript {
+    ghost use Rattle.std.specs.Prelude.{[], ◌∷◌};
+    ghost use Rattle.steps_events.specs.declared.event.Word.TheVariants as words;
+    ghost use Rattle.steps_spin.specs.Table.{spin_table};
+    ghost use Rattle.steps_spin.specs.Law.{KeepsSpin};
+    ghost use Rattle.running_spin_lock.specs.SpinLawful.{spin_lawful};
+
+    ghost table = { λ _. spin_table };
+
+    ghost law = { λ _. KeepsSpin };
+
+    ghost lawful = { λ _. spin_lawful };
+
+    ghost names = { words.State ∷ [] };
+
+    ghost apart = { (tt, tt) };
+
+    // No call of a spin lock asks a closure.
+    ghost handed = { λ _. words.State };
+}
+
+/// What a pass of a spin lock is in its model, and counts beside.
+pub type PlayedSpin = Played<SpinScript, SpinPlace, Holds>;
