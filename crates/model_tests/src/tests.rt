@@ -1,18 +1,12 @@
-//! Each public call of the model once, with ample memory; and those of each primitive's crate, in files of their names. Every text of the
-//! schedule is tested in `sync_play`.
+//! Each public call of the model once, with ample memory; and the word functions at the ends of their types. Every text of the schedule is
+//! tested in `play_tests`.
 ghost use Rattle.std.specs.Prelude.{◌≡◌, ◌≤◌, true, length};
 
 mod atomic;
-mod barrier;
 mod calls;
-mod condvar;
+mod ends;
 mod events;
 mod growths;
-mod mutex;
-mod once;
-mod rw_reader;
-mod rw_writer;
-mod semaphore;
 mod strides;
 
 use std::alloc::{AllocError, Global};
