@@ -2,7 +2,10 @@
 # and none crashes. And a text of many pieces, each way.
 test_streams() {
     local line player ending
+    attempt python3 tools/growths.py
+    judge_line "calls that take memory" 0 "19 calls that take memory, 0 wrong" ""
     long_text >"$room/long.txt"
+    head -n 401 "$room/long.txt" >"$room/some.txt"
     for line in "${players[@]}"; do
         read -r player ending <<<"$line"
         if is_built "$player"; then
@@ -22,6 +25,7 @@ wants_streams() {
     local short=examples/mutex-abort.txt
     attempt env LC_ALL=C prlimit --as=$((48 << 20)) "./$1" < <(yes '' | head -c 64M)
     judge_line "$1: a text that is larger than the memory" 1 "" "no memory"
+    sweeps_memory "$1"
     attempt bash -c 'exec "$0" <&-' "./$1"
     judge_line "$1: standard input is closed" 1 "" "reading failed"
     attempt "./$1" <examples
@@ -34,6 +38,17 @@ wants_streams() {
     judge "$1: a fault, and standard error is closed" 2 "examples/mutex-fault.$2" /dev/null
     attempt bash -c '"$0" | head -c 1 >/dev/null; exit "${PIPESTATUS[0]}"' "./$1" <"$room/long.txt"
     judge_line "$1: the reader of standard output leaves" 1 "" "writing failed"
+}
+
+# Under each limit of memory it says that there is none, or writes all.
+sweeps_memory() {
+    "./$1" <"$room/some.txt" >"$room/some.out" 2>"$room/err"
+    attempt python3 tools/sweep_memory.py "$1" "$room/some.txt" "$room/some.out"
+    if [[ $status == 0 ]]; then
+        succeed
+    else
+        fail "$1: limits of memory" "$(tail -n 1 -- "$room/out")"
+    fi
 }
 
 plays_at_length() {
