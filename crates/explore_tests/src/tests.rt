@@ -2,9 +2,10 @@
 
 use std::alloc::{AllocError, Global};
 use std::test::Fail;
+use sync_explore::report::Verdict;
 use sync_explore::run::run;
 
-/// What is written of a question, and then its fault and the exit status, if it has one.
+/// What is written of a question, and then its fault, if it has one, and the exit status, if it is not 0.
 fn answered(alloc: Global, question: &[u8]) -> Result<String, AllocError> {
     let mut reader = question;
     let mut written: Vec<u8> = Vec::new(alloc);
@@ -13,15 +14,22 @@ fn answered(alloc: Global, question: &[u8]) -> Result<String, AllocError> {
     for byte in &written {
         shown.push(char::from(*byte))?;
     }
-    if let Err(fault) = ended {
-        let status = fault.status();
-        write!(shown, "{fault}, status {status}")?;
+    match ended {
+        Ok(Verdict::AsWanted) => {}
+        Ok(verdict) => {
+            let status = verdict.status();
+            write!(shown, "status {status}")?;
+        }
+        Err(fault) => {
+            let status = fault.status();
+            write!(shown, "{fault}, status {status}")?;
+        }
     }
     Ok(shown)
 }
 
-/// Questions, with what is told of each: a happy one, and each fault.
-const ANSWERS: [(&str, &str); 11] = [
+/// Questions, with what is told of each: a happy one, each kind of term, asked for and not, and each fault.
+const ANSWERS: [(&str, &str); 33] = [
     (
         "spin 2\n1 try_lock\n2 try_lock\n",
         "\
@@ -42,6 +50,88 @@ const ANSWERS: [(&str, &str); 11] = [
     (
         "semaphore 2 1\n1 post many\n",
         "line 2: bad number, status 2",
+    ),
+    (
+        "spin 2\n1 try_lock\n2 try_lock\nfind 2 interrupted\n",
+        "spin 2\n1 try_lock\n1 run\n2 try_lock\n2 run\n",
+    ),
+    (
+        "spin 2\n1 try_lock\n2 try_lock\nfind 1 success and 2 success\n",
+        "never in the schedules explored: 10 states, 12 moves\nstatus 5",
+    ),
+    (
+        "spin 2\n1 try_lock\n2 try_lock\nnever 1 success and 2 success\n",
+        "never in the schedules explored: 10 states, 12 moves\n",
+    ),
+    (
+        "spin 2\n1 try_lock\n2 try_lock\nnever 2 interrupted and ends\n",
+        "spin 2\n1 try_lock\n1 run\n2 try_lock\n2 run\nstatus 5",
+    ),
+    (
+        "mutex 2\n1 lock\n2 lock\nfind 2 waits\n",
+        "mutex 2\n1 lock\n1 run\n2 lock\n2 run\n",
+    ),
+    (
+        "mutex 2\n1 lock\n2 lock, unlock\n2 aborts\nfind 2 aborted and 2 success and 1 holds write\n",
+        "never in the schedules explored: 27 states, 41 moves\nstatus 5",
+    ),
+    (
+        "rwreader 2\n1 read_lock\n2 try_read_lock\nfind 1 holds read and 2 holds read and word 2\n",
+        "rwreader 2\n1 read_lock\n1 run\n2 try_read_lock\n2 run\n",
+    ),
+    (
+        "rwwriter 2\n1 read_lock, unlock\n2 write_lock\nfind counter 1 and 2 holds write\n",
+        "rwwriter 2\n1 read_lock\n1 run\n1 unlock\n2 write_lock\n2 go 2\n1 go 2\n2 run\n",
+    ),
+    (
+        "condvar 2\n1 lock, start_wait\n1 aborts\n2 notify_one\nfind 1 interrupted held\n",
+        "condvar 2\n1 lock\n1 run\n1 start_wait\n1 run\n1 abort\n1 run\n",
+    ),
+    (
+        "condvar 2\n1 lock, start_wait\n2 notify_one\nfind waiters 1 and value 1\n",
+        "condvar 2\n1 lock\n1 run\n1 start_wait\n1 go 1\n2 notify_one\n2 go 2\n",
+    ),
+    (
+        "barrier 2 2\n1 start_wait\n2 start_wait\nfind 1 ok and 2 ok\n",
+        "barrier 2 2\n1 start_wait\n1 go 2\n2 start_wait\n2 go 2\n1 run\n2 run\n",
+    ),
+    (
+        "once 2\n1 call_once\n2 is_completed\nfind 2 true\n",
+        "once 2\n1 call_once\n1 run\n2 is_completed\n2 run\n",
+    ),
+    (
+        "mutex 1\n1 unlock, lock\nfind ends\n",
+        "mutex 1\n1 lock\n1 run\n",
+    ),
+    ("mutex 1\n1 lock\nnever word 0\n", "mutex 1\nstatus 5"),
+    ("mutex 1\n1 lock\nfind\n", "line 3: bad line, status 2"),
+    (
+        "mutex 1\n1 lock\nfind word 1 and\n",
+        "line 3: bad line, status 2",
+    ),
+    (
+        "mutex 1\n1 lock\nfind word 1 and and ends\n",
+        "line 3: bad line, status 2",
+    ),
+    (
+        "mutex 1\n1 lock\nfind counter 1\n",
+        "line 3: bad line, status 2",
+    ),
+    (
+        "mutex 1\n1 lock\nnever word many\n",
+        "line 3: bad number, status 2",
+    ),
+    (
+        "mutex 1\n1 lock\nnever 2 waits\n",
+        "line 3: no party, status 2",
+    ),
+    (
+        "mutex 1\n1 lock\nfind 0 waits\n",
+        "line 3: no party, status 2",
+    ),
+    (
+        "mutex 1\n1 lock\nfind ends\n\n1 unlock\n",
+        "line 5: bad line, status 2",
     ),
 ];
 

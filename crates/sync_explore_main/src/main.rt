@@ -6,7 +6,7 @@ use sync_explore::run::run;
 
 fn main(rt: HostRuntime) -> ExitCode {
     match run(rt.alloc(), &mut rt.stdin(), &mut rt.stdout()) {
-        Ok(()) => ExitCode::SUCCESS,
+        Ok(verdict) => ExitCode::from(verdict.status()),
         Err(fault) => {
             let _ = eprintln!(rt; "{fault}");
             ExitCode::from(fault.status())
