@@ -6,8 +6,6 @@ mod answer;
 mod pass;
 mod queue;
 mod state;
-#[cfg(test)]
-mod tests;
 
 pub use answer::{PutFault, Taken};
 pub use pass::QueuePass;

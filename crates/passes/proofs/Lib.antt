@@ -3,4 +3,3 @@ pub mod Sums
 pub mod Steps
 pub mod Attempts
 pub mod Updates
-pub mod Counters

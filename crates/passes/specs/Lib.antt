@@ -3,6 +3,5 @@ pub mod Sights
 pub mod Tallies
 pub mod Views
 pub mod Answers
-pub mod Counters
 pub mod Passes
 pub mod Objects

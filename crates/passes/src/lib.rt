@@ -12,8 +12,6 @@ mod part;
 mod pass;
 mod rule;
 mod tally;
-#[cfg(test)]
-mod tests;
 mod view;
 mod wait;
 mod words;

@@ -22,8 +22,6 @@ pub mod lexer;
 pub mod player;
 pub mod print;
 pub mod run;
-#[cfg(test)]
-mod tests;
 pub mod text;
 pub mod value_type;
 pub mod walk;

@@ -1,7 +1,0 @@
-use Rattle.std.proofs.Common.{ℕ, ap, arith}
-use Rattle.passes.specs.declared.view.View.{View}
-use Rattle.passes.proofs.Counters.{subtracts}
-use Rattle.passes.proofs.tests.add_and_subtract.Goals as goal
-
-pub fetch_sub-requires-clause-update : goal.fetch_sub-requires-clause-update
-fetch_sub-requires-clause-update c = subtracts _ 3 (omega arith) (omega (arith, c.requires.new, ap (λ (v : View ℕ). v.tally) c.fetch_add.ensures.told.added))

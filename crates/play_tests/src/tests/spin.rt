@@ -1,0 +1,88 @@
+use super::{played, run_meanwhile, text};
+use std::alloc::Global;
+use std::test::Fail;
+use sync_play::fault::LineFault;
+use sync_steps::steps::{Answer, Call, Input, Object, Then};
+
+/// Texts of a spin lock, their lines parted by ` / `, with what each prints.
+const TEXTS: [(&str, &str); 6] = [
+    // A try finds it locked; another, after the unlock, locks it.
+    (
+        "spin 2 / 1 lock / 1 run / 2 try_lock / 2 run / 1 unlock / 1 run / 2 try_lock / 2 run",
+        "1 success / 2 interrupted / 1 done / 2 success / word 1 failed 0 / ",
+    ),
+    // The two waiting calls are one: each spins until the lock is free. A swap never fails.
+    (
+        "spin 2 / 1 blocking_lock / 1 run / 2 lock / 2 go 50 / 1 unlock / 1 run / 2 run",
+        "1 success / 1 done / 2 success / word 1 failed 0 / ",
+    ),
+    (
+        "spin 2 / 1 lock / 1 run / 2 blocking_lock / 2 go 50 / 1 unlock / 1 run / 2 run",
+        "1 success / 1 done / 2 success / word 1 failed 0 / ",
+    ),
+    // Two meet: the first swap has it, and the other waits.
+    (
+        "spin 2 / 1 lock / 2 lock / 2 go / 1 go 3 / 2 unlock / 2 run / 1 run / 1 unlock / 1 run",
+        "2 success / 2 done / 1 success / 1 done / word 0 failed 0 / ",
+    ),
+    // A call that has spun for two lines stands nowhere, and goes on.
+    (
+        "spin 2 / 1 lock / 1 run / 2 lock / 2 go 100000 / 2 go 100000 / 1 unlock / 1 run / 2 go",
+        "1 success / 1 done / 2 success / word 1 failed 0 / ",
+    ),
+    // One call is under way at the end.
+    (
+        "spin 2 / 1 lock / 1 run / 2 lock / 2 go 100000",
+        "1 success / word 1 failed 0 / ",
+    ),
+];
+
+#[test]
+fn who_waits_only_spins(rt: HostRuntime) -> Result<(), Fail> {
+    for (lines, want) in &TEXTS {
+        let text = text(rt.alloc(), lines, "\n")?;
+        let output = played(rt.alloc(), text.as_bytes())?;
+        assert_eq!(rt; output.as_str(), *want, "of {lines}");
+    }
+    Ok(())
+}
+
+#[test]
+fn a_run_that_nobody_lets_end(rt: HostRuntime) -> Result<(), Fail> {
+    for call in ["lock", "blocking_lock"] {
+        let lines = format!(in rt.alloc(); "spin 2 / 1 lock / 1 run / 2 {call} / 2 run")?;
+        let text = text(rt.alloc(), &lines, "\n")?;
+        let output = played(rt.alloc(), text.as_bytes())?;
+        assert_eq!(rt; output.as_str(), "line 5: step limit, status 2, 0 written");
+    }
+    Ok(())
+}
+
+/// Party 2 runs while party 1 has the lock. After so many of its swaps party 1 unlocks: how the next swap goes.
+fn swap_after(alloc: Global, swaps: u64) -> Result<Result<Option<Then<u64>>, LineFault>, Fail> {
+    let held = [
+        (0, Input::Begin(Call::Lock)),
+        (0, Input::Go),
+        (1, Input::Begin(Call::Lock)),
+    ];
+    let unlocks = [(0, Input::Begin(Call::Unlock)), (0, Input::Go)];
+    run_meanwhile(alloc, Object::Spin, &held, swaps, &unlocks)
+}
+
+#[test]
+fn a_run_ends_at_its_limit(rt: HostRuntime) -> Result<(), Fail> {
+    assert!(rt;
+        matches!(
+            swap_after(rt.alloc(), 0)?,
+            Ok(Some(Then::Answers(Answer::Success)))
+        )
+    );
+    assert!(rt;
+        matches!(
+            swap_after(rt.alloc(), 99999)?,
+            Ok(Some(Then::Answers(Answer::Success)))
+        )
+    );
+    assert!(rt; matches!(swap_after(rt.alloc(), 100000)?, Err(LineFault::StepLimit)));
+    Ok(())
+}

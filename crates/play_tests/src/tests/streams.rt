@@ -1,0 +1,108 @@
+use std::io;
+use std::io::{ErrorKind, Read, Write};
+use std::test::Fail;
+use sync_play::run::run;
+
+const TEXT: &[u8] = b"mutex 1\n1 try_lock\n1 run\n";
+
+const OUTPUT: &[u8] = b"1 success\nword 1 failed 0\n";
+
+/// A reader that fails after some bytes.
+#[derive(Drop)]
+pub struct Fails<'a> {
+    pub before: &'a [u8],
+    pub kind: ErrorKind,
+}
+
+impl Read for Fails<'_> {
+    fn read(&mut self, buf: &mut [u8]) -> io::Result<usize> {
+        if self.before.is_empty() {
+            return Err(io::Error::from(self.kind));
+        }
+        self.before.read(buf)
+    }
+}
+
+/// A reader that gives so many bytes at once.
+#[derive(Drop)]
+pub struct Gives<'a> {
+    pub left: &'a [u8],
+    pub at_once: usize,
+}
+
+impl Read for Gives<'_> {
+    fn read(&mut self, buf: &mut [u8]) -> io::Result<usize> {
+        let count = buf.len().min(self.at_once);
+        self.left.read(&mut buf[..count])
+    }
+}
+
+/// A writer that takes so many bytes at once, and fails once it holds `limit`.
+#[derive(Drop)]
+pub struct Takes {
+    pub held: Vec<u8>,
+    pub at_once: usize,
+    pub limit: usize,
+    pub kind: ErrorKind,
+}
+
+impl Write for Takes {
+    fn write(&mut self, buf: &[u8]) -> io::Result<usize> {
+        if self.held.len() >= self.limit {
+            return Err(io::Error::from(self.kind));
+        }
+        let count = buf.len().min(self.at_once);
+        self.held.extend_from_slice(&buf[..count])?;
+        Ok(count)
+    }
+
+    fn flush(&mut self) -> io::Result<()> {
+        Ok(())
+    }
+}
+
+#[test]
+fn a_failed_read_ends_it(rt: HostRuntime) -> Result<(), Fail> {
+    for kind in [ErrorKind::Interrupted, ErrorKind::Other] {
+        let mut reader = Fails { before: TEXT, kind };
+        let mut written: Vec<u8> = Vec::new(rt.alloc());
+        let fault = run(rt.alloc(), &mut reader, &mut written)
+            .err()
+            .ok_or("the read failed")?;
+        let told = format!(in rt.alloc(); "{fault}")?;
+        assert_eq!(rt; told.as_str(), "reading failed");
+        assert_eq!(rt; fault.status(), 1);
+        assert_eq!(rt; written.len(), 0);
+    }
+    Ok(())
+}
+
+/// Writers, by how many bytes each takes at once, and at which length it fails, with how much of the output it then holds.
+const WRITERS: [(usize, usize, usize); 4] = [(3, 100, 26), (0, 100, 0), (4, 8, 8), (100, 0, 0)];
+
+#[test]
+fn a_writer_may_take_less_or_fail(rt: HostRuntime) -> Result<(), Fail> {
+    for (at_once, limit, held) in WRITERS {
+        for kind in [ErrorKind::Interrupted, ErrorKind::Other] {
+            let mut reader = TEXT;
+            let mut writer = Takes {
+                held: Vec::new(rt.alloc()),
+                at_once,
+                limit,
+                kind,
+            };
+            match run(rt.alloc(), &mut reader, &mut writer) {
+                Ok(()) => assert_eq!(rt; held, OUTPUT.len()),
+                Err(fault) => {
+                    let told = format!(in rt.alloc(); "{fault}")?;
+                    assert_eq!(rt; told.as_str(), "writing failed");
+                    assert_eq!(rt; fault.status(), 1);
+                    assert!(rt; held < OUTPUT.len());
+                }
+            }
+            assert!(rt; held <= OUTPUT.len());
+            assert_eq!(rt; writer.held.as_slice(), &OUTPUT[..held]);
+        }
+    }
+    Ok(())
+}
