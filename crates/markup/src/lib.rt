@@ -8,6 +8,4 @@ pub mod group;
 pub mod markup;
 pub mod name;
 pub mod opening;
-#[cfg(test)]
-mod tests;
 pub mod words;

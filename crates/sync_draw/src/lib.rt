@@ -16,7 +16,5 @@ mod shape;
 pub mod story;
 mod style;
 mod terms;
-#[cfg(test)]
-mod tests;
 pub mod title;
 mod value;

@@ -11,6 +11,4 @@ pub mod cells;
 pub mod rows;
 pub mod run;
 pub mod table;
-#[cfg(test)]
-mod tests;
 pub mod trace;

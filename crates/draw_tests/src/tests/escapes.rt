@@ -1,8 +1,8 @@
-use crate::group::Group;
-use crate::markup::Markup;
-use crate::name::{Key, Tag};
-use crate::opening::Opening;
-use crate::words::Words;
+use markup::group::Group;
+use markup::markup::Markup;
+use markup::name::{Key, Tag};
+use markup::opening::Opening;
+use markup::words::Words;
 use std::test::Fail;
 
 #[test]

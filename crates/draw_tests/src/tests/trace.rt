@@ -1,11 +1,11 @@
 //! Texts are traced by `run`, from a slice or a reader that fails, to a vector or a writer that fails.
 
-use crate::run::{Failed, run};
 use std::alloc::{AllocError, Global};
 use std::io;
 use std::io::{ErrorKind, Read, Write};
 use std::test::Fail;
 use sync_play::fault::RunFault;
+use sync_trace::run::{Failed, run};
 
 /// What is written of a text, and then its fault's line and the exit status, if it has one.
 fn traced(alloc: Global, text: &[u8]) -> Result<String, AllocError> {

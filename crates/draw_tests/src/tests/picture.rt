@@ -1,9 +1,9 @@
-use crate::picture::draw_text;
-use crate::run::run;
-use crate::story::play;
 use std::alloc::{AllocError, Global};
 use std::str;
 use std::test::Fail;
+use sync_draw::picture::draw_text;
+use sync_draw::run::run;
+use sync_draw::story::play;
 use sync_play::fault::{LineFault, TextFault};
 
 /// The README's first text.

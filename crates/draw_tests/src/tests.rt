@@ -1,0 +1,3 @@
+mod escapes;
+mod picture;
+mod trace;
