@@ -25,7 +25,7 @@ use std::sync::Wait;
 pub const OPERATIONS: u32 = 100_000;
 
 /// What is measured.
-#[derive(Clone, Copy, Debug)]
+#[derive(Clone, Copy)]
 pub enum Line {
     BareExchangeStore,
     StdMutexLockUnlock,

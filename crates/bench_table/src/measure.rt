@@ -11,7 +11,7 @@ use std::sync::Wait;
 use std::time::{Clock, Duration, Instant};
 
 /// The figures of a line, one for each round, in hundredths of a nanosecond for an operation.
-#[derive(Debug, Drop)]
+#[derive(Drop)]
 pub struct Column {
     pub line: Line,
     pub figures: Vec<u64>,

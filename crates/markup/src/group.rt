@@ -8,7 +8,7 @@ use crate::words::push_words;
 use std::alloc::AllocError;
 
 /// What stands together under a title, which a browser shows where one points at it.
-#[derive(Debug, Drop)]
+#[derive(Drop)]
 pub struct Group<'t> {
     pub title: &'t str,
     pub inside: Markup,

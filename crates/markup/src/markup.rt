@@ -6,7 +6,7 @@ use crate::words::Words;
 use std::alloc::{AllocError, Global};
 
 /// Text and elements, each of which is closed, and no group.
-#[derive(Debug, Drop)]
+#[derive(Drop)]
 pub struct Markup {
     pub(crate) alloc: Global,
     pub(crate) bytes: String,

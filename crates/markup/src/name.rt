@@ -3,7 +3,7 @@ ghost use Rattle.std.specs.Prelude.{◌≡◌};
 ghost use Rattle.markup.specs.Tree.{tag_words, key_words};
 
 /// What an element is.
-#[derive(Clone, Copy, Debug, PartialEq, Eq)]
+#[derive(Clone, Copy)]
 pub enum Tag {
     Svg,
     Title,
@@ -38,7 +38,7 @@ pub fn tag_name(tag: Tag) -> &'static str
 }
 
 /// What an attribute of an element is.
-#[derive(Clone, Copy, Debug, PartialEq, Eq)]
+#[derive(Clone, Copy)]
 pub enum Key {
     Namespace,
     ViewBox,

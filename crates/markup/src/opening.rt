@@ -10,7 +10,7 @@ use crate::words::Words;
 use std::alloc::{AllocError, Global};
 
 /// An element of which nothing is written but its attributes so far. It is closed by [`Opening::around`].
-#[derive(Debug, Drop)]
+#[derive(Drop)]
 pub struct Opening {
     alloc: Global,
     /// What the element is.

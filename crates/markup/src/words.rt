@@ -7,7 +7,7 @@ ghost use Rattle.markup.specs.Tree.{IsWords, shown};
 use std::alloc::{AllocError, Global};
 
 /// Text as markup has it: in an element, or as the value of an attribute.
-#[derive(Debug, Drop)]
+#[derive(Drop)]
 pub struct Words {
     bytes: String,
     ghost escaped: { ∥ IsWords (string_bytes bytes) ∥₁ },

@@ -9,7 +9,7 @@ use sync_steps::WaitAction;
 use sync_steps::steps::{Act, Answer, Object, Then, Wake, Word};
 
 /// How a step is marked.
-#[derive(Clone, Copy, Debug, PartialEq, Eq)]
+#[derive(Clone, Copy, PartialEq, Eq)]
 pub enum Mark {
     /// Not at all: a call begins.
     None,
@@ -26,7 +26,7 @@ pub enum Mark {
 }
 
 /// How what became of a call is told.
-#[derive(Clone, Copy, Debug, PartialEq, Eq)]
+#[derive(Clone, Copy, PartialEq, Eq)]
 pub enum Tone {
     Granted,
     Refused,
@@ -34,7 +34,7 @@ pub enum Tone {
 }
 
 /// A word that a step reads or writes. A swap that puts what it found is told as a read.
-#[derive(Clone, Copy, Debug, PartialEq, Eq)]
+#[derive(Clone, Copy)]
 pub struct Reach {
     pub word: Word,
     pub writes: bool,

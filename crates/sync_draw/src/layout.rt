@@ -27,21 +27,21 @@ const LEAST_BOX: u32 = 130;
 const LEAST_WIDTH: u32 = 620;
 
 /// Rows from one on. Without a last one they go to the end of the picture.
-#[derive(Clone, Copy, Debug, PartialEq, Eq)]
+#[derive(Clone, Copy)]
 pub struct Span {
     pub first: u32,
     pub last: Option<u32>,
 }
 
 /// A hold of a party.
-#[derive(Clone, Copy, Debug, PartialEq, Eq)]
+#[derive(Clone, Copy)]
 pub struct Hold {
     pub kind: HoldKind,
     pub span: Span,
 }
 
 /// What a party did. On its left is the place for its holds, 8 wide, and then comes the box of each call.
-#[derive(Debug, Drop)]
+#[derive(Drop)]
 pub struct Lane {
     pub party: usize,
     pub left: u32,
@@ -78,7 +78,7 @@ impl Lane {
 }
 
 /// What a band shows, from a row on.
-#[derive(Debug, Drop)]
+#[derive(Drop)]
 pub struct Segment {
     /// The row whose step wrote it; none for the value before the first step.
     pub row: Option<u32>,
@@ -92,7 +92,7 @@ pub struct Segment {
 }
 
 /// The colours of a band: one for 0, and three in turn; and one for a value of which only a half is written.
-#[derive(Clone, Copy, Debug, PartialEq, Eq)]
+#[derive(Clone, Copy, PartialEq, Eq)]
 pub enum Colour {
     Zero,
     First,
@@ -102,7 +102,7 @@ pub enum Colour {
 }
 
 /// What a word held, or an atomic.
-#[derive(Debug, Drop)]
+#[derive(Drop)]
 pub struct Band {
     pub shown: Shown,
     pub left: u32,
@@ -111,7 +111,7 @@ pub struct Band {
 }
 
 /// Where everything stands.
-#[derive(Debug, Drop)]
+#[derive(Drop)]
 pub struct Layout {
     /// Where the bands begin.
     pub bands_left: u32,

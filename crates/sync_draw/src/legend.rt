@@ -6,7 +6,7 @@ use markup::markup::Markup;
 use std::alloc::{AllocError, Global};
 
 /// A sign that a legend explains.
-#[derive(Clone, Copy, Debug, PartialEq, Eq)]
+#[derive(Clone, Copy)]
 enum Sign {
     Read,
     Write,

@@ -4,7 +4,7 @@ use steps_barrier::{count_of, epoch_of};
 use sync_steps::steps::{Object, Word};
 
 /// What a band shows.
-#[derive(Clone, Copy, Debug, PartialEq, Eq)]
+#[derive(Clone, Copy, PartialEq, Eq)]
 pub enum Shown {
     /// What a word holds.
     Word(Word),

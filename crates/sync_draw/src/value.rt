@@ -4,7 +4,7 @@ use sync_play::integer::TextInteger;
 use sync_steps::steps::{Act, Word};
 
 /// The two data words of an atomic.
-#[derive(Clone, Copy, Debug, PartialEq, Eq)]
+#[derive(Clone, Copy)]
 pub struct DataWords {
     pub low: u64,
     pub high: u64,

@@ -1,4 +1,4 @@
-use Rattle.std.proofs.Common.{◌<◌, length, subst, arith}
+use Rattle.std.proofs.Common.{◌<◌, length, subst, arith, rules}
 use Rattle.steps_events.specs.declared.event.Input.TheVariants as inputs
 use Rattle.sync_steps.specs.Machine.{Configuration}
 use Rattle.sync_steps.proofs.Stands.{turns_step, turns_headline, turns_fault}
@@ -91,3 +91,6 @@ returns-in-Choose-clause-fault g c =
     let below : c.args.party < length was.parties = omega arith in
     let within = subst (λ (m : Configuration g.row.T.Denot). c.args.party < length m.parties) c.self.view_is below in
     turns_fault g.T.AtomicInteger.arithmetic c.args.party c.args.input (inputs.Choose c.in-Choose.choice) c.args.self.now c.choose.result within c.in-Choose.is c.choose.ensures.fault
+
+pub returns-then-party-len-clause-err : goal.returns-then-party-len-clause-err
+returns-then-party-len-clause-err g c = search rules

@@ -1,0 +1,5 @@
+use Rattle.std.proofs.Common.{rules}
+use Rattle.sync_steps.proofs.steps.place.Place.intent.Goals as goal
+
+pub returns-in-RwWriter : goal.returns-in-RwWriter
+returns-in-RwWriter g c = search rules
