@@ -195,7 +195,7 @@ case "$#${1-}" in
         ;;
     *)
         say "it reads $reads from standard input: ./$name < FILE; ./$name --help says more"
-        exit 4
+        exit 3
         ;;
 esac
 declare -A line_of=()

@@ -160,7 +160,7 @@ tells_usage() {
         succeed
     fi
     attempt "$top/sync-play" examples/mutex-abort.txt </dev/null
-    judge_line "an argument" 4 "" "sync-play: it reads a schedule text from standard input: ./sync-play < FILE; ./sync-play --help says more"
+    judge_line "an argument" 3 "" "sync-play: it reads a schedule text from standard input: ./sync-play < FILE; ./sync-play --help says more"
 }
 
 # On a terminal it says what it waits for.

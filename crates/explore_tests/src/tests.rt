@@ -57,7 +57,7 @@ const ANSWERS: [(&str, &str); 33] = [
     ),
     (
         "spin 2\n1 try_lock\n2 try_lock\nfind 1 success and 2 success\n",
-        "never in the schedules explored: 10 states, 12 moves\nstatus 5",
+        "never in the schedules explored: 10 states, 12 moves\nstatus 4",
     ),
     (
         "spin 2\n1 try_lock\n2 try_lock\nnever 1 success and 2 success\n",
@@ -65,7 +65,7 @@ const ANSWERS: [(&str, &str); 33] = [
     ),
     (
         "spin 2\n1 try_lock\n2 try_lock\nnever 2 interrupted and ends\n",
-        "spin 2\n1 try_lock\n1 run\n2 try_lock\n2 run\nstatus 5",
+        "spin 2\n1 try_lock\n1 run\n2 try_lock\n2 run\nstatus 4",
     ),
     (
         "mutex 2\n1 lock\n2 lock\nfind 2 waits\n",
@@ -73,7 +73,7 @@ const ANSWERS: [(&str, &str); 33] = [
     ),
     (
         "mutex 2\n1 lock\n2 lock, unlock\n2 aborts\nfind 2 aborted and 2 success and 1 holds write\n",
-        "never in the schedules explored: 27 states, 41 moves\nstatus 5",
+        "never in the schedules explored: 27 states, 41 moves\nstatus 4",
     ),
     (
         "rwreader 2\n1 read_lock\n2 try_read_lock\nfind 1 holds read and 2 holds read and word 2\n",
@@ -103,7 +103,7 @@ const ANSWERS: [(&str, &str); 33] = [
         "mutex 1\n1 unlock, lock\nfind ends\n",
         "mutex 1\n1 lock\n1 run\n",
     ),
-    ("mutex 1\n1 lock\nnever word 0\n", "mutex 1\nstatus 5"),
+    ("mutex 1\n1 lock\nnever word 0\n", "mutex 1\nstatus 4"),
     ("mutex 1\n1 lock\nfind\n", "line 3: bad line, status 2"),
     (
         "mutex 1\n1 lock\nfind word 1 and\n",
