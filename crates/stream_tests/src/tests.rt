@@ -26,8 +26,8 @@ const TEXTS: [&str; 13] = [
     "atomic_i128 1 -7\n1 fetch_update\n1 run\n1 some -8\n1 run\n",
 ];
 
-/// A question for each object that has some.
-const QUESTIONS: [&str; 9] = [
+/// A question for each object that has some, and one for a text alone.
+const QUESTIONS: [&str; 10] = [
     "mutex 2\n1 lock, unlock\n2 try_lock\n",
     "spin 1\n1 lock\n",
     "semaphore 1 2\n1 try_wait\n",
@@ -37,6 +37,7 @@ const QUESTIONS: [&str; 9] = [
     "condvar 1\n1 notify_all\n",
     "once 1\n1 call_once\n",
     "lazy 1 7\n1 force\n",
+    "rwreader 2\n1 read_lock\n2 try_write_lock\nfind 2 interrupted\n",
 ];
 
 /// A text whose last line has a fault.

@@ -75,7 +75,7 @@ pub struct Explores;
 impl Program for Explores {
     fn run<R: Read, W: Write>(alloc: Global, reader: &mut R, writer: &mut W) -> Ended {
         match sync_explore::run::run(alloc, reader, writer) {
-            Ok(()) => Ended::Whole,
+            Ok(_) => Ended::Whole,
             Err(ExploreFault::Read) => Ended::Reading,
             Err(ExploreFault::Write) => Ended::Writing,
             Err(_) => Ended::Other,
