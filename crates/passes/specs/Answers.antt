@@ -6,7 +6,7 @@ use mathlib.Core.Option as maybe
 use Rattle.steps_events.specs.declared.WaitAction.{WaitAction}
 use Rattle.steps_events.specs.declared.WaitAction.TheVariants as actions
 use Rattle.passes.specs.declared.pass.Pass.{Pass}
-use Rattle.passes.specs.Passes.{sights_of, WasRefused}
+use Rattle.passes.specs.Passes.{sights_of}
 use Rattle.passes.specs.declared.wait.WaitResult.{WaitResult}
 use Rattle.passes.specs.declared.wait.WaitResult.TheVariants.{Success, Interrupted}
 
@@ -57,10 +57,6 @@ pub record HasAsked {F W T : Type 0} (g : Shared F (Bor W × (Bor ℕ × Unit {0
   pub looked : (sights_of q).count ≡ (sights_of p).count + looks + more
   pub some : 1 ≤ more
   pub again : 2 ≤ more → MayAnswerContinue g wait P
-
--- The waiting call was refused with the value, after 10001 looks by itself and those that it made once it had asked.
-abbrev pub HasGivenUp : {F W T : Type 0} → Shared F (Bor W × (Bor ℕ × Unit {0})) WaitAction → F → (ℕ → Type 0) → Pass T → Pass T → Type 0
-HasGivenUp g wait P p q = WasRefused P 10002 p q × HasAsked g wait P 10001 p q
 
 -- What the wake closure promises of a call holds, for some word.
 pub record HasWoken {F W : Type 0} (g : Shared F (Bor W × Unit {0}) (Unit {0})) (wake : F) : Type 0 where

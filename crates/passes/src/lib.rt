@@ -1,11 +1,10 @@
-//! What the running types share: passes that count, the rule over what they count, and the loop that tries again.
+//! What the running types share: passes that count, and the rule over what they count.
 //!
 //! The terms are those of a resource algebra. What a pass counts and knows is its *tally*; the tallies of all passes of an object add
 //! up, and the object's *rule* says what their sum says of its words. A step on a word is a frame-preserving update: its caller shows
 //! that the rule holds again, whatever the other passes have counted, and learns from it.
 #![tactic(auto)]
 
-mod attempt;
 mod deed;
 mod origin;
 mod part;
@@ -16,7 +15,6 @@ mod view;
 mod wait;
 mod words;
 
-pub use attempt::{Attempt, try_again};
 pub use deed::Deed;
 pub use origin::Origin;
 pub use part::{Part, Sights};
@@ -24,5 +22,5 @@ pub use pass::Pass;
 pub use rule::{Rule, SumRule};
 pub use tally::Tally;
 pub use view::View;
-pub use wait::{WaitResult, may_give_up, success_if, wake};
+pub use wait::{WaitResult, success_if, wake};
 pub use words::{Word, Words};

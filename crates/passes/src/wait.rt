@@ -1,8 +1,6 @@
-//! How a call that may wait answers, and how it calls its closures.
-ghost use Rattle.std.specs.Prelude.{◌≡◌, true, MatchBool};
-ghost use Rattle.passes.specs.Answers.{IsSuccess, IsInterrupted, MayAnswerAbort, MayAnswerContinue, HasWoken};
-
-use steps_events::WaitAction;
+//! How a call that may wait answers, and how one calls a wake closure.
+ghost use Rattle.std.specs.Prelude.{MatchBool};
+ghost use Rattle.passes.specs.Answers.{IsSuccess, IsInterrupted, HasWoken};
 
 /// How a call that may give up answers.
 #[derive(Debug, Drop, PartialEq, Eq)]
@@ -22,18 +20,6 @@ pub fn success_if(done: bool) -> WaitResult<()>
         WaitResult::Success(())
     } else {
         WaitResult::Interrupted
-    }
-}
-
-/// Calls a wait closure of the word that was seen to be this, and tells whether the call may give up.
-#[inline(always)]
-pub fn may_give_up<X, W: Fn(&X, &u64) -> WaitAction>(wait: &W, word: &X, seen: u64) -> bool
-    requires { W.IsAlwaysCallable wait.now }
-    ensures { MatchBool result (MayAnswerAbort W.Fn wait.now (λ n. n ≡ seen)) (MayAnswerContinue W.Fn wait.now (λ n. n ≡ seen)) }
-{
-    match wait(word, &seen) {
-        WaitAction::Continue => false,
-        WaitAction::Abort => true,
     }
 }
 
