@@ -1,5 +1,5 @@
-# The programs that play texts and the one that draws them, where memory, input or output are wanting: each ends with its line on standard error and its status,
-# and none crashes. And a text of many pieces, each way.
+# The programs where memory, input or output are wanting: each ends with its line on standard error and its status, and none crashes. And a text
+# of many pieces, each way.
 test_streams() {
     local line player ending
     attempt python3 tools/growths.py
@@ -9,41 +9,50 @@ test_streams() {
     for line in "${players[@]}"; do
         read -r player ending <<<"$line"
         if is_built "$player"; then
-            wants_streams "$player" "$ending"
+            plays_where_wanting "$player" "$ending"
         fi
     done
     if is_built "$drawer"; then
-        wants_streams "$drawer" out
+        plays_where_wanting "$drawer" out
         draws_at_length
+    fi
+    if is_built sync-explore; then
+        wants_streams sync-explore out examples/explore/mutex-waiter-gives-up.txt examples/explore/mutex-fault
+        sweeps_memory sync-explore examples/explore/mutex-waiter-gives-up.txt
     fi
     if is_built sync-play; then
         plays_at_length
     fi
 }
 
-wants_streams() {
-    local short=examples/mutex-abort.txt
-    attempt env LC_ALL=C prlimit --as=$((48 << 20)) "./$1" < <(yes '' | head -c 64M)
-    judge_line "$1: a text that is larger than the memory" 1 "" "no memory"
-    sweeps_memory "$1"
-    attempt bash -c 'exec "$0" <&-' "./$1"
-    judge_line "$1: standard input is closed" 1 "" "reading failed"
-    attempt "./$1" <examples
-    judge_line "$1: standard input is a folder" 1 "" "reading failed"
-    attempt bash -c 'exec "$0" >&-' "./$1" <$short
-    judge_line "$1: standard output is closed" 1 "" "writing failed"
-    attempt bash -c 'exec "$0" >/dev/full' "./$1" <$short
-    judge_line "$1: standard output is full" 1 "" "writing failed"
-    attempt bash -c 'exec "$0" 2>&-' "./$1" <examples/mutex-fault.txt
-    judge "$1: a fault, and standard error is closed" 2 "examples/mutex-fault.$2" /dev/null
+# A program that plays texts, or draws them: plays_where_wanting PROGRAM ENDING.
+plays_where_wanting() {
+    wants_streams "$1" "$2" examples/mutex-abort.txt examples/mutex-fault
+    sweeps_memory "$1" "$room/some.txt"
     attempt bash -c '"$0" | head -c 1 >/dev/null; exit "${PIPESTATUS[0]}"' "./$1" <"$room/long.txt"
     judge_line "$1: the reader of standard output leaves" 1 "" "writing failed"
 }
 
-# Under each limit of memory it says that there is none, or writes all.
+# wants_streams PROGRAM ENDING TEXT FAULT: TEXT has no fault, FAULT.txt has one, and the program writes FAULT.ENDING of it.
+wants_streams() {
+    attempt env LC_ALL=C prlimit --as=$((48 << 20)) "./$1" < <(yes '' | head -c 64M)
+    judge_line "$1: a text that is larger than the memory" 1 "" "no memory"
+    attempt bash -c 'exec "$0" <&-' "./$1"
+    judge_line "$1: standard input is closed" 1 "" "reading failed"
+    attempt "./$1" <examples
+    judge_line "$1: standard input is a folder" 1 "" "reading failed"
+    attempt bash -c 'exec "$0" >&-' "./$1" <"$3"
+    judge_line "$1: standard output is closed" 1 "" "writing failed"
+    attempt bash -c 'exec "$0" >/dev/full' "./$1" <"$3"
+    judge_line "$1: standard output is full" 1 "" "writing failed"
+    attempt bash -c 'exec "$0" 2>&-' "./$1" <"$4.txt"
+    judge "$1: a fault, and standard error is closed" 2 "$4.$2" /dev/null
+}
+
+# Under each limit of memory it says that there is none, or writes all: sweeps_memory PROGRAM TEXT.
 sweeps_memory() {
-    "./$1" <"$room/some.txt" >"$room/some.out" 2>"$room/err"
-    attempt python3 tools/sweep_memory.py "$1" "$room/some.txt" "$room/some.out"
+    "./$1" <"$2" >"$room/some.out" 2>"$room/err"
+    attempt python3 tools/sweep_memory.py "$1" "$2" "$room/some.out"
     if [[ $status == 0 ]]; then
         succeed
     else
