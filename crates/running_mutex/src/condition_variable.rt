@@ -95,6 +95,22 @@ pub enum CondResult<H> {
     Interrupted(Option<H>),
 }
 
+impl<H> From<WaitResult<Woken<H>>> for CondResult<H> {
+    ghost use Rattle.running_mutex.specs.CondShown.{woken_of};
+
+    /// What `wait` answers where `wait_held` answers this.
+    #[inline(always)]
+    fn from(woken: WaitResult<Woken<H>>) -> CondResult<H>
+        ensures same { woken_of result ≡ woken }
+    {
+        match woken {
+            WaitResult::Success(Woken::Signalled(hold)) => CondResult::Success(hold),
+            WaitResult::Success(Woken::Unsignalled(hold)) => CondResult::Interrupted(Some(hold)),
+            WaitResult::Interrupted => CondResult::Interrupted(None),
+        }
+    }
+}
+
 /// A load of the count.
 struct Look;
 
@@ -312,11 +328,7 @@ impl<A: Allocator> ConditionVariable<A> {
         ensures none { IsWhole (part_of (permits_in pass.old)) → worth_of (permits_in pass.old) ≡ 0 → HasNotTaken W.Fn wait pass.old pass.new }
         ensures woke { HasWoken K.Fn mtx_wake_one }
     {
-        match Self::wait_held(hold, this, rt, pass, mtx, mtx_wake_one, wait, mtx_wait) {
-            WaitResult::Success(Woken::Signalled(hold)) => CondResult::Success(hold),
-            WaitResult::Success(Woken::Unsignalled(hold)) => CondResult::Interrupted(Some(hold)),
-            WaitResult::Interrupted => CondResult::Interrupted(None),
-        }
+        CondResult::from(Self::wait_held(hold, this, rt, pass, mtx, mtx_wake_one, wait, mtx_wait))
     }
 
     /// Counts the wait in, calls `leave`, by which its caller lets a lock of its own go, waits for a permit as the semaphore's `wait` does,
