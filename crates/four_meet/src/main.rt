@@ -5,6 +5,7 @@ ghost use Rattle.std.specs.Prelude.{◌<◌};
 ghost use Rattle.running_barrier.specs.BarrierShown.{IsBarrierPass, waiters_of};
 
 use iceoryx2_pal_concurrency_sync::strategy::barrier::{Barrier, BarrierPass};
+use iceoryx2_pal_concurrency_sync::wake_nobody;
 use std::sync::Wait;
 use std::sync::atomic::{AtomicU64, Ordering};
 use std::thread::Threads;
@@ -82,7 +83,7 @@ fn meet_often<R: Wait>(rt: &R, walker: Walker) -> u64 {
     for round in 0..1000u64 {
         arrivals.fetch_add(1, Ordering::SeqCst);
         // No barrier but one for nobody refuses: by proof.
-        let Ok(()) = barrier.wait(rt, &mut pass, |_, _| thread::yield_now(), |_| ()) else {
+        let Ok(()) = barrier.wait(rt, &mut pass, |_, _| thread::yield_now(), wake_nobody) else {
             unreachable!()
         };
         if arrivals.load(Ordering::SeqCst) < 4 * (round + 1) {

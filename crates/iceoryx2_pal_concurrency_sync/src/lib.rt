@@ -15,6 +15,7 @@ pub mod strategy;
 #[cfg(test)]
 mod tests;
 
+pub use closures::{wake_nobody, yield_and_go_on};
 pub use passes::WaitResult;
 pub use sync_steps::{SPIN_REPETITIONS, WaitAction, steps};
 pub use tallies::WaitWord;

@@ -4,6 +4,7 @@
 mod atomic;
 mod barrier;
 mod bounded_buffer;
+mod closures;
 mod lazy_lock;
 mod once;
 mod refusals;

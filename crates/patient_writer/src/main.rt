@@ -5,7 +5,7 @@
 ghost use Rattle.running_rwlock.specs.RwWriterShown.{IsRwWriterPass, HasStayed};
 
 use iceoryx2_pal_concurrency_sync::strategy::rwlock::{RwLockWriterPreference, RwWriterPass};
-use iceoryx2_pal_concurrency_sync::{WaitAction, WaitResult};
+use iceoryx2_pal_concurrency_sync::{WaitAction, WaitResult, wake_nobody, yield_and_go_on};
 use std::sync::Wait;
 use std::sync::atomic::{AtomicBool, AtomicU64, Ordering};
 use std::{io, thread};
@@ -51,19 +51,15 @@ fn read<R: Wait>(
 ) -> u64
     requires own { IsRwWriterPass lock.now pass.old }
 {
-    let locked = RwLockWriterPreference::read_lock(pass, lock, rt, |_, _| {
-        thread::yield_now();
-        WaitAction::Continue
-    });
-    match locked {
+    match RwLockWriterPreference::read_lock(pass, lock, rt, yield_and_go_on) {
         WaitResult::Success(hold) => {
             shared.reads.store(true, Ordering::SeqCst);
             until(rt, &shared.gave_up);
             let seen = shared.number.load(Ordering::SeqCst);
-            lock.unlock(hold, |_| (), |_| ());
+            lock.unlock(hold, wake_nobody, wake_nobody);
             seen
         }
-        // A wait closure that always goes on is never interrupted: by proof.
+        // A call whose wait closure always goes on is never interrupted: by proof.
         WaitResult::Interrupted => unreachable!(),
     }
 }
@@ -107,13 +103,13 @@ fn write_or_give_up<R: Wait>(
                 WaitAction::Abort
             }
         },
-        |_| (),
-        |_| (),
+        wake_nobody,
+        wake_nobody,
     );
     match locked {
         WaitResult::Success(hold) => {
             shared.number.store(1, Ordering::SeqCst);
-            lock.unlock(hold, |_| (), |_| ());
+            lock.unlock(hold, wake_nobody, wake_nobody);
         }
         WaitResult::Interrupted => (),
     }
@@ -133,17 +129,14 @@ fn write_at_last<R: Wait>(
         pass,
         lock,
         rt,
-        |_, _| {
-            thread::yield_now();
-            WaitAction::Continue
-        },
-        |_| (),
-        |_| (),
+        yield_and_go_on,
+        wake_nobody,
+        wake_nobody,
     );
     match locked {
         WaitResult::Success(hold) => {
             shared.number.store(7, Ordering::SeqCst);
-            lock.unlock(hold, |_| (), |_| ());
+            lock.unlock(hold, wake_nobody, wake_nobody);
         }
         WaitResult::Interrupted => unreachable!(),
     }

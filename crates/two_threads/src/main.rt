@@ -5,7 +5,7 @@ ghost use Rattle.std.specs.Prelude.{◌≡◌};
 ghost use Rattle.running_mutex.specs.MutexShown.{IsMutexPass, IsAlone, HasStayed, holds_of};
 
 use iceoryx2_pal_concurrency_sync::strategy::mutex::{Mutex, MutexPass};
-use iceoryx2_pal_concurrency_sync::{WaitAction, WaitResult};
+use iceoryx2_pal_concurrency_sync::{WaitResult, wake_nobody, yield_and_go_on};
 use std::sync::Wait;
 use std::sync::atomic::{AtomicU64, Ordering};
 use std::thread::Threads;
@@ -20,7 +20,7 @@ fn main(rt: HostRuntime) -> io::Result<()> {
         unreachable!()
     };
     let sum = number.load(Ordering::SeqCst);
-    mutex.unlock(hold, |_| ());
+    mutex.unlock(hold, wake_nobody);
     println!(rt; "{sum}")
 }
 
@@ -68,21 +68,17 @@ fn add_often<R: Wait>(rt: &R, mutex: &Mutex, mut pass: MutexPass, number: &Atomi
     pass
 }
 
-/// Locks, adds 1, and unlocks. A wait closure that always goes on is never interrupted: by proof.
+/// Locks, adds 1, and unlocks. A call whose wait closure always goes on is never interrupted: by proof.
 fn add_once<R: Wait>(rt: &R, mutex: &Mutex, pass: &mut MutexPass, number: &AtomicU64)
     requires own { IsMutexPass mutex.now pass.old }
     requires off { holds_of pass.old ≡ 0 }
     ensures stayed { HasStayed pass.old pass.new }
 {
-    let locked = Mutex::lock(pass, mutex, rt, |_, _| {
-        thread::yield_now();
-        WaitAction::Continue
-    });
-    match locked {
+    match Mutex::lock(pass, mutex, rt, yield_and_go_on) {
         WaitResult::Success(hold) => {
             let found = number.load(Ordering::SeqCst);
             number.store(found.wrapping_add(1), Ordering::SeqCst);
-            mutex.unlock(hold, |_| ());
+            mutex.unlock(hold, wake_nobody);
         }
         WaitResult::Interrupted => unreachable!(),
     }

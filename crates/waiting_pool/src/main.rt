@@ -4,19 +4,17 @@
 //! each at a condition variable of its own; at last the buffer is closed, and the workers leave once it is empty.
 #![tactic(auto)]
 
-ghost use Rattle.std.specs.Prelude.{◌≡◌};
-ghost use Rattle.steps_events.specs.declared.WaitAction.TheVariants as actions;
 ghost use Rattle.running_guarded.specs.GuardedShown.{IsGuardedPass};
 ghost use Rattle.running_mutex.specs.CondShown.{IsCondPass};
 
 use circular_buffer::HeapCircularBuffer;
+use closures::{wake_nobody, yield_and_go_on};
 use passes::WaitResult;
 use running_guarded::{Guarded, GuardedPass};
 use running_mutex::condition_variable::{CondPass, ConditionVariable};
 use std::alloc::{AllocError, Global};
 use std::sync::Wait;
 use std::{io, thread};
-use steps_events::WaitAction;
 
 const NUMBERS: u64 = 1000;
 
@@ -107,11 +105,11 @@ impl Party<'_> {
             |_| (),
             &pool.room,
             &mut self.room,
-            |_, _| go_on(),
+            yield_and_go_on,
             |numbers| numbers.put(number),
         );
         match put {
-            WaitResult::Success(()) => pool.some.notify_one(&mut self.some, |_| ()),
+            WaitResult::Success(()) => pool.some.notify_one(&mut self.some, wake_nobody),
             WaitResult::Interrupted => unreachable!(),
         }
     }
@@ -125,12 +123,12 @@ impl Party<'_> {
             |_| (),
             &pool.some,
             &mut self.some,
-            |_, _| go_on(),
+            yield_and_go_on,
             |numbers| numbers.take(),
         );
         match taken {
             WaitResult::Success(taken) => {
-                pool.room.notify_one(&mut self.room, |_| ());
+                pool.room.notify_one(&mut self.room, wake_nobody);
                 taken
             }
             WaitResult::Interrupted => unreachable!(),
@@ -146,7 +144,7 @@ impl Party<'_> {
             |_| (),
             &pool.some,
             &mut self.some,
-            |_| (),
+            wake_nobody,
             |numbers| numbers.closed = true,
         );
     }
@@ -253,12 +251,4 @@ fn work<R: Wait>(rt: &R, mut party: Party) -> Squares {
         }
     }
     unreachable!()
-}
-
-/// The answer of a wait that always goes on.
-fn go_on() -> WaitAction
-    ensures { result ≡ actions.Continue }
-{
-    thread::yield_now();
-    WaitAction::Continue
 }

@@ -6,11 +6,11 @@
 
 ghost use Rattle.job_queue.specs.QueueShown.{IsQueuePass, HasStayed};
 
+use closures::{wake_nobody, yield_and_go_on};
 use job_queue::{JobQueue, PutFault, QueuePass, Taken};
 use std::alloc::{AllocError, Global};
 use std::sync::Wait;
 use std::{io, thread};
-use steps_events::WaitAction;
 
 const NUMBERS: u64 = 1000;
 
@@ -86,7 +86,7 @@ fn play<R: Wait>(rt: &R, alloc: Global, party: Party) -> Result<Squares, AllocEr
         Role::Puts => {
             let mut pass = pass;
             let squares = put_all(rt, alloc, queue, &mut pass);
-            queue.close(rt, &mut pass, |_| ());
+            queue.close(rt, &mut pass, wake_nobody);
             squares
         }
         Role::Works => work(rt, alloc, queue, pass),
@@ -105,7 +105,7 @@ fn put_all<R: Wait>(
 {
     let mut squares = Vec::new(alloc);
     for number in 0..NUMBERS {
-        if let Err(PutFault::Full(number)) = queue.put(rt, pass, number, |_| ()) {
+        if let Err(PutFault::Full(number)) = queue.put(rt, pass, number, wake_nobody) {
             squares.push((number, square(number)))?;
         }
     }
@@ -123,16 +123,7 @@ fn work<R: Wait>(
 {
     let mut squares = Vec::new(alloc);
     for _ in rt.forever() {
-        let taken = queue.take(
-            rt,
-            &mut pass,
-            |_, _| {
-                thread::yield_now();
-                WaitAction::Continue
-            },
-            |_| (),
-        );
-        match taken {
+        match queue.take(rt, &mut pass, yield_and_go_on, wake_nobody) {
             Taken::Job { ticket: _, job } => squares.push((job, square(job)))?,
             Taken::Closed => return Ok(squares),
             Taken::Empty | Taken::Interrupted => unreachable!(),

@@ -1,0 +1,22 @@
+//! Closures to hand in where nothing better is known of the platform: to wait is to yield, and nobody sleeps, so nobody is woken.
+#![tactic(auto)]
+
+ghost use Rattle.std.specs.Prelude.{◌≡◌};
+ghost use Rattle.steps_events.specs.declared.WaitAction.TheVariants as actions;
+
+use std::thread;
+use steps_events::WaitAction;
+use tallies::WaitWord;
+
+/// A wait closure: yields, and never gives up. So a call that waits by it is never interrupted, by proof.
+#[inline(always)]
+pub fn yield_and_go_on(_word: &WaitWord, _seen: &u64) -> WaitAction
+    ensures { result ≡ actions.Continue }
+{
+    thread::yield_now();
+    WaitAction::Continue
+}
+
+/// A wake closure: wakes nobody, since who waits by yielding needs no wake.
+#[inline(always)]
+pub fn wake_nobody(_word: &WaitWord) {}
