@@ -2,6 +2,7 @@
 -- rows on the waiter count.
 use Rattle.std.specs.Prelude.{ℕ, min, Bool, true, false, if◌then◌else◌, Option, Some, None, unwrap_or}
 use Rattle.steps_events.specs.declared.WaitAction.{WaitAction}
+use Rattle.steps_events.specs.declared.event.Word.{Word}
 use Rattle.steps_events.specs.declared.event.Word.TheVariants as words
 use Rattle.steps_events.specs.declared.event.Wake.{Wake}
 use Rattle.steps_events.specs.declared.event.Wake.TheVariants as wakes
@@ -51,6 +52,12 @@ condvar_intent (places.Release place) = mutex_intent words.State place
 condvar_intent (places.Permit place) = semaphore_intent words.Value place
 condvar_intent (places.CountOut signalled) = intents.Subtract words.Waiters 1
 condvar_intent (places.Relock signalled place) = mutex_intent words.State place
+
+-- the word that a call's wake is of: a notify's is of the permits, on which a `Wait` sleeps, every other of the mutex's word
+abbrev pub condvar_woken : {T : Type 0} → Call T → Word
+condvar_woken calls.NotifyOne = words.Value
+condvar_woken calls.NotifyAll = words.Value
+condvar_woken other = words.State
 
 abbrev pub is_success : {T : Type 0} → Answer T → Bool
 is_success answers.Success = true

@@ -6,7 +6,7 @@ ghost use Rattle.steps_events.specs.declared.event.Event.{Event as AnEvent};
 ghost use Rattle.steps_events.specs.declared.event.Wake.TheVariants as wakes;
 ghost use Rattle.steps_events.specs.Arithmetic.{Arithmetic};
 ghost use Rattle.steps_events.specs.Runs.{IsPast};
-ghost use Rattle.steps_condvar.specs.Table.{condvar_begins, condvar_intent, condvar_after, condvar_answered, condvar_grant, released, permitted, relocked, condvar_table};
+ghost use Rattle.steps_condvar.specs.Table.{condvar_begins, condvar_intent, condvar_after, condvar_answered, condvar_grant, released, permitted, relocked, condvar_woken, condvar_table};
 ghost use Rattle.steps_condvar.specs.Law.{KeepsCondvar};
 
 use steps_events::WaitAction;
@@ -182,6 +182,18 @@ pub fn grant<T>(call: &Call<T>) -> Option<HoldKind>
     match call {
         Call::Wait => Some(HoldKind::Write),
         _ => steps_mutex::grant(call),
+    }
+}
+
+/// The word that a call's wake is of: a notify's is of the permits, on which a `Wait` sleeps, and that of every other call of the mutex's
+/// word.
+#[inline(always)]
+pub fn woken_word<T>(call: &Call<T>) -> Word
+    ensures { result ≡ condvar_woken call.now }
+{
+    match call {
+        Call::NotifyOne | Call::NotifyAll => Word::Value,
+        _ => Word::State,
     }
 }
 

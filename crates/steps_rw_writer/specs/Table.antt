@@ -3,6 +3,7 @@ use Rattle.std.specs.Prelude.{ℕ, ◌+◌, ◌-◌, ◌%◌, ◌^◌, ◌==◌,
 use Rattle.steps_events.specs.declared.WaitAction.{WaitAction}
 use Rattle.steps_events.specs.declared.event.Word.{Word}
 use Rattle.steps_events.specs.declared.event.Word.TheVariants as words
+use Rattle.steps_events.specs.declared.event.Wake.{Wake}
 use Rattle.steps_events.specs.declared.event.Wake.TheVariants as wakes
 use Rattle.steps_events.specs.declared.event.Call.{Call}
 use Rattle.steps_events.specs.declared.event.Call.TheVariants as calls
@@ -78,6 +79,11 @@ rw_writer_intent word wake_counter places.Release hold = release word hold
 rw_writer_intent word wake_counter (places.Count who) hold = intents.Add wake_counter 1
 rw_writer_intent word wake_counter (places.WakeOne who) hold = intents.Wake wakes.One
 rw_writer_intent word wake_counter (places.WakeAll who) hold = intents.Wake wakes.All
+
+-- the word that a wake is of: that of one is of the wake counter, on which writers sleep, that of all of the lock's word, on which readers do
+abbrev pub rw_writer_woken : Wake → Word
+rw_writer_woken wakes.One = words.Counter
+rw_writer_woken wakes.All = words.State
 
 -- The readers.
 

@@ -7,7 +7,7 @@ ghost use Rattle.steps_events.specs.declared.event.Event.{Event as AnEvent};
 ghost use Rattle.steps_events.specs.Arithmetic.{Arithmetic};
 ghost use Rattle.steps_events.specs.Runs.{IsPast};
 ghost use Rattle.steps_rw_writer.specs.Law.{KeepsRwWriter};
-ghost use Rattle.steps_rw_writer.specs.Table.{rw_writer_begins, rw_writer_intent, rw_writer_after, rw_writer_answered, release, try_read_look, read_look, spins, marks_or_spins, unmarks_or_leaves, write_refused, write_look, last_look, released, woken_one, woken_all, is_blocked, rw_writer_grant, rw_writer_table};
+ghost use Rattle.steps_rw_writer.specs.Table.{rw_writer_begins, rw_writer_intent, rw_writer_after, rw_writer_answered, release, try_read_look, read_look, spins, marks_or_spins, unmarks_or_leaves, write_refused, write_look, last_look, released, woken_one, woken_all, is_blocked, rw_writer_grant, rw_writer_woken, rw_writer_table};
 
 use steps_events::event::{Answer, Call, Wake, Word};
 use steps_events::hold::HoldKind;
@@ -473,6 +473,18 @@ pub fn grant<T>(call: &Call<T>, from: u64, to: u64) -> Option<HoldKind>
             }
         }
         _ => None,
+    }
+}
+
+/// The word that a wake is of: the wake of one is of the wake counter, on which writers sleep, and the wake of all of the lock's word, on
+/// which readers do.
+#[inline(always)]
+pub fn woken_word(wake: Wake) -> Word
+    ensures { result ≡ rw_writer_woken wake }
+{
+    match wake {
+        Wake::One => Word::Counter,
+        Wake::All => Word::State,
     }
 }
 

@@ -2,12 +2,13 @@
 use Rattle.std.specs.Prelude.{ℕ, List}
 use Rattle.steps_events.specs.declared.event.Word.{Word}
 use Rattle.steps_events.specs.declared.event.Word.TheVariants as words
+use Rattle.steps_events.specs.declared.event.Wake.TheVariants as wakes
 use Rattle.steps_events.specs.declared.event.Event.{Event}
 use Rattle.steps_events.specs.Integers.{u64_arithmetic}
 use Rattle.steps_events.specs.Runs.{IsPast}
 use Rattle.steps_rw_writer.specs.declared.RwWriterPlace.{RwWriterPlace}
 use Rattle.steps_rw_writer.specs.declared.RwWriterPlace.TheVariants as places
-use Rattle.steps_rw_writer.specs.Table.{rw_writer_table}
+use Rattle.steps_rw_writer.specs.Table.{rw_writer_woken, rw_writer_table}
 use Rattle.steps_rw_writer.specs.Law.{KeepsRwWriter}
 use Rattle.steps_rw_writer.proofs.Causes.{keeps_rw_writer}
 
@@ -15,8 +16,10 @@ use Rattle.steps_rw_writer.proofs.Causes.{keeps_rw_writer}
 pub rw_writer_lawful : (parties : ℕ) (past : List (Event ℕ)) → IsPast u64_arithmetic rw_writer_table parties past → KeepsRwWriter past
 rw_writer_lawful parties past run = keeps_rw_writer u64_arithmetic parties past run
 
--- writers wait, and are woken one by one, on the counter; readers on the lock's word
+-- a wake is of the word that the model says; a writer waits on that of the wake of one, a reader on that of the wake of all
 abbrev pub rw_writer_handed : RwWriterPlace → Word
-rw_writer_handed (places.WriteLook patience) = words.Counter
-rw_writer_handed (places.WakeOne who) = words.Counter
+rw_writer_handed (places.WriteLook patience) = rw_writer_woken wakes.One
+rw_writer_handed (places.WakeOne who) = rw_writer_woken wakes.One
+rw_writer_handed (places.WakeAll who) = rw_writer_woken wakes.All
+rw_writer_handed (places.ReadLook patience) = rw_writer_woken wakes.All
 rw_writer_handed place = words.State

@@ -1,7 +1,7 @@
-//! Which calls an object has, and which of them need a hold: a machine refuses just the others.
+//! Which calls an object has, and which of them need a hold: a machine refuses just the others. And of which word a wake is.
 use std::test::Fail;
-use sync_steps::steps::place::{has_call, needs_hold};
-use sync_steps::steps::{Call, Input, Machine, Object, StepFault};
+use sync_steps::steps::place::{has_call, needs_hold, woken_word};
+use sync_steps::steps::{Call, Input, Machine, Object, StepFault, Wake, Word};
 
 /// Every call.
 const CALLS: [Call<u64>; 31] = [
@@ -81,4 +81,24 @@ fn a_machine_begins_the_calls_of_its_object(rt: HostRuntime) -> Result<(), Fail>
         assert_eq!(rt; (begun, without), (has, needs));
     }
     Ok(())
+}
+
+/// A call that wakes so, and the word of that wake.
+const WAKES: [(Object<u64>, Call<u64>, Wake, Word); 9] = [
+    (Object::Mutex, Call::Unlock, Wake::One, Word::State),
+    (Object::Semaphore(5), Call::Post(1), Wake::One, Word::State),
+    (Object::Barrier(2), Call::Wait, Wake::All, Word::State),
+    (Object::ReaderLock, Call::Unlock, Wake::One, Word::State),
+    (Object::WriterLock, Call::Unlock, Wake::One, Word::Counter),
+    (Object::WriterLock, Call::WriteLock, Wake::All, Word::State),
+    (Object::Condvar, Call::NotifyOne, Wake::One, Word::Value),
+    (Object::Condvar, Call::NotifyAll, Wake::All, Word::Value),
+    (Object::Condvar, Call::Wait, Wake::One, Word::State),
+];
+
+#[test]
+fn a_wake_is_of_a_word(rt: HostRuntime) {
+    for (object, call, wake, word) in WAKES {
+        assert_eq!(rt; woken_word(&object, &call, wake), word);
+    }
 }

@@ -1,7 +1,7 @@
 //! Where the parties of a machine are, and which primitive's row that is.
-ghost use Rattle.std.specs.Prelude.{◌≡◌, is_some};
+ghost use Rattle.std.specs.Prelude.{◌≡◌, true, is_some};
 ghost use Rattle.steps_events.specs.declared.event.Object.TheVariants as objects;
-ghost use Rattle.sync_steps.specs.Objects.{has_call as listed_call, is_rw_call as rw_call, is_register_call as register_call, wants_hold};
+ghost use Rattle.sync_steps.specs.Objects.{has_call as listed_call, is_rw_call as rw_call, is_register_call as register_call, wants_hold, has_word, woken_word};
 ghost use Rattle.sync_steps.specs.Machine.Places.{begins_at, intent_at, after_at, answered_at, chosen_at, grant_at, needs_hold_at};
 
 use std::alloc::AllocError;
@@ -10,7 +10,7 @@ use steps_barrier::BarrierPlace;
 use steps_condvar::CondvarPlace;
 use steps_events::WaitAction;
 use steps_events::atomic::internal::AtomicInteger;
-use steps_events::event::{Call, Object, Word};
+use steps_events::event::{Call, Object, Wake, Word};
 use steps_events::hold::HoldKind;
 use steps_events::row::{After, Intent};
 use steps_lazy::LazyPlace;
@@ -271,5 +271,24 @@ pub fn needs_hold<T: AtomicInteger>(object: &Object<T>, call: &Call<T>) -> bool
         | Object::Once
         | Object::Lazy(_)
         | Object::Atomic(_) => false,
+    }
+}
+
+/// The word that a wake of the call is of: a word that the object has.
+pub fn woken_word<T>(object: &Object<T>, call: &Call<T>, wake: Wake) -> Word
+    ensures listed { result ≡ woken_word object.now call.now wake }
+    ensures has { has_word object.now result ≡ true }
+{
+    match object {
+        Object::WriterLock => steps_rw_writer::woken_word(wake),
+        Object::Condvar => steps_condvar::woken_word(call),
+        Object::Mutex
+        | Object::Spin
+        | Object::Semaphore(_)
+        | Object::Barrier(_)
+        | Object::ReaderLock
+        | Object::Once
+        | Object::Lazy(_)
+        | Object::Atomic(_) => Word::State,
     }
 }
