@@ -1,14 +1,15 @@
 -- The last line is printed in three pieces.
-use Rattle.std.proofs.Common.{◌≡◌, ◌∙◌, refl, ap, ℕ, ◌-◌, ◌^◌, min, List, ◌++◌, Result, Ok, Err, OnOk, append_assoc}
+use Rattle.std.proofs.Common.{◌≡◌, ◌∙◌, refl, sym, ap, arith, ℕ, ◌+◌, ◌-◌, ◌^◌, ◌<◌, min, if◌then◌else◌, is_ok, List, [], ◌∷◌, ◌++◌, Result, Ok, Err, OnOk, append_assoc}
 use Rattle.std.specs.Prelude.{codes}
 use Rattle.std.specs.Fmt.{decimal}
+use Rattle.std.proofs.lemmas.Fmt.{decimal_digit}
 use Rattle.steps_events.specs.declared.event.Event.{Event}
 use Rattle.steps_events.specs.declared.event.Object.{Object}
 use Rattle.steps_events.specs.declared.event.Word.TheVariants as words
 use Rattle.steps_events.specs.Arithmetic.{Arithmetic}
 use Rattle.steps_events.specs.Past.{failures_in}
 use Rattle.sync_steps.specs.Runs.{word_in}
-use Rattle.sync_play.specs.Print.{named, further_words, last_line}
+use Rattle.sync_play.specs.Print.{party_words, named, further_words, last_line}
 use Rattle.sync_play.specs.Numerals.{Numerals}
 
 -- what is printed, if the last piece is
@@ -32,3 +33,14 @@ module _ {T : Type 0} (z : Arithmetic T) (numerals : Numerals T) where
       let whole : old ++ (front ++ (rest ++ end)) ≡ old ++ last_line z numerals o past = rw (w, f) refl in
       let pieces : second ≡ (old ++ front) ++ rest = b ∙ ap (λ (l : List ℕ). l ++ rest) a in
       printed_all result (λ is. is ∙ ap (λ (l : List ℕ). l ++ end) pieces ∙ append_assoc (old ++ front) rest end ∙ append_assoc old front (rest ++ end) ∙ whole) c
+
+-- The number of a party below the tenth is one digit.
+digit_words : (party : ℕ) → party < 9 → party_words party ≡ (48 + (party + 1)) ∷ codes " "
+digit_words party small = let digit = decimal_digit (party + 1) (omega (arith, small)) in rw digit refl
+
+pub number_printed :
+    {A E : Type 0} (result : Result A E) (party number : ℕ) (old new : List ℕ) → party ≡ number → number < 9 →
+    new ≡ (if is_ok result then old ++ ((48 + (number + 1)) ∷ codes " ") else old) →
+    OnOk result (new ≡ old ++ party_words party)
+number_printed (Ok a) party number old new is small wrote = rw is (wrote ∙ ap (λ (words : List ℕ). old ++ words) (sym (digit_words number small)))
+number_printed (Err e) party number old new is small wrote = tt

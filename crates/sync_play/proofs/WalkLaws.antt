@@ -1,5 +1,5 @@
 -- A walk goes on by the next events of what is left of its line, and then by the next line.
-use Rattle.std.proofs.Common.{◌≡◌, ℕ, zero, suc, ◌-◌, ◌+◌, ◌*◌, ◌^◌, ◌<◌, ◌≤◌, Bool, true, false, cond, List, [], ◌∷◌, Option, Some, None, Ok, Err, IfSome, refl, ap, subst, ◌∙◌, arith}
+use Rattle.std.proofs.Common.{◌⊎◌, inl, inr, ◌≡◌, ℕ, zero, suc, ◌-◌, ◌+◌, ◌*◌, ◌^◌, ◌<◌, ◌≤◌, Bool, true, false, cond, List, [], ◌∷◌, Option, Some, None, Ok, Err, IfSome, refl, ap, subst, ◌∙◌, arith}
 use Rattle.std.specs.Prelude.{replicate}
 use Rattle.steps_events.specs.declared.event.Event.{Event}
 use Rattle.steps_events.specs.declared.event.Input.{Input}
@@ -13,12 +13,13 @@ use Rattle.sync_steps.specs.Machine.{Configuration, StandsAt, Steps, RefusesStep
 use Rattle.sync_steps.specs.Machine.Strides.{steps_of, Strides, IsQuiet}
 use Rattle.sync_steps.specs.Runs.{IsRun}
 use Rattle.sync_play.specs.declared.command.Command.{Command}
+use Rattle.sync_play.specs.declared.command.Task.{Task}
 use Rattle.sync_play.specs.declared.command.Task.TheVariants as tasks
 use Rattle.sync_play.specs.declared.fault.LineFault.{LineFault}
 use Rattle.sync_play.specs.declared.fault.LineFault.TheVariants as faults
 use Rattle.sync_play.specs.Fault.{line_fault_of}
 use Rattle.sync_play.specs.Lexer.{lines_of, words_of}
-use Rattle.sync_play.specs.Player.{event_of, steps_left}
+use Rattle.sync_play.specs.Player.{event_of, steps_left, left_after}
 use Rattle.sync_play.specs.Walk.{Walk, ended, stopped, step_then, steps_then, go_walk, run_walk, asked, lines_walk, walk_from, after_times, IsTurn}
 use Rattle.sync_play.proofs.PlayerLaws.{event_is, event_refused}
 use Rattle.sync_play.specs.Numerals.{Numerals}
@@ -138,12 +139,38 @@ module _ {T : Type 0} (z : Arithmetic T) where
       let s = strides o parties past stands in
       (λ line others. rw (asked, left) (run_ends o parties line stride.times limit past old.party stride.event others ends some within quiet s.run), s.stands)
 
+  pub turn_by_run : (o : Object T) (parties : ℕ) (past : List (Event T)) (old new : Command T) (limit : ℕ) (stride : EventStride T) (machine machine' : Configuration T) → old.task ≡ tasks.Run limit → new.party ≡ old.party →
+      new.task ≡ left_after (tasks.Run limit) stride → 0 < stride.times → stride.times ≤ limit → (1 < stride.times → IsQuiet stride.event) → StandsAt z o parties past machine →
+      Strides z machine old.party stride.event stride.times machine' → IsTurn z o parties past old new machine' (Ok (Some stride))
+  turn_by_run o parties past old new limit stride machine machine' asked party left some within quiet stands strides = decided (goes_on stride.event.then) refl left
+    where
+      decided : (goes : Bool) → goes_on stride.event.then ≡ goes → new.task ≡ cond goes (tasks.Run (limit - stride.times)) (tasks.Go 0) → IsTurn z o parties past old new machine' (Ok (Some stride))
+      decided true goes is = turn_runs o parties past old new limit stride machine machine' asked party is goes within stands strides
+      decided false ends is = turn_ends o parties past old new limit stride machine machine' asked is ends some within quiet stands strides
+
   pub run_refused : (o : Object T) (parties : ℕ) (past : List Ev) (old new : Command T) (limit : ℕ) (fault : StepFault) (machine machine' : Configuration T) → old.task ≡ tasks.Run limit → 0 < limit → StandsAt z o parties past machine →
       RefusesStep z machine old.party inputs.Go fault → IsTurn z o parties past old new machine' (Err (line_fault_of fault))
   unfolding run_walk
   run_refused o parties past old new zero fault machine machine' asked some stands refuses line others = absurd (omega (arith, some))
   run_refused o parties past old new (suc limit) fault machine machine' asked some stands refuses line others =
       rw (asked, event_refused z o parties past old.party inputs.Go fault (refuses o parties past stands)) refl
+
+  -- so many steps, or steps up to an end, and at most so many
+  abbrev pub AsksSteps : ℕ → Task T → Type 0
+  AsksSteps limit task = (task ≡ tasks.Go limit) ⊎ (task ≡ tasks.Run limit)
+
+  pub turn_strides : (o : Object T) (parties : ℕ) (past : List (Event T)) (old new : Command T) (limit : ℕ) (stride : EventStride T) (machine machine' : Configuration T) → AsksSteps limit old.task → new.party ≡ old.party →
+      new.task ≡ left_after old.task stride → 0 < stride.times → stride.times ≤ limit → (1 < stride.times → IsQuiet stride.event) → StandsAt z o parties past machine →
+      Strides z machine old.party stride.event stride.times machine' → IsTurn z o parties past old new machine' (Ok (Some stride))
+  turn_strides o parties past old new limit stride machine machine' (inl asked) party left some within quiet stands strides =
+      turn_goes o parties past old new limit stride machine machine' asked party (left ∙ ap (λ (task : Task T). left_after task stride) asked) within stands strides
+  turn_strides o parties past old new limit stride machine machine' (inr asked) party left some within quiet stands strides =
+      turn_by_run o parties past old new limit stride machine machine' asked party (left ∙ ap (λ (task : Task T). left_after task stride) asked) some within quiet stands strides
+
+  pub stride_refused : (o : Object T) (parties : ℕ) (past : List (Event T)) (old new : Command T) (limit : ℕ) (fault : StepFault) (machine machine' : Configuration T) → AsksSteps limit old.task → 0 < limit → StandsAt z o parties past machine →
+      RefusesStep z machine old.party inputs.Go fault → IsTurn z o parties past old new machine' (Err (line_fault_of fault))
+  stride_refused o parties past old new limit fault machine machine' (inl asked) some stands refuses = turn_refused o parties past old new limit fault machine machine' asked some stands refuses
+  stride_refused o parties past old new limit fault machine machine' (inr asked) some stands refuses = run_refused o parties past old new limit fault machine machine' asked some stands refuses
 
 module _ {T : Type 0} (z : Arithmetic T) (numerals : Numerals T) where
   -- What the walker finds.

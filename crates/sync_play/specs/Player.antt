@@ -1,5 +1,5 @@
 -- The events that a command gives after the events so far, or the first fault.
-use Rattle.std.specs.Prelude.{ℕ, zero, suc, if◌then◌else◌, List, [], ◌∷◌, Option, Some, None, Result, Ok, Err}
+use Rattle.std.specs.Prelude.{ℕ, zero, suc, ◌-◌, if◌then◌else◌, List, [], ◌∷◌, Option, Some, None, Result, Ok, Err}
 use Rattle.steps_events.specs.declared.event.Event.{Event}
 use Rattle.steps_events.specs.declared.event.Input.{Input}
 use Rattle.steps_events.specs.declared.event.Input.TheVariants as inputs
@@ -8,6 +8,7 @@ use Rattle.steps_events.specs.declared.event.StepFault.{StepFault}
 use Rattle.steps_events.specs.Arithmetic.{Arithmetic}
 use Rattle.steps_events.specs.Moves.{Move}
 use Rattle.steps_events.specs.Sights.{goes_on}
+use Rattle.sync_steps.specs.declared.steps.machine.stride.Stride.{Stride}
 use Rattle.sync_steps.specs.Runs.{fault_of, move_of}
 use Rattle.sync_play.specs.declared.command.Command.{Command}
 use Rattle.sync_play.specs.declared.command.Task.{Task}
@@ -34,6 +35,12 @@ abbrev pub steps_left : {T : Type 0} → Task T → ℕ
 steps_left (tasks.Give input) = 1
 steps_left (tasks.Go n) = n
 steps_left (tasks.Run limit) = limit
+
+-- what is left of a task after a stride of it
+abbrev pub left_after : {T : Type 0} → Task T → Stride T → Task T
+left_after (tasks.Give input) stride = tasks.Go 0
+left_after (tasks.Go steps) stride = tasks.Go (steps - stride.times)
+left_after (tasks.Run limit) stride = if goes_on stride.event.then then tasks.Run (limit - stride.times) else tasks.Go 0
 
 module _ {T : Type 0} (z : Arithmetic T) where
   -- the event that an input gives, or why it is refused

@@ -20,7 +20,11 @@ use Rattle.steps_events.specs.Past.{failures_in}
 use Rattle.sync_steps.specs.Runs.{word_in}
 use Rattle.sync_play.specs.Numerals.{Numerals}
 
--- a line of a party, whose number is counted from 1
+-- how a line of a party begins: with its number, which is counted from 1
+abbrev pub party_words : ℕ → List ℕ
+party_words party = decimal (party + 1) ++ codes " "
+
+-- a line of a party
 abbrev pub party_line : ℕ → List ℕ → List ℕ
 party_line party words = decimal (party + 1) ++ (codes " " ++ (words ++ codes "\n"))
 

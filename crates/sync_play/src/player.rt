@@ -1,11 +1,11 @@
 //! Plays a command stride by stride.
-ghost use Rattle.std.specs.Prelude.{◌≡◌, ◌<◌, ℕ, List, IfOk, OnErr, IfSome};
+ghost use Rattle.std.specs.Prelude.{◌≡◌, ◌<◌, ◌≤◌, ℕ, List, IfOk, OnErr, IfSome};
 ghost use Rattle.steps_events.specs.Sights.{goes_on};
 ghost use Rattle.sync_steps.specs.Machine.{StandsAt};
 ghost use Rattle.sync_steps.specs.Machine.Strides.{IsQuiet};
 ghost use Rattle.steps_events.specs.declared.event.Event.{Event as AnEvent};
 ghost use Rattle.steps_events.specs.declared.event.Object.{Object as AnObject};
-ghost use Rattle.sync_play.specs.Player.{steps_left};
+ghost use Rattle.sync_play.specs.Player.{steps_left, left_after};
 ghost use Rattle.sync_play.specs.Walk as meaning;
 
 use crate::command::{Command, Task};
@@ -21,6 +21,19 @@ fn goes_on<T>(then: &Then<T>) -> bool
     match then {
         Then::GoesOn => true,
         Then::Waits(_) | Then::Chooses(_) | Then::Answers(_) => false,
+    }
+}
+
+/// What is left of a task after a stride of it.
+#[inline(always)]
+fn left_after<T: Copy>(task: Task<T>, stride: &Stride<T>) -> Task<T>
+    requires { stride.now.times ≤ steps_left task }
+    ensures { result ≡ left_after task stride.now }
+{
+    match task {
+        Task::Go(steps) => Task::Go(steps - stride.times),
+        Task::Run(limit) if goes_on(&stride.event.then) => Task::Run(limit - stride.times),
+        Task::Run(_) | Task::Give(_) => Task::Go(0),
     }
 }
 
@@ -49,18 +62,9 @@ pub fn next_events<T: AtomicInteger>(
             left.task = Task::Go(0);
             Ok(Some(Stride { event, times: 1 }))
         }
-        Task::Go(steps) => {
-            let stride = machine.stride(left.party, steps)?;
-            left.task = Task::Go(steps - stride.times);
-            Ok(Some(stride))
-        }
-        Task::Run(limit) => {
+        Task::Go(limit) | Task::Run(limit) => {
             let stride = machine.stride(left.party, limit)?;
-            left.task = if goes_on(&stride.event.then) {
-                Task::Run(limit - stride.times)
-            } else {
-                Task::Go(0)
-            };
+            left.task = left_after(left.task, &stride);
             Ok(Some(stride))
         }
     }

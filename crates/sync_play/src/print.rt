@@ -4,7 +4,7 @@ ghost use Rattle.steps_events.specs.declared.event.Event.{Event as AnEvent};
 ghost use Rattle.steps_events.specs.declared.event.Object.{Object as AnObject};
 ghost use Rattle.sync_steps.specs.Machine.{StandsAt};
 ghost use Rattle.sync_steps.specs.Runs.{word_in};
-ghost use Rattle.sync_play.specs.Print.{answer_words, wake_line, then_line, event_lines, further_words, last_line};
+ghost use Rattle.sync_play.specs.Print.{answer_words, party_words, wake_line, then_line, event_lines, further_words, last_line};
 
 use crate::integer::TextInteger;
 use std::alloc::AllocError;
@@ -15,23 +15,47 @@ pub fn print_answer<T: TextInteger>(out: &mut String, answer: Answer<T>) -> Resu
     ensures { OnOk result (string_bytes out.new ≡ string_bytes out.old ++ answer_words T.numerals answer) }
 {
     match answer {
-        Answer::Success => write!(out, "success"),
-        Answer::Interrupted => write!(out, "interrupted"),
-        Answer::InterruptedHeld => write!(out, "interrupted held"),
-        Answer::Done => write!(out, "done"),
-        Answer::Ok => write!(out, "ok"),
-        Answer::Full => write!(out, "full"),
+        Answer::Success => out.push_str("success"),
+        Answer::Interrupted => out.push_str("interrupted"),
+        Answer::InterruptedHeld => out.push_str("interrupted held"),
+        Answer::Done => out.push_str("done"),
+        Answer::Ok => out.push_str("ok"),
+        Answer::Full => out.push_str("full"),
         Answer::Number(number) => write!(out, "{number}"),
-        Answer::Flag(true) => write!(out, "true"),
-        Answer::Flag(false) => write!(out, "false"),
+        Answer::Flag(true) => out.push_str("true"),
+        Answer::Flag(false) => out.push_str("false"),
         Answer::Value(value) => value.print(out),
         Answer::OkOld(old) => {
-            write!(out, "ok ")?;
+            out.push_str("ok ")?;
             old.print(out)
         }
         Answer::ErrOld(old) => {
-            write!(out, "err ")?;
+            out.push_str("err ")?;
             old.print(out)
+        }
+    }
+}
+
+/// Prints the number of a party, which is counted from 0 here and from 1 in a text, and a space.
+///
+/// A number of one digit is there already: to write one out takes longer than a step.
+fn print_number(out: &mut String, party: usize) -> Result<(), AllocError>
+    ensures { OnOk result (string_bytes out.new ≡ string_bytes out.old ++ party_words party) }
+{
+    match party {
+        0 => out.push_str("1 "),
+        1 => out.push_str("2 "),
+        2 => out.push_str("3 "),
+        3 => out.push_str("4 "),
+        4 => out.push_str("5 "),
+        5 => out.push_str("6 "),
+        6 => out.push_str("7 "),
+        7 => out.push_str("8 "),
+        8 => out.push_str("9 "),
+        _ => {
+            // Wide, so that the number of every party can be counted from 1.
+            let number = party as u128 + 1;
+            write!(out, "{number} ")
         }
     }
 }
@@ -41,11 +65,10 @@ pub fn print_answer<T: TextInteger>(out: &mut String, answer: Answer<T>) -> Resu
 fn print_wake(out: &mut String, party: usize, wake: Wake) -> Result<(), AllocError>
     ensures { OnOk result (string_bytes out.new ≡ string_bytes out.old ++ wake_line party wake) }
 {
-    // Wide, so that the number of every party can be counted from 1.
-    let number = party as u128 + 1;
+    print_number(out, party)?;
     match wake {
-        Wake::One => writeln!(out, "{number} wakes one"),
-        Wake::All => writeln!(out, "{number} wakes all"),
+        Wake::One => out.push_str("wakes one\n"),
+        Wake::All => out.push_str("wakes all\n"),
     }
 }
 
@@ -58,19 +81,22 @@ fn print_then<T: TextInteger>(
 ) -> Result<(), AllocError>
     ensures { OnOk result (string_bytes out.new ≡ string_bytes out.old ++ then_line T.numerals party then) }
 {
-    let number = party as u128 + 1;
     match then {
         Then::GoesOn => Ok(()),
-        Then::Waits(seen) => writeln!(out, "{number} waits {seen}"),
+        Then::Waits(seen) => {
+            print_number(out, party)?;
+            writeln!(out, "waits {seen}")
+        }
         Then::Chooses(old) => {
-            write!(out, "{number} chooses ")?;
+            print_number(out, party)?;
+            out.push_str("chooses ")?;
             old.print(out)?;
-            writeln!(out)
+            out.push_str("\n")
         }
         Then::Answers(answer) => {
-            write!(out, "{number} ")?;
+            print_number(out, party)?;
             print_answer(out, answer)?;
-            writeln!(out)
+            out.push_str("\n")
         }
     }
 }
