@@ -24,7 +24,7 @@ use Rattle.steps_events.specs.Arithmetic.{Arithmetic}
 use Rattle.steps_events.specs.Rows.{carried_out, value_told, outcome_of, place_after}
 use Rattle.steps_events.specs.Past.{PendingCall, call_of, call_after, call_going_on, Hold, holds_of, hold_of, word_in, word_after, event, latest_outcome}
 use Rattle.steps_events.specs.HoldCounts.{reads_in, writes_in}
-use Rattle.steps_events.specs.Sights.{is_beginning}
+use Rattle.steps_events.specs.Sights.{is_beginning, acts_in}
 use Rattle.steps_events.specs.Moves.{is_step, Move, step_at, stage_of, next_stage}
 use Rattle.steps_events.specs.Runs.{IsPast}
 use Rattle.steps_events.proofs.Holds.{call_of_same, call_of_other}
@@ -38,7 +38,7 @@ use Rattle.steps_rw_writer.specs.declared.RwWriterPlace.TheVariants as places
 use Rattle.steps_rw_writer.specs.Table.{is_odd, lets_writer_in, lets_mark, is_marked, is_blocked, spins, marks_or_spins, unmarks_or_leaves, write_refused, write_look, last_look, rw_writer_table, rw_writer_begins, rw_writer_answered}
 use Rattle.steps_rw_writer.specs.Marks.{is_marked_after}
 use Rattle.steps_rw_writer.specs.Law.{CountsHolds}
-use Rattle.steps_rw_writer.specs.Debts.{blocks, is_blocked_after, is_answer, adds_count, owes_count, loads_count, counts_since_load, StandsWith, NoWakeIsLost, PaysNext}
+use Rattle.steps_rw_writer.specs.Debts.{blocks, is_blocked_after, is_answer, adds_count, owes_count, loads_count, counts_since_load, StandsWith, NoWakeIsLost, PaysNext, CounterCountsAdds}
 use Rattle.steps_rw_writer.proofs.BoolLaws.{clash, neither, none_below}
 use Rattle.steps_rw_writer.proofs.PlaceLaws.{AtRwWriter, here}
 use Rattle.steps_rw_writer.proofs.StageLaws.{same_call, same_place, unlike, IsAt, fact_here, begins_none, answered_at, chosen_at, stepped_at}
@@ -295,6 +295,14 @@ fits_counter {T} z parties (e ∷ past) run = rw (event_counts z parties past e 
     by_test : (b : Bool) → word_in rw_writer_table past words.Counter < 2 ^ 64 → cond b ((word_in rw_writer_table past words.Counter + 1) % 2 ^ 64) (word_in rw_writer_table past words.Counter) < 2 ^ 64
     by_test true fits = omega arith
     by_test false fits = fits
+
+pub counter_counts_adds : {T : Type 0} (z : Arithmetic T) (parties : ℕ) (past : List (Event T)) → IsPast z rw_writer_table parties past → CounterCountsAdds past
+counter_counts_adds z parties [] run = refl
+counter_counts_adds {T} z parties (e ∷ past) run = rw (event_counts z parties past e run) (by_test (adds_count e.act) (counter_counts_adds z parties past run.1))
+  where
+    by_test : (b : Bool) → CounterCountsAdds past → cond b ((word_in rw_writer_table past words.Counter + 1) % 2 ^ 64) (word_in rw_writer_table past words.Counter) ≡ (cond b 1 0 + acts_in adds_count past) % 2 ^ 64
+    by_test true counts = omega (arith, counts)
+    by_test false counts = omega (arith, counts)
 
 -- How a writer comes to stand: it loads the counter, and looks.
 

@@ -1,5 +1,5 @@
 -- Who owes what: a party whose event freed the lock for a waiting writer has still to count it.
-use Rattle.std.specs.Prelude.{◌≡◌, ℕ, ◌+◌, ◌<◌, ◌^◌, ◌==◌, nat_lt, Bool, true, false, not, ◌&&◌, ◌||◌, if◌then◌else◌, List, [], ◌∷◌, Option, Some, None, ◌⊎◌}
+use Rattle.std.specs.Prelude.{◌≡◌, ℕ, ◌+◌, ◌%◌, ◌<◌, ◌^◌, ◌==◌, nat_lt, Bool, true, false, not, ◌&&◌, ◌||◌, if◌then◌else◌, List, [], ◌∷◌, Option, Some, None, ◌⊎◌}
 use Rattle.steps_events.specs.declared.event.Word.TheVariants as words
 use Rattle.steps_events.specs.declared.event.Call.TheVariants as calls
 use Rattle.steps_events.specs.declared.event.Act.{Act}
@@ -11,6 +11,7 @@ use Rattle.steps_events.specs.declared.event.Wake.TheVariants as wakes
 use Rattle.steps_events.specs.Past.{Hold, PendingCall, call_of, holds_of, word_in, latest_outcome}
 use Rattle.steps_events.specs.HoldCounts.{reads_in, writes_in}
 use Rattle.steps_events.specs.Moves.{is_step}
+use Rattle.steps_events.specs.Sights.{acts_in}
 use Rattle.steps_rw_writer.specs.Table.{is_odd, rw_writer_table}
 use Rattle.steps_rw_writer.specs.Marks.{is_marked_after}
 
@@ -33,6 +34,10 @@ adds_count act = false
 abbrev pub loads_count : {T : Type 0} → Act T → Bool
 loads_count (acts.Load words.Counter seen) = true
 loads_count act = false
+
+-- the counter is the number of adds on it so far, modulo 2 ^ 64
+abbrev pub CounterCountsAdds : {T : Type 0} → List (Event T) → Type 0
+CounterCountsAdds past = word_in rw_writer_table past words.Counter ≡ acts_in adds_count past % 2 ^ 64
 
 -- A party owes a counter step from its event that ended that the lock was blocked, until its next add on the counter; no longer than its
 -- call lasts.

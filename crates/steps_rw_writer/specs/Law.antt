@@ -23,7 +23,7 @@ use Rattle.steps_events.specs.Asks.{SpinCount, but_last_try, AsksAfterSpinning, 
 use Rattle.steps_events.specs.Laws.{IsLocked, Keeps}
 use Rattle.steps_rw_writer.specs.Table.{lets_readers_in, lets_writer_in, lets_mark, is_marked, is_blocked, is_mark, rw_writer_table}
 use Rattle.steps_rw_writer.specs.Marks.{setter_of, is_marked_after, has_marked}
-use Rattle.steps_rw_writer.specs.Debts.{loads_count, is_blocked_after, NoWakeIsLost, PaysNext, ReadersAreWoken}
+use Rattle.steps_rw_writer.specs.Debts.{loads_count, is_blocked_after, NoWakeIsLost, PaysNext, ReadersAreWoken, CounterCountsAdds}
 
 -- The word, the holds and the mark.
 
@@ -350,6 +350,8 @@ pub record RwWriterLaw {T : Type 0} (past : List (Event T)) : Type 0 where
   pub marks : MarksBesideReaders past
   -- and stands only where the lock is blocked: by a writer, or by the mark beside readers
   pub stands : StandsWhereBlocked past
+  -- the counter is the number of adds on it so far, modulo 2 ^ 64
+  pub adds : CounterCountsAdds past
   -- while a writer stands, whoever frees the lock owes a counter step until it has made it
   pub counted : NoWakeIsLost past
   -- and makes it in its next step
