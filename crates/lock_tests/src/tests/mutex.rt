@@ -5,7 +5,7 @@ ghost use Rattle.passes.specs.Passes.{IsSamePass, sights_of};
 ghost use Rattle.running_mutex.specs.MutexShown.{IsMutexPass, IsAlone, HasStayed, holds_of, grants_of};
 
 use iceoryx2_pal_concurrency_sync::strategy::mutex::{Mutex, MutexPass};
-use iceoryx2_pal_concurrency_sync::{WaitAction, WaitResult};
+use iceoryx2_pal_concurrency_sync::{WaitAction, WaitResult, wake_nobody, yield_and_go_on};
 use signal::Signal;
 use std::alloc::Global;
 use std::sync::Wait;
@@ -14,19 +14,15 @@ use std::test::Fail;
 use std::thread;
 use std::thread::Threads;
 
-/// Locks and unlocks, with closures that yield and answer `Continue`: that is never interrupted.
+/// Locks and unlocks, with a wait closure that always goes on: that is never interrupted.
 fn lock_and_unlock<R: Wait>(rt: &R, mutex: &Mutex, pass: &mut MutexPass)
     requires own { IsMutexPass mutex.now pass.old }
     requires off { holds_of pass.old ≡ 0 }
     ensures stayed { HasStayed pass.old pass.new }
 {
-    let locked = Mutex::lock(pass, mutex, rt, |_, _| {
-        thread::yield_now();
-        WaitAction::Continue
-    });
-    match locked {
+    match Mutex::lock(pass, mutex, rt, yield_and_go_on) {
         WaitResult::Success(hold) => {
-            mutex.unlock(hold, |_| ());
+            mutex.unlock(hold, wake_nobody);
         }
         WaitResult::Interrupted => unreachable!(),
     }
