@@ -17,5 +17,6 @@ mod tests;
 
 pub use closures::{wake_nobody, yield_and_go_on};
 pub use passes::WaitResult;
+pub use sharing::{Shares, in_threads};
 pub use sync_steps::{SPIN_REPETITIONS, WaitAction, steps};
 pub use tallies::WaitWord;
