@@ -4,10 +4,10 @@
 mod atomic;
 mod barrier;
 mod bounded_buffer;
-mod closures;
 mod lazy_lock;
 mod once;
 mod refusals;
 mod semaphore;
 mod semaphore_buffer;
 mod spin_lock;
+mod yielding;
