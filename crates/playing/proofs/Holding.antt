@@ -4,28 +4,28 @@ use Rattle.std.specs.Prelude.{◌&&◌, is_none}
 use Rattle.steps_events.specs.declared.event.Event.{Event}
 use Rattle.steps_events.specs.declared.hold.HoldKind.{HoldKind}
 use Rattle.steps_events.specs.declared.hold.HoldKind.TheVariants as kinds
-use Rattle.steps_events.specs.Tables.{Table}
 use Rattle.steps_events.specs.Past.{call_of, hold_of}
+use Rattle.playing.specs.Models.{Model}
 use Rattle.playing.specs.Slots.{Slot, Free, Mine, Torn, only, Parties}
 use Rattle.playing.specs.Plays.{IsHolding}
 use Rattle.playing.specs.Holding.{is_one, party_in, own_in, is_kind, is_holding}
 
-one_is : (ss : List Slot) → is_one ss ≡ true → ss ≡ only (party_in ss) (Mine (own_in ss))
-one_is [] is = absurd cc
-one_is (Free ∷ ss) is = ap (λ (rest : List Slot). Free ∷ rest) (one_is ss is)
-one_is (Mine own ∷ []) is = refl
-one_is (Mine own ∷ s ∷ ss) is = absurd cc
-one_is (Torn ∷ ss) is = absurd cc
+one_is : {V : Type 0} (ss : List (Slot V)) → is_one ss ≡ true → ss ≡ only (party_in ss) (Mine (own_in ss))
+one_is {V} [] is = absurd cc
+one_is {V} (Free ∷ ss) is = ap (λ (rest : List (Slot V)). Free ∷ rest) (one_is ss is)
+one_is {V} (Mine own ∷ []) is = refl
+one_is {V} (Mine own ∷ s ∷ ss) is = absurd cc
+one_is {V} (Torn ∷ ss) is = absurd cc
 
-only_is_one : (q : ℕ) (own : List (Event ℕ)) → is_one (only q (Mine own)) ≡ true
+only_is_one : {V : Type 0} (q : ℕ) (own : List (Event V)) → is_one (only q (Mine own)) ≡ true
 only_is_one zero own = refl
 only_is_one (suc q) own = only_is_one q own
 
-only_party : (q : ℕ) (own : List (Event ℕ)) → party_in (only q (Mine own)) ≡ q
+only_party : {V : Type 0} (q : ℕ) (own : List (Event V)) → party_in (only q (Mine own)) ≡ q
 only_party zero own = refl
 only_party (suc q) own = ap suc (only_party q own)
 
-only_own : (q : ℕ) (own : List (Event ℕ)) → own_in (only q (Mine own)) ≡ own
+only_own : {V : Type 0} (q : ℕ) (own : List (Event V)) → own_in (only q (Mine own)) ≡ own
 only_own zero own = refl
 only_own (suc q) own = only_own q own
 
@@ -53,8 +53,8 @@ is_kind_of : (kind : HoldKind) → is_kind kind (Some kind) ≡ true
 is_kind_of kinds.Read = refl
 is_kind_of kinds.Write = refl
 
-module _ {P : Type 0} (t : Table ℕ P) (Law : List (Event ℕ) → Type 0) where
-  pub holding_told : (kind : HoldKind) (p : Parties) → is_holding t kind p ≡ true → IsHolding t Law kind p.resting p
+module _ {V P : Type 0} (m : Model V P) where
+  pub holding_told : (kind : HoldKind) (p : Parties V) → is_holding m.table kind p ≡ true → IsHolding m kind p.resting p
   holding_told kind p is =
       let one = both_true _ _ is in
       let rest = both_true _ _ one.1 in
@@ -67,10 +67,10 @@ module _ {P : Type 0} (t : Table ℕ P) (Law : List (Event ℕ) → Type 0) wher
         has = kind_is kind _ rest.1;
       }
 
-  pub holding_is : (kind : HoldKind) (done : List Slot) (p : Parties) → IsHolding t Law kind done p → is_holding t kind p ≡ true
+  pub holding_is : (kind : HoldKind) (done : List (Slot V)) (p : Parties V) → IsHolding m kind done p → is_holding m.table kind p ≡ true
   holding_is kind done p h =
       let party : party_in p.acting ≡ h.party = ap party_in h.acting ∙ only_party h.party h.own in
       let own : own_in p.acting ≡ h.own = ap own_in h.acting ∙ only_own h.party h.own in
       let calls : call_of (party_in p.acting) (own_in p.acting) ≡ None = (λ i. call_of (party i) (own i)) ∙ h.idle in
-      let holds : hold_of t (party_in p.acting) (own_in p.acting) ≡ Some kind = (λ i. hold_of t (party i) (own i)) ∙ h.has in
+      let holds : hold_of m.table (party_in p.acting) (own_in p.acting) ≡ Some kind = (λ i. hold_of m.table (party i) (own i)) ∙ h.has in
       true_both _ _ (ap is_one h.acting ∙ only_is_one h.party h.own) (true_both _ _ (ap is_none calls) (ap (is_kind kind) holds ∙ is_kind_of kind))

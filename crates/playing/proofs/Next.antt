@@ -14,7 +14,7 @@ use Rattle.steps_events.specs.declared.WaitAction.{WaitAction}
 use Rattle.steps_events.specs.Arithmetic.{Arithmetic}
 use Rattle.steps_events.specs.Tables.{Table}
 use Rattle.steps_events.specs.Past.{PendingCall, call_of, hold_of, word_in, latest_outcome, event}
-use Rattle.steps_events.specs.Moves.{CallValues, stage_of, step_at, step_of, fault_at, begin_fault, go_fault, answer_fault, IsNext}
+use Rattle.steps_events.specs.Moves.{CallValues, stage_of, step_at, step_of, fault_at, begin_fault, go_fault, answer_fault, choose_fault, InputValues, IsNext}
 use Rattle.steps_events.specs.Runs.{IsPast}
 use Rattle.steps_events.proofs.Steps.{carried_is_step}
 
@@ -61,6 +61,17 @@ module _ {T P : Type 0} (z : Arithmetic T) (t : Table T P) where
   answers_next n past q c action there called waits = record {
     allowed = rw (there, called) waits;
     values = tt;
+    party_is = refl;
+    form = refl;
+    moved = refl;
+  }
+
+  pub chooses_next :
+      (n : ℕ) (past : List (Event T)) (q : ℕ) (c : PendingCall T) (choice : Option T) → nat_lt q n ≡ true → call_of q past ≡ Some c → choose_fault (latest_outcome c.own) ≡ None → InputValues z (inputs.Choose choice) →
+      IsNext z t n past q (inputs.Choose choice) (event q (acts.Chosen choice) thens.GoesOn)
+  chooses_next n past q c choice there called chooses values = record {
+    allowed = rw (there, called) chooses;
+    values = values;
     party_is = refl;
     form = refl;
     moved = refl;

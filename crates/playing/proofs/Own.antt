@@ -8,23 +8,23 @@ use Rattle.steps_events.specs.declared.event.Then.{Then}
 use Rattle.steps_events.specs.declared.event.StepFault.{StepFault}
 use Rattle.steps_events.specs.declared.event.StepFault.TheVariants as faults
 use Rattle.steps_events.specs.declared.hold.HoldKind.{HoldKind}
-use Rattle.steps_events.specs.Integers.{u64_arithmetic}
-use Rattle.steps_events.specs.Tables.{Table}
 use Rattle.steps_events.specs.Past.{PendingCall, call_of, call_after, hold_of, hold_after, event}
 use Rattle.steps_events.specs.Moves.{fault_at}
 use Rattle.steps_events.specs.Runs.{IsPast}
 use Rattle.steps_events.proofs.Holds.{eqb_same, eqb_other, hold_of_same, hold_of_other}
+use Rattle.steps_events.specs.Tables.{Table}
+use Rattle.playing.specs.Models.{Model}
 use Rattle.playing.specs.Plays.{events_of}
 
-pub events_of_same : (q : ℕ) (act : Act ℕ) (outcome : Then ℕ) (past : List (Event ℕ)) → events_of q (event q act outcome ∷ past) ≡ event q act outcome ∷ events_of q past
+pub events_of_same : {V : Type 0} (q : ℕ) (act : Act V) (outcome : Then V) (past : List (Event V)) → events_of q (event q act outcome ∷ past) ≡ event q act outcome ∷ events_of q past
 events_of_same q act outcome past = rw (eqb_same q) refl
 
-pub events_of_other : (q p : ℕ) (act : Act ℕ) (outcome : Then ℕ) (past : List (Event ℕ)) → p ≢ q → events_of p (event q act outcome ∷ past) ≡ events_of p past
+pub events_of_other : {V : Type 0} (q p : ℕ) (act : Act V) (outcome : Then V) (past : List (Event V)) → p ≢ q → events_of p (event q act outcome ∷ past) ≡ events_of p past
 events_of_other q p act outcome past other = rw (eqb_other q p other) refl
 
 -- a party's call and hold are those of its own events
 
-pub own_call : (q : ℕ) (past : List (Event ℕ)) → call_of q (events_of q past) ≡ call_of q past
+pub own_call : {V : Type 0} (q : ℕ) (past : List (Event V)) → call_of q (events_of q past) ≡ call_of q past
 own_call q [] = refl
 own_call q (e ∷ past) = by_party (own_call q past) (e.party == q) refl
   where
@@ -33,20 +33,21 @@ own_call q (e ∷ past) = by_party (own_call q past) (e.party == q) refl
     by_party rest true is = rw is (ap (call_after e.then e) rest)
     by_party rest false is = rest
 
-module _ {P : Type 0} (t : Table ℕ P) where
-  pub own_hold : (q : ℕ) (past : List (Event ℕ)) → hold_of t q (events_of q past) ≡ hold_of t q past
+module _ {V P : Type 0} (t : Table V P) where
+  pub own_hold : (q : ℕ) (past : List (Event V)) → hold_of t q (events_of q past) ≡ hold_of t q past
   own_hold q [] = refl
   own_hold q (e ∷ past) = by_party (own_hold q past) (eqb_tells e.party q)
     where
       mine : hold_of t q (events_of q past) ≡ hold_of t q past → e.party ≡ q → hold_of t q (e ∷ events_of q past) ≡ hold_of t q (e ∷ past)
       mine rest is = subst (λ (p : ℕ). hold_of t p (events_of q past) ≡ hold_of t p past → call_of p (events_of q past) ≡ call_of p past → hold_of t p (e ∷ events_of q past) ≡ hold_of t p (e ∷ past)) is
-          (λ holds calls. hold_of_same t e.party e.act e.then (events_of q past) ∙ ap (λ (x : Option (PendingCall ℕ) × Option HoldKind). hold_after t e.act x.0 x.1) (λ i. (calls i, holds i)) ∙ sym (hold_of_same t e.party e.act e.then past))
+          (λ holds calls. hold_of_same t e.party e.act e.then (events_of q past) ∙ ap (λ (x : Option (PendingCall V) × Option HoldKind). hold_after t e.act x.0 x.1) (λ i. (calls i, holds i)) ∙ sym (hold_of_same t e.party e.act e.then past))
           rest (own_call q past)
 
       by_party : hold_of t q (events_of q past) ≡ hold_of t q past → (((e.party == q) ≡ true) × (e.party ≡ q)) ⊎ (((e.party == q) ≡ false) × (e.party ≢ q)) → hold_of t q (events_of q (e ∷ past)) ≡ hold_of t q (e ∷ past)
       by_party rest (inl is) = rw is.0 (mine rest is.1)
       by_party rest (inr other) = rw other.0 (rest ∙ sym (hold_of_other t e.party q e.act e.then past (λ same. other.1 (sym same))))
 
+module _ {V P : Type 0} (m : Model V P) where
   -- a party that is not there has made nothing
 
   below : (party n : ℕ) (fault : Option StepFault) → cond (nat_lt party n) fault (Some faults.NoParty) ≡ None → party < n
@@ -56,8 +57,8 @@ module _ {P : Type 0} (t : Table ℕ P) where
       by_test true test is = grind (arith, nat_tests)
       by_test false test is = absurd cc
 
-  pub absent : (n q : ℕ) (past : List (Event ℕ)) → n ≤ q → IsPast u64_arithmetic t n past → events_of q past ≡ []
+  pub absent : (n q : ℕ) (past : List (Event V)) → n ≤ q → IsPast m.arithmetic m.table n past → events_of q past ≡ []
   absent n q [] apart run = refl
   absent n q (e ∷ past) apart run =
-      let there = below e.party n (fault_at t (call_of e.party past) (hold_of t e.party past) run.0.0) run.0.1.allowed in
+      let there = below e.party n (fault_at m.table (call_of e.party past) (hold_of m.table e.party past) run.0.0) run.0.1.allowed in
       events_of_other e.party q e.act e.then past (λ same. absurd (omega (arith, same))) ∙ absent n q past apart run.1

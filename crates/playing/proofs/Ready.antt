@@ -18,20 +18,19 @@ use Rattle.steps_events.specs.declared.event.Input.TheVariants as inputs
 use Rattle.steps_events.specs.declared.hold.HoldKind.{HoldKind}
 use Rattle.steps_events.specs.declared.row.After.{After}
 use Rattle.steps_events.specs.declared.row.After.TheVariants as afters
-use Rattle.steps_events.specs.Integers.{u64_arithmetic}
-use Rattle.steps_events.specs.Tables.{Table}
 use Rattle.steps_events.specs.Rows.{carried_out, value_told, outcome_of, place_after}
 use Rattle.steps_events.specs.Past.{PendingCall, word_after, call_of, call_after, call_going_on, hold_of, hold_after, hold_taken, hold_or, is_release, word_in, latest_outcome, event}
 use Rattle.steps_events.specs.Moves.{stage_of, next_stage, begin_fault, IsNext}
 use Rattle.steps_events.specs.Runs.{IsPast}
 use Rattle.steps_events.proofs.Holds.{call_of_same, hold_of_same}
 use Rattle.steps_events.proofs.Steps.{carried_goes_on, carried_stage}
+use Rattle.playing.specs.Models.{Model}
 use Rattle.playing.specs.Slots.{Slot, Free, Mine, Torn, both, all, slot_at, only, Parties, parties, all_of, both_parties}
 use Rattle.playing.specs.SlotLaws.{free_adds, group_all, all_of_both, slot_of_all, slot_of_only, slot_of_other, slot_past_end}
 use Rattle.playing.specs.Words.{AllHold, AreApart, IsNamed, IsStepOn, IsAside, effect}
-use Rattle.playing.specs.Plays.{events_of, Matches, fresh_call, Coming, Going, Beginning, Continuing, Answered, Aside, IsPlayed, IsAt, WasAnswered, HasEnded, MayBegin, Begins, BeginsHolding, GoesOnAfter, ComesBy, act_at, hold_then, Leads, Led}
+use Rattle.playing.specs.Plays.{events_of, Matches, fresh_call, Coming, Going, Beginning, Continuing, Answered, Choosing, Aside, IsPlayed, IsAt, WasAnswered, HasEnded, MayBegin, Begins, BeginsHolding, GoesOnAfter, GoesOnChoosing, ComesBy, act_at, hold_then, Leads, Led}
 use Rattle.playing.proofs.Own.{events_of_other, own_call, own_hold, absent}
-use Rattle.playing.proofs.Next.{run_of_more, begins_next, answers_next, goes_next}
+use Rattle.playing.proofs.Next.{run_of_more, begins_next, answers_next, chooses_next, goes_next}
 use Rattle.playing.proofs.Asides.{aside_tells_nothing, aside_leaves_words, aside_leaves_holds}
 use Rattle.playing.proofs.Words.{hold_at, same_hold, set_holds, effect_here, effect_there, carried_here}
 
@@ -42,96 +41,96 @@ below_suc : (q m : ℕ) → nat_lt q (q + m + 1) ≡ true
 below_suc q m = grind (arith, nat_tests)
 
 -- where one is its owner's, nobody else says so
-alone_there : (own : List (Event ℕ)) (r : Slot) (made : List (Event ℕ)) → Matches (both (Mine own) r) made → (r ≡ Free) × (made ≡ own)
+alone_there : {V : Type 0} (own : List (Event V)) (r : Slot V) (made : List (Event V)) → Matches (both (Mine own) r) made → (r ≡ Free) × (made ≡ own)
 alone_there own Free made is = (refl, is)
 alone_there own (Mine other) made is = absurd is
 alone_there own Torn made is = absurd is
 
 -- all slots tell what their parties have made
-abbrev pub AllMatch : List Slot → List (Event ℕ) → Type 0
+abbrev pub AllMatch : {V : Type 0} → List (Slot V) → List (Event V) → Type 0
 AllMatch slots past = (q : ℕ) → Matches (slot_at q slots) (events_of q past)
 
 -- all but this party's do, which is nobody's there
-pub record Others (others : List Slot) (past : List (Event ℕ)) (q : ℕ) : Type 0 where
+pub record Others {V : Type 0} (others : List (Slot V)) (past : List (Event V)) (q : ℕ) : Type 0 where
   pub free : slot_at q others ≡ Free
   pub each : (p : ℕ) → p ≢ q → Matches (slot_at p others) (events_of p past)
 
 -- what is known of the party that a pass is, and of all others
-parted : (others : List Slot) (past : List (Event ℕ)) (q : ℕ) (own : List (Event ℕ)) → AllMatch (all (only q (Mine own)) others) past → Others others past q × (events_of q past ≡ own)
-parted others past q own each =
+parted : {V : Type 0} (others : List (Slot V)) (past : List (Event V)) (q : ℕ) (own : List (Event V)) → AllMatch (all (only q (Mine own)) others) past → Others others past q × (events_of q past ≡ own)
+parted {V} others past q own each =
     let same : slot_at q (all (only q (Mine own)) others) ≡ both (Mine own) (slot_at q others) =
-    slot_of_all q (only q (Mine own)) others ∙ ap (λ (s : Slot). both s (slot_at q others)) (slot_of_only q (Mine own)) in
-    let here = alone_there own (slot_at q others) (events_of q past) (subst (λ (s : Slot). Matches s (events_of q past)) same (each q)) in (
+    slot_of_all q (only q (Mine own)) others ∙ ap (λ (s : Slot V). both s (slot_at q others)) (slot_of_only q (Mine own)) in
+    let here = alone_there own (slot_at q others) (events_of q past) (subst (λ (s : Slot V). Matches s (events_of q past)) same (each q)) in (
       record {
         free = here.0;
         each = λ p apart.
             let other : slot_at p (all (only q (Mine own)) others) ≡ slot_at p others =
-            slot_of_all p (only q (Mine own)) others ∙ ap (λ (s : Slot). both s (slot_at p others)) (slot_of_other q p (Mine own) apart) in
-            subst (λ (s : Slot). Matches s (events_of p past)) other (each p);
+            slot_of_all p (only q (Mine own)) others ∙ ap (λ (s : Slot V). both s (slot_at p others)) (slot_of_other q p (Mine own) apart) in
+            subst (λ (s : Slot V). Matches s (events_of p past)) other (each p);
       },
       here.1,
     )
 
 -- the party is its owner's again, with all that it has made
-joined : (others : List Slot) (past : List (Event ℕ)) (q : ℕ) → Others others past q → AllMatch (all (only q (Mine (events_of q past))) others) past
-joined others past q o p = by_party (dec p q)
+joined : {V : Type 0} (others : List (Slot V)) (past : List (Event V)) (q : ℕ) → Others others past q → AllMatch (all (only q (Mine (events_of q past))) others) past
+joined {V} others past q o p = by_party (dec p q)
   where
-    s : Slot
+    s : Slot V
     s = Mine (events_of q past)
 
     by_party : (p ≡ q) ⊎ (p ≢ q) → Matches (slot_at p (all (only q s) others)) (events_of p past)
     by_party (inl same) =
-        let here : slot_at q (all (only q s) others) ≡ s = slot_of_all q (only q s) others ∙ ap (λ (r : Slot). both r (slot_at q others)) (slot_of_only q s) ∙ ap (both s) o.free ∙ free_adds s in
-        subst (λ n. Matches (slot_at n (all (only q s) others)) (events_of n past)) (sym same) (subst (λ (r : Slot). Matches r (events_of q past)) (sym here) refl)
+        let here : slot_at q (all (only q s) others) ≡ s = slot_of_all q (only q s) others ∙ ap (λ (r : Slot V). both r (slot_at q others)) (slot_of_only q s) ∙ ap (both s) o.free ∙ free_adds s in
+        subst (λ n. Matches (slot_at n (all (only q s) others)) (events_of n past)) (sym same) (subst (λ (r : Slot V). Matches r (events_of q past)) (sym here) refl)
     by_party (inr apart) =
-        let other : slot_at p (all (only q s) others) ≡ slot_at p others = slot_of_all p (only q s) others ∙ ap (λ (r : Slot). both r (slot_at p others)) (slot_of_other q p s apart) in
-        subst (λ (r : Slot). Matches r (events_of p past)) (sym other) (o.each p apart)
+        let other : slot_at p (all (only q s) others) ≡ slot_at p others = slot_of_all p (only q s) others ∙ ap (λ (r : Slot V). both r (slot_at p others)) (slot_of_other q p s apart) in
+        subst (λ (r : Slot V). Matches r (events_of p past)) (sym other) (o.each p apart)
 
 -- an event of the party is nothing to the others
-others_on : (others : List Slot) (past : List (Event ℕ)) (q : ℕ) (act : Act ℕ) (outcome : Then ℕ) → Others others past q → Others others (event q act outcome ∷ past) q
-others_on others past q act outcome o = record {
+others_on : {V : Type 0} (others : List (Slot V)) (past : List (Event V)) (q : ℕ) (act : Act V) (outcome : Then V) → Others others past q → Others others (event q act outcome ∷ past) q
+others_on {V} others past q act outcome o = record {
   free = o.free;
-  each = λ p apart. subst (λ (made : List (Event ℕ)). Matches (slot_at p others) made) (sym (events_of_other q p act outcome past apart)) (o.each p apart);
+  each = λ p apart. subst (λ (made : List (Event V)). Matches (slot_at p others) made) (sym (events_of_other q p act outcome past apart)) (o.each p apart);
 }
 
-module _ {P : Type 0} (t : Table ℕ P) (Law : List (Event ℕ) → Type 0) (names : List Word) where
+module _ {V P : Type 0} (m : Model V P) (names : List Word) where
   -- beside these others a party of the pass has a call at this place, and may make its step
-  pub record Ready (found : List ℕ) (others : List Slot) (call : Call ℕ) (place : P) (hold : Option HoldKind) : Type 0 where
+  pub record Ready (found : List ℕ) (others : List (Slot V)) (call : Call V) (place : P) (hold : Option HoldKind) : Type 0 where
     pub parties : ℕ
-    pub past : List (Event ℕ)
-    pub run : IsPast u64_arithmetic t parties past
-    pub words : AllHold names found (word_in t past)
+    pub past : List (Event V)
+    pub run : IsPast m.arithmetic m.table parties past
+    pub words : AllHold names found (word_in m.table past)
     pub party : ℕ
     pub there : nat_lt party parties ≡ true
-    pub pending : PendingCall ℕ
+    pub pending : PendingCall V
     pub under_way : call_of party past ≡ Some pending
     pub called : pending.call ≡ call
-    pub stage : stage_of t pending ≡ Some place
+    pub stage : stage_of m.table pending ≡ Some place
     pub left : latest_outcome pending.own ≡ thens.GoesOn
-    pub has : hold_of t party past ≡ hold
+    pub has : hold_of m.table party past ≡ hold
     pub apart : Others others past party
 
   -- all parties, and those of the pass among them
-  with_acting : (p rest : Parties) (done : List Slot) (s : List Slot) → p.acting ≡ s → p.resting ≡ done → all_of (both_parties p rest) ≡ all s (all done (all_of rest))
+  with_acting : (p rest : Parties V) (done : List (Slot V)) (s : List (Slot V)) → p.acting ≡ s → p.resting ≡ done → all_of (both_parties p rest) ≡ all s (all done (all_of rest))
   with_acting p rest done s acting resting =
       all_of_both p rest ∙ group_all p.acting p.resting (all_of rest) ∙ (λ i. all (acting i) (all (resting i) (all_of rest)))
 
-  with_all : (p rest : Parties) (done : List Slot) → all_of p ≡ done → all_of (both_parties p rest) ≡ all done (all_of rest)
-  with_all p rest done is = all_of_both p rest ∙ ap (λ (ss : List Slot). all ss (all_of rest)) is
+  with_all : (p rest : Parties V) (done : List (Slot V)) → all_of p ≡ done → all_of (both_parties p rest) ≡ all done (all_of rest)
+  with_all p rest done is = all_of_both p rest ∙ ap (λ (ss : List (Slot V)). all ss (all_of rest)) is
 
-  moved : (past : List (Event ℕ)) (a b : List Slot) → a ≡ b → AllMatch a past → AllMatch b past
-  moved past a b same each = subst (λ (ss : List Slot). AllMatch ss past) same each
+  moved : (past : List (Event V)) (a b : List (Slot V)) → a ≡ b → AllMatch a past → AllMatch b past
+  moved past a b same each = subst (λ (ss : List (Slot V)). AllMatch ss past) same each
 
   -- the party acts
-  ready_at : (found : List ℕ) (p rest : Parties) (call : Call ℕ) (place : P) (hold : Option HoldKind) (done : List Slot) →
-      IsPlayed t Law names found (both_parties p rest) → IsAt t Law call place thens.GoesOn hold done p → Ready found (all done (all_of rest)) call place hold
+  ready_at : (found : List ℕ) (p rest : Parties V) (call : Call V) (place : P) (hold : Option HoldKind) (done : List (Slot V)) →
+      IsPlayed m names found (both_parties p rest) → IsAt m call place thens.GoesOn hold done p → Ready found (all done (all_of rest)) call place hold
   ready_at found p rest call place hold done r at =
       let q : ℕ = at.party in
       let here = parted (all done (all_of rest)) r.past q at.own (moved r.past _ _ (with_acting p rest done (only q (Mine at.own)) at.acting at.resting) r.each) in
       record {
         parties = q + r.parties + 1;
         past = r.past;
-        run = run_of_more u64_arithmetic t r.parties (q + r.parties + 1) r.past (omega arith) r.run;
+        run = run_of_more m.arithmetic m.table r.parties (q + r.parties + 1) r.past (omega arith) r.run;
         words = r.hold;
         party = q;
         there = below_suc q r.parties;
@@ -140,22 +139,22 @@ module _ {P : Type 0} (t : Table ℕ P) (Law : List (Event ℕ) → Type 0) (nam
         called = at.called;
         stage = at.stage;
         left = at.left;
-        has = sym (own_hold t q r.past) ∙ ap (hold_of t q) here.1 ∙ at.has;
+        has = sym (own_hold m.table q r.past) ∙ ap (hold_of m.table q) here.1 ∙ at.has;
         apart = here.0;
       }
 
   -- it begins a call
-  begin_of : (found : List ℕ) (others : List Slot) (parties : ℕ) (past : List (Event ℕ)) (q : ℕ) (call : Call ℕ) (place : P) (hold : Option HoldKind) →
-      IsPast u64_arithmetic t parties past → AllHold names found (word_in t past) → nat_lt q parties ≡ true → call_of q past ≡ None → hold_of t q past ≡ hold → Others others past q →
-      MayBegin t Law call place hold → Ready found others call place hold
+  begin_of : (found : List ℕ) (others : List (Slot V)) (parties : ℕ) (past : List (Event V)) (q : ℕ) (call : Call V) (place : P) (hold : Option HoldKind) →
+      IsPast m.arithmetic m.table parties past → AllHold names found (word_in m.table past) → nat_lt q parties ≡ true → call_of q past ≡ None → hold_of m.table q past ≡ hold → Others others past q →
+      MayBegin m call place hold → Ready found others call place hold
   begin_of found others parties past q call place hold run words there idle has apart may =
-      let act : Act ℕ = acts.Begun call in
-      let free : begin_fault t None (hold_of t q past) call ≡ None = rw (has, may.begins) may.free in
+      let act : Act V = acts.Begun call in
+      let free : begin_fault m.table None (hold_of m.table q past) call ≡ None = rw (has, may.begins) may.free in
       record {
         parties = parties;
         past = event q act thens.GoesOn ∷ past;
-        run = ((inputs.Begin call, begins_next u64_arithmetic t parties past q call there idle free may.values), run);
-        words = same_hold names found (word_in t past) (word_in t (event q act thens.GoesOn ∷ past)) words (λ n. refl);
+        run = ((inputs.Begin call, begins_next m.arithmetic m.table parties past q call there idle free may.values), run);
+        words = same_hold names found (word_in m.table past) (word_in m.table (event q act thens.GoesOn ∷ past)) words (λ n. refl);
         party = q;
         there = there;
         pending = fresh_call call;
@@ -163,120 +162,150 @@ module _ {P : Type 0} (t : Table ℕ P) (Law : List (Event ℕ) → Type 0) (nam
         called = refl;
         stage = may.begins;
         left = refl;
-        has = hold_of_same t q act thens.GoesOn past ∙ has;
+        has = hold_of_same m.table q act thens.GoesOn past ∙ has;
         apart = others_on others past q act thens.GoesOn apart;
       }
 
   -- as a party that has made nothing
-  ready_begins : (found : List ℕ) (p rest : Parties) (call : Call ℕ) (place : P) (hold : Option HoldKind) (done : List Slot) →
-      IsPlayed t Law names found (both_parties p rest) → Begins t Law call place hold done p → Ready found (all done (all_of rest)) call place hold
+  ready_begins : (found : List ℕ) (p rest : Parties V) (call : Call V) (place : P) (hold : Option HoldKind) (done : List (Slot V)) →
+      IsPlayed m names found (both_parties p rest) → Begins m call place hold done p → Ready found (all done (all_of rest)) call place hold
   ready_begins found p rest call place hold done r b =
-      let others : List Slot = all done (all_of rest) in
+      let others : List (Slot V) = all done (all_of rest) in
       let q : ℕ = r.parties + length others in
       let each = moved r.past _ _ (with_all p rest done b.others) r.each in
-      let nothing = absent t r.parties q r.past (omega arith) r.run in
+      let nothing = absent m r.parties q r.past (omega arith) r.run in
       begin_of found others (q + r.parties + 1) r.past q call place hold
-      (run_of_more u64_arithmetic t r.parties (q + r.parties + 1) r.past (omega arith) r.run) r.hold (below_suc q r.parties)
-      (sym (own_call q r.past) ∙ ap (call_of q) nothing) (sym (own_hold t q r.past) ∙ ap (hold_of t q) nothing ∙ sym b.new)
+      (run_of_more m.arithmetic m.table r.parties (q + r.parties + 1) r.past (omega arith) r.run) r.hold (below_suc q r.parties)
+      (sym (own_call q r.past) ∙ ap (call_of q) nothing) (sym (own_hold m.table q r.past) ∙ ap (hold_of m.table q) nothing ∙ sym b.new)
       (record { free = slot_past_end q others (omega arith); each = λ p _. each p }) b.may
 
   -- as the party that has the hold
-  ready_continues : (found : List ℕ) (p rest : Parties) (call : Call ℕ) (place : P) (hold : Option HoldKind) (done : List Slot) →
-      IsPlayed t Law names found (both_parties p rest) → BeginsHolding t Law call place hold done p → Ready found (all done (all_of rest)) call place hold
+  ready_continues : (found : List ℕ) (p rest : Parties V) (call : Call V) (place : P) (hold : Option HoldKind) (done : List (Slot V)) →
+      IsPlayed m names found (both_parties p rest) → BeginsHolding m call place hold done p → Ready found (all done (all_of rest)) call place hold
   ready_continues found p rest call place hold done r b =
       let h = b.holding in
       let q : ℕ = h.party in
-      let others : List Slot = all done (all_of rest) in
+      let others : List (Slot V) = all done (all_of rest) in
       let here = parted others r.past q h.own (moved r.past _ _ (with_acting p rest done (only q (Mine h.own)) h.acting h.resting) r.each) in
       begin_of found others (q + r.parties + 1) r.past q call place hold
-      (run_of_more u64_arithmetic t r.parties (q + r.parties + 1) r.past (omega arith) r.run) r.hold (below_suc q r.parties)
-      (sym (own_call q r.past) ∙ ap (call_of q) here.1 ∙ h.idle) (sym (own_hold t q r.past) ∙ ap (hold_of t q) here.1 ∙ h.has ∙ sym b.kept) here.0 b.may
+      (run_of_more m.arithmetic m.table r.parties (q + r.parties + 1) r.past (omega arith) r.run) r.hold (below_suc q r.parties)
+      (sym (own_call q r.past) ∙ ap (call_of q) here.1 ∙ h.idle) (sym (own_hold m.table q r.past) ∙ ap (hold_of m.table q) here.1 ∙ h.has ∙ sym b.kept) here.0 b.may
 
   -- the wait closure has answered
-  ready_answered : (found : List ℕ) (p rest : Parties) (action : WaitAction) (call : Call ℕ) (place : P) (hold : Option HoldKind) (done : List Slot) →
-      IsPlayed t Law names found (both_parties p rest) → GoesOnAfter t Law action call place hold done p → Ready found (all done (all_of rest)) call place hold
+  ready_answered : (found : List ℕ) (p rest : Parties V) (action : WaitAction) (call : Call V) (place : P) (hold : Option HoldKind) (done : List (Slot V)) →
+      IsPlayed m names found (both_parties p rest) → GoesOnAfter m action call place hold done p → Ready found (all done (all_of rest)) call place hold
   ready_answered found p rest action call place hold done r g =
-      let act : Act ℕ = acts.Answered action in
+      let act : Act V = acts.Answered action in
       let at = g.at in
       let q : ℕ = at.party in
-      let c : PendingCall ℕ = at.pending in
-      let others : List Slot = all done (all_of rest) in
+      let c : PendingCall V = at.pending in
+      let others : List (Slot V) = all done (all_of rest) in
       let here = parted others r.past q at.own (moved r.past _ _ (with_acting p rest done (only q (Mine at.own)) at.acting at.resting) r.each) in
       let under_way : call_of q r.past ≡ Some c = sym (own_call q r.past) ∙ ap (call_of q) here.1 ∙ at.under_way in
       let there = below_suc q r.parties in
-      let more = run_of_more u64_arithmetic t r.parties (q + r.parties + 1) r.past (omega arith) r.run in
+      let more = run_of_more m.arithmetic m.table r.parties (q + r.parties + 1) r.past (omega arith) r.run in
       record {
         parties = q + r.parties + 1;
         past = event q act thens.GoesOn ∷ r.past;
-        run = ((inputs.Answer action, answers_next u64_arithmetic t (q + r.parties + 1) r.past q c action there under_way (rw at.left refl)), more);
-        words = same_hold names found (word_in t r.past) (word_in t (event q act thens.GoesOn ∷ r.past)) r.hold (λ n. refl);
+        run = ((inputs.Answer action, answers_next m.arithmetic m.table (q + r.parties + 1) r.past q c action there under_way (rw at.left refl)), more);
+        words = same_hold names found (word_in m.table r.past) (word_in m.table (event q act thens.GoesOn ∷ r.past)) r.hold (λ n. refl);
         party = q;
         there = there;
         pending = record { call = c.call; own = event q act thens.GoesOn ∷ c.own };
         under_way = call_of_same q act thens.GoesOn r.past ∙ ap (call_going_on act (event q act thens.GoesOn)) under_way;
         called = at.called;
-        stage = ap (next_stage t act) at.stage ∙ ap (λ (s : P). Some s) (sym g.answered);
+        stage = ap (next_stage m.table act) at.stage ∙ ap (λ (s : P). Some s) (sym g.answered);
         left = refl;
-        has = hold_of_same t q act thens.GoesOn r.past ∙ sym (own_hold t q r.past) ∙ ap (hold_of t q) here.1 ∙ at.has;
+        has = hold_of_same m.table q act thens.GoesOn r.past ∙ sym (own_hold m.table q r.past) ∙ ap (hold_of m.table q) here.1 ∙ at.has;
+        apart = others_on others r.past q act thens.GoesOn here.0;
+      }
+
+  -- the choice closure has chosen
+  ready_chooses : (found : List ℕ) (p rest : Parties V) (choice : Option V) (call : Call V) (place : P) (hold : Option HoldKind) (done : List (Slot V)) →
+      IsPlayed m names found (both_parties p rest) → GoesOnChoosing m choice call place hold done p → Ready found (all done (all_of rest)) call place hold
+  ready_chooses found p rest choice call place hold done r g =
+      let act : Act V = acts.Chosen choice in
+      let at = g.at in
+      let q : ℕ = at.party in
+      let c : PendingCall V = at.pending in
+      let others : List (Slot V) = all done (all_of rest) in
+      let here = parted others r.past q at.own (moved r.past _ _ (with_acting p rest done (only q (Mine at.own)) at.acting at.resting) r.each) in
+      let under_way : call_of q r.past ≡ Some c = sym (own_call q r.past) ∙ ap (call_of q) here.1 ∙ at.under_way in
+      let there = below_suc q r.parties in
+      let more = run_of_more m.arithmetic m.table r.parties (q + r.parties + 1) r.past (omega arith) r.run in
+      record {
+        parties = q + r.parties + 1;
+        past = event q act thens.GoesOn ∷ r.past;
+        run = ((inputs.Choose choice, chooses_next m.arithmetic m.table (q + r.parties + 1) r.past q c choice there under_way (rw at.left refl) g.values), more);
+        words = same_hold names found (word_in m.table r.past) (word_in m.table (event q act thens.GoesOn ∷ r.past)) r.hold (λ n. refl);
+        party = q;
+        there = there;
+        pending = record { call = c.call; own = event q act thens.GoesOn ∷ c.own };
+        under_way = call_of_same q act thens.GoesOn r.past ∙ ap (call_going_on act (event q act thens.GoesOn)) under_way;
+        called = at.called;
+        stage = ap (next_stage m.table act) at.stage ∙ ap (λ (s : P). Some s) (sym g.chosen);
+        left = refl;
+        has = hold_of_same m.table q act thens.GoesOn r.past ∙ sym (own_hold m.table q r.past) ∙ ap (hold_of m.table q) here.1 ∙ at.has;
         apart = others_on others r.past q act thens.GoesOn here.0;
       }
 
   -- its call has made a step on no word
-  step_aside : (found : List ℕ) (others : List Slot) (call : Call ℕ) (from place : P) (hold : Option HoldKind) → Ready found others call from hold → IsAside (t.intent from hold) →
-      t.after from None ≡ afters.At place → Ready found others call place hold
+  step_aside : (found : List ℕ) (others : List (Slot V)) (call : Call V) (from place : P) (hold : Option HoldKind) → Ready found others call from hold → IsAside (m.table.intent from hold) →
+      m.table.after from None ≡ afters.At place → Ready found others call place hold
   step_aside found others call from place hold r aside leads =
       let q : ℕ = r.party in
-      let act : Act ℕ = carried_out (t.intent from hold) (word_in t r.past) in
-      let e : Event ℕ = event q act thens.GoesOn in
-      let led : t.after from (value_told act) ≡ afters.At place = ap (t.after from) (aside_tells_nothing (t.intent from hold) (word_in t r.past) aside) ∙ leads in
-      let here : IsNext u64_arithmetic t r.parties r.past q inputs.Go (event q act (outcome_of (t.after from (value_told act)))) =
-      subst (λ (k : Option HoldKind). IsNext u64_arithmetic t r.parties r.past q inputs.Go (event q (carried_out (t.intent from k) (word_in t r.past)) (outcome_of (t.after from (value_told (carried_out (t.intent from k) (word_in t r.past))))))) r.has
-      (goes_next u64_arithmetic t r.parties r.past q r.pending from r.there r.under_way r.stage (rw r.left refl)) in
+      let act : Act V = carried_out (m.table.intent from hold) (word_in m.table r.past) in
+      let e : Event V = event q act thens.GoesOn in
+      let led : m.table.after from (value_told act) ≡ afters.At place = ap (m.table.after from) (aside_tells_nothing (m.table.intent from hold) (word_in m.table r.past) aside) ∙ leads in
+      let here : IsNext m.arithmetic m.table r.parties r.past q inputs.Go (event q act (outcome_of (m.table.after from (value_told act)))) =
+      subst (λ (k : Option HoldKind). IsNext m.arithmetic m.table r.parties r.past q inputs.Go (event q (carried_out (m.table.intent from k) (word_in m.table r.past)) (outcome_of (m.table.after from (value_told (carried_out (m.table.intent from k) (word_in m.table r.past))))))) r.has
+      (goes_next m.arithmetic m.table r.parties r.past q r.pending from r.there r.under_way r.stage (rw r.left refl)) in
       record {
         parties = r.parties;
         past = e ∷ r.past;
-        run = ((inputs.Go, subst (λ (o : Then ℕ). IsNext u64_arithmetic t r.parties r.past q inputs.Go (event q act o)) (ap outcome_of led) here), r.run);
-        words = same_hold names found (word_in t r.past) (word_in t (e ∷ r.past)) r.words (λ n. aside_leaves_words n (t.intent from hold) (word_in t r.past) (word_in t r.past n) aside);
+        run = ((inputs.Go, subst (λ (o : Then V). IsNext m.arithmetic m.table r.parties r.past q inputs.Go (event q act o)) (ap outcome_of led) here), r.run);
+        words = same_hold names found (word_in m.table r.past) (word_in m.table (e ∷ r.past)) r.words (λ n. aside_leaves_words n (m.table.intent from hold) (word_in m.table r.past) (word_in m.table r.past n) aside);
         party = q;
         there = r.there;
         pending = record { call = r.pending.call; own = e ∷ r.pending.own };
-        under_way = call_of_same q act thens.GoesOn r.past ∙ ap (call_going_on act e) r.under_way ∙ carried_goes_on (t.intent from hold) (word_in t r.past) e r.pending;
+        under_way = call_of_same q act thens.GoesOn r.past ∙ ap (call_going_on act e) r.under_way ∙ carried_goes_on (m.table.intent from hold) (word_in m.table r.past) e r.pending;
         called = r.called;
-        stage = ap (next_stage t act) r.stage ∙ carried_stage t from (t.intent from hold) (word_in t r.past) ∙ ap place_after led;
+        stage = ap (next_stage m.table act) r.stage ∙ carried_stage m.table from (m.table.intent from hold) (word_in m.table r.past) ∙ ap place_after led;
         left = refl;
-        has = hold_of_same t q act thens.GoesOn r.past ∙ aside_leaves_holds t (t.intent from hold) (word_in t r.past) (call_of q r.past) (hold_of t q r.past) aside ∙ r.has;
+        has = hold_of_same m.table q act thens.GoesOn r.past ∙ aside_leaves_holds m.table (m.table.intent from hold) (word_in m.table r.past) (call_of q r.past) (hold_of m.table q r.past) aside ∙ r.has;
         apart = others_on others r.past q act thens.GoesOn r.apart;
       }
 
-  pub ready : (coming : Coming) (found : List ℕ) (p rest : Parties) (call : Call ℕ) (place : P) (hold : Option HoldKind) (done : List Slot) →
-      IsPlayed t Law names found (both_parties p rest) → ComesBy t Law coming call place hold done p → Ready found (all done (all_of rest)) call place hold
+  pub ready : (coming : Coming V) (found : List ℕ) (p rest : Parties V) (call : Call V) (place : P) (hold : Option HoldKind) (done : List (Slot V)) →
+      IsPlayed m names found (both_parties p rest) → ComesBy m coming call place hold done p → Ready found (all done (all_of rest)) call place hold
   ready Going found p rest call place hold done r comes = ready_at found p rest call place hold done r comes
   ready (Beginning begun) found p rest call place hold done r comes = ready_begins found p rest call place hold done r comes.1
   ready (Continuing begun) found p rest call place hold done r comes = ready_continues found p rest call place hold done r comes.1
   ready (Answered action) found p rest call place hold done r comes = ready_answered found p rest action call place hold done r comes
+  ready (Choosing choice) found p rest call place hold done r comes = ready_chooses found p rest choice call place hold done r comes
   ready Aside found p rest call place hold done r comes =
       step_aside found (all done (all_of rest)) call comes.from place hold (ready_at found p rest call comes.from hold done r comes.at) comes.aside comes.leads
 
   -- The step is made.
 
   -- the hold that an act takes depends on the call alone
-  taken_by_call : (act : Act ℕ) (c : PendingCall ℕ) → hold_taken t act (Some c) ≡ hold_taken t act (Some (fresh_call c.call))
+  taken_by_call : (act : Act V) (c : PendingCall V) → hold_taken m.table act (Some c) ≡ hold_taken m.table act (Some (fresh_call c.call))
   taken_by_call (acts.Exchange words.State from to found true) c = refl
   taken_by_call (acts.Swap words.State zero put) c = refl
   taken_by_call act c = refl
 
-  then_by_call : (act : Act ℕ) (c : PendingCall ℕ) (hold : Option HoldKind) → hold_after t act (Some c) hold ≡ hold_after t act (Some (fresh_call c.call)) hold
+  then_by_call : (act : Act V) (c : PendingCall V) (hold : Option HoldKind) → hold_after m.table act (Some c) hold ≡ hold_after m.table act (Some (fresh_call c.call)) hold
   then_by_call act c hold = ap (λ (k : Option HoldKind). cond (is_release act) None (hold_or k hold)) (taken_by_call act c)
 
   -- what the pass is after the step, and the words
-  abbrev pub Stepped : (found : List ℕ) (rest : Parties) (i y : ℕ) (leads : Parties → Type 0) → Type 0
-  Stepped found rest i y leads = (p : Parties) × IsPlayed t Law names (set found i y) (both_parties p rest) × leads p
+  abbrev pub Stepped : (found : List ℕ) (rest : Parties V) (i y : ℕ) (leads : Parties V → Type 0) → Type 0
+  Stepped found rest i y leads = (p : Parties V) × IsPlayed m names (set found i y) (both_parties p rest) × leads p
 
   pub steps :
-      ((n : ℕ) (past : List (Event ℕ)) → IsPast u64_arithmetic t n past → Law past) → AreApart names → (found : List ℕ) (done : List Slot) (rest : Parties) (call : Call ℕ) (place : P) (hold : Option HoldKind) (i : ℕ) (w : Word) →
-      Ready found (all done (all_of rest)) call place hold → IsNamed names i w → IsStepOn w (t.intent place hold) →
-      Stepped found rest i (effect (t.intent place hold) (get_or found i 0)) (Led t Law call place hold (get_or found i 0) done)
-  steps lawful apart found done rest call place hold i w r named on = by_after (t.after place (value_told (act_at t Law place hold x))) refl
+      ((n : ℕ) (past : List (Event V)) → IsPast m.arithmetic m.table n past → m.law past) → AreApart names → (found : List ℕ) (done : List (Slot V)) (rest : Parties V) (call : Call V) (place : P) (hold : Option HoldKind) (i : ℕ) (w : Word) →
+      Ready found (all done (all_of rest)) call place hold → IsNamed names i w → IsStepOn w (m.table.intent place hold) →
+      Stepped found rest i (effect (m.table.intent place hold) (get_or found i 0)) (Led m call place hold (get_or found i 0) done)
+  steps lawful apart found done rest call place hold i w r named on = by_after (m.table.after place (value_told (act_at m place hold x))) refl
     where
       x : ℕ
       x = get_or found i 0
@@ -284,81 +313,81 @@ module _ {P : Type 0} (t : Table ℕ P) (Law : List (Event ℕ) → Type 0) (nam
       q : ℕ
       q = r.party
 
-      others : List Slot
+      others : List (Slot V)
       others = all done (all_of rest)
 
-      seen : x ≡ word_in t r.past w
-      seen = hold_at names found i w (word_in t r.past) r.words named
+      seen : x ≡ word_in m.table r.past w
+      seen = hold_at names found i w (word_in m.table r.past) r.words named
 
-      act : Act ℕ
-      act = act_at t Law place hold x
+      act : Act V
+      act = act_at m place hold x
 
-      outcome : Then ℕ
-      outcome = outcome_of (t.after place (value_told act))
+      outcome : Then V
+      outcome = outcome_of (m.table.after place (value_told act))
 
-      e : Event ℕ
+      e : Event V
       e = event q act outcome
 
-      new : List (Event ℕ)
+      new : List (Event V)
       new = e ∷ r.past
 
-      own : List (Event ℕ)
+      own : List (Event V)
       own = events_of q new
 
-      act_is : carried_out (t.intent place (hold_of t q r.past)) (word_in t r.past) ≡ act
-      act_is = ap (λ h. carried_out (t.intent place h) (word_in t r.past)) r.has ∙ carried_here w (t.intent place hold) (word_in t r.past) on
-          ∙ ap (λ (n : ℕ). carried_out (t.intent place hold) (λ _. n)) (sym seen)
+      act_is : carried_out (m.table.intent place (hold_of m.table q r.past)) (word_in m.table r.past) ≡ act
+      act_is = ap (λ h. carried_out (m.table.intent place h) (word_in m.table r.past)) r.has ∙ carried_here w (m.table.intent place hold) (word_in m.table r.past) on
+          ∙ ap (λ (n : ℕ). carried_out (m.table.intent place hold) (λ _. n)) (sym seen)
 
-      run : IsPast u64_arithmetic t r.parties new
+      run : IsPast m.arithmetic m.table r.parties new
       run = (
         (
           inputs.Go,
-          subst (λ (a : Act ℕ). IsNext u64_arithmetic t r.parties r.past q inputs.Go (event q a (outcome_of (t.after place (value_told a))))) act_is
-              (goes_next u64_arithmetic t r.parties r.past q r.pending place r.there r.under_way r.stage (rw r.left refl)),
+          subst (λ (a : Act V). IsNext m.arithmetic m.table r.parties r.past q inputs.Go (event q a (outcome_of (m.table.after place (value_told a))))) act_is
+              (goes_next m.arithmetic m.table r.parties r.past q r.pending place r.there r.under_way r.stage (rw r.left refl)),
         ),
         r.run,
       )
 
-      law : Law new
+      law : m.law new
       law = lawful r.parties new run
 
       call_now : call_of q own ≡ call_after outcome e (Some r.pending)
       call_now = own_call q new ∙ call_of_same q act outcome r.past ∙ ap (call_after outcome e) r.under_way
 
-      hold_now : hold_of t q own ≡ hold_then t Law call place hold x
-      hold_now = own_hold t q new ∙ hold_of_same t q act outcome r.past ∙ ap (λ (k : Option (PendingCall ℕ)). hold_after t act k (hold_of t q r.past)) r.under_way
-          ∙ ap (hold_after t act (Some r.pending)) r.has ∙ then_by_call act r.pending hold ∙ ap (λ (k : Call ℕ). hold_after t act (Some (fresh_call k)) hold) r.called
+      hold_now : hold_of m.table q own ≡ hold_then m call place hold x
+      hold_now = own_hold m.table q new ∙ hold_of_same m.table q act outcome r.past ∙ ap (λ (k : Option (PendingCall V)). hold_after m.table act k (hold_of m.table q r.past)) r.under_way
+          ∙ ap (hold_after m.table act (Some r.pending)) r.has ∙ then_by_call act r.pending hold ∙ ap (λ (k : Call V). hold_after m.table act (Some (fresh_call k)) hold) r.called
 
-      words_now : AllHold names (set found i (effect (t.intent place hold) x)) (word_in t new)
-      words_now = set_holds names found i w (word_in t r.past) (word_in t new) (effect (t.intent place hold) x) apart r.words named
-          (ap (word_after w act) (sym seen) ∙ effect_here w (t.intent place hold) (λ _. x) on)
-          (λ n other. effect_there w n (t.intent place hold) (λ _. x) (word_in t r.past n) on other)
+      words_now : AllHold names (set found i (effect (m.table.intent place hold) x)) (word_in m.table new)
+      words_now = set_holds names found i w (word_in m.table r.past) (word_in m.table new) (effect (m.table.intent place hold) x) apart r.words named
+          (ap (word_after w act) (sym seen) ∙ effect_here w (m.table.intent place hold) (λ _. x) on)
+          (λ n other. effect_there w n (m.table.intent place hold) (λ _. x) (word_in m.table r.past n) on other)
 
       all_match : AllMatch (all (only q (Mine own)) others) new
       all_match = joined others new q (others_on others r.past q act outcome r.apart)
 
-      played : (p : Parties) → all_of (both_parties p rest) ≡ all (only q (Mine own)) others → IsPlayed t Law names (set found i (effect (t.intent place hold) x)) (both_parties p rest)
+      played : (p : Parties V) → all_of (both_parties p rest) ≡ all (only q (Mine own)) others → IsPlayed m names (set found i (effect (m.table.intent place hold) x)) (both_parties p rest)
       played p is = record { parties = r.parties; past = new; run = run; law = law; hold = words_now; each = moved new _ _ (sym is) all_match }
 
       -- the party acts on
-      acting : Parties
+      acting : Parties V
       acting = parties (only q (Mine own)) done
 
-      played_acting : IsPlayed t Law names (set found i (effect (t.intent place hold) x)) (both_parties acting rest)
+      played_acting : IsPlayed m names (set found i (effect (m.table.intent place hold) x)) (both_parties acting rest)
       played_acting = played acting (with_acting acting rest done (only q (Mine own)) refl refl)
 
       -- or rests
-      resting : Parties
+      resting : Parties V
       resting = parties [] (all (only q (Mine own)) done)
 
-      played_resting : IsPlayed t Law names (set found i (effect (t.intent place hold) x)) (both_parties resting rest)
+      played_resting : IsPlayed m names (set found i (effect (m.table.intent place hold) x)) (both_parties resting rest)
       played_resting = played resting (with_all resting rest (all (only q (Mine own)) done) refl ∙ group_all (only q (Mine own)) done (all_of rest))
 
-      on_from : (a : After ℕ P) (next : P) → t.after place (value_told act) ≡ a → place_after a ≡ Some next →
-          ((k : Option (PendingCall ℕ)) → call_after (outcome_of a) e k ≡ call_going_on act e k) →
-          Stepped found rest i (effect (t.intent place hold) x) (IsAt t Law call next (outcome_of a) (hold_then t Law call place hold x) done)
+      on_from : (a : After V P) (next : P) → m.table.after place (value_told act) ≡ a → place_after a ≡ Some next →
+          ((k : Option (PendingCall V)) → call_after (outcome_of a) e k ≡ call_going_on act e k) →
+          Stepped found rest i (effect (m.table.intent place hold) x) (IsAt m call next (outcome_of a) (hold_then m call place hold x) done)
       on_from a next is to goes =
-          let c : PendingCall ℕ = record { call = r.pending.call; own = e ∷ r.pending.own } in (
+          let c : PendingCall V = record { call = r.pending.call; own = e ∷ r.pending.own } in (
             acting,
             played_acting,
             record {
@@ -368,15 +397,15 @@ module _ {P : Type 0} (t : Table ℕ P) (Law : List (Event ℕ) → Type 0) (nam
               resting = refl;
               made = record { parties = r.parties; past = new; run = run; law = law; own_is = refl };
               pending = c;
-              under_way = call_now ∙ ap (λ (o : Then ℕ). call_after o e (Some r.pending)) (ap outcome_of is) ∙ goes (Some r.pending) ∙ carried_goes_on (t.intent place hold) (λ _. x) e r.pending;
+              under_way = call_now ∙ ap (λ (o : Then V). call_after o e (Some r.pending)) (ap outcome_of is) ∙ goes (Some r.pending) ∙ carried_goes_on (m.table.intent place hold) (λ _. x) e r.pending;
               called = r.called;
-              stage = ap (next_stage t act) r.stage ∙ carried_stage t place (t.intent place hold) (λ _. x) ∙ ap place_after is ∙ to;
+              stage = ap (next_stage m.table act) r.stage ∙ carried_stage m.table place (m.table.intent place hold) (λ _. x) ∙ ap place_after is ∙ to;
               left = ap outcome_of is;
               has = hold_now;
             },
           )
 
-      answered : (answer : Answer ℕ) → t.after place (value_told act) ≡ afters.Ends answer → WasAnswered t Law call answer q own
+      answered : (answer : Answer V) → m.table.after place (value_told act) ≡ afters.Ends answer → WasAnswered m call answer q own
       answered answer is = record {
         parties = r.parties;
         past = r.past;
@@ -391,8 +420,8 @@ module _ {P : Type 0} (t : Table ℕ P) (Law : List (Event ℕ) → Type 0) (nam
         answered = ap outcome_of is;
       }
 
-      ended : (answer : Answer ℕ) → t.after place (value_told act) ≡ afters.Ends answer → (h : Option HoldKind) → hold_of t q own ≡ h →
-          Stepped found rest i (effect (t.intent place hold) x) (HasEnded t Law call answer h done)
+      ended : (answer : Answer V) → m.table.after place (value_told act) ≡ afters.Ends answer → (h : Option HoldKind) → hold_of m.table q own ≡ h →
+          Stepped found rest i (effect (m.table.intent place hold) x) (HasEnded m call answer h done)
       ended answer is None none = (
         resting,
         played_resting,
@@ -411,14 +440,14 @@ module _ {P : Type 0} (t : Table ℕ P) (Law : List (Event ℕ) → Type 0) (nam
             own = own;
             acting = refl;
             resting = refl;
-            idle = call_now ∙ ap (λ (o : Then ℕ). call_after o e (Some r.pending)) (ap outcome_of is);
+            idle = call_now ∙ ap (λ (o : Then V). call_after o e (Some r.pending)) (ap outcome_of is);
             has = has;
           };
         },
       )
 
-      by_after : (a : After ℕ P) → t.after place (value_told (act_at t Law place hold x)) ≡ a → Stepped found rest i (effect (t.intent place hold) x) (Leads t Law call a (hold_then t Law call place hold x) done)
+      by_after : (a : After V P) → m.table.after place (value_told (act_at m place hold x)) ≡ a → Stepped found rest i (effect (m.table.intent place hold) x) (Leads m call a (hold_then m call place hold x) done)
       by_after (afters.At next) is = on_from (afters.At next) next is refl (λ k. refl)
       by_after (afters.Waits next told) is = on_from (afters.Waits next told) next is refl (λ k. refl)
       by_after (afters.Chooses next old) is = on_from (afters.Chooses next old) next is refl (λ k. refl)
-      by_after (afters.Ends answer) is = ended answer is (hold_then t Law call place hold x) hold_now
+      by_after (afters.Ends answer) is = ended answer is (hold_then m call place hold x) hold_now

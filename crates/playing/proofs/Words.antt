@@ -58,7 +58,7 @@ exchange_effect : (b : Bool) (from to x : ℕ) → cond (true && b) to x ≡ con
 exchange_effect true from to x = refl
 exchange_effect false from to x = refl
 
-pub effect_here : (w : Word) (intent : Intent ℕ) (memory : Word → ℕ) → IsStepOn w intent → word_after w (carried_out intent memory) (memory w) ≡ effect intent (memory w)
+pub effect_here : {V : Type 0} (w : Word) (intent : Intent V) (memory : Word → ℕ) → IsStepOn w intent → word_after w (carried_out intent memory) (memory w) ≡ effect intent (memory w)
 effect_here w (intents.Load v) memory on = refl
 effect_here w (intents.Store v put) memory on = rw (on, same_self w) refl
 effect_here w (intents.Swap v put) memory on = rw (on, same_self w) refl
@@ -69,7 +69,7 @@ effect_here w (intents.Wake wake) memory on = absurd on
 effect_here w intents.End memory on = absurd on
 effect_here w (intents.ReadCell value) memory on = absurd on
 
-pub effect_there : (w n : Word) (intent : Intent ℕ) (memory : Word → ℕ) (value : ℕ) → IsStepOn w intent → same_word w n ≡ false → word_after n (carried_out intent memory) value ≡ value
+pub effect_there : {V : Type 0} (w n : Word) (intent : Intent V) (memory : Word → ℕ) (value : ℕ) → IsStepOn w intent → same_word w n ≡ false → word_after n (carried_out intent memory) value ≡ value
 effect_there w n (intents.Load v) memory value on apart = refl
 effect_there w n (intents.Store v put) memory value on apart = rw (on, apart) refl
 effect_there w n (intents.Swap v put) memory value on apart = rw (on, apart) refl
@@ -80,7 +80,7 @@ effect_there w n (intents.Wake wake) memory value on apart = absurd on
 effect_there w n intents.End memory value on apart = absurd on
 effect_there w n (intents.ReadCell cell) memory value on apart = absurd on
 
-pub carried_here : (w : Word) (intent : Intent ℕ) (memory : Word → ℕ) → IsStepOn w intent → carried_out intent memory ≡ carried_out intent (λ _. memory w)
+pub carried_here : {V : Type 0} (w : Word) (intent : Intent V) (memory : Word → ℕ) → IsStepOn w intent → carried_out intent memory ≡ carried_out intent (λ _. memory w)
 carried_here w (intents.Load v) memory on = rw on refl
 carried_here w (intents.Store v put) memory on = refl
 carried_here w (intents.Swap v put) memory on = rw on refl

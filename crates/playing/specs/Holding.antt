@@ -8,7 +8,7 @@ use Rattle.steps_events.specs.Past.{call_of, hold_of}
 use Rattle.playing.specs.Slots.{Slot, Free, Mine, Torn, Parties}
 
 -- these are the slots of one party, which is its owner's
-abbrev pub is_one : List Slot → Bool
+abbrev pub is_one : {V : Type 0} → List (Slot V) → Bool
 is_one [] = false
 is_one (Free ∷ ss) = is_one ss
 is_one (Mine own ∷ []) = true
@@ -16,13 +16,13 @@ is_one (Mine own ∷ s ∷ ss) = false
 is_one (Torn ∷ ss) = false
 
 -- which party it is, and what it has made
-abbrev pub party_in : List Slot → ℕ
+abbrev pub party_in : {V : Type 0} → List (Slot V) → ℕ
 party_in [] = zero
 party_in (Free ∷ ss) = suc (party_in ss)
 party_in (Mine own ∷ ss) = zero
 party_in (Torn ∷ ss) = zero
 
-abbrev pub own_in : List Slot → List (Event ℕ)
+abbrev pub own_in : {V : Type 0} → List (Slot V) → List (Event V)
 own_in [] = []
 own_in (Free ∷ ss) = own_in ss
 own_in (Mine own ∷ ss) = own
@@ -34,6 +34,6 @@ is_kind kinds.Write (Some kinds.Write) = true
 is_kind kind hold = false
 
 -- the acting party has this hold, and no call under way
-abbrev pub is_holding : {P : Type 0} → Table ℕ P → HoldKind → Parties → Bool
+abbrev pub is_holding : {V : Type 0} → {P : Type 0} → Table V P → HoldKind → Parties V → Bool
 is_holding t kind p =
     is_one p.acting && (is_none (call_of (party_in p.acting) (own_in p.acting)) && is_kind kind (hold_of t (party_in p.acting) (own_in p.acting)))

@@ -1,3 +1,4 @@
+pub mod Models
 pub mod Slots
 pub mod SlotLaws
 pub mod Words

@@ -12,8 +12,8 @@ use Rattle.steps_events.specs.declared.hold.HoldKind.{HoldKind}
 use Rattle.steps_events.specs.declared.patience.Patience.{Patience}
 use Rattle.steps_events.specs.declared.row.Intent.TheVariants as intents
 use Rattle.steps_events.specs.declared.row.After.TheVariants as afters
-use Rattle.steps_events.specs.Tables.{Table}
 use Rattle.steps_events.specs.Rows.{within, refused}
+use Rattle.playing.specs.Models.{Model}
 use Rattle.playing.specs.Slots.{Slot, Parties}
 use Rattle.playing.specs.Words.{IsNamed}
 use Rattle.playing.specs.Plays.{Coming, ComesBy, IsAt, Leads, HasEnded}
@@ -22,40 +22,40 @@ use Rattle.playing.specs.Plays.{Coming, ComesBy, IsAt, Leads, HasEnded}
 abbrev pub spun : ℕ → Patience
 spun n = record { spins = n; keep = true }
 
-module _ {P : Type 0} (t : Table ℕ P) (Law : List (Event ℕ) → Type 0) (call : Call ℕ) (place : Patience → P) where
+module _ {V P : Type 0} (m : Model V P) (call : Call V) (place : Patience → P) where
   -- the pass comes to a try of its call
-  pub record MayTry (coming : Coming) (p : Parties) : Type 0 where
+  pub record MayTry (coming : Coming V) (p : Parties V) : Type 0 where
     pub patience : Patience
-    pub done : List Slot
-    pub comes : ComesBy t Law coming call (place patience) None done p
+    pub done : List (Slot V)
+    pub comes : ComesBy m coming call (place patience) None done p
 
   -- a try led to this, whatever patience was left
-  abbrev pub Tried : Coming → Parties → (Patience → List Slot → Type 0) → Type 0
-  Tried coming p Then = (patience : Patience) (done : List Slot) → ComesBy t Law coming call (place patience) None done p → Then patience done
+  abbrev pub Tried : Coming V → Parties V → (Patience → List (Slot V) → Type 0) → Type 0
+  Tried coming p Then = (patience : Patience) (done : List (Slot V)) → ComesBy m coming call (place patience) None done p → Then patience done
 
   -- the call was refused, by a word that held this
-  abbrev pub IsRefused : Patience → ℕ → List Slot → Parties → Type 0
-  IsRefused patience seen done p = Leads t Law call (within place (refused patience seen)) None done p
+  abbrev pub IsRefused : Patience → ℕ → List (Slot V) → Parties V → Type 0
+  IsRefused patience seen done p = Leads m call (within place (refused patience seen)) None done p
 
   -- it stands at its wait closure, to be told this
-  abbrev pub IsStanding : ℕ → List Slot → Parties → Type 0
-  IsStanding told done p = IsAt t Law call (place (spun 10000)) (thens.Waits told) None done p
+  abbrev pub IsStanding : ℕ → List (Slot V) → Parties V → Type 0
+  IsStanding told done p = IsAt m call (place (spun 10000)) (thens.Waits told) None done p
 
   -- it was granted, and has taken this hold
-  abbrev pub IsGranted : Option HoldKind → List Slot → Parties → Type 0
-  IsGranted kind done p = HasEnded t Law call answers.Success kind done p
+  abbrev pub IsGranted : Option HoldKind → List (Slot V) → Parties V → Type 0
+  IsGranted kind done p = HasEnded m call answers.Success kind done p
 
   -- it gave up
-  abbrev pub HasGivenUp : List Slot → Parties → Type 0
-  HasGivenUp done p = HasEnded t Law call answers.Interrupted None done p
+  abbrev pub HasGivenUp : List (Slot V) → Parties V → Type 0
+  HasGivenUp done p = HasEnded m call answers.Interrupted None done p
 
   -- what follows from where a first try was refused, by a word that held this
-  abbrev pub OnceRefused : ℕ → Parties → (List Slot → Type 0) → Type 0
-  OnceRefused seen p Then = (done : List Slot) → IsRefused (spun 0) seen done p → Then done
+  abbrev pub OnceRefused : ℕ → Parties V → (List (Slot V) → Type 0) → Type 0
+  OnceRefused seen p Then = (done : List (Slot V)) → IsRefused (spun 0) seen done p → Then done
 
   -- what follows from where it stood, to be told this
-  abbrev pub OnceStanding : ℕ → Parties → (List Slot → Type 0) → Type 0
-  OnceStanding told p Then = (done : List Slot) → IsStanding told done p → Then done
+  abbrev pub OnceStanding : ℕ → Parties V → (List (Slot V) → Type 0) → Type 0
+  OnceStanding told p Then = (done : List (Slot V)) → IsStanding told done p → Then done
 
 -- Closures.
 
@@ -67,47 +67,47 @@ pub record HasTold {F W : Type 0} (g : Shared F (Bor W × (Bor ℕ × Unit {0}))
   pub says : FnReturns g wait (word, (seen, tt)) tt
 
 -- the next that a call of the pass does is to end its closure
-pub record IsToEnd {P : Type 0} (t : Table ℕ P) (Law : List (Event ℕ) → Type 0) (p : Parties) : Type 0 where
-  pub call : Call ℕ
+pub record IsToEnd {V P : Type 0} (m : Model V P) (p : Parties V) : Type 0 where
+  pub call : Call V
   pub place : P
   pub hold : Option HoldKind
-  pub done : List Slot
-  pub at : IsAt t Law call place thens.GoesOn hold done p
-  pub ends : t.intent place hold ≡ intents.End
+  pub done : List (Slot V)
+  pub at : IsAt m call place thens.GoesOn hold done p
+  pub ends : m.table.intent place hold ≡ intents.End
 
-module _ {P : Type 0} (t : Table ℕ P) (Law : List (Event ℕ) → Type 0) (names : List Word) (handed : P → Word) where
+module _ {V P : Type 0} (m : Model V P) (names : List Word) (handed : P → Word) where
   -- a call of the pass stands at its wait closure, which is to be told this, and handed the word at this index
-  pub record StandsToWait (index told : ℕ) (p : Parties) : Type 0 where
-    pub call : Call ℕ
+  pub record StandsToWait (index told : ℕ) (p : Parties V) : Type 0 where
+    pub call : Call V
     pub place : P
     pub hold : Option HoldKind
-    pub done : List Slot
-    pub at : IsAt t Law call place (thens.Waits told) hold done p
+    pub done : List (Slot V)
+    pub at : IsAt m call place (thens.Waits told) hold done p
     pub word : IsNamed names index (handed place)
 
   -- the next that a call of the pass does is to call its wake closure, of the word at this index
-  pub record IsToWake (index : ℕ) (p : Parties) : Type 0 where
-    pub call : Call ℕ
+  pub record IsToWake (index : ℕ) (p : Parties V) : Type 0 where
+    pub call : Call V
     pub place : P
     pub hold : Option HoldKind
-    pub done : List Slot
-    pub at : IsAt t Law call place thens.GoesOn hold done p
+    pub done : List (Slot V)
+    pub at : IsAt m call place thens.GoesOn hold done p
     pub who : Wake
-    pub wakes : t.intent place hold ≡ intents.Wake who
+    pub wakes : m.table.intent place hold ≡ intents.Wake who
     pub word : IsNamed names index (handed place)
 
   -- the next two that it does are so: it calls its wake closure of the word at the first index, and then that of the word at the second
-  pub record IsToWakeTwice (first second : ℕ) (p : Parties) : Type 0 where
-    pub call : Call ℕ
+  pub record IsToWakeTwice (first second : ℕ) (p : Parties V) : Type 0 where
+    pub call : Call V
     pub place : P
     pub hold : Option HoldKind
-    pub done : List Slot
-    pub at : IsAt t Law call place thens.GoesOn hold done p
+    pub done : List (Slot V)
+    pub at : IsAt m call place thens.GoesOn hold done p
     pub who : Wake
-    pub wakes : t.intent place hold ≡ intents.Wake who
+    pub wakes : m.table.intent place hold ≡ intents.Wake who
     pub word : IsNamed names first (handed place)
     pub later : P
-    pub goes_on : t.after place None ≡ afters.At later
+    pub goes_on : m.table.after place None ≡ afters.At later
     pub also : Wake
-    pub wakes_also : t.intent later hold ≡ intents.Wake also
+    pub wakes_also : m.table.intent later hold ≡ intents.Wake also
     pub word_also : IsNamed names second (handed later)

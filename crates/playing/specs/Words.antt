@@ -28,7 +28,7 @@ IsNamed (n ∷ ns) zero w = n ≡ w
 IsNamed (n ∷ ns) (suc i) w = IsNamed ns i w
 
 -- the intent is a step on this word
-abbrev pub IsStepOn : Word → Intent ℕ → Type 0
+abbrev pub IsStepOn : {V : Type 0} → Word → Intent V → Type 0
 IsStepOn w (intents.Load v) = v ≡ w
 IsStepOn w (intents.Store v put) = v ≡ w
 IsStepOn w (intents.Swap v put) = v ≡ w
@@ -38,14 +38,14 @@ IsStepOn w (intents.Exchange v from to) = v ≡ w
 IsStepOn w other = ⊥
 
 -- the intent is a step on no word: a wake, a closure's end or a read of a cell
-abbrev pub IsAside : Intent ℕ → Type 0
+abbrev pub IsAside : {V : Type 0} → Intent V → Type 0
 IsAside (intents.Wake who) = Unit {0}
 IsAside intents.End = Unit {0}
 IsAside (intents.ReadCell value) = Unit {0}
 IsAside other = ⊥
 
 -- what it leaves in the word
-abbrev pub effect : Intent ℕ → ℕ → ℕ
+abbrev pub effect : {V : Type 0} → Intent V → ℕ → ℕ
 effect (intents.Store v put) n = put
 effect (intents.Swap v put) n = put
 effect (intents.Add v more) n = (n + more) % 2 ^ 64

@@ -25,14 +25,14 @@ use std::sync::Wait;
 use steps_events::{SPIN_REPETITIONS, WaitAction};
 
 /// One try of a call that may be refused. Where it is, its model spins, stands at its wait closure or gives up, as its patience says.
-pub trait Attempt<K, M: Script<K, P>, P, C> {
+pub trait Attempt<K, M: Script<K, P, V>, P, V, C> {
     // The object at which it is made, and its key.
     ghost object: { Self → TableId };
 
     ghost key: { Self → K };
 
     // The call of the model, where it is before a try, and the hold that it takes.
-    ghost call: { Call ℕ };
+    ghost call: { Call V };
 
     ghost place: { Patience → P };
 
@@ -48,21 +48,21 @@ pub trait Attempt<K, M: Script<K, P>, P, C> {
     ghost looks_once: { Part → C → Type 0 };
 
     /// Tries once. `Err` with the value that refused it, which is the one seen last.
-    fn attempt<E: Entry, R: Wait>(
+    fn attempt<E: Entry<V>, R: Wait>(
         &self,
         rt: &R,
-        pass: &mut Pass<Played<M, P, C>>,
+        pass: &mut Pass<Played<M, P, V, C>>,
     ) -> Result<(), u64>
         requires own { object_of pass.old ≡ object self.now }
-        requires comes { MayTry (M.table (key self.now)) (M.law (key self.now)) call place E.coming (parties_of pass.old) }
+        requires comes { MayTry (M.model (key self.now)) call place E.coming (parties_of pass.old) }
         ensures moved { IfOk result (λ _. HasMoved moves pass.old pass.new) }
         ensures refused { IfErr result (λ seen. WasRefusedAt refuses seen 1 pass.old pass.new) }
         ensures once { IfErr result (λ _. looks_once (part_of pass.old) (counts_of pass.old) → (sights_of pass.new).count ≡ (sights_of pass.old).count + 1) }
-        ensures granted { IfOk result (λ _. Tried (M.table (key self.now)) (M.law (key self.now)) call place E.coming (parties_of pass.old) (λ _ done. IsGranted (M.table (key self.now)) (M.law (key self.now)) call place takes done (parties_of pass.new))) }
-        ensures failed { IfErr result (λ seen. Tried (M.table (key self.now)) (M.law (key self.now)) call place E.coming (parties_of pass.old) (λ patience done. IsRefused (M.table (key self.now)) (M.law (key self.now)) call place patience seen done (parties_of pass.new))) };
+        ensures granted { IfOk result (λ _. Tried (M.model (key self.now)) call place E.coming (parties_of pass.old) (λ _ done. IsGranted (M.model (key self.now)) call place takes done (parties_of pass.new))) }
+        ensures failed { IfErr result (λ seen. Tried (M.model (key self.now)) call place E.coming (parties_of pass.old) (λ patience done. IsRefused (M.model (key self.now)) call place patience seen done (parties_of pass.new))) };
 
     // An answer of the wait closure changes its patience alone.
-    ghost answers: { (key : K) (p : Patience) (action : WaitAction) → (M.table key).answered (place p) action ≡ place (answered p action) };
+    ghost answers: { (key : K) (p : Patience) (action : WaitAction) → (M.model key).table.answered (place p) action ≡ place (answered p action) };
 }
 
 /// Calls the wait closure at which a call of the pass stands. It is handed the word that the model names for that place, and told what
@@ -70,16 +70,17 @@ pub trait Attempt<K, M: Script<K, P>, P, C> {
 #[inline(always)]
 pub fn ask<
     K,
-    M: Script<K, P>,
+    M: Script<K, P, V>,
     P,
+    V,
     C,
-    B: Attempt<K, M, P, C>,
+    B: Attempt<K, M, P, V, C>,
     X: Shown,
     W: Fn(&X, &u64) -> WaitAction,
->(by: &B, pass: &Pass<Played<M, P, C>>, word: &X, told: u64, wait: &W) -> WaitAction
+>(by: &B, pass: &Pass<Played<M, P, V, C>>, word: &X, told: u64, wait: &W) -> WaitAction
     requires own { object_of pass.now ≡ B.object by.now }
     requires word { X.object word.now ≡ B.object by.now }
-    requires stands { StandsToWait (M.table (B.key by.now)) (M.law (B.key by.now)) M.names M.handed (X.index word.now) told (parties_of pass.now) }
+    requires stands { StandsToWait (M.model (B.key by.now)) M.names M.handed (X.index word.now) told (parties_of pass.now) }
     requires may { W.IsAlwaysCallable wait.now }
     ensures answered { MayAnswer W.Fn wait.now (λ n. n ≡ told) result }
 {
@@ -90,21 +91,21 @@ pub fn ask<
 
 /// Further tries, as many as a call makes by itself, until one is not refused. `seen` is the value that refused the first.
 #[tactic(auto, using(crate::proofs::Attempts::moved_later, crate::proofs::Attempts::seen_twice))]
-fn spin<K, M: Script<K, P>, P, C, B: Attempt<K, M, P, C>, R: Wait>(
+fn spin<K, M: Script<K, P, V>, P, V, C, B: Attempt<K, M, P, V, C>, R: Wait>(
     rt: &R,
     by: &B,
-    pass: &mut Pass<Played<M, P, C>>,
+    pass: &mut Pass<Played<M, P, V, C>>,
     seen: u64,
 ) -> Result<(), u64>
     requires own { object_of pass.old ≡ B.object by.now }
     requires seen { (sights_of pass.old).last ≡ seen }
     requires refused { B.refuses seen }
-    requires at { (done : List Slot) × IsRefused (M.table (B.key by.now)) (M.law (B.key by.now)) B.call B.place (spun 0) seen done (parties_of pass.old) }
+    requires at { (done : List (Slot V)) × IsRefused (M.model (B.key by.now)) B.call B.place (spun 0) seen done (parties_of pass.old) }
     ensures moved { IfOk result (λ _. HasMoved B.moves pass.old pass.new) }
     ensures refused { IfErr result (λ last. WasRefusedAt B.refuses last 10000 pass.old pass.new) }
     ensures once { IfErr result (λ _. B.looks_once (part_of pass.old) (counts_of pass.old) → (sights_of pass.new).count ≡ (sights_of pass.old).count + 10000) }
-    ensures granted { IfOk result (λ _. OnceRefused (M.table (B.key by.now)) (M.law (B.key by.now)) B.call B.place seen (parties_of pass.old) (λ done. IsGranted (M.table (B.key by.now)) (M.law (B.key by.now)) B.call B.place B.takes done (parties_of pass.new))) }
-    ensures stands { IfErr result (λ last. OnceRefused (M.table (B.key by.now)) (M.law (B.key by.now)) B.call B.place seen (parties_of pass.old) (λ done. IsStanding (M.table (B.key by.now)) (M.law (B.key by.now)) B.call B.place last done (parties_of pass.new))) }
+    ensures granted { IfOk result (λ _. OnceRefused (M.model (B.key by.now)) B.call B.place seen (parties_of pass.old) (λ done. IsGranted (M.model (B.key by.now)) B.call B.place B.takes done (parties_of pass.new))) }
+    ensures stands { IfErr result (λ last. OnceRefused (M.model (B.key by.now)) B.call B.place seen (parties_of pass.old) (λ done. IsStanding (M.model (B.key by.now)) B.call B.place last done (parties_of pass.new))) }
 {
     let mut last = seen;
     for _ in 0..SPIN_REPETITIONS {
@@ -122,24 +123,25 @@ fn spin<K, M: Script<K, P>, P, C, B: Attempt<K, M, P, C>, R: Wait>(
 #[tactic(auto, using(crate::proofs::Attempts::moved_later, crate::proofs::Attempts::seen_twice, passes::proofs::Attempts::not_asked))]
 fn ask_and_try<
     K,
-    M: Script<K, P>,
+    M: Script<K, P, V>,
     P,
+    V,
     C,
-    B: Attempt<K, M, P, C>,
+    B: Attempt<K, M, P, V, C>,
     X: Shown,
     R: Wait,
     W: Fn(&X, &u64) -> WaitAction,
->(rt: &R, by: &B, pass: &mut Pass<Played<M, P, C>>, word: &X, told: u64, wait: &W) -> bool
+>(rt: &R, by: &B, pass: &mut Pass<Played<M, P, V, C>>, word: &X, told: u64, wait: &W) -> bool
     requires own { object_of pass.old ≡ B.object by.now }
     requires may { W.IsAlwaysCallable wait.now }
     requires refused { B.refuses told }
     requires word { X.object word.now ≡ B.object by.now }
     requires handed { (p : Patience) → IsNamed M.names (X.index word.now) (M.handed (B.place p)) }
-    requires at { (done : List Slot) × IsStanding (M.table (B.key by.now)) (M.law (B.key by.now)) B.call B.place told done (parties_of pass.old) }
+    requires at { (done : List (Slot V)) × IsStanding (M.model (B.key by.now)) B.call B.place told done (parties_of pass.old) }
     ensures told { MatchBool result (HasMoved B.moves pass.old pass.new) (WasRefused B.refuses 1 pass.old pass.new) }
     ensures aborted { result ≡ false → MayAnswerAbort W.Fn wait.now B.refuses }
     ensures asked { result ≡ false → B.looks_once (part_of pass.old) (counts_of pass.old) → HasAsked W.Fn wait.now B.refuses 0 pass.old pass.new }
-    ensures over { OnceStanding (M.table (B.key by.now)) (M.law (B.key by.now)) B.call B.place told (parties_of pass.old) (λ done. MatchBool result (IsGranted (M.table (B.key by.now)) (M.law (B.key by.now)) B.call B.place B.takes done (parties_of pass.new)) (HasGivenUp (M.table (B.key by.now)) (M.law (B.key by.now)) B.call B.place done (parties_of pass.new))) }
+    ensures over { OnceStanding (M.model (B.key by.now)) B.call B.place told (parties_of pass.old) (λ done. MatchBool result (IsGranted (M.model (B.key by.now)) B.call B.place B.takes done (parties_of pass.new)) (HasGivenUp (M.model (B.key by.now)) B.call B.place done (parties_of pass.new))) }
 {
     let mut last = told;
     for _ in rt.forever() {
@@ -162,25 +164,26 @@ fn ask_and_try<
 #[tactic(auto, using(crate::proofs::Attempts::moved_later, crate::proofs::Attempts::seen_twice))]
 pub fn try_again<
     K,
-    M: Script<K, P>,
+    M: Script<K, P, V>,
     P,
+    V,
     C,
-    B: Attempt<K, M, P, C>,
+    B: Attempt<K, M, P, V, C>,
     X: Shown,
     R: Wait,
     W: Fn(&X, &u64) -> WaitAction,
->(rt: &R, by: &B, pass: &mut Pass<Played<M, P, C>>, word: &X, seen: u64, wait: &W) -> bool
+>(rt: &R, by: &B, pass: &mut Pass<Played<M, P, V, C>>, word: &X, seen: u64, wait: &W) -> bool
     requires own { object_of pass.old ≡ B.object by.now }
     requires may { W.IsAlwaysCallable wait.now }
     requires seen { (sights_of pass.old).last ≡ seen }
     requires refused { B.refuses seen }
     requires word { X.object word.now ≡ B.object by.now }
     requires handed { (p : Patience) → IsNamed M.names (X.index word.now) (M.handed (B.place p)) }
-    requires at { (done : List Slot) × IsRefused (M.table (B.key by.now)) (M.law (B.key by.now)) B.call B.place (spun 0) seen done (parties_of pass.old) }
+    requires at { (done : List (Slot V)) × IsRefused (M.model (B.key by.now)) B.call B.place (spun 0) seen done (parties_of pass.old) }
     ensures told { MatchBool result (HasMoved B.moves pass.old pass.new) (WasRefused B.refuses 10001 pass.old pass.new) }
     ensures aborted { result ≡ false → MayAnswerAbort W.Fn wait.now B.refuses }
     ensures asked { result ≡ false → B.looks_once (part_of pass.old) (counts_of pass.old) → HasAsked W.Fn wait.now B.refuses 10000 pass.old pass.new }
-    ensures over { OnceRefused (M.table (B.key by.now)) (M.law (B.key by.now)) B.call B.place seen (parties_of pass.old) (λ done. MatchBool result (IsGranted (M.table (B.key by.now)) (M.law (B.key by.now)) B.call B.place B.takes done (parties_of pass.new)) (HasGivenUp (M.table (B.key by.now)) (M.law (B.key by.now)) B.call B.place done (parties_of pass.new))) }
+    ensures over { OnceRefused (M.model (B.key by.now)) B.call B.place seen (parties_of pass.old) (λ done. MatchBool result (IsGranted (M.model (B.key by.now)) B.call B.place B.takes done (parties_of pass.new)) (HasGivenUp (M.model (B.key by.now)) B.call B.place done (parties_of pass.new))) }
 {
     match spin(rt, by, pass, seen) {
         Ok(()) => true,

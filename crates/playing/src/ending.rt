@@ -9,19 +9,19 @@ use crate::stage::Stage;
 use passes::{Pass, Rule};
 use std::alloc::Allocator;
 
-impl<K, M: Script<K, P>, P, C: Rule<(), K>, A: Allocator> Stage<K, M, P, C, A> {
+impl<K, M: Script<K, P, V>, P, V, C: Rule<(), K>, A: Allocator> Stage<K, M, P, V, C, A> {
     ghost use Rattle.playing.specs.Stages.{IsPassOf, key_of};
 
     /// Calls the closure that a call of the pass is to end next, which is lent `on`, and answers what it gave.
     #[inline(always)]
     pub fn run<X, Y, F: FnOnce(&mut X) -> Y>(
         &self,
-        pass: &Pass<Played<M, P, C>>,
+        pass: &Pass<Played<M, P, V, C>>,
         on: &mut X,
         f: F,
     ) -> Y
         requires own { IsPassOf self.now pass.now }
-        requires ends { IsToEnd (M.table (key_of self.now)) (M.law (key_of self.now)) (parties_of pass.now) }
+        requires ends { IsToEnd (M.model (key_of self.now)) (parties_of pass.now) }
         requires may { FnOnceTakesAtMut F.FnOnce f on.old }
         ensures gave { FnOnceReturnsAtMut F.FnOnce f on.old result on.new }
     {

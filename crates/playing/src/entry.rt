@@ -1,30 +1,32 @@
 //! How a pass comes to a step.
 ghost use Rattle.std.specs.Prelude.{ℕ};
 
+use std::marker::Brand;
+
 /// How a pass comes to a step.
-pub trait Entry {
+pub trait Entry<V> {
     ghost use Rattle.playing.specs.Plays.{Coming};
 
-    ghost coming: { Coming };
+    ghost coming: { Coming V };
 }
 
 /// How a pass comes to an add, by how much that adds: a call may begin with it that names the number.
-pub trait AddEntry {
+pub trait AddEntry<V> {
     ghost use Rattle.playing.specs.Plays.{Coming};
 
-    ghost coming: { ℕ → Coming };
+    ghost coming: { ℕ → Coming V };
 }
 
 /// A call goes on by itself.
 pub struct GoesOn;
 
-impl Entry for GoesOn {
+impl<V> Entry<V> for GoesOn {
     ghost use Rattle.playing.specs.Plays.{Going};
 
     ghost coming = { Going };
 }
 
-impl AddEntry for GoesOn {
+impl<V> AddEntry<V> for GoesOn {
     ghost use Rattle.playing.specs.Plays.{Going};
 
     ghost coming = { λ _. Going };
@@ -33,7 +35,7 @@ impl AddEntry for GoesOn {
 /// A wait closure has answered `Continue`.
 pub struct Continued;
 
-impl Entry for Continued {
+impl<V> Entry<V> for Continued {
     ghost use Rattle.steps_events.specs.declared.WaitAction.TheVariants as actions;
     ghost use Rattle.playing.specs.Plays.{Answered};
 
@@ -43,7 +45,7 @@ impl Entry for Continued {
 /// A wait closure has answered `Abort`.
 pub struct Aborted;
 
-impl Entry for Aborted {
+impl<V> Entry<V> for Aborted {
     ghost use Rattle.steps_events.specs.declared.WaitAction.TheVariants as actions;
     ghost use Rattle.playing.specs.Plays.{Answered};
 
@@ -53,8 +55,15 @@ impl Entry for Aborted {
 /// A call has made a step on no word, as its closure's end.
 pub struct AfterAside;
 
-impl Entry for AfterAside {
+impl<V> Entry<V> for AfterAside {
     ghost use Rattle.playing.specs.Plays.{Aside};
 
     ghost coming = { Aside };
+}
+
+// How a pass comes to a step that speaks of what is handed in; each caller picks it.
+impl<V> Entry<V> for Brand {
+    ghost use Rattle.playing.specs.Plays.{Going};
+
+    ghost coming = { Going };
 }

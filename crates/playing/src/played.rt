@@ -4,26 +4,27 @@ use passes::{Rule, Tally};
 use std::marker::{Model, PhantomData};
 
 /// Which parties of the model a pass is, and what each of them has made. No value of it is made.
-pub struct Parties<M, P> {
+pub struct Parties<M, P, V> {
     of: PhantomData<M>,
     at: PhantomData<P>,
+    over: PhantomData<V>,
 }
 
-impl<M, P> Model for Parties<M, P> {
+impl<M, P, V> Model for Parties<M, P, V> {
     ghost use Rattle.playing.specs.Slots.{Parties, no_parties};
 
-    ghost Value = { Parties };
+    ghost Value = { Parties V };
 
     ghost view = { λ _. no_parties };
 }
 
 /// What a pass is in the model, and what it counts beside.
-pub struct Played<M, P, C> {
-    pub parties: Parties<M, P>,
+pub struct Played<M, P, V, C> {
+    pub parties: Parties<M, P, V>,
     pub counts: C,
 }
 
-impl<M, P, C: Tally> Tally for Played<M, P, C> {
+impl<M, P, V, C: Tally> Tally for Played<M, P, V, C> {
     ghost use Rattle.playing.specs.Passes.{none_played, both_played, core_played, played_add_up};
 
     ghost none = { none_played C.none };
@@ -36,11 +37,11 @@ impl<M, P, C: Tally> Tally for Played<M, P, C> {
 }
 
 /// The words of an object are those of a run of its model, and agree with what all passes count beside.
-impl<K, P, M: Script<K, P>, C: Rule<(), K>> Rule<(), K> for Played<M, P, C> {
+impl<K, P, V, M: Script<K, P, V>, C: Rule<(), K>> Rule<(), K> for Played<M, P, V, C> {
     ghost use Rattle.playing.specs.Slots.{no_parties};
     ghost use Rattle.playing.specs.Passes.{played, PlaysAndCounts};
 
     ghost first = { λ key. played no_parties (C.first key) };
 
-    ghost agrees = { λ key. PlaysAndCounts (M.table key) (M.law key) M.names (C.agrees key) };
+    ghost agrees = { λ key. PlaysAndCounts (M.model key) M.names (C.agrees key) };
 }

@@ -21,7 +21,7 @@ pub trait Shown {
     ghost index: { Self → ℕ };
 }
 
-impl<K, M: Script<K, P>, P, C: Rule<(), K>, A: Allocator> Stage<K, M, P, C, A> {
+impl<K, M: Script<K, P, V>, P, V, C: Rule<(), K>, A: Allocator> Stage<K, M, P, V, C, A> {
     ghost use Rattle.playing.specs.Stages.{IsPassOf, id_of, key_of};
 
     /// Calls a wait closure that answers nothing, at which a call of the pass stands. It is handed the word that the model names for that
@@ -29,14 +29,14 @@ impl<K, M: Script<K, P>, P, C: Rule<(), K>, A: Allocator> Stage<K, M, P, C, A> {
     #[inline(always)]
     pub fn tell<X: Shown, W: Fn(&X, &u64)>(
         &self,
-        pass: &Pass<Played<M, P, C>>,
+        pass: &Pass<Played<M, P, V, C>>,
         word: &X,
         told: u64,
         wait: &W,
     )
         requires own { IsPassOf self.now pass.now }
         requires word { X.object word.now ≡ id_of self.now }
-        requires stands { StandsToWait (M.table (key_of self.now)) (M.law (key_of self.now)) M.names M.handed (X.index word.now) told (parties_of pass.now) }
+        requires stands { StandsToWait (M.model (key_of self.now)) M.names M.handed (X.index word.now) told (parties_of pass.now) }
         requires may { W.IsAlwaysCallable wait.now }
         ensures told { HasTold W.Fn wait.now told }
     {
@@ -49,14 +49,14 @@ impl<K, M: Script<K, P>, P, C: Rule<(), K>, A: Allocator> Stage<K, M, P, C, A> {
     #[inline(always)]
     pub fn ask<X: Shown, W: Fn(&X, &u64) -> WaitAction>(
         &self,
-        pass: &Pass<Played<M, P, C>>,
+        pass: &Pass<Played<M, P, V, C>>,
         word: &X,
         told: u64,
         wait: &W,
     ) -> WaitAction
         requires own { IsPassOf self.now pass.now }
         requires word { X.object word.now ≡ id_of self.now }
-        requires stands { StandsToWait (M.table (key_of self.now)) (M.law (key_of self.now)) M.names M.handed (X.index word.now) told (parties_of pass.now) }
+        requires stands { StandsToWait (M.model (key_of self.now)) M.names M.handed (X.index word.now) told (parties_of pass.now) }
         requires may { W.IsAlwaysCallable wait.now }
         ensures answered { MayAnswer W.Fn wait.now (λ n. n ≡ told) result }
     {
@@ -66,10 +66,10 @@ impl<K, M: Script<K, P>, P, C: Rule<(), K>, A: Allocator> Stage<K, M, P, C, A> {
 
     /// Calls the wake closure that a call of the pass is to call next, of the word that the model names for that place.
     #[inline(always)]
-    pub fn wake<X: Shown, W: Fn(&X)>(&self, pass: &Pass<Played<M, P, C>>, word: &X, wake: &W)
+    pub fn wake<X: Shown, W: Fn(&X)>(&self, pass: &Pass<Played<M, P, V, C>>, word: &X, wake: &W)
         requires own { IsPassOf self.now pass.now }
         requires word { X.object word.now ≡ id_of self.now }
-        requires wakes { IsToWake (M.table (key_of self.now)) (M.law (key_of self.now)) M.names M.handed (X.index word.now) (parties_of pass.now) }
+        requires wakes { IsToWake (M.model (key_of self.now)) M.names M.handed (X.index word.now) (parties_of pass.now) }
         requires may { W.IsAlwaysCallable wake.now }
         ensures woke { HasWoken W.Fn wake.now }
     {
@@ -79,21 +79,21 @@ impl<K, M: Script<K, P>, P, C: Rule<(), K>, A: Allocator> Stage<K, M, P, C, A> {
     /// Calls the two wake closures that a call of the pass is to call next, one after the other, each of the word that the model names
     /// for its place.
     #[inline(always)]
-    pub fn wake_twice<X: Shown, W: Fn(&X), V: Fn(&X)>(
+    pub fn wake_twice<X: Shown, W: Fn(&X), Y: Fn(&X)>(
         &self,
-        pass: &Pass<Played<M, P, C>>,
+        pass: &Pass<Played<M, P, V, C>>,
         first: &X,
         wake_first: &W,
         second: &X,
-        wake_second: &V,
+        wake_second: &Y,
     )
         requires own { IsPassOf self.now pass.now }
         requires words { (X.object first.now ≡ id_of self.now) × (X.object second.now ≡ id_of self.now) }
-        requires wakes { IsToWakeTwice (M.table (key_of self.now)) (M.law (key_of self.now)) M.names M.handed (X.index first.now) (X.index second.now) (parties_of pass.now) }
+        requires wakes { IsToWakeTwice (M.model (key_of self.now)) M.names M.handed (X.index first.now) (X.index second.now) (parties_of pass.now) }
         requires may_first { W.IsAlwaysCallable wake_first.now }
-        requires may_second { V.IsAlwaysCallable wake_second.now }
+        requires may_second { Y.IsAlwaysCallable wake_second.now }
         ensures woke_first { HasWoken W.Fn wake_first.now }
-        ensures woke_second { HasWoken V.Fn wake_second.now }
+        ensures woke_second { HasWoken Y.Fn wake_second.now }
     {
         let _pass = pass;
         passes::wake(wake_first, first);

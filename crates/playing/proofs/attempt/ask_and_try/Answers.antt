@@ -23,7 +23,7 @@ attempt-requires-clause-comes g c =
     record {
       patience = answered (spun 10000) actions.Continue;
       done = c.requires.at.0;
-      comes = tries_on _ _ _ _ (g.met.B.Attempt.answers _) actions.Continue c.loop.last _ _ (c.loop.invariant.at c.requires.at.0 c.requires.at.1);
+      comes = tries_on _ _ _ (g.met.B.Attempt.answers _) actions.Continue c.loop.last _ _ (c.loop.invariant.at c.requires.at.0 c.requires.at.1);
     }
 
 pub attempt-requires-in-Abort-clause-comes : goal.attempt-requires-in-Abort-clause-comes
@@ -31,20 +31,20 @@ attempt-requires-in-Abort-clause-comes g c =
     record {
       patience = answered (spun 10000) actions.Abort;
       done = c.requires.at.0;
-      comes = tries_on _ _ _ _ (g.met.B.Attempt.answers _) actions.Abort c.loop.last _ _ (c.loop.invariant.at c.requires.at.0 c.requires.at.1);
+      comes = tries_on _ _ _ (g.met.B.Attempt.answers _) actions.Abort c.loop.last _ _ (c.loop.invariant.at c.requires.at.0 c.requires.at.1);
     }
 
 pub returns-in-Ok-clause-over : goal.returns-in-Ok-clause-over
 returns-in-Ok-clause-over g c =
-    λ done stood. c.in-Ok.ensures.granted (answered (spun 10000) actions.Continue) done (tries_on _ _ _ _ (g.met.B.Attempt.answers _) actions.Continue c.loop.last _ _ (c.loop.invariant.at done stood))
+    λ done stood. c.in-Ok.ensures.granted (answered (spun 10000) actions.Continue) done (tries_on _ _ _ (g.met.B.Attempt.answers _) actions.Continue c.loop.last _ _ (c.loop.invariant.at done stood))
 
 pub returns-in-Ok-attempt-clause-over : goal.returns-in-Ok-attempt-clause-over
 returns-in-Ok-attempt-clause-over g c =
-    λ done stood. c.in-Ok-attempt.ensures.granted (answered (spun 10000) actions.Abort) done (tries_on _ _ _ _ (g.met.B.Attempt.answers _) actions.Abort c.loop.last _ _ (c.loop.invariant.at done stood))
+    λ done stood. c.in-Ok-attempt.ensures.granted (answered (spun 10000) actions.Abort) done (tries_on _ _ _ (g.met.B.Attempt.answers _) actions.Abort c.loop.last _ _ (c.loop.invariant.at done stood))
 
 pub returns-in-Err-attempt-clause-over : goal.returns-in-Err-attempt-clause-over
 returns-in-Err-attempt-clause-over g c =
-    λ done stood. c.in-Err-attempt.ensures.failed (answered (spun 10000) actions.Abort) done (tries_on _ _ _ _ (g.met.B.Attempt.answers _) actions.Abort c.loop.last _ _ (c.loop.invariant.at done stood))
+    λ done stood. c.in-Err-attempt.ensures.failed (answered (spun 10000) actions.Abort) done (tries_on _ _ _ (g.met.B.Attempt.answers _) actions.Abort c.loop.last _ _ (c.loop.invariant.at done stood))
 
 pub returns-in-Err-attempt-clause-aborted : goal.returns-in-Err-attempt-clause-aborted
 returns-in-Err-attempt-clause-aborted g c = λ _. told_of_its_kind g.W.Fn _ g.B.Attempt.refuses actions.Abort _ c.in-Abort.ensures.answered c.loop.invariant.refused
@@ -63,5 +63,5 @@ loop-preserved g c = record {
       (c.loop.invariant.asked looks_once)
       (told_of_its_kind g.W.Fn _ g.B.Attempt.refuses actions.Continue _ c.in-Continue.ensures.answered c.loop.invariant.refused)
       (c.in-Err.ensures.once (still_so g.B.Attempt.looks_once c.args.pass.now c.loop.pass c.loop.invariant.stayed looks_once));
-  at = λ done stood. c.in-Err.ensures.failed (answered (spun 10000) actions.Continue) done (tries_on _ _ _ _ (g.met.B.Attempt.answers _) actions.Continue c.loop.last _ _ (c.loop.invariant.at done stood));
+  at = λ done stood. c.in-Err.ensures.failed (answered (spun 10000) actions.Continue) done (tries_on _ _ _ (g.met.B.Attempt.answers _) actions.Continue c.loop.last _ _ (c.loop.invariant.at done stood));
 }

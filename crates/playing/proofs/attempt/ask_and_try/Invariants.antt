@@ -12,6 +12,6 @@ invariant-loop g l = record {
   stayed : HasOnlySeen l.fn.pass l.pass;
   refused : g.B.Attempt.refuses l.last;
   asked : g.B.Attempt.looks_once (part_of l.fn.pass) (counts_of l.fn.pass) → HasGoneOn g.W.Fn l.wait g.B.Attempt.refuses l.fn.pass l.pass;
-  at : OnceStanding (g.M.Script.table (g.B.Attempt.key l.by)) (g.M.Script.law (g.B.Attempt.key l.by)) g.B.Attempt.call g.B.Attempt.place l.initial.last (parties_of l.fn.pass)
-      (λ done. IsStanding (g.M.Script.table (g.B.Attempt.key l.by)) (g.M.Script.law (g.B.Attempt.key l.by)) g.B.Attempt.call g.B.Attempt.place l.last done (parties_of l.pass));
+  at : OnceStanding (g.M.Script.model (g.B.Attempt.key l.by)) g.B.Attempt.call g.B.Attempt.place l.initial.last (parties_of l.fn.pass)
+      (λ done. IsStanding (g.M.Script.model (g.B.Attempt.key l.by)) g.B.Attempt.call g.B.Attempt.place l.last done (parties_of l.pass));
 }

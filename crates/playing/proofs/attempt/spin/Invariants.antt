@@ -13,6 +13,6 @@ invariant-loop g l = record {
   last : (sights_of l.pass).last ≡ l.last;
   refusing : g.B.Attempt.refuses l.last;
   once : g.B.Attempt.looks_once (part_of l.fn.pass) (counts_of l.fn.pass) → (sights_of l.pass).count ≡ (sights_of l.fn.pass).count + l.counter;
-  at : OnceRefused (g.M.Script.table (g.B.Attempt.key l.by)) (g.M.Script.law (g.B.Attempt.key l.by)) g.B.Attempt.call g.B.Attempt.place l.initial.last (parties_of l.fn.pass)
-      (λ done. IsRefused (g.M.Script.table (g.B.Attempt.key l.by)) (g.M.Script.law (g.B.Attempt.key l.by)) g.B.Attempt.call g.B.Attempt.place (spun l.counter) l.last done (parties_of l.pass));
+  at : OnceRefused (g.M.Script.model (g.B.Attempt.key l.by)) g.B.Attempt.call g.B.Attempt.place l.initial.last (parties_of l.fn.pass)
+      (λ done. IsRefused (g.M.Script.model (g.B.Attempt.key l.by)) g.B.Attempt.call g.B.Attempt.place (spun l.counter) l.last done (parties_of l.pass));
 }

@@ -1,6 +1,6 @@
-use Rattle.std.proofs.Common.{refl}
-use Rattle.playing.proofs.Updates.{updates, exchange_leaves}
+use Rattle.std.proofs.Common.{refl, ◌==◌}
+use Rattle.playing.proofs.Updates.{updates, either_is}
 use Rattle.playing.proofs.stage.Stage.exchange.Goals as goal
 
 pub compare_exchange-requires-clause-update : goal.compare_exchange-requires-clause-update
-compare_exchange-requires-clause-update g c = updates _ _ _ _ _ _ (g.M.Script.lawful _) g.M.Script.apart _ _ _ _ _ (λ n. n) _ c.requires.may (exchange_leaves _ _) (λ w n. refl) c.requires.update
+compare_exchange-requires-clause-update g c = updates _ _ _ _ _ (g.M.Script.lawful _) g.M.Script.apart _ _ _ _ _ (λ n. n) _ c.requires.may (λ w n. either_is (n == c.args.from) c.args.to n) (λ w n. refl) c.requires.update
