@@ -7,13 +7,12 @@ use Rattle.steps_events.specs.declared.row.Intent.TheVariants as intents
 use Rattle.playing.specs.Slots.{Slot, Parties, all_of}
 use Rattle.playing.specs.Plays.{Beginning, Aside, ComesBy, IsAt, MayStep}
 use Rattle.playing.specs.Tries.{IsToEnd}
-use Rattle.pass_tests.specs.Staging.{KeepsNothing}
-use Rattle.pass_tests.specs.Ending.{ending_table}
+use Rattle.pass_tests.specs.Ending.{ending_model}
 
-pub call_begins : (p : Parties) → ComesBy ending_table KeepsNothing (Beginning calls.CallOnce) calls.CallOnce (intents.Load words.State) None (all_of p) p
+pub call_begins : (p : Parties ℕ) → ComesBy ending_model (Beginning calls.CallOnce) calls.CallOnce (intents.Load words.State) None (all_of p) p
 call_begins p = (refl, record { may = record { begins = refl; free = refl; values = tt }; new = refl; others = refl })
 
-pub may_look : (p : Parties) → MayStep ending_table KeepsNothing (words.State ∷ []) (Beginning calls.CallOnce) 0 (λ w. intents.Load w) p
+pub may_look : (p : Parties ℕ) → MayStep ending_model (words.State ∷ []) (Beginning calls.CallOnce) 0 (λ w. intents.Load w) p
 may_look p = record {
   call = calls.CallOnce;
   place = intents.Load words.State;
@@ -26,15 +25,15 @@ may_look p = record {
   on = refl;
 }
 
-pub is_to_end : (done : List Slot) (p : Parties) → IsAt ending_table KeepsNothing calls.CallOnce intents.End thens.GoesOn None done p → IsToEnd ending_table KeepsNothing p
+pub is_to_end : (done : List (Slot ℕ)) (p : Parties ℕ) → IsAt ending_model calls.CallOnce intents.End thens.GoesOn None done p → IsToEnd ending_model p
 is_to_end done p at = record { call = calls.CallOnce; place = intents.End; hold = None; done = done; at = at; ends = refl }
 
-pub has_run : (done : List Slot) (p : Parties) → IsAt ending_table KeepsNothing calls.CallOnce intents.End thens.GoesOn None done p →
-    ComesBy ending_table KeepsNothing Aside calls.CallOnce (intents.Store words.State 7) None done p
+pub has_run : (done : List (Slot ℕ)) (p : Parties ℕ) → IsAt ending_model calls.CallOnce intents.End thens.GoesOn None done p →
+    ComesBy ending_model Aside calls.CallOnce (intents.Store words.State 7) None done p
 has_run done p at = record { from = intents.End; at = at; aside = tt; leads = refl }
 
-pub may_store : (done : List Slot) (p : Parties) → IsAt ending_table KeepsNothing calls.CallOnce intents.End thens.GoesOn None done p →
-    MayStep ending_table KeepsNothing (words.State ∷ []) Aside 0 (λ w. intents.Store w 7) p
+pub may_store : (done : List (Slot ℕ)) (p : Parties ℕ) → IsAt ending_model calls.CallOnce intents.End thens.GoesOn None done p →
+    MayStep ending_model (words.State ∷ []) Aside 0 (λ w. intents.Store w 7) p
 may_store done p at = record {
   call = calls.CallOnce;
   place = intents.Store words.State 7;

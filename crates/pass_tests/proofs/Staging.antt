@@ -12,14 +12,14 @@ use Rattle.passes.specs.Views.{Updates}
 use Rattle.playing.specs.Slots.{Parties, all_of}
 use Rattle.playing.specs.Words.{IsStepOn}
 use Rattle.playing.specs.Plays.{Beginning, ComesBy, MayStep}
-use Rattle.pass_tests.specs.Staging.{counter_begins, counter_table, KeepsNothing}
+use Rattle.pass_tests.specs.Staging.{counter_begins, counter_table}
 
-pub begins : (call : Call ℕ) (place : Intent ℕ) (p : Parties) → counter_begins call ≡ Some place → hold_fault counter_table call None ≡ None → CallValues u64_arithmetic call →
-    ComesBy counter_table KeepsNothing (Beginning call) call place None (all_of p) p
+pub begins : (call : Call ℕ) (place : Intent ℕ) (p : Parties ℕ) → counter_begins call ≡ Some place → hold_fault counter_table call None ≡ None → CallValues u64_arithmetic call →
+    ComesBy counter_model (Beginning call) call place None (all_of p) p
 begins call place p is free values = (refl, record { may = record { begins = is; free = free; values = values }; new = refl; others = refl })
 
-pub may : (call : Call ℕ) (intent : Word → Intent ℕ) (p : Parties) → counter_begins call ≡ Some (intent words.State) → hold_fault counter_table call None ≡ None → CallValues u64_arithmetic call →
-    IsStepOn words.State (intent words.State) → MayStep counter_table KeepsNothing (words.State ∷ []) (Beginning call) 0 intent p
+pub may : (call : Call ℕ) (intent : Word → Intent ℕ) (p : Parties ℕ) → counter_begins call ≡ Some (intent words.State) → hold_fault counter_table call None ≡ None → CallValues u64_arithmetic call →
+    IsStepOn words.State (intent words.State) → MayStep counter_model (words.State ∷ []) (Beginning call) 0 intent p
 may call intent p is free values on = record {
   call = call;
   place = intent words.State;

@@ -8,7 +8,10 @@ use Rattle.steps_events.specs.declared.row.Intent.{Intent}
 use Rattle.steps_events.specs.declared.row.Intent.TheVariants as intents
 use Rattle.steps_events.specs.declared.row.After.{After}
 use Rattle.steps_events.specs.declared.row.After.TheVariants as afters
+use Rattle.steps_events.specs.Integers.{u64_arithmetic}
 use Rattle.steps_events.specs.Tables.{Table}
+use Rattle.playing.specs.Models.{Model}
+use Rattle.pass_tests.specs.Staging.{KeepsNothing}
 
 abbrev pub ending_begins : Call ℕ → Option (Intent ℕ)
 ending_begins calls.CallOnce = Some (intents.Load words.State)
@@ -31,3 +34,6 @@ ending_table =
       answered = λ place action. place;
       chosen = λ place choice. place;
     }
+
+abbrev pub ending_model : Model ℕ (Intent ℕ)
+ending_model = record { arithmetic = u64_arithmetic; table = ending_table; law = KeepsNothing }

@@ -8,7 +8,9 @@ use Rattle.steps_events.specs.declared.event.Event.{Event}
 use Rattle.steps_events.specs.declared.row.Intent.{Intent}
 use Rattle.steps_events.specs.declared.row.Intent.TheVariants as intents
 use Rattle.steps_events.specs.declared.row.After.TheVariants as afters
+use Rattle.steps_events.specs.Integers.{u64_arithmetic}
 use Rattle.steps_events.specs.Tables.{Table}
+use Rattle.playing.specs.Models.{Model}
 use Rattle.std.proofs.Common.{refl}
 use Rattle.passes.specs.Tallies.{IsTally}
 
@@ -37,6 +39,9 @@ counter_table =
 -- nothing is said of its runs
 abbrev pub KeepsNothing : List (Event ℕ) → Type 0
 KeepsNothing past = Unit {0}
+
+abbrev pub counter_model : Model ℕ (Intent ℕ)
+counter_model = record { arithmetic = u64_arithmetic; table = counter_table; law = KeepsNothing }
 
 pub nothing_adds_up : IsTally tt (λ (_ _ : Unit {0}). tt) (λ (_ : Unit {0}). tt)
 nothing_adds_up = record { unit = λ a. refl; swap = λ a b. refl; group = λ a b c. refl; copy = λ a. refl }

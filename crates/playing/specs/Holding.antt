@@ -34,6 +34,6 @@ is_kind kinds.Write (Some kinds.Write) = true
 is_kind kind hold = false
 
 -- the acting party has this hold, and no call under way
-abbrev pub is_holding : {V : Type 0} → {P : Type 0} → Table V P → HoldKind → Parties V → Bool
+abbrev pub is_holding : {V P : Type 0} → Table V P → HoldKind → Parties V → Bool
 is_holding t kind p =
     is_one p.acting && (is_none (call_of (party_in p.acting) (own_in p.acting)) && is_kind kind (hold_of t (party_in p.acting) (own_in p.acting)))

@@ -4,38 +4,38 @@ use Rattle.steps_events.specs.declared.event.Call.TheVariants as calls
 use Rattle.steps_events.specs.declared.event.Answer.TheVariants as answers
 use Rattle.steps_events.specs.declared.event.Then.TheVariants as thens
 use Rattle.steps_barrier.specs.declared.BarrierPlace.TheVariants as places
-use Rattle.steps_barrier.specs.Table.{barrier_table, look, joined, stay}
-use Rattle.steps_barrier.specs.Law.{KeepsBarrier}
+use Rattle.steps_barrier.specs.Table.{look, joined, stay}
+use Rattle.tallies.specs.BarrierScript.{barrier_model}
 use Rattle.playing.specs.Slots.{Slot, Parties}
 use Rattle.playing.specs.Plays.{IsAt, Leads, HasEnded}
 
 module _ (n : ℕ) where
   -- it saw this last, before its arrival, and goes on so
-  abbrev pub HasLooked : ℕ → List Slot → Parties → Type 0
-  HasLooked seen done p = Leads (barrier_table n) (KeepsBarrier n) calls.Wait (look n seen) None done p
+  abbrev pub HasLooked : ℕ → List (Slot ℕ) → Parties ℕ → Type 0
+  HasLooked seen done p = Leads (barrier_model n) calls.Wait (look n seen) None done p
 
   -- it has arrived, from this value
-  abbrev pub HasJoined : ℕ → List Slot → Parties → Type 0
-  HasJoined from done p = Leads (barrier_table n) (KeepsBarrier n) calls.Wait (joined n from) None done p
+  abbrev pub HasJoined : ℕ → List (Slot ℕ) → Parties ℕ → Type 0
+  HasJoined from done p = Leads (barrier_model n) calls.Wait (joined n from) None done p
 
   -- it comes to its first look after its arrival, which was at this epoch
-  abbrev pub ComesToStay : ℕ → List Slot → Parties → Type 0
-  ComesToStay epoch done p = IsAt (barrier_table n) (KeepsBarrier n) calls.Wait (places.Stay epoch 0) thens.GoesOn None done p
+  abbrev pub ComesToStay : ℕ → List (Slot ℕ) → Parties ℕ → Type 0
+  ComesToStay epoch done p = IsAt (barrier_model n) calls.Wait (places.Stay epoch 0) thens.GoesOn None done p
 
   -- after its arrival at this epoch it has spun so often, and saw this last
-  abbrev pub Looks : ℕ → ℕ → ℕ → List Slot → Parties → Type 0
-  Looks epoch spins seen done p = Leads (barrier_table n) (KeepsBarrier n) calls.Wait (stay epoch spins seen) None done p
+  abbrev pub Looks : ℕ → ℕ → ℕ → List (Slot ℕ) → Parties ℕ → Type 0
+  Looks epoch spins seen done p = Leads (barrier_model n) calls.Wait (stay epoch spins seen) None done p
 
   -- it was answered `Ok`
-  abbrev pub HasLeft : List Slot → Parties → Type 0
-  HasLeft done p = HasEnded (barrier_table n) (KeepsBarrier n) calls.Wait answers.Ok None done p
+  abbrev pub HasLeft : List (Slot ℕ) → Parties ℕ → Type 0
+  HasLeft done p = HasEnded (barrier_model n) calls.Wait answers.Ok None done p
 
   -- what follows from each of these
-  abbrev pub OnceLooked : ℕ → Parties → (List Slot → Type 0) → Type 0
-  OnceLooked seen p Then = (done : List Slot) → HasLooked seen done p → Then done
+  abbrev pub OnceLooked : ℕ → Parties ℕ → (List (Slot ℕ) → Type 0) → Type 0
+  OnceLooked seen p Then = (done : List (Slot ℕ)) → HasLooked seen done p → Then done
 
-  abbrev pub OnceToStay : ℕ → Parties → (List Slot → Type 0) → Type 0
-  OnceToStay epoch p Then = (done : List Slot) → ComesToStay epoch done p → Then done
+  abbrev pub OnceToStay : ℕ → Parties ℕ → (List (Slot ℕ) → Type 0) → Type 0
+  OnceToStay epoch p Then = (done : List (Slot ℕ)) → ComesToStay epoch done p → Then done
 
-  abbrev pub OnceLooking : ℕ → ℕ → ℕ → Parties → (List Slot → Type 0) → Type 0
-  OnceLooking epoch spins seen p Then = (done : List Slot) → Looks epoch spins seen done p → Then done
+  abbrev pub OnceLooking : ℕ → ℕ → ℕ → Parties ℕ → (List (Slot ℕ) → Type 0) → Type 0
+  OnceLooking epoch spins seen p Then = (done : List (Slot ℕ)) → Looks epoch spins seen done p → Then done

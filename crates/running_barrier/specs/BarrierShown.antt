@@ -7,8 +7,7 @@ use Rattle.steps_events.specs.declared.event.Then.TheVariants as thens
 use Rattle.steps_barrier.specs.declared.BarrierPlace.{BarrierPlace}
 use Rattle.steps_barrier.specs.declared.BarrierPlace.TheVariants as places
 use Rattle.steps_barrier.specs.Rounds.{epoch_of, count_of, opened}
-use Rattle.steps_barrier.specs.Table.{barrier_table}
-use Rattle.steps_barrier.specs.Law.{KeepsBarrier}
+use Rattle.tallies.specs.BarrierScript.{barrier_model}
 use Rattle.passes.specs.declared.pass.Pass.{Pass}
 use Rattle.passes.specs.Parts.{IsWhole}
 use Rattle.passes.specs.Sights.{seen, stale}
@@ -26,7 +25,7 @@ use Rattle.running_barrier.specs.BarrierSteps.{Arrives}
 
 -- the pass of a barrier
 abbrev pub BarrierPass : Type 0
-BarrierPass = Pass (Played BarrierScript BarrierPlace Rounds)
+BarrierPass = Pass (Played BarrierScript BarrierPlace ℕ Rounds)
 
 module _ {A : Type 0} where
   abbrev pub IsBarrierPass : Barrier A → BarrierPass → Type 0
@@ -114,9 +113,9 @@ module _ (n : ℕ) where
   -- There is a run of the model, which keeps the law of a barrier for n, in which a party of the pass has just been answered so by a
   -- `Wait`. It is the one call that the pass has made since, as a party that is new.
   abbrev pub HasPlayed : Answer ℕ → BarrierPass → BarrierPass → Type 0
-  HasPlayed answer p q = HasCalled (barrier_table n) (KeepsBarrier n) calls.Wait answer None (parties_of p) (parties_of q)
+  HasPlayed answer p q = HasCalled (barrier_model n) calls.Wait answer None (parties_of p) (parties_of q)
 
   -- As a party that is new the pass has begun a `Wait` and filled a round by its arrival, in a run that keeps the barrier's law; and is
   -- to wake all.
   abbrev pub HasFilled : BarrierPass → BarrierPass → Type 0
-  HasFilled p q = IsAt (barrier_table n) (KeepsBarrier n) calls.Wait places.Wake thens.GoesOn None (all_of (parties_of p)) (parties_of q)
+  HasFilled p q = IsAt (barrier_model n) calls.Wait places.Wake thens.GoesOn None (all_of (parties_of p)) (parties_of q)

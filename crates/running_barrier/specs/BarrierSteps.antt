@@ -7,8 +7,7 @@ use Rattle.atomic_table.specs.Table.{State}
 use Rattle.steps_events.specs.declared.event.Word.TheVariants as words
 use Rattle.steps_barrier.specs.declared.BarrierPlace.{BarrierPlace}
 use Rattle.steps_barrier.specs.Rounds.{epoch_of, count_of}
-use Rattle.steps_barrier.specs.Table.{barrier_table}
-use Rattle.steps_barrier.specs.Law.{KeepsBarrier}
+use Rattle.tallies.specs.BarrierScript.{barrier_model}
 use Rattle.passes.specs.declared.view.View.{View}
 use Rattle.passes.specs.Parts.{IsWhole, total}
 use Rattle.passes.specs.Sights.{stale}
@@ -22,11 +21,11 @@ use Rattle.tallies.specs.BarrierRule.{in_round, rounds, no_rounds, both_rounds, 
 
 -- what the pass of a barrier knows
 abbrev pub BarrierView : Type 0
-BarrierView = View (Played BarrierScript BarrierPlace Rounds)
+BarrierView = View (Played BarrierScript BarrierPlace ℕ Rounds)
 
 -- the rule of a barrier for n holds
 abbrev pub IsRuled : ℕ → State (Unit {0}) BarrierView → Type 0
-IsRuled n s = IsCounted (none_played no_rounds) (both_played both_rounds) (PlaysAndCounts (barrier_table n) (KeepsBarrier n) (words.State ∷ []) (BarrierAgrees n)) s
+IsRuled n s = IsCounted (none_played no_rounds) (both_played both_rounds) (PlaysAndCounts (barrier_model n) (words.State ∷ []) (BarrierAgrees n)) s
 
 -- whenever it does, a round that a pass knows to be open has n arrivals of all passes
 abbrev pub OpenRoundsAreFull : Type 0

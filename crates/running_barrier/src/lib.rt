@@ -24,7 +24,7 @@ use tallies::{BarrierScript, PlayedBarrier, Rounds, WaitWord};
 /// A barrier for a fixed number of waiters.
 #[derive(Drop)]
 pub struct Barrier<A: Allocator = Global> {
-    stage: Stage<u32, BarrierScript, BarrierPlace, Rounds, A>,
+    stage: Stage<u32, BarrierScript, BarrierPlace, u64, Rounds, A>,
     number_of_waiters: u32,
     ghost one_word: { words_of stage ≡ 1 },
     ghost waiters: { key_of stage ≡ number_of_waiters },
@@ -74,7 +74,7 @@ impl Deed<u32, Rounds> for Arrive {
 /// A `Wait` begins.
 struct WaitBegins;
 
-impl Entry for WaitBegins {
+impl Entry<u64> for WaitBegins {
     ghost use Rattle.steps_events.specs.declared.event.Call.TheVariants as calls;
     ghost use Rattle.playing.specs.Plays.{Beginning};
 
@@ -86,8 +86,7 @@ impl<A: Allocator> Barrier<A> {
     ghost use Rattle.steps_events.specs.declared.event.Word.TheVariants as words;
     ghost use Rattle.steps_events.specs.declared.event.Answer.TheVariants as answers;
     ghost use Rattle.steps_events.specs.declared.row.Intent.TheVariants as intents;
-    ghost use Rattle.steps_barrier.specs.Table.{barrier_table};
-    ghost use Rattle.steps_barrier.specs.Law.{KeepsBarrier};
+    ghost use Rattle.tallies.specs.BarrierScript.{barrier_model};
     ghost use Rattle.passes.specs.Answers.{HasWoken};
     ghost use Rattle.passes.specs.Parts.{IsWhole};
     ghost use Rattle.passes.specs.Views.{first_view};
@@ -168,7 +167,7 @@ impl<A: Allocator> Barrier<A> {
         requires next { IsNextWord (waiters_of self.now) seen next }
         requires last { (sights_of pass.old).last ≡ seen }
         requires alone { IsWhole (part_of pass.old) → seen ≡ word_of (waiters_of self.now) (tally_of pass.old) }
-        requires looked { (done : List Slot) × HasLooked (waiters_of self.now) seen done (parties_of pass.old) }
+        requires looked { (done : List (Slot ℕ)) × HasLooked (waiters_of self.now) seen done (parties_of pass.old) }
         ensures arrived { HasArrived (waiters_of self.now) result pass.old pass.new }
         ensures all { HasAll (waiters_of self.now) (counted pass.new) }
         ensures once { IsWhole (part_of pass.old) → sights_of pass.new ≡ stale (sights_of pass.old) }
@@ -186,7 +185,7 @@ impl<A: Allocator> Barrier<A> {
         requires own { IsBarrierPass self.now pass.old }
         requires room { count_of found < waiters_of self.now }
         requires last { (sights_of pass.old).last ≡ found }
-        requires looked { (done : List Slot) × HasLooked (waiters_of self.now) found done (parties_of pass.old) }
+        requires looked { (done : List (Slot ℕ)) × HasLooked (waiters_of self.now) found done (parties_of pass.old) }
         ensures arrived { HasArrived (waiters_of self.now) result pass.old pass.new }
         ensures all { HasAll (waiters_of self.now) (counted pass.new) }
         ensures joined { OnceLooked (waiters_of self.now) found (parties_of pass.old) (λ done. HasJoined (waiters_of self.now) result done (parties_of pass.new)) }
@@ -215,7 +214,7 @@ impl<A: Allocator> Barrier<A> {
     )
         requires own { IsBarrierPass self.now pass.old }
         requires own_epoch { own_epoch ≡ reached_of pass.old % 2 ^ 32 }
-        requires comes { (done : List Slot) × ComesToStay (waiters_of self.now) own_epoch done (parties_of pass.old) }
+        requires comes { (done : List (Slot ℕ)) × ComesToStay (waiters_of self.now) own_epoch done (parties_of pass.old) }
         requires may { W.IsAlwaysCallable wait.now }
         ensures stayed { HasStayed pass.old pass.new }
         ensures reached { reached_of pass.old < reached_of pass.new }
@@ -229,7 +228,7 @@ impl<A: Allocator> Barrier<A> {
     /// Looks, up to 10000 times more while the epoch is this one. The value seen last.
     fn spin(&self, pass: &mut BarrierPass, own_epoch: u64) -> u64
         requires own { IsBarrierPass self.now pass.old }
-        requires comes { (done : List Slot) × ComesToStay (waiters_of self.now) own_epoch done (parties_of pass.old) }
+        requires comes { (done : List (Slot ℕ)) × ComesToStay (waiters_of self.now) own_epoch done (parties_of pass.old) }
         ensures stayed { HasStayed pass.old pass.new }
         ensures epoch { epoch_of result ≡ reached_of pass.new % 2 ^ 32 }
         ensures spun { epoch_of result ≡ own_epoch → (sights_of pass.new).count ≡ (sights_of pass.old).count + 10001 }
@@ -259,7 +258,7 @@ impl<A: Allocator> Barrier<A> {
         requires own { IsBarrierPass self.now pass.old }
         requires epoch { epoch_of seen ≡ reached_of pass.old % 2 ^ 32 }
         requires all { HasAll (waiters_of self.now) (counted pass.old) }
-        requires looks { (done : List Slot) × Looks (waiters_of self.now) own_epoch 10000 seen done (parties_of pass.old) }
+        requires looks { (done : List (Slot ℕ)) × Looks (waiters_of self.now) own_epoch 10000 seen done (parties_of pass.old) }
         requires may { W.IsAlwaysCallable wait.now }
         ensures stayed { HasStayed pass.old pass.new }
         ensures other { reached_of pass.new % 2 ^ 32 ≢ own_epoch }
@@ -280,12 +279,12 @@ impl<A: Allocator> Barrier<A> {
 
     /// A load.
     #[inline(always)]
-    fn look<E: Entry>(&self, pass: &mut BarrierPass) -> u64
+    fn look<E: Entry<u64>>(&self, pass: &mut BarrierPass) -> u64
         requires own { IsBarrierPass self.now pass.old }
-        requires may { MayStep (barrier_table (waiters_of self.now)) (KeepsBarrier (waiters_of self.now)) (words.State ∷ []) E.coming 0 (λ w. intents.Load w) (parties_of pass.old) }
+        requires may { MayStep (barrier_model (waiters_of self.now)) (words.State ∷ []) E.coming 0 (λ w. intents.Load w) (parties_of pass.old) }
         ensures same { IsSamePass pass.old pass.new }
         ensures told { Loaded (waiters_of self.now) (counted pass.old) result (counted pass.new) }
-        ensures went { Went (barrier_table (waiters_of self.now)) (KeepsBarrier (waiters_of self.now)) E.coming (parties_of pass.old) result (parties_of pass.new) }
+        ensures went { Went (barrier_model (waiters_of self.now)) E.coming (parties_of pass.old) result (parties_of pass.new) }
     {
         self.stage.load::<E, Look>(pass, 0)
     }
@@ -295,7 +294,7 @@ impl<A: Allocator> Barrier<A> {
     fn exchange(&self, pass: &mut BarrierPass, seen: u64, next: u64) -> u64
         requires own { IsBarrierPass self.now pass.old }
         requires next { IsNextWord (waiters_of self.now) seen next }
-        requires looked { (done : List Slot) × HasLooked (waiters_of self.now) seen done (parties_of pass.old) }
+        requires looked { (done : List (Slot ℕ)) × HasLooked (waiters_of self.now) seen done (parties_of pass.old) }
         ensures same { IsSamePass pass.old pass.new }
         ensures told { Exchanged (waiters_of self.now) seen (counted pass.old) result (counted pass.new) }
         ensures joined { result ≡ seen → OnceLooked (waiters_of self.now) seen (parties_of pass.old) (λ done. HasJoined (waiters_of self.now) seen done (parties_of pass.new)) }

@@ -1,8 +1,7 @@
 -- What a pass of a guarded value knows, and what the rule over all of them says.
 use Rattle.passes.specs.declared.view.View.{View}
 use Rattle.steps_mutex.specs.declared.MutexPlace.{MutexPlace}
-use Rattle.steps_mutex.specs.Table.{mutex_table}
-use Rattle.steps_mutex.specs.Law.{KeepsMutex}
+use Rattle.tallies.specs.MutexScript.{mutex_model}
 use Rattle.tallies.specs.declared.mutex.MutexScript.{MutexScript}
 use Rattle.running_mutex.specs.MutexSteps.{PlayedMutex}
 use Rattle.running_spin_lock.specs.ValueRule.{HasOneHolder}
@@ -12,4 +11,4 @@ abbrev pub MutexView : Type 0
 MutexView = View PlayedMutex
 
 abbrev pub OneHolderAtMost : (T : Type 0) → Type 0
-OneHolderAtMost T = HasOneHolder MutexScript MutexPlace mutex_table KeepsMutex T
+OneHolderAtMost T = HasOneHolder MutexScript MutexPlace mutex_model T

@@ -11,8 +11,7 @@ use Rattle.steps_events.specs.declared.event.Answer.{Answer}
 use Rattle.steps_events.specs.declared.event.Answer.TheVariants as answers
 use Rattle.steps_events.specs.declared.hold.HoldKind.{HoldKind}
 use Rattle.steps_events.specs.declared.hold.HoldKind.TheVariants as kinds
-use Rattle.steps_mutex.specs.Table.{mutex_table}
-use Rattle.steps_mutex.specs.Law.{KeepsMutex}
+use Rattle.tallies.specs.MutexScript.{mutex_model}
 use Rattle.playing.specs.Slots.{Parties}
 use Rattle.playing.specs.Plays.{Coming, HasCalled}
 use Rattle.running_mutex.specs.MutexParties.{Unlocks}
@@ -26,8 +25,8 @@ abbrev pub SeesLocked : MutexView → MutexView → Type 0
 SeesLocked v w = Sees (λ s. seen_instead s 0 1) v w
 
 -- an exchange of 0 for 1 that the table has, to which the pass came so, found the lock free, or not
-abbrev pub Tries : Coming → Bool → MutexView → MutexView → Type 0
-Tries coming free v w = values.Tries mutex_table KeepsMutex coming free v w
+abbrev pub Tries : Coming ℕ → Bool → MutexView → MutexView → Type 0
+Tries coming free v w = values.Tries mutex_model coming free v w
 
 -- Several steps.
 
@@ -50,7 +49,7 @@ pub record GivesUp {F W : Type 0} (tries : ℕ) (g : Shared F (Bor W × (Bor ℕ
 -- There is a run of the model, which keeps the mutex's law, in which a party of the pass has just been answered so by this call. It is
 -- the one call that the pass has made since, as a party that is new; and it has this hold now.
 abbrev pub Plays : Call ℕ → Answer ℕ → Option HoldKind → MutexView → MutexView → Type 0
-Plays call answer hold v w = values.Plays mutex_table KeepsMutex call answer hold v w
+Plays call answer hold v w = values.Plays mutex_model call answer hold v w
 
 -- the party that had the hold has begun an `Unlock` and stored 0, and is to wake one
 abbrev pub PlaysUnlock : MutexView → MutexView → Type 0
@@ -58,7 +57,7 @@ PlaysUnlock v w = Unlocks v.tally.parties w.tally.parties
 
 -- the pass has made a `Lock` that was granted, and then, as that party, an `Unlock`
 abbrev pub PlaysBoth : MutexView → MutexView → Type 0
-PlaysBoth v w = (held : Parties) × HasCalled mutex_table KeepsMutex calls.Lock answers.Success (Some kinds.Write) v.tally.parties held × Unlocks held w.tally.parties
+PlaysBoth v w = (held : Parties ℕ) × HasCalled mutex_model calls.Lock answers.Success (Some kinds.Write) v.tally.parties held × Unlocks held w.tally.parties
 
 -- by what the closure promises of its calls, it gave this, and made some value of the one that it was lent
 pub record Acts {F T X : Type 0} (g : Once F (MutBor T × Unit {0}) (X × (MutBor T × Unit {0}))) (act : F) (given : X) : Type 0 where

@@ -12,8 +12,7 @@ ghost use Rattle.steps_events.specs.declared.row.Intent.TheVariants as intents;
 ghost use Rattle.steps_events.specs.declared.WaitAction.TheVariants as actions;
 ghost use Rattle.steps_mutex.specs.declared.MutexPlace.{MutexPlace};
 ghost use Rattle.steps_mutex.specs.declared.MutexPlace.TheVariants as places;
-ghost use Rattle.steps_mutex.specs.Table.{mutex_table};
-ghost use Rattle.steps_mutex.specs.Law.{KeepsMutex};
+ghost use Rattle.tallies.specs.MutexScript.{mutex_model};
 ghost use Rattle.playing.specs.Slots.{Slot};
 ghost use Rattle.playing.specs.Plays.{MayStep};
 ghost use Rattle.playing.specs.Tries.{spun, IsRefused, IsStanding, IsGranted, HasGivenUp as HasEndedRefused, OnceRefused, OnceStanding, StandsToWait, IsToWake};
@@ -52,21 +51,21 @@ struct Exchange<E> {
     by: PhantomData<E>,
 }
 
-impl<T, E: Entry> Play<Option<T>, View<PlayedMutex>> for Exchange<E> {
-    ghost then = { λ _ me found after. Tried mutex_table KeepsMutex (λ s. seen_instead s 0 1) E.coming me found after };
+impl<T, E: Entry<u64>> Play<Option<T>, View<PlayedMutex>> for Exchange<E> {
+    ghost then = { λ _ me found after. Tried mutex_model (λ s. seen_instead s 0 1) E.coming me found after };
 }
 
 /// A store of 0.
 struct Release;
 
 impl<T> Play<Option<T>, View<PlayedMutex>> for Release {
-    ghost then = { λ _ me _ after. Stored mutex_table KeepsMutex me after };
+    ghost then = { λ _ me _ after. Stored mutex_model me after };
 }
 
 /// A `TryLock` begins.
 struct TryLockBegins;
 
-impl Entry for TryLockBegins {
+impl Entry<u64> for TryLockBegins {
     ghost use Rattle.playing.specs.Plays.{Beginning};
 
     ghost coming = { Beginning calls.TryLock };
@@ -75,7 +74,7 @@ impl Entry for TryLockBegins {
 /// A `Lock` begins.
 struct LockBegins;
 
-impl Entry for LockBegins {
+impl Entry<u64> for LockBegins {
     ghost use Rattle.playing.specs.Plays.{Beginning};
 
     ghost coming = { Beginning calls.Lock };
@@ -91,11 +90,11 @@ impl<T, A: Allocator> Guarded<T, A> {
 
     /// One exchange of 0 for 1, and whether it was done. Then the value is out with the seat.
     #[inline(always)]
-    fn exchange<E: Entry>(&self, seat: &mut Seat<Option<T>, View<PlayedMutex>>) -> bool
+    fn exchange<E: Entry<u64>>(&self, seat: &mut Seat<Option<T>, View<PlayedMutex>>) -> bool
         requires own { seat.old.table_id ≡ id_of self.now }
         requires no_slot { seat.old.me.1 ≡ [] }
         requires alive { 0 < seat.old.me.0.part.share }
-        requires may { MayStep mutex_table KeepsMutex (words.State ∷ []) E.coming 0 (λ w. intents.Exchange w 0 1) seat.old.me.0.tally.parties }
+        requires may { MayStep mutex_model (words.State ∷ []) E.coming 0 (λ w. intents.Exchange w 0 1) seat.old.me.0.tally.parties }
         ensures same { (seat.new.table_id ≡ seat.old.table_id) × (seat.new.id ≡ seat.old.id) }
         ensures locked { MatchBool result (Locks seat.old.me.0 seat.new.me.0) (SeesLocked seat.old.me.0 seat.new.me.0) }
         ensures slot { MatchBool result (HasValue seat.new.me.1) (seat.new.me.1 ≡ []) }
@@ -112,11 +111,11 @@ impl<T, A: Allocator> Guarded<T, A> {
         requires no_slot { seat.old.me.1 ≡ [] }
         requires alive { 0 < seat.old.me.0.part.share }
         requires seen { IsLocked seat.old.me.0.sights.last }
-        requires at { (done : List Slot) × IsRefused mutex_table KeepsMutex calls.Lock places.Lock (spun 0) 1 done seat.old.me.0.tally.parties }
+        requires at { (done : List (Slot ℕ)) × IsRefused mutex_model calls.Lock places.Lock (spun 0) 1 done seat.old.me.0.tally.parties }
         ensures same { (seat.new.table_id ≡ seat.old.table_id) × (seat.new.id ≡ seat.old.id) }
         ensures entered { MatchBool result (Enters seat.old.me.0 seat.new.me.0) (SeesLockedOften 10000 seat.old.me.0 seat.new.me.0) }
         ensures slot { MatchBool result (HasValue seat.new.me.1) (seat.new.me.1 ≡ []) }
-        ensures over { OnceRefused mutex_table KeepsMutex calls.Lock places.Lock 1 seat.old.me.0.tally.parties (λ done. MatchBool result (IsGranted mutex_table KeepsMutex calls.Lock places.Lock (Some kinds.Write) done seat.new.me.0.tally.parties) (IsStanding mutex_table KeepsMutex calls.Lock places.Lock 1 done seat.new.me.0.tally.parties)) }
+        ensures over { OnceRefused mutex_model calls.Lock places.Lock 1 seat.old.me.0.tally.parties (λ done. MatchBool result (IsGranted mutex_model calls.Lock places.Lock (Some kinds.Write) done seat.new.me.0.tally.parties) (IsStanding mutex_model calls.Lock places.Lock 1 done seat.new.me.0.tally.parties)) }
     {
         for _ in 0..SPIN_REPETITIONS {
             spin_loop();
@@ -135,7 +134,7 @@ impl<T, A: Allocator> Guarded<T, A> {
         wait: &W,
     ) -> WaitAction
         requires own { seat.now.table_id ≡ id_of self.now }
-        requires stands { StandsToWait mutex_table KeepsMutex (words.State ∷ []) (λ (_ : MutexPlace). words.State) 0 1 seat.now.me.0.tally.parties }
+        requires stands { StandsToWait mutex_model (words.State ∷ []) (λ (_ : MutexPlace). words.State) 0 1 seat.now.me.0.tally.parties }
         requires may { W.IsAlwaysCallable wait.now }
         ensures answered { MayAnswer W.Fn wait.now IsLocked result }
     {
@@ -155,12 +154,12 @@ impl<T, A: Allocator> Guarded<T, A> {
         requires alive { 0 < seat.old.me.0.part.share }
         requires may { W.IsAlwaysCallable wait.now }
         requires seen { IsLocked seat.old.me.0.sights.last }
-        requires at { (done : List Slot) × IsStanding mutex_table KeepsMutex calls.Lock places.Lock 1 done seat.old.me.0.tally.parties }
+        requires at { (done : List (Slot ℕ)) × IsStanding mutex_model calls.Lock places.Lock 1 done seat.old.me.0.tally.parties }
         ensures same { (seat.new.table_id ≡ seat.old.table_id) × (seat.new.id ≡ seat.old.id) }
         ensures entered { MatchBool result (Enters seat.old.me.0 seat.new.me.0) (GivesUp 0 W.Fn wait.now seat.old.me.0 seat.new.me.0) }
         ensures slot { MatchBool result (HasValue seat.new.me.1) (seat.new.me.1 ≡ []) }
         ensures aborted { result ≡ false → MayAnswerAbort W.Fn wait.now IsLocked }
-        ensures over { OnceStanding mutex_table KeepsMutex calls.Lock places.Lock 1 seat.old.me.0.tally.parties (λ done. MatchBool result (IsGranted mutex_table KeepsMutex calls.Lock places.Lock (Some kinds.Write) done seat.new.me.0.tally.parties) (HasEndedRefused mutex_table KeepsMutex calls.Lock places.Lock done seat.new.me.0.tally.parties)) }
+        ensures over { OnceStanding mutex_model calls.Lock places.Lock 1 seat.old.me.0.tally.parties (λ done. MatchBool result (IsGranted mutex_model calls.Lock places.Lock (Some kinds.Write) done seat.new.me.0.tally.parties) (HasEndedRefused mutex_model calls.Lock places.Lock done seat.new.me.0.tally.parties)) }
     {
         for _ in rt.forever() {
             match self.ask(seat, wait) {
@@ -265,7 +264,7 @@ impl<T, A: Allocator> Guarded<T, A> {
         wake_one: &W,
     )
         requires own { seat.now.table_id ≡ id_of self.now }
-        requires wakes { IsToWake mutex_table KeepsMutex (words.State ∷ []) (λ (_ : MutexPlace). words.State) 0 seat.now.me.0.tally.parties }
+        requires wakes { IsToWake mutex_model (words.State ∷ []) (λ (_ : MutexPlace). words.State) 0 seat.now.me.0.tally.parties }
         requires may { W.IsAlwaysCallable wake_one.now }
         ensures woke { HasWoken W.Fn wake_one.now }
     {

@@ -8,8 +8,7 @@ use Rattle.steps_events.specs.declared.event.Answer.TheVariants as answers
 use Rattle.steps_events.specs.declared.hold.HoldKind.{HoldKind}
 use Rattle.steps_events.specs.declared.hold.HoldKind.TheVariants as kinds
 use Rattle.steps_mutex.specs.declared.MutexPlace.{MutexPlace}
-use Rattle.steps_mutex.specs.Table.{mutex_table}
-use Rattle.steps_mutex.specs.Law.{KeepsMutex}
+use Rattle.tallies.specs.MutexScript.{mutex_model}
 use Rattle.passes.specs.declared.part.Part.{Part}
 use Rattle.passes.specs.declared.pass.Pass.{Pass}
 use Rattle.passes.specs.Parts.{IsWhole}
@@ -29,7 +28,7 @@ use Rattle.running_mutex.specs.MutexSteps.{locked, unlocked, saw_locked}
 
 -- the pass of a mutex
 abbrev pub MutexPass : Type 0
-MutexPass = Pass (Played MutexScript MutexPlace Holds)
+MutexPass = Pass (Played MutexScript MutexPlace ℕ Holds)
 
 abbrev pub IsMutexPass : {A : Type 0} → Mutex A → MutexPass → Type 0
 IsMutexPass m p = IsPassOf m.stage p
@@ -92,7 +91,7 @@ pub record HasStayed (p q : MutexPass) : Type 0 where
 -- There is a run of the model, which keeps the mutex's law, in which a party of the pass has just been answered so by this call. It is
 -- the one call that the pass has made since, as a party that is new; and it has this hold now.
 abbrev pub HasPlayed : Call ℕ → Answer ℕ → Option HoldKind → MutexPass → MutexPass → Type 0
-HasPlayed call answer hold p q = HasCalled mutex_table KeepsMutex call answer hold (parties_of p) (parties_of q)
+HasPlayed call answer hold p q = HasCalled mutex_model call answer hold (parties_of p) (parties_of q)
 
 -- so has the pass
 abbrev pub HasPlayedUnlock : MutexPass → MutexPass → Type 0
@@ -100,8 +99,8 @@ HasPlayedUnlock p q = Unlocks (parties_of p) (parties_of q)
 
 -- it has made a `Lock` that was granted, and then, as that party, an `Unlock`
 abbrev pub HasPlayedBoth : MutexPass → MutexPass → Type 0
-HasPlayedBoth p q = (held : Parties) × HasCalled mutex_table KeepsMutex calls.Lock answers.Success (Some kinds.Write) (parties_of p) held × Unlocks held (parties_of q)
+HasPlayedBoth p q = (held : Parties ℕ) × HasCalled mutex_model calls.Lock answers.Success (Some kinds.Write) (parties_of p) held × Unlocks held (parties_of q)
 
 -- an exchange of 0 for 1 that the table has, to which the pass came so, found the mutex free, or not
-abbrev pub HasTried : Coming → Bool → MutexPass → MutexPass → Type 0
-HasTried coming free p q = (found : ℕ) × MatchBool free (found ≡ 0) (found ≢ 0) × Went mutex_table KeepsMutex coming (parties_of p) found (parties_of q)
+abbrev pub HasTried : Coming ℕ → Bool → MutexPass → MutexPass → Type 0
+HasTried coming free p q = (found : ℕ) × MatchBool free (found ≡ 0) (found ≢ 0) × Went mutex_model coming (parties_of p) found (parties_of q)

@@ -8,8 +8,7 @@ use Rattle.passes.specs.Parts.{IsWhole}
 use Rattle.passes.specs.Views.{missed, wrote, IsCounted}
 use Rattle.steps_events.specs.declared.event.Word.TheVariants as words
 use Rattle.steps_mutex.specs.declared.MutexPlace.{MutexPlace}
-use Rattle.steps_mutex.specs.Table.{mutex_table}
-use Rattle.steps_mutex.specs.Law.{KeepsMutex}
+use Rattle.tallies.specs.MutexScript.{mutex_model}
 use Rattle.playing.specs.declared.played.Played.{Played}
 use Rattle.playing.specs.Passes.{none_played, both_played, PlaysAndCounts}
 use Rattle.tallies.specs.declared.mutex.Holds.{Holds}
@@ -18,11 +17,11 @@ use Rattle.tallies.specs.MutexRule.{MutexAgrees, both_holds, holds, no_holds}
 
 -- what a pass of a mutex is in its model, and counts beside
 abbrev pub PlayedMutex : Type 0
-PlayedMutex = Played MutexScript MutexPlace Holds
+PlayedMutex = Played MutexScript MutexPlace ℕ Holds
 
 -- whenever the rule holds, no two passes have a hold
 abbrev pub OneHolder : Type 0
-OneHolder = (s : State (Unit {0}) (View PlayedMutex)) → IsCounted (none_played no_holds) (both_played both_holds) (PlaysAndCounts mutex_table KeepsMutex (words.State ∷ []) MutexAgrees) s →
+OneHolder = (s : State (Unit {0}) (View PlayedMutex)) → IsCounted (none_played no_holds) (both_played both_holds) (PlaysAndCounts mutex_model (words.State ∷ []) MutexAgrees) s →
     (i j : ℕ) (v w : View PlayedMutex) → get_elem? s.views i ≡ some v → get_elem? s.views j ≡ some w → v.tally.counts.holds ≡ 1 → w.tally.counts.holds ≡ 1 → i ≡ j
 
 -- the hold is turned on, by a grant

@@ -25,7 +25,7 @@ use tallies::{Holds, MutexScript, PlayedMutex, WaitWord};
 /// A lock with one holder at most.
 #[derive(Drop)]
 pub struct Mutex<A: Allocator = Global> {
-    stage: Stage<(), MutexScript, MutexPlace, Holds, A>,
+    stage: Stage<(), MutexScript, MutexPlace, u64, Holds, A>,
     ghost one_word: { count_of stage ≡ 1 },
 }
 
@@ -75,7 +75,7 @@ impl Deed<(), Holds> for Release {
 /// A `TryLock` begins.
 struct TryLockBegins;
 
-impl Entry for TryLockBegins {
+impl Entry<u64> for TryLockBegins {
     ghost use Rattle.steps_events.specs.declared.event.Call.TheVariants as calls;
     ghost use Rattle.playing.specs.Plays.{Beginning};
 
@@ -85,7 +85,7 @@ impl Entry for TryLockBegins {
 /// A `Lock` begins.
 struct LockBegins;
 
-impl Entry for LockBegins {
+impl Entry<u64> for LockBegins {
     ghost use Rattle.steps_events.specs.declared.event.Call.TheVariants as calls;
     ghost use Rattle.playing.specs.Plays.{Beginning};
 
@@ -95,7 +95,7 @@ impl Entry for LockBegins {
 /// An `Unlock` begins, by the party that has the hold.
 struct UnlockBegins;
 
-impl Entry for UnlockBegins {
+impl Entry<u64> for UnlockBegins {
     ghost use Rattle.steps_events.specs.declared.event.Call.TheVariants as calls;
     ghost use Rattle.playing.specs.Plays.{Continuing};
 
@@ -110,8 +110,7 @@ impl<A: Allocator> Mutex<A> {
     ghost use Rattle.steps_events.specs.declared.event.Answer.TheVariants as answers;
     ghost use Rattle.steps_events.specs.declared.hold.HoldKind.TheVariants as kinds;
     ghost use Rattle.steps_events.specs.declared.row.Intent.TheVariants as intents;
-    ghost use Rattle.steps_mutex.specs.Table.{mutex_table};
-    ghost use Rattle.steps_mutex.specs.Law.{KeepsMutex};
+    ghost use Rattle.tallies.specs.MutexScript.{mutex_model};
     ghost use Rattle.steps_mutex.specs.contracts.MutexPlace as place_row;
     ghost use Rattle.passes.specs.Answers.{IfSuccess, IfInterrupted, IsSuccess, RestsIfInterrupted, MayAnswerAbort, HasWoken};
     ghost use Rattle.passes.specs.Passes.{view};
@@ -278,9 +277,9 @@ impl<A: Allocator> Mutex<A> {
 
     /// One exchange of 0 for 1, and whether it was done.
     #[inline(always)]
-    fn exchange<E: Entry>(&self, pass: &mut MutexPass) -> bool
+    fn exchange<E: Entry<u64>>(&self, pass: &mut MutexPass) -> bool
         requires own { IsMutexPass self.now pass.old }
-        requires may { (put : ℕ) → put ≡ 1 → MayStep mutex_table KeepsMutex (words.State ∷ []) E.coming 0 (λ w. intents.Exchange w 0 put) (parties_of pass.old) }
+        requires may { (put : ℕ) → put ≡ 1 → MayStep mutex_model (words.State ∷ []) E.coming 0 (λ w. intents.Exchange w 0 put) (parties_of pass.old) }
         ensures locked { MatchBool result (HasLocked pass.old pass.new) (HasSeenLocked pass.old pass.new) }
         ensures tried { HasTried E.coming result pass.old pass.new }
         ensures exact { IsAlone pass.old → result ≡ true }
@@ -311,7 +310,7 @@ impl<A: Allocator> Mutex<A> {
 }
 
 /// An exchange of `lock`.
-impl<A: Allocator> Attempt<(), MutexScript, MutexPlace, Holds> for Mutex<A> {
+impl<A: Allocator> Attempt<(), MutexScript, MutexPlace, u64, Holds> for Mutex<A> {
     ghost use Rattle.std.specs.Prelude.{Some};
     ghost use Rattle.std.proofs.Common.{refl};
     ghost use Rattle.steps_events.specs.declared.event.Call.TheVariants as calls;
@@ -339,7 +338,7 @@ impl<A: Allocator> Attempt<(), MutexScript, MutexPlace, Holds> for Mutex<A> {
     ghost answers = { λ _ _ _. refl };
 
     #[inline(always)]
-    fn attempt<E: Entry, R: Wait>(&self, rt: &R, pass: &mut MutexPass) -> Result<(), u64> {
+    fn attempt<E: Entry<u64>, R: Wait>(&self, rt: &R, pass: &mut MutexPass) -> Result<(), u64> {
         let _rt = rt;
         if self.exchange::<E>(pass) {
             Ok(())

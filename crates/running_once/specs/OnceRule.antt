@@ -6,8 +6,7 @@ use lib.ListN.{get_elem?}
 use Rattle.atomic_table.specs.Table.{State}
 use Rattle.steps_events.specs.declared.event.Word.TheVariants as words
 use Rattle.steps_once.specs.declared.OncePlace.{OncePlace}
-use Rattle.steps_once.specs.Table.{once_table}
-use Rattle.steps_once.specs.Law.{KeepsOnce}
+use Rattle.running_once.specs.OnceScript.{once_model}
 use Rattle.passes.specs.declared.view.View.{View}
 use Rattle.passes.specs.Parts.{IsWhole, total}
 use Rattle.passes.specs.Views.{view_of, looked, missed, wrote, IsCounted}
@@ -46,11 +45,11 @@ OnceAgrees words homes = IsRun words
 
 -- what the pass of a once is in its model, and knows
 abbrev pub OnceView : Type 0
-OnceView = View (Played OnceScript OncePlace Runs)
+OnceView = View (Played OnceScript OncePlace ℕ Runs)
 
 -- the rule of a once holds
 abbrev pub IsRuled : State (Unit {0}) OnceView → Type 0
-IsRuled s = IsCounted (none_played no_runs) (both_played both_runs) (PlaysAndCounts once_table KeepsOnce (words.State ∷ []) OnceAgrees) s
+IsRuled s = IsCounted (none_played no_runs) (both_played both_runs) (PlaysAndCounts once_model (words.State ∷ []) OnceAgrees) s
 
 -- whenever it does, all passes together began one closure at most
 abbrev pub OneClosure : Type 0

@@ -3,8 +3,7 @@ use Rattle.std.specs.Prelude.{◌≡◌, ◌≢◌, ℕ, ◌<◌, ◌≤◌, ◌
 use Rattle.steps_events.specs.declared.event.Call.{Call}
 use Rattle.steps_events.specs.declared.event.Answer.{Answer}
 use Rattle.steps_once.specs.declared.OncePlace.{OncePlace}
-use Rattle.steps_once.specs.Table.{once_table}
-use Rattle.steps_once.specs.Law.{KeepsOnce}
+use Rattle.running_once.specs.OnceScript.{once_model}
 use Rattle.passes.specs.declared.part.Part.{Part}
 use Rattle.passes.specs.declared.part.Sights.{Sights}
 use Rattle.passes.specs.declared.view.View.{View}
@@ -24,7 +23,7 @@ use Rattle.running_once.specs.OnceRule.{learns, began, ended}
 
 -- the pass inside
 abbrev pub PlayedPass : Type 0
-PlayedPass = Pass (Played OnceScript OncePlace Runs)
+PlayedPass = Pass (Played OnceScript OncePlace ℕ Runs)
 
 abbrev pub pass_in : OncePass → PlayedPass
 pass_in p = p.pass
@@ -37,7 +36,7 @@ abbrev pub known_by : OncePass → View Runs
 known_by p = counted (pass_in p)
 
 -- the parties of the model that it is
-abbrev pub parties_of_once : OncePass → Parties
+abbrev pub parties_of_once : OncePass → Parties ℕ
 parties_of_once p = parties_of (pass_in p)
 
 abbrev pub part_of_once : OncePass → Part
@@ -91,4 +90,4 @@ pub record HasOnlyWaited (p q : PlayedPass) : Type 0 where
 -- The pass as a party of the model: there is a run of it, which keeps the once's law, in which a party of the pass has just been answered
 -- so by this call. It is the one call that the pass has made since, as a party that is new.
 abbrev pub HasPlayed : Call ℕ → Answer ℕ → OncePass → OncePass → Type 0
-HasPlayed call answer p q = HasCalled once_table KeepsOnce call answer None (parties_of_once p) (parties_of_once q)
+HasPlayed call answer p q = HasCalled once_model call answer None (parties_of_once p) (parties_of_once q)

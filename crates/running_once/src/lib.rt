@@ -20,16 +20,12 @@ use steps_once::{OncePlace, begun};
 /// The model that a once plays: its one word is the once's.
 pub struct OnceScript;
 
-impl Script<(), OncePlace> for OnceScript {
+impl Script<(), OncePlace, u64> for OnceScript {
     ghost use Rattle.std.specs.Prelude.{[], ◌∷◌};
     ghost use Rattle.steps_events.specs.declared.event.Word.TheVariants as words;
-    ghost use Rattle.steps_once.specs.Table.{once_table};
-    ghost use Rattle.steps_once.specs.Law.{KeepsOnce};
-    ghost use Rattle.running_once.specs.OnceScript.{once_lawful};
+    ghost use Rattle.running_once.specs.OnceScript.{once_model, once_lawful};
 
-    ghost table = { λ _. once_table };
-
-    ghost law = { λ _. KeepsOnce };
+    ghost model = { λ _. once_model };
 
     ghost lawful = { λ _. once_lawful };
 
@@ -41,7 +37,7 @@ impl Script<(), OncePlace> for OnceScript {
 }
 
 /// What a pass of a once is in its model, and counts and knows beside.
-pub type PlayedOnce = Played<OnceScript, OncePlace, Runs>;
+pub type PlayedOnce = Played<OnceScript, OncePlace, u64, Runs>;
 
 /// What a pass of a once counts and knows. No value of it is made.
 pub struct Runs {
@@ -78,7 +74,7 @@ impl Rule<(), ()> for Runs {
 /// A closure that runs once.
 #[derive(Drop)]
 pub struct Once<A: Allocator = Global> {
-    stage: Stage<(), OnceScript, OncePlace, Runs, A>,
+    stage: Stage<(), OnceScript, OncePlace, u64, Runs, A>,
     ghost one_word: { count_of stage ≡ 1 },
 }
 
@@ -119,7 +115,7 @@ impl Deed<(), Runs> for End {
 /// A `CallOnce` begins.
 struct CallBegins;
 
-impl Entry for CallBegins {
+impl Entry<u64> for CallBegins {
     ghost use Rattle.steps_events.specs.declared.event.Call.TheVariants as calls;
     ghost use Rattle.playing.specs.Plays.{Beginning};
 
@@ -129,7 +125,7 @@ impl Entry for CallBegins {
 /// An `IsCompleted` begins.
 struct AskingBegins;
 
-impl Entry for AskingBegins {
+impl Entry<u64> for AskingBegins {
     ghost use Rattle.steps_events.specs.declared.event.Call.TheVariants as calls;
     ghost use Rattle.playing.specs.Plays.{Beginning};
 
@@ -193,8 +189,7 @@ impl<A: Allocator> Once<A> {
     ghost use Rattle.steps_events.specs.declared.event.Call.TheVariants as calls;
     ghost use Rattle.steps_events.specs.declared.event.Answer.TheVariants as answers;
     ghost use Rattle.steps_events.specs.declared.row.Intent.TheVariants as intents;
-    ghost use Rattle.steps_once.specs.Table.{once_table};
-    ghost use Rattle.steps_once.specs.Law.{KeepsOnce};
+    ghost use Rattle.running_once.specs.OnceScript.{once_model};
     ghost use Rattle.passes.specs.Parts.{IsWhole};
     ghost use Rattle.passes.specs.Views.{first_view};
     ghost use Rattle.passes.specs.Sights.{HasLooked};
@@ -292,7 +287,7 @@ impl<A: Allocator> Once<A> {
     /// Looks until the word says that a closure has ended.
     fn stay<R: Wait>(&self, rt: &R, pass: &mut Pass<PlayedOnce>)
         requires own { IsPassOf self.now.stage pass.old }
-        requires comes { (done : List Slot) × ComesToStay done (parties_of pass.old) }
+        requires comes { (done : List (Slot ℕ)) × ComesToStay done (parties_of pass.old) }
         ensures stayed { HasOnlyWaited pass.old pass.new }
         ensures complete { (counts_of pass.new).complete ≡ true }
         ensures alone { IsWhole (part_of pass.old) → Amounts 2 (counts_of pass.old) }
@@ -310,12 +305,12 @@ impl<A: Allocator> Once<A> {
     /// A load.
     #[tactic(auto, using(crate::proofs::OnceKeeps::loads))]
     #[inline(always)]
-    fn look<E: Entry>(&self, pass: &mut Pass<PlayedOnce>) -> u64
+    fn look<E: Entry<u64>>(&self, pass: &mut Pass<PlayedOnce>) -> u64
         requires own { IsPassOf self.now.stage pass.old }
-        requires may { MayStep once_table KeepsOnce (words.State ∷ []) E.coming 0 (λ w. intents.Load w) (parties_of pass.old) }
+        requires may { MayStep once_model (words.State ∷ []) E.coming 0 (λ w. intents.Load w) (parties_of pass.old) }
         ensures same { IsSamePass pass.old pass.new }
         ensures told { Loaded (counted pass.old) result (counted pass.new) }
-        ensures went { Went once_table KeepsOnce E.coming (parties_of pass.old) result (parties_of pass.new) }
+        ensures went { Went once_model E.coming (parties_of pass.old) result (parties_of pass.new) }
     {
         self.stage.load::<E, Look>(pass, 0)
     }
@@ -324,7 +319,7 @@ impl<A: Allocator> Once<A> {
     #[inline(always)]
     fn begin(&self, pass: &mut Pass<PlayedOnce>) -> bool
         requires own { IsPassOf self.now.stage pass.old }
-        requires comes { (done : List Slot) × ComesToBegin done (parties_of pass.old) }
+        requires comes { (done : List (Slot ℕ)) × ComesToBegin done (parties_of pass.old) }
         ensures begun { MatchBool result (HasBegun pass.old pass.new) (HasOnlyWaited pass.old pass.new) }
         ensures refused { result ≡ false → HasLooked IsTaken 1 (sights_of pass.old) (sights_of pass.new) }
         ensures runs { result ≡ true → WhereBegins (parties_of pass.old) (λ done. IsRunning done (parties_of pass.new)) }
@@ -339,7 +334,7 @@ impl<A: Allocator> Once<A> {
     fn end(&self, pass: &mut Pass<PlayedOnce>)
         requires own { IsPassOf self.now.stage pass.old }
         requires on { (counts_of pass.old).running ≡ 1 }
-        requires runs { (done : List Slot) × IsRunning done (parties_of pass.old) }
+        requires runs { (done : List (Slot ℕ)) × IsRunning done (parties_of pass.old) }
         ensures ended { HasDone ended pass.old pass.new }
         ensures left { WhereRuns (parties_of pass.old) (λ done. HasLeft done (parties_of pass.new)) }
     {

@@ -7,28 +7,28 @@ use Rattle.steps_events.specs.declared.patience.Patience.{Patience}
 use Rattle.steps_rw_reader.specs.declared.RwReaderPlace.{RwReaderPlace}
 use Rattle.steps_rw_reader.specs.declared.RwReaderPlace.TheVariants as places
 use Rattle.steps_rw_reader.specs.Table.{rw_reader_table, try_read_look, read_look}
-use Rattle.steps_rw_reader.specs.Law.{KeepsRwReader}
+use Rattle.tallies.specs.RwReaderScript.{rw_reader_model}
 use Rattle.playing.specs.Slots.{Slot, Parties}
 use Rattle.playing.specs.Plays.{Coming, IsAt, Leads, IsHolding}
 use Rattle.playing.specs.Tries.{Tried}
 use Rattle.playing.specs.Holding.{is_holding}
 
 -- a party of the pass has a hold of this kind
-abbrev pub has_hold : HoldKind → Parties → Bool
+abbrev pub has_hold : HoldKind → Parties ℕ → Bool
 has_hold kind p = is_holding {P = RwReaderPlace} rw_reader_table kind p
 
 -- a `TryReadLock` saw this, and goes on so
-abbrev pub HasLookedOnce : ℕ → List Slot → Parties → Type 0
-HasLookedOnce seen done p = Leads rw_reader_table KeepsRwReader calls.TryReadLock (try_read_look seen) None done p
+abbrev pub HasLookedOnce : ℕ → List (Slot ℕ) → Parties ℕ → Type 0
+HasLookedOnce seen done p = Leads rw_reader_model calls.TryReadLock (try_read_look seen) None done p
 
 -- a `ReadLock` saw this last, and goes on so
-abbrev pub HasLooked : Patience → ℕ → List Slot → Parties → Type 0
-HasLooked patience seen done p = Leads rw_reader_table KeepsRwReader calls.ReadLock (read_look patience seen) None done p
+abbrev pub HasLooked : Patience → ℕ → List (Slot ℕ) → Parties ℕ → Type 0
+HasLooked patience seen done p = Leads rw_reader_model calls.ReadLock (read_look patience seen) None done p
 
 -- what follows from where a `ReadLock` came to a try
-abbrev pub OnceReading : Coming → Parties → (Patience → List Slot → Type 0) → Type 0
-OnceReading = Tried rw_reader_table KeepsRwReader calls.ReadLock places.ReadLook
+abbrev pub OnceReading : Coming ℕ → Parties ℕ → (Patience → List (Slot ℕ) → Type 0) → Type 0
+OnceReading = Tried rw_reader_model calls.ReadLock places.ReadLook
 
 -- The party that had a hold of this kind has begun an `Unlock` and made its release, in a run that keeps the lock's law; and is to wake one.
-abbrev pub Unlocks : HoldKind → Parties → Parties → Type 0
-Unlocks kind p q = (done : List Slot) → IsHolding rw_reader_table KeepsRwReader kind done p → IsAt rw_reader_table KeepsRwReader calls.Unlock places.Wake thens.GoesOn None done q
+abbrev pub Unlocks : HoldKind → Parties ℕ → Parties ℕ → Type 0
+Unlocks kind p q = (done : List (Slot ℕ)) → IsHolding rw_reader_model kind done p → IsAt rw_reader_model calls.Unlock places.Wake thens.GoesOn None done q

@@ -3,8 +3,7 @@ use Rattle.std.specs.Prelude.{◌≡◌, ◌≢◌, ℕ, ◌+◌, ◌-◌, ◌^�
 use Rattle.steps_events.specs.declared.event.Call.{Call}
 use Rattle.steps_events.specs.declared.event.Answer.{Answer}
 use Rattle.steps_events.specs.declared.hold.HoldKind.{HoldKind}
-use Rattle.steps_rw_reader.specs.Table.{rw_reader_table}
-use Rattle.steps_rw_reader.specs.Law.{KeepsRwReader}
+use Rattle.tallies.specs.RwReaderScript.{rw_reader_model}
 use Rattle.passes.specs.declared.part.Part.{Part}
 use Rattle.passes.specs.declared.pass.Pass.{Pass}
 use Rattle.passes.specs.Parts.{IsWhole}
@@ -110,7 +109,7 @@ pub record HasUnlocked {G : Ghosts (RwReaderPass)} (hold : RwHold (RwReaderPass)
 -- There is a run of the model, which keeps the lock's law, in which a party of the pass has just been answered so by this call. It is
 -- the one call that the pass has made since, as a party that is new; and it has this hold now.
 abbrev pub HasPlayed : Call ℕ → Answer ℕ → Option HoldKind → RwReaderPass → RwReaderPass → Type 0
-HasPlayed call answer hold p q = HasCalled rw_reader_table KeepsRwReader call answer hold (parties_of p) (parties_of q)
+HasPlayed call answer hold p q = HasCalled rw_reader_model call answer hold (parties_of p) (parties_of q)
 
 -- the party that had this hold has let it go, and is to wake one
 abbrev pub HasPlayedUnlock : {G : Ghosts RwReaderPass} → RwHold RwReaderPass G → RwReaderPass → Type 0

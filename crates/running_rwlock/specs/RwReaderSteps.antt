@@ -5,8 +5,7 @@ use lib.ListN.{get_elem?}
 use Rattle.atomic_table.specs.Table.{State}
 use Rattle.steps_events.specs.declared.event.Word.TheVariants as words
 use Rattle.steps_rw_reader.specs.declared.RwReaderPlace.{RwReaderPlace}
-use Rattle.steps_rw_reader.specs.Table.{rw_reader_table}
-use Rattle.steps_rw_reader.specs.Law.{KeepsRwReader}
+use Rattle.tallies.specs.RwReaderScript.{rw_reader_model}
 use Rattle.passes.specs.declared.view.View.{View}
 use Rattle.passes.specs.Parts.{IsWhole}
 use Rattle.passes.specs.Views.{looked, missed, wrote, IsCounted}
@@ -20,11 +19,11 @@ use Rattle.tallies.specs.RwReaderRule.{Holds, RwReaderAgrees, both_holds, no_hol
 
 -- what a pass of a reader-preferring lock is in its model, and counts beside
 abbrev pub PlayedRwReader : Type 0
-PlayedRwReader = Played RwReaderScript RwReaderPlace Holds
+PlayedRwReader = Played RwReaderScript RwReaderPlace ℕ Holds
 
 -- the rule of a lock holds
 abbrev pub IsRuled : State (Unit {0}) (View PlayedRwReader) → Type 0
-IsRuled s = IsCounted (none_played no_holds) (both_played both_holds) (PlaysAndCounts rw_reader_table KeepsRwReader (words.State ∷ []) RwReaderAgrees) s
+IsRuled s = IsCounted (none_played no_holds) (both_played both_holds) (PlaysAndCounts rw_reader_model (words.State ∷ []) RwReaderAgrees) s
 
 -- whenever it does, no pass has a hold where another has a write hold
 abbrev pub NoHoldBesideAWriteHold : Type 0

@@ -15,8 +15,7 @@ use Rattle.playing.specs.Stages.{IsPassOf}
 use Rattle.steps_events.specs.declared.event.Call.{Call}
 use Rattle.steps_events.specs.declared.event.Answer.{Answer}
 use Rattle.steps_events.specs.declared.hold.HoldKind.{HoldKind}
-use Rattle.steps_rw_writer.specs.Table.{rw_writer_table}
-use Rattle.steps_rw_writer.specs.Law.{KeepsRwWriter}
+use Rattle.tallies.specs.RwWriterScript.{rw_writer_model}
 use Rattle.running_rwlock.specs.declared.hold.RwPass.{Ghosts}
 use Rattle.running_rwlock.specs.declared.hold.RwHold.{RwHold}
 use Rattle.running_rwlock.specs.declared.writer_preference.RwLockWriterPreference.{RwLockWriterPreference}
@@ -173,7 +172,7 @@ pub record HasUnlocked {G : Ghosts RwWriterPass} (hold : RwHold RwWriterPass G) 
 -- There is a run of the model, which keeps the lock's law, in which a party of the pass has just been answered so by this call. It is
 -- the one call that the pass has made since, as a party that is new; and it has this hold now.
 abbrev pub HasPlayed : Call ℕ → Answer ℕ → Option HoldKind → Pass PlayedRwWriter → Pass PlayedRwWriter → Type 0
-HasPlayed call answer hold p q = HasCalled rw_writer_table KeepsRwWriter call answer hold (parties_of p) (parties_of q)
+HasPlayed call answer hold p q = HasCalled rw_writer_model call answer hold (parties_of p) (parties_of q)
 
 -- so a `write_lock` that gave up, but where it has taken a mark away it is to wake one and then all
 abbrev pub HasPlayedGivingUp : Pass PlayedRwWriter → Pass PlayedRwWriter → Type 0

@@ -5,8 +5,7 @@ use lib.ListN.{get_elem?}
 use Rattle.atomic_table.specs.Table.{State}
 use Rattle.steps_events.specs.declared.event.Word.TheVariants as words
 use Rattle.steps_rw_writer.specs.declared.RwWriterPlace.{RwWriterPlace}
-use Rattle.steps_rw_writer.specs.Table.{rw_writer_table}
-use Rattle.steps_rw_writer.specs.Law.{KeepsRwWriter}
+use Rattle.tallies.specs.RwWriterScript.{rw_writer_model}
 use Rattle.passes.specs.declared.part.Part.{Part}
 use Rattle.passes.specs.declared.part.Sights.{Sights}
 use Rattle.passes.specs.declared.view.View.{View}
@@ -25,11 +24,11 @@ use Rattle.tallies.specs.RwWriterRule.{marked, nothing_marked, both_marked, RwWr
 
 -- what a pass of a writer-preferring lock is in its model, and counts beside
 abbrev pub PlayedRwWriter : Type 0
-PlayedRwWriter = Played RwWriterScript RwWriterPlace MarkedHolds
+PlayedRwWriter = Played RwWriterScript RwWriterPlace ℕ MarkedHolds
 
 -- the rule of a lock holds
 abbrev pub IsRuled : State (Unit {0}) (View PlayedRwWriter) → Type 0
-IsRuled s = IsCounted (none_played nothing_marked) (both_played both_marked) (PlaysAndCounts rw_writer_table KeepsRwWriter (words.State ∷ words.Counter ∷ []) RwWriterAgrees) s
+IsRuled s = IsCounted (none_played nothing_marked) (both_played both_marked) (PlaysAndCounts rw_writer_model (words.State ∷ words.Counter ∷ []) RwWriterAgrees) s
 
 -- whenever it does, no pass has a hold where another has a write hold
 abbrev pub NoHoldBesideTheWriter : Type 0

@@ -5,7 +5,7 @@ use playing::Entry;
 /// A `TryReadLock` begins.
 pub(crate) struct TryReadBegins;
 
-impl Entry for TryReadBegins {
+impl Entry<u64> for TryReadBegins {
     ghost use Rattle.steps_events.specs.declared.event.Call.TheVariants as calls;
     ghost use Rattle.playing.specs.Plays.{Beginning};
 
@@ -15,7 +15,7 @@ impl Entry for TryReadBegins {
 /// A `ReadLock` begins.
 pub(crate) struct ReadBegins;
 
-impl Entry for ReadBegins {
+impl Entry<u64> for ReadBegins {
     ghost use Rattle.steps_events.specs.declared.event.Call.TheVariants as calls;
     ghost use Rattle.playing.specs.Plays.{Beginning};
 
@@ -25,7 +25,7 @@ impl Entry for ReadBegins {
 /// A `TryWriteLock` begins.
 pub(crate) struct TryWriteBegins;
 
-impl Entry for TryWriteBegins {
+impl Entry<u64> for TryWriteBegins {
     ghost use Rattle.steps_events.specs.declared.event.Call.TheVariants as calls;
     ghost use Rattle.playing.specs.Plays.{Beginning};
 
@@ -35,7 +35,7 @@ impl Entry for TryWriteBegins {
 /// A `WriteLock` begins.
 pub(crate) struct WriteBegins;
 
-impl Entry for WriteBegins {
+impl Entry<u64> for WriteBegins {
     ghost use Rattle.steps_events.specs.declared.event.Call.TheVariants as calls;
     ghost use Rattle.playing.specs.Plays.{Beginning};
 
@@ -45,7 +45,7 @@ impl Entry for WriteBegins {
 /// An `Unlock` begins, by the party that has the hold.
 pub(crate) struct UnlockBegins;
 
-impl Entry for UnlockBegins {
+impl Entry<u64> for UnlockBegins {
     ghost use Rattle.steps_events.specs.declared.event.Call.TheVariants as calls;
     ghost use Rattle.playing.specs.Plays.{Continuing};
 

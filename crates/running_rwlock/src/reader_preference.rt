@@ -19,7 +19,7 @@ use tallies::{Held, PlayedRwReader, RwReaderScript, WaitWord};
 /// A lock of many readers or one writer. A reader enters wherever no writer is in, also where writers wait.
 #[derive(Drop)]
 pub struct RwLockReaderPreference<A: Allocator = Global> {
-    stage: Stage<(), RwReaderScript, RwReaderPlace, Held<()>, A>,
+    stage: Stage<(), RwReaderScript, RwReaderPlace, u64, Held<()>, A>,
     ghost one_word: { count_of stage ≡ 1 },
 }
 
@@ -94,8 +94,7 @@ impl<A: Allocator> RwLockReaderPreference<A> {
     ghost use Rattle.steps_events.specs.declared.hold.HoldKind.TheVariants as kinds;
     ghost use Rattle.steps_events.specs.declared.row.Intent.TheVariants as intents;
     ghost use Rattle.steps_rw_reader.specs.declared.RwReaderPlace.TheVariants as places;
-    ghost use Rattle.steps_rw_reader.specs.Table.{rw_reader_table};
-    ghost use Rattle.steps_rw_reader.specs.Law.{KeepsRwReader};
+    ghost use Rattle.tallies.specs.RwReaderScript.{rw_reader_model};
     ghost use Rattle.steps_rw_reader.specs.contracts.RwReaderPlace as place_row;
     ghost use Rattle.passes.specs.Answers.{IfSuccess, IfInterrupted, IsSuccess, RestsIfInterrupted, MayAnswerAbort, HasAsked, HasWoken};
     ghost use Rattle.passes.specs.Parts.{IsWhole};
@@ -276,18 +275,18 @@ impl<A: Allocator> RwLockReaderPreference<A> {
 
     /// Looks, and turns a read hold on while there is room. `Err` with a value at which there was none.
     #[inline(always)]
-    fn read_unless_shut<E: Entry, R: Wait>(
+    fn read_unless_shut<E: Entry<u64>, R: Wait>(
         &self,
         rt: &R,
         pass: &mut RwReaderPass,
     ) -> Result<(), u64>
         requires own { IsRwReaderPass self.now pass.old }
-        requires comes { MayTry rw_reader_table KeepsRwReader calls.ReadLock places.ReadLook E.coming (parties_of pass.old) }
+        requires comes { MayTry rw_reader_model calls.ReadLock places.ReadLook E.coming (parties_of pass.old) }
         ensures entered { IfOk result (λ _. HasEnteredToRead pass.old pass.new) }
         ensures refused { IfErr result (λ seen. WasRefusedAt IsShut seen 1 pass.old pass.new) }
         ensures once { IfErr result (λ _. IsWhole (part_of pass.old) → (sights_of pass.new).count ≡ (sights_of pass.old).count + 1) }
-        ensures granted { IfOk result (λ _. Tried rw_reader_table KeepsRwReader calls.ReadLock places.ReadLook E.coming (parties_of pass.old) (λ _ done. IsGranted rw_reader_table KeepsRwReader calls.ReadLock places.ReadLook (Some kinds.Read) done (parties_of pass.new))) }
-        ensures failed { IfErr result (λ seen. Tried rw_reader_table KeepsRwReader calls.ReadLock places.ReadLook E.coming (parties_of pass.old) (λ patience done. IsRefused rw_reader_table KeepsRwReader calls.ReadLock places.ReadLook patience seen done (parties_of pass.new))) }
+        ensures granted { IfOk result (λ _. Tried rw_reader_model calls.ReadLock places.ReadLook E.coming (parties_of pass.old) (λ _ done. IsGranted rw_reader_model calls.ReadLock places.ReadLook (Some kinds.Read) done (parties_of pass.new))) }
+        ensures failed { IfErr result (λ seen. Tried rw_reader_model calls.ReadLock places.ReadLook E.coming (parties_of pass.old) (λ patience done. IsRefused rw_reader_model calls.ReadLock places.ReadLook patience seen done (parties_of pass.new))) }
         ensures exact { IsAlone pass.old → is_ok result ≡ true }
     {
         let mut seen = self.look::<E>(pass);
@@ -390,14 +389,14 @@ impl<A: Allocator> RwLockReaderPreference<A> {
 
     /// Turns the write hold on by one exchange. `Err` with the value that it found, where that was not 0.
     #[inline(always)]
-    fn try_to_write<E: Entry>(&self, pass: &mut RwReaderPass) -> Result<(), u64>
+    fn try_to_write<E: Entry<u64>>(&self, pass: &mut RwReaderPass) -> Result<(), u64>
         requires own { IsRwReaderPass self.now pass.old }
-        requires may { (put : ℕ) → put ≡ 2 ^ 64 - 1 → MayStep rw_reader_table KeepsRwReader (words.State ∷ []) E.coming 0 (λ w. intents.Exchange w 0 put) (parties_of pass.old) }
+        requires may { (put : ℕ) → put ≡ 2 ^ 64 - 1 → MayStep rw_reader_model (words.State ∷ []) E.coming 0 (λ w. intents.Exchange w 0 put) (parties_of pass.old) }
         ensures entered { IfOk result (λ _. HasEnteredToWrite pass.old pass.new) }
         ensures at_once { IfOk result (λ _. HasWrittenAtOnce pass.old pass.new) }
         ensures refused { IfErr result (λ seen. HasSeenTaken pass.old pass.new × ((sights_of pass.new).last ≡ seen)) }
-        ensures went { IfOk result (λ _. Went rw_reader_table KeepsRwReader E.coming (parties_of pass.old) 0 (parties_of pass.new)) }
-        ensures missed { IfErr result (λ seen. (seen ≢ 0) × Went rw_reader_table KeepsRwReader E.coming (parties_of pass.old) seen (parties_of pass.new)) }
+        ensures went { IfOk result (λ _. Went rw_reader_model E.coming (parties_of pass.old) 0 (parties_of pass.new)) }
+        ensures missed { IfErr result (λ seen. (seen ≢ 0) × Went rw_reader_model E.coming (parties_of pass.old) seen (parties_of pass.new)) }
         ensures exact { IsAlone pass.old → is_ok result ≡ true }
     {
         match self.come_to_write::<E>(pass) {
@@ -433,11 +432,11 @@ impl<A: Allocator> RwLockReaderPreference<A> {
 
     /// A load.
     #[inline(always)]
-    fn look<E: Entry>(&self, pass: &mut RwReaderPass) -> u64
+    fn look<E: Entry<u64>>(&self, pass: &mut RwReaderPass) -> u64
         requires own { IsRwReaderPass self.now pass.old }
-        requires may { MayStep rw_reader_table KeepsRwReader (words.State ∷ []) E.coming 0 (λ w. intents.Load w) (parties_of pass.old) }
+        requires may { MayStep rw_reader_model (words.State ∷ []) E.coming 0 (λ w. intents.Load w) (parties_of pass.old) }
         ensures saw { HasSeen result pass.old pass.new }
-        ensures went { Went rw_reader_table KeepsRwReader E.coming (parties_of pass.old) result (parties_of pass.new) }
+        ensures went { Went rw_reader_model E.coming (parties_of pass.old) result (parties_of pass.new) }
         ensures exact { IsWhole (part_of pass.old) → result ≡ word_of (tally_of pass.old) }
     {
         self.stage.load::<E, Look>(pass, 0)
@@ -449,12 +448,12 @@ impl<A: Allocator> RwLockReaderPreference<A> {
         requires own { IsRwReaderPass self.now pass.old }
         requires room { seen < 2 ^ 64 - 2 }
         requires more { more ≡ seen + 1 }
-        requires may { MayStep rw_reader_table KeepsRwReader (words.State ∷ []) Going 0 (λ w. intents.Exchange w seen more) (parties_of pass.old) }
+        requires may { MayStep rw_reader_model (words.State ∷ []) Going 0 (λ w. intents.Exchange w seen more) (parties_of pass.old) }
         ensures done { result ≡ seen → HasDone read pass.old pass.new }
         ensures reads { result ≡ seen → reads_of pass.new ≡ reads_of pass.old + 1 }
         ensures writes { result ≡ seen → (writes_of pass.old ≡ 0) × (writes_of pass.new ≡ 0) }
         ensures failed { result ≢ seen → HasMissed seen result pass.old pass.new }
-        ensures went { Went rw_reader_table KeepsRwReader Going (parties_of pass.old) result (parties_of pass.new) }
+        ensures went { Went rw_reader_model Going (parties_of pass.old) result (parties_of pass.new) }
         ensures exact { IsWhole (part_of pass.old) → result ≡ word_of (tally_of pass.old) }
     {
         self.stage
@@ -476,14 +475,14 @@ impl<A: Allocator> RwLockReaderPreference<A> {
 
     /// An exchange of 0 for 2^64 - 1, and the value that it found.
     #[inline(always)]
-    fn come_to_write<E: Entry>(&self, pass: &mut RwReaderPass) -> u64
+    fn come_to_write<E: Entry<u64>>(&self, pass: &mut RwReaderPass) -> u64
         requires own { IsRwReaderPass self.now pass.old }
-        requires may { (put : ℕ) → put ≡ 2 ^ 64 - 1 → MayStep rw_reader_table KeepsRwReader (words.State ∷ []) E.coming 0 (λ w. intents.Exchange w 0 put) (parties_of pass.old) }
+        requires may { (put : ℕ) → put ≡ 2 ^ 64 - 1 → MayStep rw_reader_model (words.State ∷ []) E.coming 0 (λ w. intents.Exchange w 0 put) (parties_of pass.old) }
         ensures done { result ≡ 0 → HasDone (λ _. written) pass.old pass.new }
         ensures off { result ≡ 0 → (reads_of pass.old ≡ 0) × (writes_of pass.old ≡ 0) }
         ensures on { result ≡ 0 → (reads_of pass.new ≡ 0) × (writes_of pass.new ≡ 1) }
         ensures failed { result ≢ 0 → HasMissed 0 result pass.old pass.new }
-        ensures went { Went rw_reader_table KeepsRwReader E.coming (parties_of pass.old) result (parties_of pass.new) }
+        ensures went { Went rw_reader_model E.coming (parties_of pass.old) result (parties_of pass.new) }
         ensures exact { IsWhole (part_of pass.old) → result ≡ word_of (tally_of pass.old) }
     {
         self.stage
@@ -519,7 +518,7 @@ struct Reader<'l, A: Allocator> {
 }
 
 /// A look of `read_lock`, and its exchanges.
-impl<A: Allocator> Attempt<(), RwReaderScript, RwReaderPlace, Held<()>> for Reader<'_, A> {
+impl<A: Allocator> Attempt<(), RwReaderScript, RwReaderPlace, u64, Held<()>> for Reader<'_, A> {
     ghost use Rattle.std.specs.Prelude.{Some};
     ghost use Rattle.std.proofs.Common.{refl};
     ghost use Rattle.steps_events.specs.declared.event.Call.TheVariants as calls;
@@ -548,7 +547,7 @@ impl<A: Allocator> Attempt<(), RwReaderScript, RwReaderPlace, Held<()>> for Read
     ghost answers = { λ _ _ _. refl };
 
     #[inline(always)]
-    fn attempt<E: Entry, R: Wait>(&self, rt: &R, pass: &mut RwReaderPass) -> Result<(), u64> {
+    fn attempt<E: Entry<u64>, R: Wait>(&self, rt: &R, pass: &mut RwReaderPass) -> Result<(), u64> {
         self.lock.read_unless_shut::<E, R>(rt, pass)
     }
 }
@@ -560,7 +559,7 @@ struct Writer<'l, A: Allocator> {
 }
 
 /// An exchange of `write_lock`.
-impl<A: Allocator> Attempt<(), RwReaderScript, RwReaderPlace, Held<()>> for Writer<'_, A> {
+impl<A: Allocator> Attempt<(), RwReaderScript, RwReaderPlace, u64, Held<()>> for Writer<'_, A> {
     ghost use Rattle.std.specs.Prelude.{Some};
     ghost use Rattle.std.proofs.Common.{refl};
     ghost use Rattle.steps_events.specs.declared.event.Call.TheVariants as calls;
@@ -588,7 +587,7 @@ impl<A: Allocator> Attempt<(), RwReaderScript, RwReaderPlace, Held<()>> for Writ
     ghost answers = { λ _ _ _. refl };
 
     #[inline(always)]
-    fn attempt<E: Entry, R: Wait>(&self, rt: &R, pass: &mut RwReaderPass) -> Result<(), u64> {
+    fn attempt<E: Entry<u64>, R: Wait>(&self, rt: &R, pass: &mut RwReaderPass) -> Result<(), u64> {
         let _rt = rt;
         self.lock.try_to_write::<E>(pass)
     }

@@ -24,7 +24,7 @@ use tallies::{MarkedHolds, RwWriterScript, WaitWord};
 /// A lock of many readers or one writer. Where a writer waits it sets a mark, and no reader enters until the mark is taken away.
 #[derive(Drop)]
 pub struct RwLockWriterPreference<A: Allocator = Global> {
-    stage: Stage<(), RwWriterScript, RwWriterPlace, MarkedHolds, A>,
+    stage: Stage<(), RwWriterScript, RwWriterPlace, u64, MarkedHolds, A>,
     ghost two_words: { count_of stage ≡ 2 },
 }
 

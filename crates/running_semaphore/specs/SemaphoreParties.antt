@@ -9,8 +9,8 @@ use Rattle.steps_events.specs.declared.row.After.TheVariants as afters
 use Rattle.steps_events.specs.Rows.{within, refused}
 use Rattle.steps_semaphore.specs.declared.SemaphorePlace.{SemaphorePlace}
 use Rattle.steps_semaphore.specs.declared.SemaphorePlace.TheVariants as places
-use Rattle.steps_semaphore.specs.Table.{semaphore_table, try_look, look}
-use Rattle.steps_semaphore.specs.Law.{KeepsSemaphore}
+use Rattle.steps_semaphore.specs.Table.{try_look, look}
+use Rattle.tallies.specs.SemaphoreScript.{semaphore_model}
 use Rattle.playing.specs.Slots.{Slot, Parties}
 use Rattle.playing.specs.Plays.{Coming, ComesBy, Leads, HasEnded}
 
@@ -43,27 +43,27 @@ once_empty (Waiting patience) = within places.Look (refused patience 0)
 
 module _ (initial : ℕ) where
   -- a call of the pass that wants a permit comes so to its look
-  pub record MayWant (coming : Coming) (p : Parties) : Type 0 where
+  pub record MayWant (coming : Coming ℕ) (p : Parties ℕ) : Type 0 where
     pub wanting : Wanting
-    pub done : List Slot
-    pub comes : ComesBy (semaphore_table initial) (KeepsSemaphore initial) coming (call_of wanting) (look_of wanting) None done p
+    pub done : List (Slot ℕ)
+    pub comes : ComesBy (semaphore_model initial) coming (call_of wanting) (look_of wanting) None done p
 
   -- what follows from where it came to its look
-  abbrev pub OnceWanting : Coming → Parties → (Wanting → List Slot → Type 0) → Type 0
-  OnceWanting coming p Then = (wanting : Wanting) (done : List Slot) → ComesBy (semaphore_table initial) (KeepsSemaphore initial) coming (call_of wanting) (look_of wanting) None done p → Then wanting done
+  abbrev pub OnceWanting : Coming ℕ → Parties ℕ → (Wanting → List (Slot ℕ) → Type 0) → Type 0
+  OnceWanting coming p Then = (wanting : Wanting) (done : List (Slot ℕ)) → ComesBy (semaphore_model initial) coming (call_of wanting) (look_of wanting) None done p → Then wanting done
 
   -- it saw this last, and goes on so
-  abbrev pub HasLooked : Wanting → ℕ → List Slot → Parties → Type 0
-  HasLooked wanting seen done p = Leads (semaphore_table initial) (KeepsSemaphore initial) (call_of wanting) (once_seen wanting seen) None done p
+  abbrev pub HasLooked : Wanting → ℕ → List (Slot ℕ) → Parties ℕ → Type 0
+  HasLooked wanting seen done p = Leads (semaphore_model initial) (call_of wanting) (once_seen wanting seen) None done p
 
   -- it saw no permit
-  abbrev pub FoundNone : Wanting → List Slot → Parties → Type 0
-  FoundNone wanting done p = Leads (semaphore_table initial) (KeepsSemaphore initial) (call_of wanting) (once_empty wanting) None done p
+  abbrev pub FoundNone : Wanting → List (Slot ℕ) → Parties ℕ → Type 0
+  FoundNone wanting done p = Leads (semaphore_model initial) (call_of wanting) (once_empty wanting) None done p
 
   -- it took a permit
-  abbrev pub HasOne : Wanting → List Slot → Parties → Type 0
-  HasOne wanting done p = HasEnded (semaphore_table initial) (KeepsSemaphore initial) (call_of wanting) answers.Success None done p
+  abbrev pub HasOne : Wanting → List (Slot ℕ) → Parties ℕ → Type 0
+  HasOne wanting done p = HasEnded (semaphore_model initial) (call_of wanting) answers.Success None done p
 
   -- it took a permit, or saw none
-  abbrev pub HasWanted : Coming → Bool → Parties → Parties → Type 0
+  abbrev pub HasWanted : Coming ℕ → Bool → Parties ℕ → Parties ℕ → Type 0
   HasWanted coming took p q = OnceWanting coming p (λ wanting done. MatchBool took (HasOne wanting done q) (FoundNone wanting done q))

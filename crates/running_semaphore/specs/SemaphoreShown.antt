@@ -7,8 +7,7 @@ use Rattle.steps_events.specs.declared.event.Answer.TheVariants as answers
 use Rattle.steps_events.specs.declared.event.Then.TheVariants as thens
 use Rattle.steps_semaphore.specs.declared.SemaphorePlace.{SemaphorePlace}
 use Rattle.steps_semaphore.specs.declared.SemaphorePlace.TheVariants as places
-use Rattle.steps_semaphore.specs.Table.{semaphore_table}
-use Rattle.steps_semaphore.specs.Law.{KeepsSemaphore}
+use Rattle.tallies.specs.SemaphoreScript.{semaphore_model}
 use Rattle.passes.specs.declared.part.Part.{Part}
 use Rattle.passes.specs.declared.pass.Pass.{Pass}
 use Rattle.passes.specs.declared.wait.WaitResult.{WaitResult}
@@ -30,7 +29,7 @@ use Rattle.running_semaphore.specs.SemaphoreSteps.{took}
 
 -- the pass of a semaphore
 abbrev pub SemPass : Type 0
-SemPass = Pass (Played SemaphoreScript SemaphorePlace Permits)
+SemPass = Pass (Played SemaphoreScript SemaphorePlace ℕ Permits)
 
 abbrev pub IsSemPass : {A : Type 0} → Semaphore A → SemPass → Type 0
 IsSemPass s p = IsPassOf s.stage p
@@ -89,15 +88,15 @@ module _ (initial : ℕ) where
   -- There is a run of the model, which keeps the law of a semaphore of this initial value, in which a party of the pass has just been
   -- answered so by this call. It is the one call that the pass has made since, as a party that is new.
   abbrev pub HasPlayed : Call ℕ → Answer ℕ → SemPass → SemPass → Type 0
-  HasPlayed call answer p q = HasCalled (semaphore_table initial) (KeepsSemaphore initial) call answer None (parties_of p) (parties_of q)
+  HasPlayed call answer p q = HasCalled (semaphore_model initial) call answer None (parties_of p) (parties_of q)
 
   -- As a party that is new the pass has begun a `Post` of so many and added them, in a run that keeps the semaphore's law; and is to wake one.
-  abbrev pub Posts : ℕ → Parties → Parties → Type 0
-  Posts value p q = IsAt (semaphore_table initial) (KeepsSemaphore initial) (calls.Post value) places.Wake thens.GoesOn None (all_of p) q
+  abbrev pub Posts : ℕ → Parties ℕ → Parties ℕ → Type 0
+  Posts value p q = IsAt (semaphore_model initial) (calls.Post value) places.Wake thens.GoesOn None (all_of p) q
 
   abbrev pub HasPlayedPost : ℕ → SemPass → SemPass → Type 0
   HasPlayedPost value p q = Posts value (parties_of p) (parties_of q)
 
   -- it has made a `Wait` that took a permit, and then a `Post` of one
   abbrev pub HasPlayedBoth : SemPass → SemPass → Type 0
-  HasPlayedBoth p q = (held : Parties) × HasCalled (semaphore_table initial) (KeepsSemaphore initial) calls.Wait answers.Success None (parties_of p) held × Posts 1 held (parties_of q)
+  HasPlayedBoth p q = (held : Parties ℕ) × HasCalled (semaphore_model initial) calls.Wait answers.Success None (parties_of p) held × Posts 1 held (parties_of q)

@@ -19,7 +19,7 @@ use tallies::{Permits, PlayedSemaphore, SemaphoreScript, WaitWord};
 /// A counting semaphore.
 #[derive(Drop)]
 pub struct Semaphore<A: Allocator = Global> {
-    stage: Stage<u64, SemaphoreScript, SemaphorePlace, Permits, A>,
+    stage: Stage<u64, SemaphoreScript, SemaphorePlace, u64, Permits, A>,
     ghost one_word: { count_of stage ≡ 1 },
 }
 
@@ -70,7 +70,7 @@ impl Deed<u64, Permits> for Give {
 /// A `Value` begins.
 struct ValueBegins;
 
-impl Entry for ValueBegins {
+impl Entry<u64> for ValueBegins {
     ghost use Rattle.steps_events.specs.declared.event.Call.TheVariants as calls;
     ghost use Rattle.playing.specs.Plays.{Beginning};
 
@@ -80,7 +80,7 @@ impl Entry for ValueBegins {
 /// A `Post` begins, of as many as it adds.
 struct PostBegins;
 
-impl AddEntry for PostBegins {
+impl AddEntry<u64> for PostBegins {
     ghost use Rattle.steps_events.specs.declared.event.Call.TheVariants as calls;
     ghost use Rattle.playing.specs.Plays.{Beginning};
 
@@ -90,7 +90,7 @@ impl AddEntry for PostBegins {
 /// A `TryWait` begins.
 struct TryWaitBegins;
 
-impl Entry for TryWaitBegins {
+impl Entry<u64> for TryWaitBegins {
     ghost use Rattle.steps_events.specs.declared.event.Call.TheVariants as calls;
     ghost use Rattle.playing.specs.Plays.{Beginning};
 
@@ -100,7 +100,7 @@ impl Entry for TryWaitBegins {
 /// A `Wait` begins.
 struct WaitBegins;
 
-impl Entry for WaitBegins {
+impl Entry<u64> for WaitBegins {
     ghost use Rattle.steps_events.specs.declared.event.Call.TheVariants as calls;
     ghost use Rattle.playing.specs.Plays.{Beginning};
 
@@ -113,8 +113,7 @@ impl<A: Allocator> Semaphore<A> {
     ghost use Rattle.steps_events.specs.declared.event.Call.TheVariants as calls;
     ghost use Rattle.steps_events.specs.declared.event.Answer.TheVariants as answers;
     ghost use Rattle.steps_events.specs.declared.row.Intent.TheVariants as intents;
-    ghost use Rattle.steps_semaphore.specs.Table.{semaphore_table};
-    ghost use Rattle.steps_semaphore.specs.Law.{KeepsSemaphore};
+    ghost use Rattle.tallies.specs.SemaphoreScript.{semaphore_model};
     ghost use Rattle.passes.specs.Answers.{IfSuccess, IfInterrupted, IsSuccess, MayAnswerAbort, HasAsked, HasWoken};
     ghost use Rattle.passes.specs.Parts.{IsWhole};
     ghost use Rattle.passes.specs.Sights.{LooksOnceOrMisses};
@@ -269,11 +268,11 @@ impl<A: Allocator> Semaphore<A> {
 
     /// A load of the value.
     #[inline(always)]
-    fn look<E: Entry>(&self, pass: &mut SemPass) -> u64
+    fn look<E: Entry<u64>>(&self, pass: &mut SemPass) -> u64
         requires own { IsSemPass self.now pass.old }
-        requires may { MayStep (semaphore_table (initial_of self.now)) (KeepsSemaphore (initial_of self.now)) (words.State ∷ []) E.coming 0 (λ w. intents.Load w) (parties_of pass.old) }
+        requires may { MayStep (semaphore_model (initial_of self.now)) (words.State ∷ []) E.coming 0 (λ w. intents.Load w) (parties_of pass.old) }
         ensures saw { HasSeen result pass.old pass.new }
-        ensures went { Went (semaphore_table (initial_of self.now)) (KeepsSemaphore (initial_of self.now)) E.coming (parties_of pass.old) result (parties_of pass.new) }
+        ensures went { Went (semaphore_model (initial_of self.now)) E.coming (parties_of pass.old) result (parties_of pass.new) }
         ensures exact { IsWhole (part_of pass.old) → result ≡ worth_of pass.old }
         ensures enough { IsWhole (part_of pass.old) → taken_of pass.old ≤ given_of pass.old }
     {
@@ -285,10 +284,10 @@ impl<A: Allocator> Semaphore<A> {
     fn exchange(&self, pass: &mut SemPass, seen: u64, rest: u64) -> u64
         requires own { IsSemPass self.now pass.old }
         requires less { (0 < seen) × (rest ≡ seen - 1) }
-        requires may { MayStep (semaphore_table (initial_of self.now)) (KeepsSemaphore (initial_of self.now)) (words.State ∷ []) Going 0 (λ w. intents.Exchange w seen rest) (parties_of pass.old) }
+        requires may { MayStep (semaphore_model (initial_of self.now)) (words.State ∷ []) Going 0 (λ w. intents.Exchange w seen rest) (parties_of pass.old) }
         ensures done { result ≡ seen → HasDone took pass.old pass.new }
         ensures failed { result ≢ seen → HasMissed seen result pass.old pass.new }
-        ensures went { Went (semaphore_table (initial_of self.now)) (KeepsSemaphore (initial_of self.now)) Going (parties_of pass.old) result (parties_of pass.new) }
+        ensures went { Went (semaphore_model (initial_of self.now)) Going (parties_of pass.old) result (parties_of pass.new) }
         ensures exact { IsWhole (part_of pass.old) → result ≡ worth_of pass.old }
     {
         self.stage.exchange::<GoesOn, Take>(pass, 0, seen, rest)
@@ -306,7 +305,7 @@ impl<A: Allocator> Semaphore<A> {
 
     /// Looks, and takes a permit while there is one. False at a look that gave 0.
     #[inline(always)]
-    fn take<E: Entry, R: Wait>(&self, rt: &R, pass: &mut SemPass) -> bool
+    fn take<E: Entry<u64>, R: Wait>(&self, rt: &R, pass: &mut SemPass) -> bool
         requires own { IsSemPass self.now pass.old }
         requires comes { MayWant (initial_of self.now) E.coming (parties_of pass.old) }
         ensures takes { MatchBool result (HasTaken pass.old pass.new) (WasRefused IsEmpty 1 pass.old pass.new) }
@@ -340,7 +339,7 @@ impl<A: Allocator> Semaphore<A> {
 }
 
 /// A look of `wait`, and its exchanges.
-impl<A: Allocator> Attempt<u64, SemaphoreScript, SemaphorePlace, Permits> for Semaphore<A> {
+impl<A: Allocator> Attempt<u64, SemaphoreScript, SemaphorePlace, u64, Permits> for Semaphore<A> {
     ghost use Rattle.std.specs.Prelude.{None};
     ghost use Rattle.std.proofs.Common.{refl};
     ghost use Rattle.steps_events.specs.declared.event.Call.TheVariants as calls;
@@ -368,7 +367,7 @@ impl<A: Allocator> Attempt<u64, SemaphoreScript, SemaphorePlace, Permits> for Se
     ghost answers = { λ _ _ _. refl };
 
     #[inline(always)]
-    fn attempt<E: Entry, R: Wait>(&self, rt: &R, pass: &mut SemPass) -> Result<(), u64> {
+    fn attempt<E: Entry<u64>, R: Wait>(&self, rt: &R, pass: &mut SemPass) -> Result<(), u64> {
         if self.take::<E, R>(rt, pass) {
             Ok(())
         } else {

@@ -11,8 +11,8 @@ use Rattle.steps_events.specs.declared.row.Intent.{Intent}
 use Rattle.steps_events.specs.declared.row.Intent.TheVariants as intents
 use Rattle.steps_spin.specs.declared.SpinPlace.{SpinPlace}
 use Rattle.steps_spin.specs.declared.SpinPlace.TheVariants as places
-use Rattle.steps_spin.specs.Table.{spin_intent, spin_table}
-use Rattle.steps_spin.specs.Law.{KeepsSpin}
+use Rattle.steps_spin.specs.Table.{spin_intent}
+use Rattle.running_spin_lock.specs.SpinLawful.{spin_model}
 use Rattle.playing.specs.Slots.{Slot, Parties, all_of}
 use Rattle.playing.specs.Plays.{Coming, Going, Beginning, Continuing, ComesBy, IsHolding, Led, HasCalled, MayStep, Went}
 use Rattle.playing.proofs.Holding.{holding_told, holding_is}
@@ -20,23 +20,23 @@ use Rattle.running_spin_lock.specs.SpinParties.{IsWaiting, IsSpinning, IsGranted
 
 -- how the calls begin
 
-pub try_begins : (p : Parties) → ComesBy spin_table KeepsSpin (Beginning calls.TryLock) calls.TryLock places.TryLock None (all_of p) p
+pub try_begins : (p : Parties ℕ) → ComesBy spin_model (Beginning calls.TryLock) calls.TryLock places.TryLock None (all_of p) p
 try_begins p = (refl, record { may = record { begins = refl; free = refl; values = tt }; new = refl; others = refl })
 
-pub lock_begins : (call : Call ℕ) (p : Parties) → IsWaiting call → ComesBy spin_table KeepsSpin (Beginning call) call places.Lock None (all_of p) p
-lock_begins call p (inl is) = subst (λ c. ComesBy spin_table KeepsSpin (Beginning c) c places.Lock None (all_of p) p) (sym is) (refl, record { may = record { begins = refl; free = refl; values = tt }; new = refl; others = refl })
-lock_begins call p (inr is) = subst (λ c. ComesBy spin_table KeepsSpin (Beginning c) c places.Lock None (all_of p) p) (sym is) (refl, record { may = record { begins = refl; free = refl; values = tt }; new = refl; others = refl })
+pub lock_begins : (call : Call ℕ) (p : Parties ℕ) → IsWaiting call → ComesBy spin_model (Beginning call) call places.Lock None (all_of p) p
+lock_begins call p (inl is) = subst (λ c. ComesBy spin_model (Beginning c) c places.Lock None (all_of p) p) (sym is) (refl, record { may = record { begins = refl; free = refl; values = tt }; new = refl; others = refl })
+lock_begins call p (inr is) = subst (λ c. ComesBy spin_model (Beginning c) c places.Lock None (all_of p) p) (sym is) (refl, record { may = record { begins = refl; free = refl; values = tt }; new = refl; others = refl })
 
-pub unlock_begins : (done : List Slot) (p : Parties) → IsHolding spin_table KeepsSpin kinds.Write done p → ComesBy spin_table KeepsSpin (Continuing calls.Unlock) calls.Unlock places.Release (Some kinds.Write) done p
+pub unlock_begins : (done : List (Slot ℕ)) (p : Parties ℕ) → IsHolding spin_model kinds.Write done p → ComesBy spin_model (Continuing calls.Unlock) calls.Unlock places.Release (Some kinds.Write) done p
 unlock_begins done p holding = (refl, record { kind = kinds.Write; may = record { begins = refl; free = refl; values = tt }; kept = refl; holding = holding })
 
 -- the swap that the table has
 
-abbrev MaySwap : Coming → Parties → Type 0
-MaySwap way p = MayStep spin_table KeepsSpin (words.State ∷ []) way 0 (λ w. intents.Swap w 1) p
+abbrev MaySwap : Coming ℕ → Parties ℕ → Type 0
+MaySwap way p = MayStep spin_model (words.State ∷ []) way 0 (λ w. intents.Swap w 1) p
 
-may_swap : (way : Coming) (call : Call ℕ) (place : SpinPlace) (done : List Slot) (p : Parties) → ◌≡◌ {A = Intent ℕ} (spin_intent words.State place) (intents.Swap words.State 1) →
-    ComesBy spin_table KeepsSpin way call place None done p → MaySwap way p
+may_swap : (way : Coming ℕ) (call : Call ℕ) (place : SpinPlace) (done : List (Slot ℕ)) (p : Parties ℕ) → ◌≡◌ {A = Intent ℕ} (spin_intent words.State place) (intents.Swap words.State 1) →
+    ComesBy spin_model way call place None done p → MaySwap way p
 may_swap way call place done p intends comes = record {
   call = call;
   place = place;
@@ -49,13 +49,13 @@ may_swap way call place done p intends comes = record {
   on = refl;
 }
 
-pub may_try_lock : (p : Parties) → MaySwap (Beginning calls.TryLock) p
+pub may_try_lock : (p : Parties ℕ) → MaySwap (Beginning calls.TryLock) p
 may_try_lock p = may_swap _ calls.TryLock places.TryLock (all_of p) p refl (try_begins p)
 
-pub may_begin : (call : Call ℕ) (p : Parties) → IsWaiting call → MaySwap (Beginning call) p
+pub may_begin : (call : Call ℕ) (p : Parties ℕ) → IsWaiting call → MaySwap (Beginning call) p
 may_begin call p waits = may_swap _ call places.Lock (all_of p) p refl (lock_begins call p waits)
 
-pub may_spin : (call : Call ℕ) (done : List Slot) (p : Parties) → IsSpinning call done p → MaySwap Going p
+pub may_spin : (call : Call ℕ) (done : List (Slot ℕ)) (p : Parties ℕ) → IsSpinning call done p → MaySwap Going p
 may_spin call done p at = may_swap Going call places.Lock done p refl at
 
 -- it leaves a 1
@@ -65,57 +65,57 @@ one_stays (suc n) some one = omega (arith, one)
 
 -- where it leads
 
-refused : (found : ℕ) (p q : Parties) → found ≢ 0 → Led spin_table KeepsSpin calls.TryLock places.TryLock None found (all_of p) q → HasCalled spin_table KeepsSpin calls.TryLock answers.Interrupted None p q
+refused : (found : ℕ) (p q : Parties ℕ) → found ≢ 0 → Led spin_model calls.TryLock places.TryLock None found (all_of p) q → HasCalled spin_model calls.TryLock answers.Interrupted None p q
 refused zero p q miss led = absurd (miss refl)
 refused (suc n) p q miss led = rw (ne_eqb (suc n) 0 miss) at led
 
-pub try_ends : (free : Bool) (found : ℕ) (p q : Parties) → MatchBool free (found ≡ 0) (found ≢ 0) → Went spin_table KeepsSpin (Beginning calls.TryLock) p found q →
-    MatchBool free (HasCalled spin_table KeepsSpin calls.TryLock answers.Success (Some kinds.Write) p q) (HasCalled spin_table KeepsSpin calls.TryLock answers.Interrupted None p q)
-try_ends true found p q hit went = subst (λ n. Led spin_table KeepsSpin calls.TryLock places.TryLock None n (all_of p) q) hit (went calls.TryLock places.TryLock None (all_of p) (try_begins p))
+pub try_ends : (free : Bool) (found : ℕ) (p q : Parties ℕ) → MatchBool free (found ≡ 0) (found ≢ 0) → Went spin_model (Beginning calls.TryLock) p found q →
+    MatchBool free (HasCalled spin_model calls.TryLock answers.Success (Some kinds.Write) p q) (HasCalled spin_model calls.TryLock answers.Interrupted None p q)
+try_ends true found p q hit went = subst (λ n. Led spin_model calls.TryLock places.TryLock None n (all_of p) q) hit (went calls.TryLock places.TryLock None (all_of p) (try_begins p))
 try_ends false found p q miss went = refused found p q miss (went calls.TryLock places.TryLock None (all_of p) (try_begins p))
 
-led_granted : (call : Call ℕ) (done : List Slot) (q : Parties) → IsWaiting call → Led spin_table KeepsSpin call places.Lock None 0 done q → IsGranted call done q
-led_granted call done q (inl is) led = subst (λ c. IsGranted c done q) (sym is) (subst (λ c. Led spin_table KeepsSpin c places.Lock None 0 done q) is led)
-led_granted call done q (inr is) led = subst (λ c. IsGranted c done q) (sym is) (subst (λ c. Led spin_table KeepsSpin c places.Lock None 0 done q) is led)
+led_granted : (call : Call ℕ) (done : List (Slot ℕ)) (q : Parties ℕ) → IsWaiting call → Led spin_model call places.Lock None 0 done q → IsGranted call done q
+led_granted call done q (inl is) led = subst (λ c. IsGranted c done q) (sym is) (subst (λ c. Led spin_model c places.Lock None 0 done q) is led)
+led_granted call done q (inr is) led = subst (λ c. IsGranted c done q) (sym is) (subst (λ c. Led spin_model c places.Lock None 0 done q) is led)
 
-led_on : (call : Call ℕ) (found : ℕ) (done : List Slot) (q : Parties) → found ≢ 0 → Led spin_table KeepsSpin call places.Lock None found done q → IsSpinning call done q
+led_on : (call : Call ℕ) (found : ℕ) (done : List (Slot ℕ)) (q : Parties ℕ) → found ≢ 0 → Led spin_model call places.Lock None found done q → IsSpinning call done q
 led_on call zero done q miss led = absurd (miss refl)
 led_on call (suc n) done q miss led = rw (ne_eqb (suc n) 0 miss) at led
 
-pub lock_goes : (free : Bool) (way : Coming) (call : Call ℕ) (found : ℕ) (done : List Slot) (p q : Parties) → IsWaiting call → MatchBool free (found ≡ 0) (found ≢ 0) →
-    Went spin_table KeepsSpin way p found q → ComesBy spin_table KeepsSpin way call places.Lock None done p → MatchBool free (IsGranted call done q) (IsSpinning call done q)
+pub lock_goes : (free : Bool) (way : Coming ℕ) (call : Call ℕ) (found : ℕ) (done : List (Slot ℕ)) (p q : Parties ℕ) → IsWaiting call → MatchBool free (found ≡ 0) (found ≢ 0) →
+    Went spin_model way p found q → ComesBy spin_model way call places.Lock None done p → MatchBool free (IsGranted call done q) (IsSpinning call done q)
 lock_goes true way call found done p q waits hit went comes =
-    led_granted call done q waits (subst (λ n. Led spin_table KeepsSpin call places.Lock None n done q) hit (went call places.Lock None done comes))
+    led_granted call done q waits (subst (λ n. Led spin_model call places.Lock None n done q) hit (went call places.Lock None done comes))
 lock_goes false way call found done p q waits miss went comes = led_on call found done q miss (went call places.Lock None done comes)
 
 -- the first swap, and a further one
 
-pub first_goes : (free : Bool) (call : Call ℕ) (p q : Parties) → IsWaiting call → (found : ℕ) × MatchBool free (found ≡ 0) (found ≢ 0) × Went spin_table KeepsSpin (Beginning call) p found q →
+pub first_goes : (free : Bool) (call : Call ℕ) (p q : Parties ℕ) → IsWaiting call → (found : ℕ) × MatchBool free (found ≡ 0) (found ≢ 0) × Went spin_model (Beginning call) p found q →
     MatchBool free (IsGranted call (all_of p) q) (IsSpinning call (all_of p) q)
 first_goes free call p q waits t = lock_goes free (Beginning call) call t.0 (all_of p) p q waits t.1 t.2 (lock_begins call p waits)
 
-pub spin_goes : (free : Bool) (call : Call ℕ) (done : List Slot) (p q : Parties) → IsWaiting call → (found : ℕ) × MatchBool free (found ≡ 0) (found ≢ 0) × Went spin_table KeepsSpin Going p found q →
+pub spin_goes : (free : Bool) (call : Call ℕ) (done : List (Slot ℕ)) (p q : Parties ℕ) → IsWaiting call → (found : ℕ) × MatchBool free (found ≡ 0) (found ≢ 0) × Went spin_model Going p found q →
     IsSpinning call done p → MatchBool free (IsGranted call done q) (IsSpinning call done q)
 spin_goes free call done p q waits t at = lock_goes free Going call t.0 done p q waits t.1 t.2 at
 
 -- who was granted the lock has it
-pub granted_has : (call : Call ℕ) (done : List Slot) (q : Parties) → IsGranted call done q → HasLock q
-granted_has call done q ended = holding_is spin_table KeepsSpin kinds.Write done q ended.rests
+pub granted_has : (call : Call ℕ) (done : List (Slot ℕ)) (q : Parties ℕ) → IsGranted call done q → HasLock q
+granted_has call done q ended = holding_is spin_model kinds.Write done q ended.rests
 
 -- `Unlock`
 
-pub may_unlock : (p : Parties) → HasLock p → MayStep spin_table KeepsSpin (words.State ∷ []) (Continuing calls.Unlock) 0 (λ w. intents.Store w 0) p
+pub may_unlock : (p : Parties ℕ) → HasLock p → MayStep spin_model (words.State ∷ []) (Continuing calls.Unlock) 0 (λ w. intents.Store w 0) p
 may_unlock p has = record {
   call = calls.Unlock;
   place = places.Release;
   hold = Some kinds.Write;
   done = p.resting;
-  comes = unlock_begins p.resting p (holding_told spin_table KeepsSpin kinds.Write p has);
+  comes = unlock_begins p.resting p (holding_told spin_model kinds.Write p has);
   name = words.State;
   named = refl;
   intends = refl;
   on = refl;
 }
 
-pub unlocks : (p q : Parties) → Went spin_table KeepsSpin (Continuing calls.Unlock) p 0 q → Unlocks p q
+pub unlocks : (p q : Parties ℕ) → Went spin_model (Continuing calls.Unlock) p 0 q → Unlocks p q
 unlocks p q went = λ done holding. went calls.Unlock places.Release (Some kinds.Write) done (unlock_begins done p holding)

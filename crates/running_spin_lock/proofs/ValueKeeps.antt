@@ -21,9 +21,8 @@ use Rattle.steps_events.specs.declared.event.Call.TheVariants as calls
 use Rattle.steps_events.specs.declared.event.Event.{Event}
 use Rattle.steps_events.specs.declared.row.Intent.{Intent}
 use Rattle.steps_events.specs.declared.row.Intent.TheVariants as intents
-use Rattle.steps_events.specs.Integers.{u64_arithmetic}
-use Rattle.steps_events.specs.Tables.{Table}
 use Rattle.steps_events.specs.Runs.{IsPast}
+use Rattle.playing.specs.Models.{Model}
 use Rattle.playing.specs.declared.played.Played.{Played}
 use Rattle.playing.specs.Words.{effect}
 use Rattle.playing.specs.Plays.{Coming, Continuing, MayStep}
@@ -37,45 +36,45 @@ use Rattle.running_spin_lock.specs.ValueRule.{none_held, both_held, core_held, V
 use Rattle.running_spin_lock.specs.ValueSteps.{granted, released, Tried, Stored, is_vacant, has_vacant_slot}
 
 module _ {M Q : Type 0} where
-  pub held_add_up : IsTally {T = Played M Q Holds} none_held both_held core_held
+  pub held_add_up : IsTally {T = Played M Q ℕ Holds} none_held both_held core_held
   held_add_up = played_add_up no_holds both_holds (λ _. no_holds) holds_add_up
 
   -- the tallies of all passes but one
-  abbrev the_others : List (View (Played M Q Holds)) → ℕ → Played M Q Holds
+  abbrev the_others : List (View (Played M Q ℕ Holds)) → ℕ → Played M Q ℕ Holds
   the_others = others none_held both_held
 
-  module _ {P T : Type 0} (t : Table ℕ P) (Law : List (Event ℕ) → Type 0) where
-    abbrev IsKept : State (Option T) (View (Played M Q Holds)) → Type 0
-    IsKept = IsCounted none_held both_held (ValueAgrees t Law)
+  module _ {P T : Type 0} (m : Model ℕ P) where
+    abbrev IsKept : State (Option T) (View (Played M Q ℕ Holds)) → Type 0
+    IsKept = IsCounted none_held both_held (ValueAgrees m)
 
     -- the rule, with one pass apart
-    apart : (s : State (Option T) (View (Played M Q Holds))) (id : ℕ) (v : View (Played M Q Holds)) → IsKept s → get_elem? s.views id ≡ maybe.some v →
-        ValueAgrees t Law s.words s.homes (both_held v.tally (the_others s.views id))
-    apart s id v r at = subst (ValueAgrees t Law s.words s.homes) (sum_at none_held both_held core_held held_add_up s.views id v at) r.agree
+    apart : (s : State (Option T) (View (Played M Q ℕ Holds))) (id : ℕ) (v : View (Played M Q ℕ Holds)) → IsKept s → get_elem? s.views id ≡ maybe.some v →
+        ValueAgrees m s.words s.homes (both_held v.tally (the_others s.views id))
+    apart s id v r at = subst (ValueAgrees m s.words s.homes) (sum_at none_held both_held core_held held_add_up s.views id v at) r.agree
 
     -- the rule again, once that pass has another view
-    kept_again : (s : State (Option T) (View (Played M Q Holds))) (id : ℕ) (v w : View (Played M Q Holds)) → IsKept s → get_elem? s.views id ≡ maybe.some v → w.part ≡ v.part → 0 < v.part.share
-        → (words : List ℕ) (homes : List (maybe.Option (Option T))) → ValueAgrees t Law words homes (both_held w.tally (the_others s.views id))
+    kept_again : (s : State (Option T) (View (Played M Q ℕ Holds))) (id : ℕ) (v w : View (Played M Q ℕ Holds)) → IsKept s → get_elem? s.views id ≡ maybe.some v → w.part ≡ v.part → 0 < v.part.share
+        → (words : List ℕ) (homes : List (maybe.Option (Option T))) → ValueAgrees m words homes (both_held w.tally (the_others s.views id))
         → IsKept (record { words = words; homes = homes; views = set s.views id w })
     kept_again s id v w r at same alive words homes is = record {
-      agree = subst (ValueAgrees t Law words homes) (sym (sum_set none_held both_held core_held held_add_up s.views id v w at)) is;
+      agree = subst (ValueAgrees m words homes) (sym (sum_set none_held both_held core_held held_add_up s.views id v w at)) is;
       shared = shared_step s.views id v w at same alive r.shared;
     }
 
     -- A try makes 1 of 0, and leaves a 1.
-    pub tries : ((n : ℕ) (past : List (Event ℕ)) → IsPast u64_arithmetic t n past → Law past) → (slots id : ℕ) (see : Sights → Sights) (coming : Coming) (intent : Word → Intent ℕ) (f : ℕ → ℕ)
-        (me : Me (Option T) (View (Played M Q Holds))) → ((w : Word) (n : ℕ) → effect (intent w) n ≡ f n) → f 0 ≡ 1 → ((n : ℕ) → n ≢ 0 → n ≤ 1 → f n ≡ n) → me.1 ≡ [] → 0 < me.0.part.share
-        → MayStep t Law (words.State ∷ []) coming 0 intent me.0.tally.parties → Allows IsKept slots id me 0 f (Tried t Law see coming me)
+    pub tries : ((n : ℕ) (past : List (Event ℕ)) → IsPast m.arithmetic m.table n past → m.law past) → (slots id : ℕ) (see : Sights → Sights) (coming : Coming ℕ) (intent : Word → Intent ℕ) (f : ℕ → ℕ)
+        (me : Me (Option T) (View (Played M Q ℕ Holds))) → ((w : Word) (n : ℕ) → effect (intent w) n ≡ f n) → f 0 ≡ 1 → ((n : ℕ) → n ≢ 0 → n ≤ 1 → f n ≡ n) → me.1 ≡ [] → 0 < me.0.part.share
+        → MayStep m (words.State ∷ []) coming 0 intent me.0.tally.parties → Allows IsKept slots id me 0 f (Tried m see coming me)
     tries lawful slots id see coming intent f me leaves grants stays none alive may s r wide at fits =
-        let v : View (Played M Q Holds) = me.0 in let more : Played M Q Holds = the_others s.views id in let is = apart s id v r at in
+        let v : View (Played M Q ℕ Holds) = me.0 in let more : Played M Q ℕ Holds = the_others s.views id in let is = apart s id v r at in
         let word = is.1.held.word in let one = is.1.held.one in let long = is.1.held.one_word in
         let x : ℕ = get_or s.words 0 0 in let y : ℕ = f x in
-        let a = makes t Law (words.State ∷ []) lawful (tt, tt) coming s.words v.tally.parties more.parties 0 y x intent may (λ w. leaves w x) (λ w. refl) is.0 in
+        let a = makes m (words.State ∷ []) lawful (tt, tt) coming s.words v.tally.parties more.parties 0 y x intent may (λ w. leaves w x) (λ w. refl) is.0 in
         let put : get_or (set s.words 0 y) 0 0 ≡ y = get_or-set_same s.words 0 y 0 (omega (arith, long)) in
         dite (ℕ_discrete x 0)
         (λ free. let home = is.1.home (omega (arith, word, free)) in let b : T = home.0 in
         let is_1 : y ≡ 1 = ap f free ∙ grants in
-        let w : View (Played M Q Holds) = view_of v.part (stale v.sights) (played a.after (granted v.tally.counts)) in (
+        let w : View (Played M Q ℕ Holds) = view_of v.part (stale v.sights) (played a.after (granted v.tally.counts)) in (
           w,
           takes 0 (Some b),
           ap (λ hs. get_elem? hs 0) home.1,
@@ -96,7 +95,7 @@ module _ {M Q : Type 0} where
         ))
         (λ held.
         let is_x : y ≡ x = stays x held (omega (arith, word, one)) in
-        let w : View (Played M Q Holds) = view_of v.part (see v.sights) (played a.after v.tally.counts) in (
+        let w : View (Played M Q ℕ Holds) = view_of v.part (see v.sights) (played a.after v.tally.counts) in (
           w,
           keeps,
           tt,
@@ -112,21 +111,21 @@ module _ {M Q : Type 0} where
             went = a.went;
             free = λ hit. absurd (held hit);
             taken = λ _. (refl, refl);
-            alone = λ whole off. let none_else = ap (λ (t : Played M Q Holds). t.counts.holds) (alone none_held both_held core_held held_add_up s.views id v at whole r.shared) in
+            alone = λ whole off. let none_else = ap (λ (t : Played M Q ℕ Holds). t.counts.holds) (alone none_held both_held core_held held_add_up s.views id v at whole r.shared) in
                 absurd (held (omega (arith, word, off, none_else)));
           },
         ))
 
     -- A store of 0 by who has the value puts it home.
-    pub stores : ((n : ℕ) (past : List (Event ℕ)) → IsPast u64_arithmetic t n past → Law past) → (slots id : ℕ) (me : Me (Option T) (View (Played M Q Holds))) (b : T) → me.1 ≡ (0, Some b) ∷ []
-        → me.0.tally.counts.holds ≡ 1 → 0 < me.0.part.share → MayStep t Law (words.State ∷ []) (Continuing calls.Unlock) 0 (λ w. intents.Store w 0) me.0.tally.parties
-        → Allows IsKept slots id me 0 (λ _. 0) (λ _. Stored t Law me)
+    pub stores : ((n : ℕ) (past : List (Event ℕ)) → IsPast m.arithmetic m.table n past → m.law past) → (slots id : ℕ) (me : Me (Option T) (View (Played M Q ℕ Holds))) (b : T) → me.1 ≡ (0, Some b) ∷ []
+        → me.0.tally.counts.holds ≡ 1 → 0 < me.0.part.share → MayStep m (words.State ∷ []) (Continuing calls.Unlock) 0 (λ w. intents.Store w 0) me.0.tally.parties
+        → Allows IsKept slots id me 0 (λ _. 0) (λ _. Stored m me)
     stores lawful slots id me b carries on alive may s r wide at fits =
-        let v : View (Played M Q Holds) = me.0 in let more : Played M Q Holds = the_others s.views id in let is = apart s id v r at in
+        let v : View (Played M Q ℕ Holds) = me.0 in let more : Played M Q ℕ Holds = the_others s.views id in let is = apart s id v r at in
         let word = is.1.held.word in let one = is.1.held.one in let long = is.1.held.one_word in
-        let a = makes t Law (words.State ∷ []) lawful (tt, tt) (Continuing calls.Unlock) s.words v.tally.parties more.parties 0 0 0 (λ w. intents.Store w 0) may (λ w. refl) (λ w. refl) is.0 in
+        let a = makes m (words.State ∷ []) lawful (tt, tt) (Continuing calls.Unlock) s.words v.tally.parties more.parties 0 0 0 (λ w. intents.Store w 0) may (λ w. refl) (λ w. refl) is.0 in
         let out = is.1.out (omega (arith, one, on)) in
-        let w : View (Played M Q Holds) = view_of v.part (stale v.sights) (played a.after (released v.tally.counts)) in (
+        let w : View (Played M Q ℕ Holds) = view_of v.part (stale v.sights) (played a.after (released v.tally.counts)) in (
           w,
           gives,
           tt,
@@ -141,31 +140,31 @@ module _ {M Q : Type 0} where
           record { went = a.went; off = (on, refl); gave = ap rest carries },
         )
 
-    pub opens : ((n : ℕ) (past : List (Event ℕ)) → IsPast u64_arithmetic t n past → Law past) → 0 ≡ t.opening words.State → (x : T) (slots : List (Option T)) → slots ≡ Some x ∷ []
+    pub opens : ((n : ℕ) (past : List (Event ℕ)) → IsPast m.arithmetic m.table n past → m.law past) → 0 ≡ m.table.opening words.State → (x : T) (slots : List (Option T)) → slots ≡ Some x ∷ []
         → IsKept (opening (0 ∷ []) slots (first_view none_held))
     opens lawful free x slots is = subst (λ l. IsKept (opening (0 ∷ []) l (first_view none_held))) (sym is) (record {
       agree = (
-        opening_runs.opens t Law (words.State ∷ []) (0 ∷ []) lawful (free, tt),
+        opening_runs.opens m (words.State ∷ []) (0 ∷ []) lawful (free, tt),
         record { held = record { one_word = refl; word = refl; one = omega arith }; home = λ _. (x, refl); out = λ on. absurd (omega (arith, on)) },
       );
       shared = shared_first (first_view none_held) refl;
     })
 
     -- at the end the whole pass finds the value at home
-    pub closes : (words : List ℕ) (slots : List (Option T)) (id : ℕ) (v : View (Played M Q Holds)) → Final (Seen IsKept id v) words slots → IsWhole v.part → v.tally.counts.holds ≡ 0
+    pub closes : (words : List ℕ) (slots : List (Option T)) (id : ℕ) (v : View (Played M Q ℕ Holds)) → Final (Seen IsKept id v) words slots → IsWhole v.part → v.tally.counts.holds ≡ 0
         → (x : T) × (get_elem? slots 0 ≡ maybe.some (Some x))
     closes words slots id v final whole off =
         let s = final.0 in let r = final.1.0 in let at = final.1.1 in let is = apart s id v r at in
-        let none_else = ap (λ (t : Played M Q Holds). t.counts.holds) (alone none_held both_held core_held held_add_up s.views id v at whole r.shared) in
+        let none_else = ap (λ (t : Played M Q ℕ Holds). t.counts.holds) (alone none_held both_held core_held held_add_up s.views id v at whole r.shared) in
         let home = is.1.home (omega (arith, off, none_else)) in
         (home.0, final.4 0 (Some home.0) (ap (λ hs. get_elem? hs 0) home.1))
 
     -- two holds would be more than one
-    pub one_holder : (s : State (Option T) (View (Played M Q Holds))) → IsKept s → OneHolder T s
+    pub one_holder : (s : State (Option T) (View (Played M Q ℕ Holds))) → IsKept s → OneHolder T s
     one_holder s r = record {
       one = λ i j v w here there on also. dite (ℕ_discrete i j) (λ same. same)
           (λ differ. let two = sum_of_two none_held both_held core_held held_add_up s.views i j v w here there differ in
-          let sum = ap (λ (t : Played M Q Holds). t.counts.holds) two.1 in let one = r.agree.1.held.one in absurd (omega (arith, sum, one, on, also)));
+          let sum = ap (λ (t : Played M Q ℕ Holds). t.counts.holds) two.1 in let one = r.agree.1.held.one in absurd (omega (arith, sum, one, on, also)));
       out = λ i v here on. let is = apart s i v r here in let one = is.1.held.one in is.1.out (omega (arith, one, on));
     }
 

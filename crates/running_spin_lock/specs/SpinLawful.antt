@@ -2,10 +2,15 @@
 use Rattle.std.specs.Prelude.{ℕ, List}
 use Rattle.steps_events.specs.declared.event.Event.{Event}
 use Rattle.steps_events.specs.Integers.{u64_arithmetic}
+use Rattle.playing.specs.Models.{Model}
 use Rattle.steps_events.specs.Runs.{IsPast}
+use Rattle.steps_spin.specs.declared.SpinPlace.{SpinPlace}
 use Rattle.steps_spin.specs.Table.{spin_table}
 use Rattle.steps_spin.specs.Law.{KeepsSpin}
 use Rattle.steps_spin.proofs.Laws.{keeps_spin}
+
+abbrev pub spin_model : Model ℕ SpinPlace
+spin_model = record { arithmetic = u64_arithmetic; table = spin_table; law = KeepsSpin }
 
 -- every run keeps the spin lock's law
 pub spin_lawful : (parties : ℕ) (past : List (Event ℕ)) → IsPast u64_arithmetic spin_table parties past → KeepsSpin past

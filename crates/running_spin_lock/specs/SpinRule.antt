@@ -1,8 +1,7 @@
 -- What a pass of a spin lock knows, and what the rule over all of them says.
 use Rattle.passes.specs.declared.view.View.{View}
 use Rattle.steps_spin.specs.declared.SpinPlace.{SpinPlace}
-use Rattle.steps_spin.specs.Table.{spin_table}
-use Rattle.steps_spin.specs.Law.{KeepsSpin}
+use Rattle.running_spin_lock.specs.SpinLawful.{spin_model}
 use Rattle.playing.specs.declared.played.Played.{Played}
 use Rattle.tallies.specs.declared.mutex.Holds.{Holds}
 use Rattle.running_spin_lock.specs.declared.script.SpinScript.{SpinScript}
@@ -10,11 +9,11 @@ use Rattle.running_spin_lock.specs.ValueRule.{HasOneHolder}
 
 -- what a pass of a spin lock is in its model, and counts beside
 abbrev pub PlayedSpin : Type 0
-PlayedSpin = Played SpinScript SpinPlace Holds
+PlayedSpin = Played SpinScript SpinPlace ℕ Holds
 
 -- what it knows
 abbrev pub SpinView : Type 0
 SpinView = View PlayedSpin
 
 abbrev pub OneHolderAtMost : (T : Type 0) → Type 0
-OneHolderAtMost T = HasOneHolder SpinScript SpinPlace spin_table KeepsSpin T
+OneHolderAtMost T = HasOneHolder SpinScript SpinPlace spin_model T

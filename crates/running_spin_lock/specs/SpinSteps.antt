@@ -5,8 +5,7 @@ use Rattle.steps_events.specs.declared.event.Answer.{Answer}
 use Rattle.steps_events.specs.declared.event.Answer.TheVariants as answers
 use Rattle.steps_events.specs.declared.hold.HoldKind.{HoldKind}
 use Rattle.steps_events.specs.declared.hold.HoldKind.TheVariants as kinds
-use Rattle.steps_spin.specs.Table.{spin_table}
-use Rattle.steps_spin.specs.Law.{KeepsSpin}
+use Rattle.running_spin_lock.specs.SpinLawful.{spin_model}
 use Rattle.passes.specs.Sights.{seen}
 use Rattle.playing.specs.Slots.{Parties}
 use Rattle.playing.specs.Plays.{HasCalled}
@@ -23,7 +22,7 @@ SeesLocked v w = Sees (λ s. seen s 1) v w
 -- There is a run of the model, which keeps the spin lock's law, in which a party of the pass has just been answered so by this call. It is
 -- the one call that the pass has made since, as a party that is new; and it has this hold now.
 abbrev pub HasPlayed : Call ℕ → Answer ℕ → Option HoldKind → SpinView → SpinView → Type 0
-HasPlayed call answer hold v w = Plays spin_table KeepsSpin call answer hold v w
+HasPlayed call answer hold v w = Plays spin_model call answer hold v w
 
 -- the party that had the lock has begun an `Unlock`, stored 0 and was answered `Done`
 abbrev pub HasPlayedUnlock : SpinView → SpinView → Type 0
@@ -31,4 +30,4 @@ HasPlayedUnlock v w = Unlocks v.tally.parties w.tally.parties
 
 -- the pass has made this call, which was granted, and then, as that party, an `Unlock`
 abbrev pub HasPlayedBoth : Call ℕ → SpinView → SpinView → Type 0
-HasPlayedBoth call v w = (held : Parties) × HasCalled spin_table KeepsSpin call answers.Success (Some kinds.Write) v.tally.parties held × Unlocks held w.tally.parties
+HasPlayedBoth call v w = (held : Parties ℕ) × HasCalled spin_model call answers.Success (Some kinds.Write) v.tally.parties held × Unlocks held w.tally.parties

@@ -4,10 +4,9 @@ use mathlib.Core.Option as maybe
 use lib.ListN.{get_elem?}
 use Rattle.atomic_table.specs.Table.{State}
 use Rattle.steps_events.specs.declared.event.Word.TheVariants as words
-use Rattle.steps_events.specs.declared.event.Event.{Event}
-use Rattle.steps_events.specs.Tables.{Table}
 use Rattle.passes.specs.declared.view.View.{View}
 use Rattle.passes.specs.Views.{spent_view, IsCounted}
+use Rattle.playing.specs.Models.{Model}
 use Rattle.playing.specs.declared.played.Played.{Played}
 use Rattle.playing.specs.Passes.{none_played, both_played, core_played, PlaysAndCounts}
 use Rattle.tallies.specs.declared.mutex.Holds.{Holds}
@@ -31,30 +30,30 @@ module _ {T : Type 0} where
 
 module _ {M Q : Type 0} where
   -- what a pass knows that counts nothing, what two know, and what a copy keeps
-  abbrev pub none_held : Played M Q Holds
+  abbrev pub none_held : Played M Q ℕ Holds
   none_held = none_played no_holds
 
-  abbrev pub both_held : Played M Q Holds → Played M Q Holds → Played M Q Holds
+  abbrev pub both_held : Played M Q ℕ Holds → Played M Q ℕ Holds → Played M Q ℕ Holds
   both_held = both_played both_holds
 
-  abbrev pub core_held : Played M Q Holds → Played M Q Holds
+  abbrev pub core_held : Played M Q ℕ Holds → Played M Q ℕ Holds
   core_held = core_played (λ _. no_holds)
 
   -- the view of a pass, or a spent one while a guard has it
-  abbrev pub view_in : List (View (Played M Q Holds)) → View (Played M Q Holds)
+  abbrev pub view_in : List (View (Played M Q ℕ Holds)) → View (Played M Q ℕ Holds)
   view_in [] = spent_view none_held
   view_in (v ∷ views) = v
 
   -- the word is that of a run of the model, in which the passes are parties, and the value is guarded
-  abbrev pub ValueAgrees : {P T : Type 0} → Table ℕ P → (List (Event ℕ) → Type 0) → List ℕ → List (maybe.Option (Option T)) → Played M Q Holds → Type 0
-  ValueAgrees t Law = PlaysAndCounts t Law (words.State ∷ []) IsGuarding
+  abbrev pub ValueAgrees : {P T : Type 0} → Model ℕ P → List ℕ → List (maybe.Option (Option T)) → Played M Q ℕ Holds → Type 0
+  ValueAgrees m = PlaysAndCounts m (words.State ∷ []) IsGuarding
 
   -- no two passes have a hold, and where one has, the value is out of its slot
-  pub record OneHolder (T : Type 0) (s : State (Option T) (View (Played M Q Holds))) : Type 0 where
-    pub one : (i j : ℕ) (v w : View (Played M Q Holds)) → get_elem? s.views i ≡ maybe.some v → get_elem? s.views j ≡ maybe.some w →
+  pub record OneHolder (T : Type 0) (s : State (Option T) (View (Played M Q ℕ Holds))) : Type 0 where
+    pub one : (i j : ℕ) (v w : View (Played M Q ℕ Holds)) → get_elem? s.views i ≡ maybe.some v → get_elem? s.views j ≡ maybe.some w →
         v.tally.counts.holds ≡ 1 → w.tally.counts.holds ≡ 1 → i ≡ j
-    pub out : (i : ℕ) (v : View (Played M Q Holds)) → get_elem? s.views i ≡ maybe.some v → v.tally.counts.holds ≡ 1 → IsOut s.homes
+    pub out : (i : ℕ) (v : View (Played M Q ℕ Holds)) → get_elem? s.views i ≡ maybe.some v → v.tally.counts.holds ≡ 1 → IsOut s.homes
 
 -- so it is whenever the rule holds
-abbrev pub HasOneHolder : {P : Type 0} → (M Q : Type 0) → Table ℕ P → (List (Event ℕ) → Type 0) → (T : Type 0) → Type 0
-HasOneHolder M Q t Law T = (s : State (Option T) (View (Played M Q Holds))) → IsCounted none_held both_held (ValueAgrees t Law) s → OneHolder T s
+abbrev pub HasOneHolder : {P : Type 0} → (M Q : Type 0) → Model ℕ P → (T : Type 0) → Type 0
+HasOneHolder M Q m T = (s : State (Option T) (View (Played M Q ℕ Holds))) → IsCounted none_held both_held (ValueAgrees m) s → OneHolder T s

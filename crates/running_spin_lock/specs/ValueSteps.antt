@@ -5,14 +5,13 @@ use Rattle.atomic_table.specs.Table.{Me}
 use Rattle.steps_events.specs.declared.event.Call.{Call}
 use Rattle.steps_events.specs.declared.event.Call.TheVariants as calls
 use Rattle.steps_events.specs.declared.event.Answer.{Answer}
-use Rattle.steps_events.specs.declared.event.Event.{Event}
 use Rattle.steps_events.specs.declared.hold.HoldKind.{HoldKind}
-use Rattle.steps_events.specs.Tables.{Table}
 use Rattle.passes.specs.declared.part.Sights.{Sights}
 use Rattle.passes.specs.declared.view.View.{View}
 use Rattle.passes.specs.Parts.{IsWhole}
 use Rattle.passes.specs.Sights.{HasOnlyRead, HasWritten}
 use Rattle.passes.specs.Views.{view_of, wrote}
+use Rattle.playing.specs.Models.{Model}
 use Rattle.playing.specs.declared.played.Played.{Played}
 use Rattle.playing.specs.Plays.{Coming, Continuing, HasCalled, Went}
 use Rattle.playing.specs.Passes.{counted_in}
@@ -58,53 +57,53 @@ module _ {M Q : Type 0} where
   -- One step.
 
   -- the hold, which was off, is on by one more grant, and nothing else changed that the pass counts or saw
-  abbrev pub Locks : View (Played M Q Holds) → View (Played M Q Holds) → Type 0
+  abbrev pub Locks : View (Played M Q ℕ Holds) → View (Played M Q ℕ Holds) → Type 0
   Locks v w = (v.tally.counts.holds ≡ 0) × (counted_in w ≡ locked (counted_in v))
 
   -- the hold, which was on, is off, and nothing else changed so
-  abbrev pub Lets : View (Played M Q Holds) → View (Played M Q Holds) → Type 0
+  abbrev pub Lets : View (Played M Q ℕ Holds) → View (Played M Q ℕ Holds) → Type 0
   Lets v w = (v.tally.counts.holds ≡ 1) × (counted_in w ≡ unlocked (counted_in v))
 
   -- it was seen locked, and nothing else changed so
-  abbrev pub Sees : (Sights → Sights) → View (Played M Q Holds) → View (Played M Q Holds) → Type 0
+  abbrev pub Sees : (Sights → Sights) → View (Played M Q ℕ Holds) → View (Played M Q ℕ Holds) → Type 0
   Sees see v w = counted_in w ≡ saw_taken see (counted_in v)
 
   -- Several steps.
 
   -- the hold, which was off, is on by one more grant, and nothing else changed but what was seen on the way
-  pub record Enters (v w : View (Played M Q Holds)) : Type 0 where
+  pub record Enters (v w : View (Played M Q ℕ Holds)) : Type 0 where
     pub off : v.tally.counts.holds ≡ 0
     pub on : w.tally.counts ≡ granted v.tally.counts
     pub part : w.part ≡ v.part
     pub saw : HasWritten v.sights w.sights
 
   -- nothing was counted, and nothing changed but what was seen
-  pub record OnlySees (v w : View (Played M Q Holds)) : Type 0 where
+  pub record OnlySees (v w : View (Played M Q ℕ Holds)) : Type 0 where
     pub counts : w.tally.counts ≡ v.tally.counts
     pub part : w.part ≡ v.part
     pub saw : HasOnlyRead v.sights w.sights
 
   -- The steps of a table, which keeps a law.
-  module _ {P : Type 0} (t : Table ℕ P) (Law : List (Event ℕ) → Type 0) where
+  module _ {P : Type 0} (m : Model ℕ P) where
     -- a try that the table has, to which the pass came so, found the lock free, or not
-    abbrev pub Tries : Coming → Bool → View (Played M Q Holds) → View (Played M Q Holds) → Type 0
-    Tries coming free v w = (found : ℕ) × MatchBool free (found ≡ 0) (found ≢ 0) × Went t Law coming v.tally.parties found w.tally.parties
+    abbrev pub Tries : Coming ℕ → Bool → View (Played M Q ℕ Holds) → View (Played M Q ℕ Holds) → Type 0
+    Tries coming free v w = (found : ℕ) × MatchBool free (found ≡ 0) (found ≢ 0) × Went m coming v.tally.parties found w.tally.parties
 
     -- A try takes the slot with the value where it found 0; else this is seen of it. Where no other pass is left, only the pass's own hold
     -- can be on.
-    pub record Tried {T : Type 0} (see : Sights → Sights) (coming : Coming) (me : Me (Option T) (View (Played M Q Holds))) (found : ℕ) (after : Me (Option T) (View (Played M Q Holds))) : Type 0 where
-      pub went : Went t Law coming me.0.tally.parties found after.0.tally.parties
+    pub record Tried {T : Type 0} (see : Sights → Sights) (coming : Coming ℕ) (me : Me (Option T) (View (Played M Q ℕ Holds))) (found : ℕ) (after : Me (Option T) (View (Played M Q ℕ Holds))) : Type 0 where
+      pub went : Went m coming me.0.tally.parties found after.0.tally.parties
       pub free : found ≡ 0 → Locks me.0 after.0 × HasValue after.1
       pub taken : found ≢ 0 → Sees see me.0 after.0 × (after.1 ≡ me.1)
       pub alone : IsWhole me.0.part → me.0.tally.counts.holds ≡ 0 → found ≡ 0
 
     -- a store of 0 by the seat that has the value gives its slot back
-    pub record Stored {T : Type 0} (me after : Me (Option T) (View (Played M Q Holds))) : Type 0 where
-      pub went : Went t Law (Continuing calls.Unlock) me.0.tally.parties 0 after.0.tally.parties
+    pub record Stored {T : Type 0} (me after : Me (Option T) (View (Played M Q ℕ Holds))) : Type 0 where
+      pub went : Went m (Continuing calls.Unlock) me.0.tally.parties 0 after.0.tally.parties
       pub off : Lets me.0 after.0
       pub gave : after.1 ≡ []
 
     -- There is a run of the model, which keeps its law, in which a party of the pass has just been answered so by this call. It is the one
     -- call that the pass has made since, as a party that is new; and it has this hold now.
-    abbrev pub Plays : Call ℕ → Answer ℕ → Option HoldKind → View (Played M Q Holds) → View (Played M Q Holds) → Type 0
-    Plays call answer hold v w = HasCalled t Law call answer hold v.tally.parties w.tally.parties
+    abbrev pub Plays : Call ℕ → Answer ℕ → Option HoldKind → View (Played M Q ℕ Holds) → View (Played M Q ℕ Holds) → Type 0
+    Plays call answer hold v w = HasCalled m call answer hold v.tally.parties w.tally.parties

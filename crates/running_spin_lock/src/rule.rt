@@ -15,9 +15,9 @@ pub struct ValueRule<M, P> {
     at: PhantomData<P>,
 }
 
-impl<T, P, M: Script<(), P>> TableRule<Option<T>, View<Played<M, P, Holds>>, ()>
+impl<T, P, M: Script<(), P, u64>> TableRule<Option<T>, View<Played<M, P, u64, Holds>>, ()>
     for ValueRule<M, P> {
-    ghost holds = { λ key. IsCounted none_held both_held (ValueAgrees (M.table key) (M.law key)) };
+    ghost holds = { λ key. IsCounted none_held both_held (ValueAgrees (M.model key)) };
 
     ghost first = { λ _. first_view none_held };
 }

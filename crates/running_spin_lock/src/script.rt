@@ -7,16 +7,12 @@ use tallies::Holds;
 /// The model that a spin lock plays: its one word is the lock's.
 pub struct SpinScript;
 
-impl Script<(), SpinPlace> for SpinScript {
+impl Script<(), SpinPlace, u64> for SpinScript {
     ghost use Rattle.std.specs.Prelude.{[], ◌∷◌};
     ghost use Rattle.steps_events.specs.declared.event.Word.TheVariants as words;
-    ghost use Rattle.steps_spin.specs.Table.{spin_table};
-    ghost use Rattle.steps_spin.specs.Law.{KeepsSpin};
-    ghost use Rattle.running_spin_lock.specs.SpinLawful.{spin_lawful};
+    ghost use Rattle.running_spin_lock.specs.SpinLawful.{spin_model, spin_lawful};
 
-    ghost table = { λ _. spin_table };
-
-    ghost law = { λ _. KeepsSpin };
+    ghost model = { λ _. spin_model };
 
     ghost lawful = { λ _. spin_lawful };
 
@@ -29,4 +25,4 @@ impl Script<(), SpinPlace> for SpinScript {
 }
 
 /// What a pass of a spin lock is in its model, and counts beside.
-pub type PlayedSpin = Played<SpinScript, SpinPlace, Holds>;
+pub type PlayedSpin = Played<SpinScript, SpinPlace, u64, Holds>;

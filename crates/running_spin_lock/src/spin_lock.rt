@@ -6,8 +6,7 @@ ghost use Rattle.steps_events.specs.declared.event.Call.TheVariants as calls;
 ghost use Rattle.steps_events.specs.declared.event.Answer.TheVariants as answers;
 ghost use Rattle.steps_events.specs.declared.hold.HoldKind.TheVariants as kinds;
 ghost use Rattle.steps_events.specs.declared.row.Intent.TheVariants as intents;
-ghost use Rattle.steps_spin.specs.Table.{spin_table};
-ghost use Rattle.steps_spin.specs.Law.{KeepsSpin};
+ghost use Rattle.running_spin_lock.specs.SpinLawful.{spin_model};
 ghost use Rattle.passes.specs.Parts.{IsWhole};
 ghost use Rattle.passes.specs.Sights.{seen};
 ghost use Rattle.passes.specs.Views.{first_view};
@@ -46,21 +45,21 @@ struct Swap<E> {
     by: PhantomData<E>,
 }
 
-impl<T, E: Entry> Play<Option<T>, View<PlayedSpin>> for Swap<E> {
-    ghost then = { λ _ me found after. Tried spin_table KeepsSpin (λ s. seen s 1) E.coming me found after };
+impl<T, E: Entry<u64>> Play<Option<T>, View<PlayedSpin>> for Swap<E> {
+    ghost then = { λ _ me found after. Tried spin_model (λ s. seen s 1) E.coming me found after };
 }
 
 /// A store of 0.
 struct Release;
 
 impl<T> Play<Option<T>, View<PlayedSpin>> for Release {
-    ghost then = { λ _ me _ after. Stored spin_table KeepsSpin me after };
+    ghost then = { λ _ me _ after. Stored spin_model me after };
 }
 
 /// A `TryLock` begins.
 struct TryLockBegins;
 
-impl Entry for TryLockBegins {
+impl Entry<u64> for TryLockBegins {
     ghost coming = { Beginning calls.TryLock };
 }
 
@@ -196,15 +195,15 @@ impl<T, A: Allocator> SpinLock<T, A> {
 
     /// A swap of 1, and whether it found 0. Then the value is out with the seat.
     #[inline(always)]
-    fn swap<E: Entry>(&self, seat: &mut Seat<Option<T>, View<PlayedSpin>>) -> bool
+    fn swap<E: Entry<u64>>(&self, seat: &mut Seat<Option<T>, View<PlayedSpin>>) -> bool
         requires own { seat.old.table_id ≡ id_of self.now }
         requires no_slot { seat.old.me.1 ≡ [] }
         requires alive { 0 < seat.old.me.0.part.share }
-        requires may { MayStep spin_table KeepsSpin (words.State ∷ []) E.coming 0 (λ w. intents.Swap w 1) seat.old.me.0.tally.parties }
+        requires may { MayStep spin_model (words.State ∷ []) E.coming 0 (λ w. intents.Swap w 1) seat.old.me.0.tally.parties }
         ensures same { (seat.new.table_id ≡ seat.old.table_id) × (seat.new.id ≡ seat.old.id) }
         ensures locked { MatchBool result (Locks seat.old.me.0 seat.new.me.0) (SeesLocked seat.old.me.0 seat.new.me.0) }
         ensures slot { MatchBool result (HasValue seat.new.me.1) (seat.new.me.1 ≡ []) }
-        ensures tried { Tries spin_table KeepsSpin E.coming result seat.old.me.0 seat.new.me.0 }
+        ensures tried { Tries spin_model E.coming result seat.old.me.0 seat.new.me.0 }
         ensures exact { IsWhole seat.old.me.0.part → seat.old.me.0.tally.counts.holds ≡ 0 → result ≡ true }
     {
         let shared = &self.table.shared;
@@ -251,11 +250,11 @@ impl<T, A: Allocator> SpinLock<T, A> {
         requires own { seat.old.table_id ≡ id_of self.now }
         requires no_slot { seat.old.me.1 ≡ [] }
         requires alive { 0 < seat.old.me.0.part.share }
-        requires at { (done : List Slot) × IsSpinning C.call done seat.old.me.0.tally.parties }
+        requires at { (done : List (Slot ℕ)) × IsSpinning C.call done seat.old.me.0.tally.parties }
         ensures same { (seat.new.table_id ≡ seat.old.table_id) × (seat.new.id ≡ seat.old.id) }
         ensures entered { Enters seat.old.me.0 seat.new.me.0 }
         ensures took { HasValue seat.new.me.1 }
-        ensures over { (done : List Slot) → IsSpinning C.call done seat.old.me.0.tally.parties → IsGranted C.call done seat.new.me.0.tally.parties }
+        ensures over { (done : List (Slot ℕ)) → IsSpinning C.call done seat.old.me.0.tally.parties → IsGranted C.call done seat.new.me.0.tally.parties }
     {
         for _ in rt.forever() {
             spin_loop();

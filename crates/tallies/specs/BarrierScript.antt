@@ -3,10 +3,15 @@ use Rattle.std.proofs.Common.{arith}
 use Rattle.std.specs.Prelude.{ℕ, ◌%◌, ◌^◌, List}
 use Rattle.steps_events.specs.declared.event.Event.{Event}
 use Rattle.steps_events.specs.Integers.{u64_arithmetic}
+use Rattle.playing.specs.Models.{Model}
 use Rattle.steps_events.specs.Runs.{IsPast}
+use Rattle.steps_barrier.specs.declared.BarrierPlace.{BarrierPlace}
 use Rattle.steps_barrier.specs.Table.{barrier_table}
 use Rattle.steps_barrier.specs.Law.{KeepsBarrier}
 use Rattle.steps_barrier.proofs.Laws.{keeps_barrier}
+
+abbrev pub barrier_model : ℕ → Model ℕ BarrierPlace
+barrier_model n = record { arithmetic = u64_arithmetic; table = barrier_table n; law = KeepsBarrier n }
 
 -- every run keeps the barrier's law, for whatever number of waiters
 pub barrier_lawful : (key parties : ℕ) (past : List (Event ℕ)) → IsPast u64_arithmetic (barrier_table (key % 2 ^ 32)) parties past → KeepsBarrier (key % 2 ^ 32) past

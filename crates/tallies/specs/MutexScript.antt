@@ -2,10 +2,15 @@
 use Rattle.std.specs.Prelude.{ℕ, List}
 use Rattle.steps_events.specs.declared.event.Event.{Event}
 use Rattle.steps_events.specs.Integers.{u64_arithmetic}
+use Rattle.playing.specs.Models.{Model}
 use Rattle.steps_events.specs.Runs.{IsPast}
+use Rattle.steps_mutex.specs.declared.MutexPlace.{MutexPlace}
 use Rattle.steps_mutex.specs.Table.{mutex_table}
 use Rattle.steps_mutex.specs.Law.{KeepsMutex}
 use Rattle.steps_mutex.proofs.Laws.{keeps_mutex}
+
+abbrev pub mutex_model : Model ℕ MutexPlace
+mutex_model = record { arithmetic = u64_arithmetic; table = mutex_table; law = KeepsMutex }
 
 -- every run keeps the mutex's law
 pub mutex_lawful : (parties : ℕ) (past : List (Event ℕ)) → IsPast u64_arithmetic mutex_table parties past → KeepsMutex past

@@ -2,10 +2,15 @@
 use Rattle.std.specs.Prelude.{ℕ, List}
 use Rattle.steps_events.specs.declared.event.Event.{Event}
 use Rattle.steps_events.specs.Integers.{u64_arithmetic}
+use Rattle.playing.specs.Models.{Model}
 use Rattle.steps_events.specs.Runs.{IsPast}
+use Rattle.steps_rw_reader.specs.declared.RwReaderPlace.{RwReaderPlace}
 use Rattle.steps_rw_reader.specs.Table.{rw_reader_table}
 use Rattle.steps_rw_reader.specs.Law.{KeepsRwReader}
 use Rattle.steps_rw_reader.proofs.AnswerLaws.{keeps_rw_reader}
+
+abbrev pub rw_reader_model : Model ℕ RwReaderPlace
+rw_reader_model = record { arithmetic = u64_arithmetic; table = rw_reader_table; law = KeepsRwReader }
 
 -- every run keeps the lock's law
 pub rw_reader_lawful : (parties : ℕ) (past : List (Event ℕ)) → IsPast u64_arithmetic rw_reader_table parties past → KeepsRwReader past

@@ -5,12 +5,16 @@ use Rattle.steps_events.specs.declared.event.Word.TheVariants as words
 use Rattle.steps_events.specs.declared.event.Wake.TheVariants as wakes
 use Rattle.steps_events.specs.declared.event.Event.{Event}
 use Rattle.steps_events.specs.Integers.{u64_arithmetic}
+use Rattle.playing.specs.Models.{Model}
 use Rattle.steps_events.specs.Runs.{IsPast}
 use Rattle.steps_rw_writer.specs.declared.RwWriterPlace.{RwWriterPlace}
 use Rattle.steps_rw_writer.specs.declared.RwWriterPlace.TheVariants as places
 use Rattle.steps_rw_writer.specs.Table.{rw_writer_woken, rw_writer_table}
 use Rattle.steps_rw_writer.specs.Law.{KeepsRwWriter}
 use Rattle.steps_rw_writer.proofs.Causes.{keeps_rw_writer}
+
+abbrev pub rw_writer_model : Model ℕ RwWriterPlace
+rw_writer_model = record { arithmetic = u64_arithmetic; table = rw_writer_table; law = KeepsRwWriter }
 
 -- every run keeps the lock's law
 pub rw_writer_lawful : (parties : ℕ) (past : List (Event ℕ)) → IsPast u64_arithmetic rw_writer_table parties past → KeepsRwWriter past

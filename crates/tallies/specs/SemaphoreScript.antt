@@ -3,10 +3,15 @@ use Rattle.std.proofs.Common.{arith}
 use Rattle.std.specs.Prelude.{ℕ, ◌%◌, ◌^◌, List}
 use Rattle.steps_events.specs.declared.event.Event.{Event}
 use Rattle.steps_events.specs.Integers.{u64_arithmetic}
+use Rattle.playing.specs.Models.{Model}
 use Rattle.steps_events.specs.Runs.{IsPast}
+use Rattle.steps_semaphore.specs.declared.SemaphorePlace.{SemaphorePlace}
 use Rattle.steps_semaphore.specs.Table.{semaphore_table}
 use Rattle.steps_semaphore.specs.Law.{KeepsSemaphore}
 use Rattle.steps_semaphore.proofs.Laws.{keeps_semaphore}
+
+abbrev pub semaphore_model : ℕ → Model ℕ SemaphorePlace
+semaphore_model initial = record { arithmetic = u64_arithmetic; table = semaphore_table initial; law = KeepsSemaphore initial }
 
 -- every run keeps the semaphore's law, whatever word it begins with
 pub semaphore_lawful : (key parties : ℕ) (past : List (Event ℕ)) → IsPast u64_arithmetic (semaphore_table (key % 2 ^ 64)) parties past → KeepsSemaphore (key % 2 ^ 64) past

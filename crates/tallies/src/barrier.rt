@@ -8,16 +8,12 @@ use steps_barrier::BarrierPlace;
 /// The model that a barrier plays: its one word is that of the rounds. The key is the number of waiters, a `u32`.
 pub struct BarrierScript;
 
-impl Script<u32, BarrierPlace> for BarrierScript {
+impl Script<u32, BarrierPlace, u64> for BarrierScript {
     ghost use Rattle.std.specs.Prelude.{[], ◌∷◌, ◌%◌, ◌^◌};
     ghost use Rattle.steps_events.specs.declared.event.Word.TheVariants as words;
-    ghost use Rattle.steps_barrier.specs.Table.{barrier_table};
-    ghost use Rattle.steps_barrier.specs.Law.{KeepsBarrier};
-    ghost use Rattle.tallies.specs.BarrierScript.{barrier_lawful};
+    ghost use Rattle.tallies.specs.BarrierScript.{barrier_model, barrier_lawful};
 
-    ghost table = { λ key. barrier_table (key % 2 ^ 32) };
-
-    ghost law = { λ key. KeepsBarrier (key % 2 ^ 32) };
+    ghost model = { λ key. barrier_model (key % 2 ^ 32) };
 
     ghost lawful = { barrier_lawful };
 
@@ -29,7 +25,7 @@ impl Script<u32, BarrierPlace> for BarrierScript {
 }
 
 /// What a pass of a barrier is in its model, and counts and knows beside.
-pub type PlayedBarrier = Played<BarrierScript, BarrierPlace, Rounds>;
+pub type PlayedBarrier = Played<BarrierScript, BarrierPlace, u64, Rounds>;
 
 /// How often a pass arrived in each round, the first round first. No value of it is made.
 #[derive(Drop)]

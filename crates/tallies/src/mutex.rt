@@ -7,16 +7,12 @@ use steps_mutex::MutexPlace;
 /// The model that a mutex plays: its one word is the lock's.
 pub struct MutexScript;
 
-impl Script<(), MutexPlace> for MutexScript {
+impl Script<(), MutexPlace, u64> for MutexScript {
     ghost use Rattle.std.specs.Prelude.{[], ◌∷◌};
     ghost use Rattle.steps_events.specs.declared.event.Word.TheVariants as words;
-    ghost use Rattle.steps_mutex.specs.Table.{mutex_table};
-    ghost use Rattle.steps_mutex.specs.Law.{KeepsMutex};
-    ghost use Rattle.tallies.specs.MutexScript.{mutex_lawful};
+    ghost use Rattle.tallies.specs.MutexScript.{mutex_model, mutex_lawful};
 
-    ghost table = { λ _. mutex_table };
-
-    ghost law = { λ _. KeepsMutex };
+    ghost model = { λ _. mutex_model };
 
     ghost lawful = { λ _. mutex_lawful };
 
@@ -28,7 +24,7 @@ impl Script<(), MutexPlace> for MutexScript {
 }
 
 /// What a pass of a mutex is in its model, and counts beside.
-pub type PlayedMutex = Played<MutexScript, MutexPlace, Holds>;
+pub type PlayedMutex = Played<MutexScript, MutexPlace, u64, Holds>;
 
 /// What a pass of a mutex counts. No value of it is made.
 pub struct Holds {

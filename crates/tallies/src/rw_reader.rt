@@ -7,16 +7,12 @@ use steps_rw_reader::RwReaderPlace;
 /// The model that a reader-preferring lock plays: its one word is the lock's.
 pub struct RwReaderScript;
 
-impl Script<(), RwReaderPlace> for RwReaderScript {
+impl Script<(), RwReaderPlace, u64> for RwReaderScript {
     ghost use Rattle.std.specs.Prelude.{[], ◌∷◌};
     ghost use Rattle.steps_events.specs.declared.event.Word.TheVariants as words;
-    ghost use Rattle.steps_rw_reader.specs.Table.{rw_reader_table};
-    ghost use Rattle.steps_rw_reader.specs.Law.{KeepsRwReader};
-    ghost use Rattle.tallies.specs.RwReaderScript.{rw_reader_lawful};
+    ghost use Rattle.tallies.specs.RwReaderScript.{rw_reader_model, rw_reader_lawful};
 
-    ghost table = { λ _. rw_reader_table };
-
-    ghost law = { λ _. KeepsRwReader };
+    ghost model = { λ _. rw_reader_model };
 
     ghost lawful = { λ _. rw_reader_lawful };
 
@@ -28,4 +24,4 @@ impl Script<(), RwReaderPlace> for RwReaderScript {
 }
 
 /// What a pass of a reader-preferring lock is in its model, and counts beside.
-pub type PlayedRwReader = Played<RwReaderScript, RwReaderPlace, Held<()>>;
+pub type PlayedRwReader = Played<RwReaderScript, RwReaderPlace, u64, Held<()>>;

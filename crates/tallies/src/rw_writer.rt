@@ -8,17 +8,13 @@ use steps_rw_writer::RwWriterPlace;
 /// The model that a writer-preferring lock plays: its words are the lock's and the wake counter.
 pub struct RwWriterScript;
 
-impl Script<(), RwWriterPlace> for RwWriterScript {
+impl Script<(), RwWriterPlace, u64> for RwWriterScript {
     ghost use Rattle.std.specs.Prelude.{[], ◌∷◌};
     ghost use Rattle.std.proofs.Common.{refl};
     ghost use Rattle.steps_events.specs.declared.event.Word.TheVariants as words;
-    ghost use Rattle.steps_rw_writer.specs.Table.{rw_writer_table};
-    ghost use Rattle.steps_rw_writer.specs.Law.{KeepsRwWriter};
-    ghost use Rattle.tallies.specs.RwWriterScript.{rw_writer_lawful, rw_writer_handed};
+    ghost use Rattle.tallies.specs.RwWriterScript.{rw_writer_model, rw_writer_lawful, rw_writer_handed};
 
-    ghost table = { λ _. rw_writer_table };
-
-    ghost law = { λ _. KeepsRwWriter };
+    ghost model = { λ _. rw_writer_model };
 
     ghost lawful = { λ _. rw_writer_lawful };
 
@@ -30,7 +26,7 @@ impl Script<(), RwWriterPlace> for RwWriterScript {
 }
 
 /// What a pass of a writer-preferring lock is in its model, and counts beside.
-pub type PlayedRwWriter = Played<RwWriterScript, RwWriterPlace, MarkedHolds>;
+pub type PlayedRwWriter = Played<RwWriterScript, RwWriterPlace, u64, MarkedHolds>;
 
 /// What a pass of a writer-preferring lock counts. No value of it is made, and its numbers have no limit.
 pub struct MarkedHolds {

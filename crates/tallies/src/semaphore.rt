@@ -7,16 +7,12 @@ use steps_semaphore::SemaphorePlace;
 /// The model that a semaphore plays: its one word is that of the permits. The key is the initial value, as a word.
 pub struct SemaphoreScript;
 
-impl Script<u64, SemaphorePlace> for SemaphoreScript {
+impl Script<u64, SemaphorePlace, u64> for SemaphoreScript {
     ghost use Rattle.std.specs.Prelude.{[], ◌∷◌, ◌%◌, ◌^◌};
     ghost use Rattle.steps_events.specs.declared.event.Word.TheVariants as words;
-    ghost use Rattle.steps_semaphore.specs.Table.{semaphore_table};
-    ghost use Rattle.steps_semaphore.specs.Law.{KeepsSemaphore};
-    ghost use Rattle.tallies.specs.SemaphoreScript.{semaphore_lawful};
+    ghost use Rattle.tallies.specs.SemaphoreScript.{semaphore_model, semaphore_lawful};
 
-    ghost table = { λ key. semaphore_table (key % 2 ^ 64) };
-
-    ghost law = { λ key. KeepsSemaphore (key % 2 ^ 64) };
+    ghost model = { λ key. semaphore_model (key % 2 ^ 64) };
 
     ghost lawful = { semaphore_lawful };
 
@@ -28,7 +24,7 @@ impl Script<u64, SemaphorePlace> for SemaphoreScript {
 }
 
 /// What a pass of a semaphore is in its model, and counts beside.
-pub type PlayedSemaphore = Played<SemaphoreScript, SemaphorePlace, Permits>;
+pub type PlayedSemaphore = Played<SemaphoreScript, SemaphorePlace, u64, Permits>;
 
 /// What a pass of a semaphore counts. No value of it is made, and its numbers have no limit.
 pub struct Permits {

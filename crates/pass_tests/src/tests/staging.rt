@@ -8,8 +8,8 @@ ghost use Rattle.playing.specs.Slots.{Parties};
 ghost use Rattle.playing.specs.Passes.{parties_of};
 ghost use Rattle.playing.specs.Stages.{IsPassOf, count_of};
 ghost use Rattle.playing.specs.Plays.{HasCalled};
-ghost use Rattle.pass_tests.specs.Ending.{ending_table};
-ghost use Rattle.pass_tests.specs.Staging.{counter_table, KeepsNothing};
+ghost use Rattle.pass_tests.specs.Ending.{ending_model};
+ghost use Rattle.pass_tests.specs.Staging.{counter_model};
 
 use passes::{Deed, Pass, Rule, Tally};
 use playing::{AddEntry, AfterAside, Entry, Played, Script, Stage};
@@ -20,14 +20,12 @@ use steps_events::row::Intent;
 /// The model of the counter.
 struct CounterScript;
 
-impl Script<(), Intent<u64>> for CounterScript {
+impl Script<(), Intent<u64>, u64> for CounterScript {
     ghost use Rattle.std.specs.Prelude.{[], ◌∷◌};
     ghost use Rattle.steps_events.specs.declared.event.Word.TheVariants as words;
-    ghost use Rattle.pass_tests.specs.Staging.{counter_table, KeepsNothing};
+    ghost use Rattle.pass_tests.specs.Staging.{counter_model};
 
-    ghost table = { λ _. counter_table };
-
-    ghost law = { λ _. KeepsNothing };
+    ghost model = { λ _. counter_model };
 
     ghost lawful = { λ _ _ _ _. tt };
 
@@ -76,7 +74,7 @@ impl Deed<(), Nothing> for Untold {
 
 struct Looks;
 
-impl Entry for Looks {
+impl Entry<u64> for Looks {
     ghost use Rattle.steps_events.specs.declared.event.Call.TheVariants as calls;
     ghost use Rattle.playing.specs.Plays.{Beginning};
 
@@ -85,7 +83,7 @@ impl Entry for Looks {
 
 struct Adds;
 
-impl AddEntry for Adds {
+impl AddEntry<u64> for Adds {
     ghost use Rattle.steps_events.specs.declared.event.Call.TheVariants as calls;
     ghost use Rattle.playing.specs.Plays.{Beginning};
 
@@ -94,7 +92,7 @@ impl AddEntry for Adds {
 
 struct Subtracts;
 
-impl Entry for Subtracts {
+impl Entry<u64> for Subtracts {
     ghost use Rattle.steps_events.specs.declared.event.Call.TheVariants as calls;
     ghost use Rattle.playing.specs.Plays.{Beginning};
 
@@ -103,7 +101,7 @@ impl Entry for Subtracts {
 
 struct Clears;
 
-impl Entry for Clears {
+impl Entry<u64> for Clears {
     ghost use Rattle.steps_events.specs.declared.event.Call.TheVariants as calls;
     ghost use Rattle.playing.specs.Plays.{Beginning};
 
@@ -112,23 +110,23 @@ impl Entry for Clears {
 
 struct Tries;
 
-impl Entry for Tries {
+impl Entry<u64> for Tries {
     ghost use Rattle.steps_events.specs.declared.event.Call.TheVariants as calls;
     ghost use Rattle.playing.specs.Plays.{Beginning};
 
     ghost coming = { Beginning calls.TryLock };
 }
 
-type Counter = Stage<(), CounterScript, Intent<u64>, Nothing>;
+type Counter = Stage<(), CounterScript, Intent<u64>, u64, Nothing>;
 
-type CounterPass = Pass<Played<CounterScript, Intent<u64>, Nothing>>;
+type CounterPass = Pass<Played<CounterScript, Intent<u64>, u64, Nothing>>;
 
 /// Adds 7 to the counter, takes 1 away again, and looks.
 fn count(counter: &Counter, pass: &mut CounterPass) -> u64
     requires own { IsPassOf counter.now pass.old }
     requires one_word { count_of counter.now ≡ 1 }
     ensures same { IsSamePass pass.old pass.new }
-    ensures looked { (before : Parties) × HasCalled counter_table KeepsNothing calls.Value (answers.Number result) None before (parties_of pass.new) }
+    ensures looked { (before : Parties ℕ) × HasCalled counter_model calls.Value (answers.Number result) None before (parties_of pass.new) }
 {
     counter.add::<Adds, Untold>(pass, 0, 7);
     counter.subtract::<Subtracts, Untold>(pass, 0, 1);
@@ -158,15 +156,12 @@ fn a_counter_plays_its_model(rt: HostRuntime) -> Result<(), Fail> {
 /// The model of a call that ends a closure.
 struct EndingScript;
 
-impl Script<(), Intent<u64>> for EndingScript {
+impl Script<(), Intent<u64>, u64> for EndingScript {
     ghost use Rattle.std.specs.Prelude.{[], ◌∷◌};
     ghost use Rattle.steps_events.specs.declared.event.Word.TheVariants as words;
-    ghost use Rattle.pass_tests.specs.Staging.{KeepsNothing};
-    ghost use Rattle.pass_tests.specs.Ending.{ending_table};
+    ghost use Rattle.pass_tests.specs.Ending.{ending_model};
 
-    ghost table = { λ _. ending_table };
-
-    ghost law = { λ _. KeepsNothing };
+    ghost model = { λ _. ending_model };
 
     ghost lawful = { λ _ _ _ _. tt };
 
@@ -179,16 +174,16 @@ impl Script<(), Intent<u64>> for EndingScript {
 
 struct Calls;
 
-impl Entry for Calls {
+impl Entry<u64> for Calls {
     ghost use Rattle.steps_events.specs.declared.event.Call.TheVariants as calls;
     ghost use Rattle.playing.specs.Plays.{Beginning};
 
     ghost coming = { Beginning calls.CallOnce };
 }
 
-type Ending = Stage<(), EndingScript, Intent<u64>, Nothing>;
+type Ending = Stage<(), EndingScript, Intent<u64>, u64, Nothing>;
 
-type EndingPass = Pass<Played<EndingScript, Intent<u64>, Nothing>>;
+type EndingPass = Pass<Played<EndingScript, Intent<u64>, u64, Nothing>>;
 
 /// Looks, runs a closure to its end, and stores 7.
 fn run_and_store(ending: &Ending, pass: &mut EndingPass) -> u64
@@ -196,7 +191,7 @@ fn run_and_store(ending: &Ending, pass: &mut EndingPass) -> u64
     requires one_word { count_of ending.now ≡ 1 }
     ensures same { IsSamePass pass.old pass.new }
     ensures gave { result ≡ 5 }
-    ensures played { HasCalled ending_table KeepsNothing calls.CallOnce answers.Done None (parties_of pass.old) (parties_of pass.new) }
+    ensures played { HasCalled ending_model calls.CallOnce answers.Done None (parties_of pass.old) (parties_of pass.new) }
 {
     ending.load::<Calls, Untold>(pass, 0);
     let given = ending.run(

@@ -15,8 +15,7 @@ impl<A: Allocator> RwLockWriterPreference<A> {
     ghost use Rattle.steps_events.specs.declared.event.Answer.TheVariants as answers;
     ghost use Rattle.steps_events.specs.declared.hold.HoldKind.TheVariants as kinds;
     ghost use Rattle.steps_rw_writer.specs.declared.RwWriterPlace.TheVariants as places;
-    ghost use Rattle.steps_rw_writer.specs.Table.{rw_writer_table};
-    ghost use Rattle.steps_rw_writer.specs.Law.{KeepsRwWriter};
+    ghost use Rattle.tallies.specs.RwWriterScript.{rw_writer_model};
     ghost use Rattle.passes.specs.Answers.{MayAnswerAbort, HasAsked, HasWoken};
     ghost use Rattle.passes.specs.Passes.{part_of, sights_of};
     ghost use Rattle.playing.specs.Passes.{parties_of, counts_of as tally_of};
@@ -46,18 +45,18 @@ impl<A: Allocator> RwLockWriterPreference<A> {
 
     /// Looks, and turns a read hold on while a reader enters. `Err` with a value at which none did.
     #[inline(always)]
-    fn read_unless_shut<E: Entry, R: Wait>(
+    fn read_unless_shut<E: Entry<u64>, R: Wait>(
         &self,
         rt: &R,
         pass: &mut Pass<PlayedRwWriter>,
     ) -> Result<(), u64>
         requires own { IsPassOf self.now.stage pass.old }
-        requires comes { MayTry rw_writer_table KeepsRwWriter calls.ReadLock places.ReadLook E.coming (parties_of pass.old) }
+        requires comes { MayTry rw_writer_model calls.ReadLock places.ReadLook E.coming (parties_of pass.old) }
         ensures entered { IfOk result (λ _. HasEnteredToRead pass.old pass.new) }
         ensures refused { IfErr result (λ seen. WasRefusedAt IsShut seen 1 pass.old pass.new) }
         ensures once { IfErr result (λ _. IsOnly (part_of pass.old) (tally_of pass.old) → (sights_of pass.new).count ≡ (sights_of pass.old).count + 1) }
-        ensures granted { IfOk result (λ _. Tried rw_writer_table KeepsRwWriter calls.ReadLock places.ReadLook E.coming (parties_of pass.old) (λ _ done. IsGranted rw_writer_table KeepsRwWriter calls.ReadLock places.ReadLook (Some kinds.Read) done (parties_of pass.new))) }
-        ensures failed { IfErr result (λ seen. Tried rw_writer_table KeepsRwWriter calls.ReadLock places.ReadLook E.coming (parties_of pass.old) (λ patience done. IsRefused rw_writer_table KeepsRwWriter calls.ReadLock places.ReadLook patience seen done (parties_of pass.new))) }
+        ensures granted { IfOk result (λ _. Tried rw_writer_model calls.ReadLock places.ReadLook E.coming (parties_of pass.old) (λ _ done. IsGranted rw_writer_model calls.ReadLock places.ReadLook (Some kinds.Read) done (parties_of pass.new))) }
+        ensures failed { IfErr result (λ seen. Tried rw_writer_model calls.ReadLock places.ReadLook E.coming (parties_of pass.old) (λ patience done. IsRefused rw_writer_model calls.ReadLock places.ReadLook patience seen done (parties_of pass.new))) }
         ensures exact { IsAloneWithin pass.old → is_ok result ≡ true }
     {
         let mut seen = self.look::<E>(pass);
@@ -135,7 +134,7 @@ struct Reader<'l, A: Allocator> {
 }
 
 /// A look of `read_lock`, and its exchanges.
-impl<A: Allocator> Attempt<(), RwWriterScript, RwWriterPlace, MarkedHolds> for Reader<'_, A> {
+impl<A: Allocator> Attempt<(), RwWriterScript, RwWriterPlace, u64, MarkedHolds> for Reader<'_, A> {
     ghost use Rattle.std.specs.Prelude.{Some};
     ghost use Rattle.std.proofs.Common.{refl};
     ghost use Rattle.steps_events.specs.declared.event.Call.TheVariants as calls;
@@ -164,7 +163,7 @@ impl<A: Allocator> Attempt<(), RwWriterScript, RwWriterPlace, MarkedHolds> for R
     ghost answers = { λ _ _ _. refl };
 
     #[inline(always)]
-    fn attempt<E: Entry, R: Wait>(
+    fn attempt<E: Entry<u64>, R: Wait>(
         &self,
         rt: &R,
         pass: &mut Pass<PlayedRwWriter>,

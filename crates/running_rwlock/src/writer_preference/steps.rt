@@ -39,7 +39,7 @@ impl<A: Allocator> RwLockWriterPreference<A> {
 
     /// A load by a reader.
     #[inline(always)]
-    pub(super) fn look<E: Entry>(&self, pass: &mut Pass<PlayedRwWriter>) -> u64
+    pub(super) fn look<E: Entry<u64>>(&self, pass: &mut Pass<PlayedRwWriter>) -> u64
         requires own { IsPassOf self.now.stage pass.old }
         requires may { TableHas E.coming 0 (λ w. intents.Load w) (parties_of pass.old) }
         ensures saw { HasSeen result pass.old pass.new }
@@ -84,13 +84,13 @@ impl<A: Allocator> RwLockWriterPreference<A> {
 
     /// A load by a writer.
     #[inline(always)]
-    pub(super) fn look_to_write<E: Entry>(&self, pass: &mut Pass<PlayedRwWriter>) -> u64
+    pub(super) fn look_to_write<E: Entry<u64>>(&self, pass: &mut Pass<PlayedRwWriter>) -> u64
         requires own { IsPassOf self.now.stage pass.old }
-        requires comes { (patience : Patience) × (done : List Slot) × ComesToWrite E.coming patience done (parties_of pass.old) }
+        requires comes { (patience : Patience) × (done : List (Slot ℕ)) × ComesToWrite E.coming patience done (parties_of pass.old) }
         ensures tried { HasTried 1 pass.old pass.new }
         ensures just { HasJustSeen result pass.new }
         ensures alone { SaysAlone (counted pass.old) result }
-        ensures looked { (patience : Patience) (done : List Slot) → ComesToWrite E.coming patience done (parties_of pass.old) → WriteGoes (write_look patience result) done (parties_of pass.new) }
+        ensures looked { (patience : Patience) (done : List (Slot ℕ)) → ComesToWrite E.coming patience done (parties_of pass.old) → WriteGoes (write_look patience result) done (parties_of pass.new) }
     {
         self.stage.load::<E, LookToWrite>(pass, LOCK)
     }
@@ -99,7 +99,7 @@ impl<A: Allocator> RwLockWriterPreference<A> {
     #[inline(always)]
     pub(super) fn look_last(&self, pass: &mut Pass<PlayedRwWriter>, count: u64) -> u64
         requires own { IsPassOf self.now.stage pass.old }
-        requires at { (patience : Patience) × (done : List Slot) × WriteGoes (afters.At (places.LastLook count patience)) done (parties_of pass.old) }
+        requires at { (patience : Patience) × (done : List (Slot ℕ)) × WriteGoes (afters.At (places.LastLook count patience)) done (parties_of pass.old) }
         ensures tried { HasTried 1 pass.old pass.new }
         ensures just { HasJustSeen result pass.new }
         ensures alone { SaysAlone (counted pass.old) result }
@@ -111,7 +111,7 @@ impl<A: Allocator> RwLockWriterPreference<A> {
 
     /// An exchange of a value at which nobody holds the lock for 2^64 - 1, and the value that it found.
     #[inline(always)]
-    pub(super) fn come_to_write<E: Entry>(&self, pass: &mut Pass<PlayedRwWriter>, seen: u64) -> u64
+    pub(super) fn come_to_write<E: Entry<u64>>(&self, pass: &mut Pass<PlayedRwWriter>, seen: u64) -> u64
         requires own { IsPassOf self.now.stage pass.old }
         requires free { seen < 2 }
         requires may { (put : ℕ) → put ≡ 2 ^ 64 - 1 → TableHas E.coming 0 (λ w. intents.Exchange w seen put) (parties_of pass.old) }
@@ -149,7 +149,7 @@ impl<A: Allocator> RwLockWriterPreference<A> {
         requires even { seen % 2 ≡ 0 }
         requires other { seen ≢ 2 ^ 64 - 2 }
         requires marked { marked ≡ seen + 1 }
-        requires at { (patience : Patience) × (done : List Slot) × WriteGoes (marks_or_spins patience seen) done (parties_of pass.old) }
+        requires at { (patience : Patience) × (done : List (Slot ℕ)) × WriteGoes (marks_or_spins patience seen) done (parties_of pass.old) }
         ensures spins { IfOk result (λ _. (patience : Patience) → GoesFromTo calls.WriteLock (marks_or_spins patience seen) (spins patience) (parties_of pass.old) (parties_of pass.new)) }
         ensures looks { IfErr result (λ found. (patience : Patience) → GoesFromTo calls.WriteLock (marks_or_spins patience seen) (write_look patience found) (parties_of pass.old) (parties_of pass.new)) }
         ensures done { IfOk result (λ _. HasTried 0 pass.old pass.new) }
@@ -174,7 +174,7 @@ impl<A: Allocator> RwLockWriterPreference<A> {
         requires cause { MayGiveUp pass.old }
         requires set { IsMarked seen }
         requires unmarked { unmarked ≡ seen - 1 }
-        requires at { (done : List Slot) × WriteGoes (unmarks_or_leaves seen) done (parties_of pass.old) }
+        requires at { (done : List (Slot ℕ)) × WriteGoes (unmarks_or_leaves seen) done (parties_of pass.old) }
         ensures counts { IfOk result (λ _. GoesFromTo calls.WriteLock (unmarks_or_leaves seen) (afters.At (places.Count leavers.GivenUp)) (parties_of pass.old) (parties_of pass.new)) }
         ensures looks { IfErr result (λ found. GoesFromTo calls.WriteLock (unmarks_or_leaves seen) (unmarks_or_leaves found) (parties_of pass.old) (parties_of pass.new)) }
         ensures done { IfOk result (λ _. HasGivenUpWriting 0 pass.old pass.new) }
@@ -190,7 +190,7 @@ impl<A: Allocator> RwLockWriterPreference<A> {
     #[inline(always)]
     pub(super) fn load_count(&self, pass: &mut Pass<PlayedRwWriter>) -> u64
         requires own { IsPassOf self.now.stage pass.old }
-        requires at { (patience : Patience) × (done : List Slot) × WriteGoes (afters.At (places.LoadCounter patience)) done (parties_of pass.old) }
+        requires at { (patience : Patience) × (done : List (Slot ℕ)) × WriteGoes (afters.At (places.LoadCounter patience)) done (parties_of pass.old) }
         ensures loaded { (patience : Patience) → GoesFromTo calls.WriteLock (afters.At (places.LoadCounter patience)) (afters.At (places.LastLook result patience)) (parties_of pass.old) (parties_of pass.new) }
         ensures same { IsSamePass pass.old pass.new }
         ensures unchanged { Unchanged (counted pass.old) (counted pass.new) }

@@ -77,11 +77,11 @@ impl<A: Allocator> RwLockWriterPreference<A> {
 
     /// Looks, and enters where nobody holds the lock; else sees to it that no reader enters. Whether it entered.
     #[inline(always)]
-    fn enter_or_mark<E: Entry, R: Wait>(&self, rt: &R, pass: &mut Pass<PlayedRwWriter>) -> bool
+    fn enter_or_mark<E: Entry<u64>, R: Wait>(&self, rt: &R, pass: &mut Pass<PlayedRwWriter>) -> bool
         requires own { IsPassOf self.now.stage pass.old }
-        requires at { (n : ℕ) × (done : List Slot) × ComesToWrite E.coming (spun n) done (parties_of pass.old) }
+        requires at { (n : ℕ) × (done : List (Slot ℕ)) × ComesToWrite E.coming (spun n) done (parties_of pass.old) }
         ensures entered { MatchBool result (HasEnteredSeenFree pass.old pass.new) (HasTried 1 pass.old pass.new) }
-        ensures played { (n : ℕ) (done : List Slot) → ComesToWrite E.coming (spun n) done (parties_of pass.old) → MatchBool result (WriteIsGranted done (parties_of pass.new)) (WriteGoes (spins (spun n)) done (parties_of pass.new)) }
+        ensures played { (n : ℕ) (done : List (Slot ℕ)) → ComesToWrite E.coming (spun n) done (parties_of pass.old) → MatchBool result (WriteIsGranted done (parties_of pass.new)) (WriteGoes (spins (spun n)) done (parties_of pass.new)) }
         ensures exact { IsAloneWithin pass.old → result ≡ true }
     {
         let seen = self.look_to_write::<E>(pass);
@@ -98,7 +98,7 @@ impl<A: Allocator> RwLockWriterPreference<A> {
     ) -> bool
         requires own { IsPassOf self.now.stage pass.old }
         requires just { HasJustSeen seen pass.old }
-        requires at { (n : ℕ) × (done : List Slot) × WriteGoes (write_look (spun n) seen) done (parties_of pass.old) }
+        requires at { (n : ℕ) × (done : List (Slot ℕ)) × WriteGoes (write_look (spun n) seen) done (parties_of pass.old) }
         ensures entered { MatchBool result (HasEnteredSeenFree pass.old pass.new) (HasTried 0 pass.old pass.new) }
         ensures played { (n : ℕ) → OnceWriting (write_look (spun n) seen) (parties_of pass.old) (λ done. MatchBool result (WriteIsGranted done (parties_of pass.new)) (WriteGoes (spins (spun n)) done (parties_of pass.new))) }
         ensures exact { seen ≡ 0 → IsAloneWithin pass.old → result ≡ true }
@@ -125,7 +125,7 @@ impl<A: Allocator> RwLockWriterPreference<A> {
     fn enter_if_free(&self, pass: &mut Pass<PlayedRwWriter>, seen: u64) -> Result<(), u64>
         requires own { IsPassOf self.now.stage pass.old }
         requires just { HasJustSeen seen pass.old }
-        requires at { (patience : Patience) × (done : List Slot) × WriteGoes (write_look patience seen) done (parties_of pass.old) }
+        requires at { (patience : Patience) × (done : List (Slot ℕ)) × WriteGoes (write_look patience seen) done (parties_of pass.old) }
         ensures entered { IfOk result (λ _. HasEnteredSeenFree pass.old pass.new) }
         ensures refused { IfErr result (λ last. HasTried 0 pass.old pass.new × HasJustSeen last pass.new × MayGiveUp pass.new) }
         ensures granted { IfOk result (λ _. (patience : Patience) → OnceWriting (write_look patience seen) (parties_of pass.old) (λ done. WriteIsGranted done (parties_of pass.new))) }
@@ -142,7 +142,7 @@ impl<A: Allocator> RwLockWriterPreference<A> {
     /// Tries to enter again, as often as a call does by itself. Whether it entered.
     fn spin_to_write<R: Wait>(&self, rt: &R, pass: &mut Pass<PlayedRwWriter>) -> bool
         requires own { IsPassOf self.now.stage pass.old }
-        requires at { (done : List Slot) × WriteGoes (spins (spun 0)) done (parties_of pass.old) }
+        requires at { (done : List (Slot ℕ)) × WriteGoes (spins (spun 0)) done (parties_of pass.old) }
         ensures entered { MatchBool result (HasEnteredSeenFree pass.old pass.new) (HasTried 10000 pass.old pass.new) }
         ensures played { OnceWriting (spins (spun 0)) (parties_of pass.old) (λ done. MatchBool result (WriteIsGranted done (parties_of pass.new)) (WriteGoes (afters.At (places.LoadCounter (spun 10000))) done (parties_of pass.new))) }
     {
@@ -164,7 +164,7 @@ impl<A: Allocator> RwLockWriterPreference<A> {
         V: Fn(&WaitWord),
     >(&self, pass: &mut Pass<PlayedRwWriter>, rt: &R, wait: &W, wake_one: &K, wake_all: &V) -> bool
         requires own { IsPassOf self.now.stage pass.old }
-        requires at { (done : List Slot) × WriteGoes (afters.At (places.LoadCounter (spun 10000))) done (parties_of pass.old) }
+        requires at { (done : List (Slot ℕ)) × WriteGoes (afters.At (places.LoadCounter (spun 10000))) done (parties_of pass.old) }
         requires may { W.IsAlwaysCallable wait.now }
         requires may_one { K.IsAlwaysCallable wake_one.now }
         requires may_all { V.IsAlwaysCallable wake_all.now }
@@ -202,11 +202,11 @@ impl<A: Allocator> RwLockWriterPreference<A> {
         wake_all: &V,
     ) -> bool
         requires own { IsPassOf self.now.stage pass.old }
-        requires at { (done : List Slot) × ComesToGiveUp done (parties_of pass.old) }
+        requires at { (done : List (Slot ℕ)) × ComesToGiveUp done (parties_of pass.old) }
         requires may_one { K.IsAlwaysCallable wake_one.now }
         requires may_all { V.IsAlwaysCallable wake_all.now }
         ensures entered { MatchBool result (HasEnteredSeenFree pass.old pass.new) (HasGivenUpWriting 1 pass.old pass.new) }
-        ensures played { (done : List Slot) → ComesToGiveUp done (parties_of pass.old) → MatchBool result (WriteIsGranted done (parties_of pass.new)) (WriteGivesUp done (parties_of pass.new)) }
+        ensures played { (done : List (Slot ℕ)) → ComesToGiveUp done (parties_of pass.old) → MatchBool result (WriteIsGranted done (parties_of pass.new)) (WriteGivesUp done (parties_of pass.new)) }
         ensures woke { result ≡ false → IsMarked (sights_of pass.new).last → HasWoken K.Fn wake_one.now × HasWoken V.Fn wake_all.now }
     {
         let seen = self.look_to_write::<Aborted>(pass);
@@ -225,7 +225,7 @@ impl<A: Allocator> RwLockWriterPreference<A> {
         requires own { IsPassOf self.now.stage pass.old }
         requires just { HasJustSeen seen pass.old }
         requires cause { MayGiveUp pass.old }
-        requires at { (done : List Slot) × WriteGoes (unmarks_or_leaves seen) done (parties_of pass.old) }
+        requires at { (done : List (Slot ℕ)) × WriteGoes (unmarks_or_leaves seen) done (parties_of pass.old) }
         ensures gave_up { HasGivenUpWriting 0 pass.old pass.new }
         ensures played { OnceWriting (unmarks_or_leaves seen) (parties_of pass.old) (λ done. MatchBool result (WriteGoes (afters.At (places.Count leavers.GivenUp)) done (parties_of pass.new)) (WriteGoes (afters.Ends answers.Interrupted) done (parties_of pass.new))) }
         ensures unmarked { result ≡ false → ¬ IsMarked (sights_of pass.new).last }

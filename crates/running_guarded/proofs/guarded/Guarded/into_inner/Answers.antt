@@ -1,12 +1,11 @@
 use Rattle.std.proofs.Common.{sym, subst, ◌∙◌, ap}
 use Rattle.passes.specs.Parts.{IsWhole}
-use Rattle.steps_mutex.specs.Table.{mutex_table}
-use Rattle.steps_mutex.specs.Law.{KeepsMutex}
+use Rattle.tallies.specs.MutexScript.{mutex_model}
 use Rattle.running_spin_lock.proofs.ValueKeeps.{closes, is_there}
 use Rattle.running_guarded.specs.GuardedRule.{MutexView}
 use Rattle.running_guarded.proofs.guarded.Guarded.into_inner.Goals as goal
 
 pub unwrap-requires : goal.unwrap-requires
-unwrap-requires g c = is_there _ _ (closes mutex_table KeepsMutex _ _ _ _ c.close_with-closed.ensures.values.2
+unwrap-requires g c = is_there _ _ (closes mutex_model _ _ _ _ c.close_with-closed.ensures.values.2
     (subst (λ (v : MutexView). IsWhole v.part) (sym c.rise-seat.ensures.view) c.requires.whole)
     (ap (λ (v : MutexView). v.tally.counts.holds) c.rise-seat.ensures.view ∙ c.args.pass.off)) c.take-slot.ensures.value

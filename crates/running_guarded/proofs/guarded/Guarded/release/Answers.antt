@@ -1,7 +1,5 @@
 use Rattle.std.proofs.Common.{rules, ap, subst}
-use Rattle.steps_mutex.specs.Table.{mutex_table}
-use Rattle.steps_mutex.specs.Law.{KeepsMutex}
-use Rattle.tallies.specs.MutexScript.{mutex_lawful}
+use Rattle.tallies.specs.MutexScript.{mutex_model, mutex_lawful}
 use Rattle.running_mutex.specs.MutexParties.{Unlocks}
 use Rattle.running_mutex.proofs.MutexPlays.{may_unlock, unlocks}
 use Rattle.running_spin_lock.proofs.ValueKeeps.{stores, filled}
@@ -12,7 +10,7 @@ pub store-requires : goal.store-requires
 store-requires g c = (
   search rules,
   search rules,
-  stores mutex_table KeepsMutex mutex_lawful _ _ _ c.args.value (filled c.args.seat.now.me.1 _ c.args.value c.requires.vacant (ap (λ me. me.1) c.exchange.ensures.3)) (search rules) (search rules)
+  stores mutex_model mutex_lawful _ _ _ c.args.value (filled c.args.seat.now.me.1 _ c.args.value c.requires.vacant (ap (λ me. me.1) c.exchange.ensures.3)) (search rules) (search rules)
       (may_unlock _ (search rules)),
 )
 

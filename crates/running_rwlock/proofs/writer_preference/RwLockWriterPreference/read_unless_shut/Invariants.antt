@@ -1,8 +1,8 @@
 use Rattle.std.proofs.Common.{◌≡◌}
 use Rattle.steps_events.specs.declared.event.Call.TheVariants as calls
 use Rattle.steps_rw_writer.specs.declared.RwWriterPlace.TheVariants as places
-use Rattle.steps_rw_writer.specs.Table.{rw_writer_table, read_look}
-use Rattle.steps_rw_writer.specs.Law.{KeepsRwWriter}
+use Rattle.steps_rw_writer.specs.Table.{read_look}
+use Rattle.tallies.specs.RwWriterScript.{rw_writer_model}
 use Rattle.passes.specs.Sights.{HasLooked}
 use Rattle.passes.specs.Passes.{part_of, sights_of}
 use Rattle.passes.specs.Views.{looked}
@@ -20,5 +20,5 @@ invariant-loop g l = record {
   last : HasLooked (λ n. n ≡ l.seen) 1 (sights_of l.fn.pass) (sights_of l.pass);
   once : IsOnly (part_of l.fn.pass) (counts_of l.fn.pass) → counted l.pass ≡ looked (counted l.fn.pass) l.seen;
   exact : SaysAlone (counted l.fn.pass) l.seen;
-  at : Tried rw_writer_table KeepsRwWriter calls.ReadLock places.ReadLook g.E.Entry.coming (parties_of l.fn.pass) (λ patience done. CallGoes calls.ReadLock (read_look patience l.seen) done (parties_of l.pass));
+  at : Tried rw_writer_model calls.ReadLock places.ReadLook g.E.Entry.coming (parties_of l.fn.pass) (λ patience done. CallGoes calls.ReadLock (read_look patience l.seen) done (parties_of l.pass));
 }

@@ -1,7 +1,5 @@
 use Rattle.std.proofs.Common.{rules, ap, subst}
-use Rattle.steps_spin.specs.Table.{spin_table}
-use Rattle.steps_spin.specs.Law.{KeepsSpin}
-use Rattle.running_spin_lock.specs.SpinLawful.{spin_lawful}
+use Rattle.running_spin_lock.specs.SpinLawful.{spin_model, spin_lawful}
 use Rattle.running_spin_lock.specs.SpinRule.{SpinView}
 use Rattle.running_spin_lock.specs.SpinParties.{Unlocks}
 use Rattle.running_spin_lock.proofs.ValueKeeps.{stores, filled}
@@ -12,7 +10,7 @@ pub store-requires : goal.store-requires
 store-requires g c = (
   search rules,
   search rules,
-  stores spin_table KeepsSpin spin_lawful _ _ _ c.args.value (filled c.args.seat.now.me.1 _ c.args.value c.requires.vacant (ap (λ me. me.1) c.exchange.ensures.3)) (search rules) (search rules)
+  stores spin_model spin_lawful _ _ _ c.args.value (filled c.args.seat.now.me.1 _ c.args.value c.requires.vacant (ap (λ me. me.1) c.exchange.ensures.3)) (search rules) (search rules)
       (may_unlock _ (search rules)),
 )
 
