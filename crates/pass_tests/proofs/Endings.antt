@@ -1,5 +1,5 @@
 -- The steps of the tests' call that ends a closure are those of its table.
-use Rattle.std.proofs.Common.{refl, List, [], ◌∷◌, None}
+use Rattle.std.proofs.Common.{ℕ, refl, List, [], ◌∷◌, None}
 use Rattle.steps_events.specs.declared.event.Word.TheVariants as words
 use Rattle.steps_events.specs.declared.event.Call.TheVariants as calls
 use Rattle.steps_events.specs.declared.event.Then.TheVariants as thens

@@ -12,7 +12,7 @@ use Rattle.passes.specs.Views.{Updates}
 use Rattle.playing.specs.Slots.{Parties, all_of}
 use Rattle.playing.specs.Words.{IsStepOn}
 use Rattle.playing.specs.Plays.{Beginning, ComesBy, MayStep}
-use Rattle.pass_tests.specs.Staging.{counter_begins, counter_table}
+use Rattle.pass_tests.specs.Staging.{counter_begins, counter_table, counter_model}
 
 pub begins : (call : Call ℕ) (place : Intent ℕ) (p : Parties ℕ) → counter_begins call ≡ Some place → hold_fault counter_table call None ≡ None → CallValues u64_arithmetic call →
     ComesBy counter_model (Beginning call) call place None (all_of p) p

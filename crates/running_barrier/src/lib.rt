@@ -5,7 +5,7 @@
 //! exchange, and that a barrier of 0 refuses each call.
 #![tactic(auto)]
 
-ghost use Rattle.std.specs.Prelude.{◌≡◌, ◌≢◌, ◌<◌, ◌≤◌, ◌+◌, IfOk, MatchBool};
+ghost use Rattle.std.specs.Prelude.{◌≡◌, ℕ, ◌≢◌, ◌<◌, ◌≤◌, ◌+◌, IfOk, MatchBool};
 ghost use Rattle.playing.specs.Passes.{parties_of, counts_of as tally_of, counted};
 ghost use Rattle.playing.specs.Stages.{count_of as words_of, key_of};
 ghost use Rattle.running_barrier.specs.BarrierSteps.{OpenRoundsAreFull};

@@ -1,5 +1,5 @@
 //! The guarded value itself.
-ghost use Rattle.std.specs.Prelude.{◌≡◌, ◌<◌, ◌≤◌, ◌+◌, List, [], ◌∷◌, IfOk, IfErr, Some, None, true, false, MatchBool};
+ghost use Rattle.std.specs.Prelude.{◌≡◌, ℕ, ◌<◌, ◌≤◌, ◌+◌, List, [], ◌∷◌, IfOk, IfErr, Some, None, true, false, MatchBool};
 ghost use Rattle.passes.specs.Parts.{IsWhole};
 ghost use Rattle.passes.specs.Sights.{seen_instead};
 ghost use Rattle.passes.specs.Views.{first_view};

@@ -179,7 +179,7 @@ impl CondPass {
 }
 
 impl<A: Allocator> ConditionVariable<A> {
-    ghost use Rattle.std.specs.Borrow.{sem};
+    ghost use Rattle.std.specs.Borrow.{sem, u64};
     ghost use Rattle.std.specs.Prelude.{◌<◌, ◌⊎◌, min};
     ghost use Rattle.passes.specs.Answers.{IfSuccess, IfInterrupted, IsSuccess, RestsIfInterrupted, HasWoken};
     ghost use Rattle.passes.specs.contracts.pass.Pass.{the_row};
@@ -267,7 +267,7 @@ impl<A: Allocator> ConditionVariable<A> {
     ) -> WaitResult<Woken<MutexHold<'p>>>
         requires own { IsCondPass this.now pass.old × IsMutexPass mtx.now (pass_of hold) }
         requires may { K.IsAlwaysCallable mtx_wake_one × W.IsAlwaysCallable wait × M.IsAlwaysCallable mtx_wait }
-        ensures* left { sem 𝓛 (RestsIfInterrupted (the_row (played_row.the_row script_row.the_row place_row.the_row holds_row.the_row)) hold.entry.pass (λ woken. borrow_of (held_by woken)) result (HasLeft M.Fn mtx_wait (pass_of hold.entry))) }
+        ensures* left { sem 𝓛 (RestsIfInterrupted (the_row (played_row.the_row script_row.the_row place_row.the_row u64 holds_row.the_row)) hold.entry.pass (λ woken. borrow_of (held_by woken)) result (HasLeft M.Fn mtx_wait (pass_of hold.entry))) }
         ensures same_borrow { IfSuccess result (λ woken. borrow_of (held_by woken) ≡ borrow_of hold.entry) }
         ensures regained { IfSuccess result (λ woken. HasRegained (pass_of hold.entry) (pass_of (held_by woken))) }
         ensures counted { HasWaited pass.old pass.new }

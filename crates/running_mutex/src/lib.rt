@@ -103,7 +103,7 @@ impl Entry<u64> for UnlockBegins {
 }
 
 impl<A: Allocator> Mutex<A> {
-    ghost use Rattle.std.specs.Borrow.{sem};
+    ghost use Rattle.std.specs.Borrow.{sem, u64};
     ghost use Rattle.std.specs.Prelude.{true, false, ◌+◌, [], ◌∷◌, Some, None, MatchBool};
     ghost use Rattle.steps_events.specs.declared.event.Word.TheVariants as words;
     ghost use Rattle.steps_events.specs.declared.event.Call.TheVariants as calls;
@@ -148,7 +148,7 @@ impl<A: Allocator> Mutex<A> {
     ) -> WaitResult<MutexHold<'p>>
         requires own { IsMutexPass this.now pass.old }
         requires may { W.IsAlwaysCallable wait }
-        ensures* refused { sem 𝓛 (RestsIfInterrupted (the_row (played_row.the_row script_row.the_row place_row.the_row holds_row.the_row)) pass.entry borrow_of result (λ q. HasGivenUp W.Fn wait IsLocked pass.old q × HasPlayed calls.Lock answers.Interrupted None pass.old q)) }
+        ensures* refused { sem 𝓛 (RestsIfInterrupted (the_row (played_row.the_row script_row.the_row place_row.the_row u64 holds_row.the_row)) pass.entry borrow_of result (λ q. HasGivenUp W.Fn wait IsLocked pass.old q × HasPlayed calls.Lock answers.Interrupted None pass.old q)) }
         ensures same_borrow { IfSuccess result (λ hold. borrow_of hold ≡ pass.entry.ghost_name) }
         ensures granted { IfSuccess result (λ hold. HasEntered pass.old (pass_of hold)) }
         ensures played { IfSuccess result (λ hold. HasPlayed calls.Lock answers.Success (Some kinds.Write) pass.old (pass_of hold)) }
@@ -186,7 +186,7 @@ impl<A: Allocator> Mutex<A> {
     #[inline(always)]
     pub fn try_lock<'p>(pass: &'p mut MutexPass, this: &Self) -> WaitResult<MutexHold<'p>>
         requires own { IsMutexPass this.now pass.old }
-        ensures* refused { sem 𝓛 (RestsIfInterrupted (the_row (played_row.the_row script_row.the_row place_row.the_row holds_row.the_row)) pass.entry borrow_of result (λ q. HasSeenLocked pass.old q × HasPlayed calls.TryLock answers.Interrupted None pass.old q)) }
+        ensures* refused { sem 𝓛 (RestsIfInterrupted (the_row (played_row.the_row script_row.the_row place_row.the_row u64 holds_row.the_row)) pass.entry borrow_of result (λ q. HasSeenLocked pass.old q × HasPlayed calls.TryLock answers.Interrupted None pass.old q)) }
         ensures same_borrow { IfSuccess result (λ hold. borrow_of hold ≡ pass.entry.ghost_name) }
         ensures granted { IfSuccess result (λ hold. HasLocked pass.old (pass_of hold)) }
         ensures played { IfSuccess result (λ hold. HasPlayed calls.TryLock answers.Success (Some kinds.Write) pass.old (pass_of hold)) }

@@ -1,5 +1,5 @@
 -- What the law tells of an answer that a pass got.
-use Rattle.std.specs.Prelude.{◌≡◌, true, None}
+use Rattle.std.specs.Prelude.{◌≡◌, ℕ, true, None}
 use Rattle.steps_events.specs.declared.event.Call.TheVariants as calls
 use Rattle.steps_events.specs.declared.event.Answer.TheVariants as answers
 use Rattle.running_once.specs.OnceScript.{once_model}

@@ -1,5 +1,5 @@
 -- The party of the model that a pass of a once is, and how its `CallOnce` goes.
-use Rattle.std.specs.Prelude.{List, None}
+use Rattle.std.specs.Prelude.{ℕ, List, None}
 use Rattle.steps_events.specs.declared.event.Call.TheVariants as calls
 use Rattle.steps_events.specs.declared.event.Answer.TheVariants as answers
 use Rattle.steps_events.specs.declared.event.Then.TheVariants as thens

@@ -4,7 +4,7 @@
 //! makes the steps that the model's table has.
 #![tactic(auto)]
 
-ghost use Rattle.std.specs.Prelude.{◌≡◌, IfOk};
+ghost use Rattle.std.specs.Prelude.{◌≡◌, ℕ, IfOk};
 ghost use Rattle.playing.specs.Passes.{counts_of};
 ghost use Rattle.playing.specs.Stages.{count_of};
 ghost use Rattle.running_once.specs.OnceRule.{OneClosure, KnownHasEnded};

@@ -86,7 +86,7 @@ impl Deed<(), Held<()>> for LeaveWriting {
 }
 
 impl<A: Allocator> RwLockReaderPreference<A> {
-    ghost use Rattle.std.specs.Borrow.{sem, unit};
+    ghost use Rattle.std.specs.Borrow.{sem, u64, unit};
     ghost use Rattle.std.specs.Prelude.{true, false, ◌+◌, ◌<◌, ◌≢◌, [], ◌∷◌, Some, None, MatchBool, IfErr, is_ok};
     ghost use Rattle.steps_events.specs.declared.event.Word.TheVariants as words;
     ghost use Rattle.steps_events.specs.declared.event.Call.TheVariants as calls;
@@ -134,7 +134,7 @@ impl<A: Allocator> RwLockReaderPreference<A> {
         this: &Self,
     ) -> WaitResult<RwHold<'p, RwReaderPass>>
         requires own { IsRwReaderPass this.now pass.old }
-        ensures* refused { sem 𝓛 (RestsIfInterrupted (the_row (played_row.the_row script_row.the_row place_row.the_row (held_row.the_row unit))) pass.entry borrow_of result (λ q. WasTurnedAway pass.old q × HasPlayed calls.TryReadLock answers.Interrupted None pass.old q)) }
+        ensures* refused { sem 𝓛 (RestsIfInterrupted (the_row (played_row.the_row script_row.the_row place_row.the_row u64 (held_row.the_row unit))) pass.entry borrow_of result (λ q. WasTurnedAway pass.old q × HasPlayed calls.TryReadLock answers.Interrupted None pass.old q)) }
         ensures same_borrow { IfSuccess result (λ hold. borrow_of hold ≡ pass.entry.ghost_name) }
         ensures kind { IfSuccess result IsReadHold }
         ensures granted { IfSuccess result (λ hold. HasEnteredToRead pass.old (pass_of hold)) }
@@ -161,7 +161,7 @@ impl<A: Allocator> RwLockReaderPreference<A> {
     ) -> WaitResult<RwHold<'p, RwReaderPass>>
         requires own { IsRwReaderPass this.now pass.old }
         requires may { W.IsAlwaysCallable wait }
-        ensures* refused { sem 𝓛 (RestsIfInterrupted (the_row (played_row.the_row script_row.the_row place_row.the_row (held_row.the_row unit))) pass.entry borrow_of result (λ q. WasRefused IsShut 10002 pass.old q × (IsWhole (part_of pass.old) → HasAsked W.Fn wait IsShut 10001 pass.old q) × HasPlayed calls.ReadLock answers.Interrupted None pass.old q)) }
+        ensures* refused { sem 𝓛 (RestsIfInterrupted (the_row (played_row.the_row script_row.the_row place_row.the_row u64 (held_row.the_row unit))) pass.entry borrow_of result (λ q. WasRefused IsShut 10002 pass.old q × (IsWhole (part_of pass.old) → HasAsked W.Fn wait IsShut 10001 pass.old q) × HasPlayed calls.ReadLock answers.Interrupted None pass.old q)) }
         ensures same_borrow { IfSuccess result (λ hold. borrow_of hold ≡ pass.entry.ghost_name) }
         ensures kind { IfSuccess result IsReadHold }
         ensures granted { IfSuccess result (λ hold. HasEnteredToRead pass.old (pass_of hold)) }
@@ -204,7 +204,7 @@ impl<A: Allocator> RwLockReaderPreference<A> {
         this: &Self,
     ) -> WaitResult<RwHold<'p, RwReaderPass>>
         requires own { IsRwReaderPass this.now pass.old }
-        ensures* refused { sem 𝓛 (RestsIfInterrupted (the_row (played_row.the_row script_row.the_row place_row.the_row (held_row.the_row unit))) pass.entry borrow_of result (λ q. HasSeenTaken pass.old q × HasPlayed calls.TryWriteLock answers.Interrupted None pass.old q)) }
+        ensures* refused { sem 𝓛 (RestsIfInterrupted (the_row (played_row.the_row script_row.the_row place_row.the_row u64 (held_row.the_row unit))) pass.entry borrow_of result (λ q. HasSeenTaken pass.old q × HasPlayed calls.TryWriteLock answers.Interrupted None pass.old q)) }
         ensures same_borrow { IfSuccess result (λ hold. borrow_of hold ≡ pass.entry.ghost_name) }
         ensures kind { IfSuccess result IsWriteHold }
         ensures granted { IfSuccess result (λ hold. HasEnteredToWrite pass.old (pass_of hold)) }
@@ -231,7 +231,7 @@ impl<A: Allocator> RwLockReaderPreference<A> {
     ) -> WaitResult<RwHold<'p, RwReaderPass>>
         requires own { IsRwReaderPass this.now pass.old }
         requires may { W.IsAlwaysCallable wait }
-        ensures* refused { sem 𝓛 (RestsIfInterrupted (the_row (played_row.the_row script_row.the_row place_row.the_row (held_row.the_row unit))) pass.entry borrow_of result (λ q. HasGivenUp W.Fn wait IsTaken pass.old q × HasPlayed calls.WriteLock answers.Interrupted None pass.old q)) }
+        ensures* refused { sem 𝓛 (RestsIfInterrupted (the_row (played_row.the_row script_row.the_row place_row.the_row u64 (held_row.the_row unit))) pass.entry borrow_of result (λ q. HasGivenUp W.Fn wait IsTaken pass.old q × HasPlayed calls.WriteLock answers.Interrupted None pass.old q)) }
         ensures same_borrow { IfSuccess result (λ hold. borrow_of hold ≡ pass.entry.ghost_name) }
         ensures kind { IfSuccess result IsWriteHold }
         ensures granted { IfSuccess result (λ hold. HasEnteredToWrite pass.old (pass_of hold)) }

@@ -1,4 +1,5 @@
 -- What a pass of a spin lock knows, and what the rule over all of them says.
+use Rattle.std.specs.Prelude.{ℕ}
 use Rattle.passes.specs.declared.view.View.{View}
 use Rattle.steps_spin.specs.declared.SpinPlace.{SpinPlace}
 use Rattle.running_spin_lock.specs.SpinLawful.{spin_model}

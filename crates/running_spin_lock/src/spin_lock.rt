@@ -97,7 +97,7 @@ struct Begins<C> {
     of: PhantomData<C>,
 }
 
-impl<C: Waiting> Entry for Begins<C> {
+impl<C: Waiting> Entry<u64> for Begins<C> {
     ghost coming = { Beginning C.call };
 }
 

@@ -1,6 +1,6 @@
 //! Each step once, by a counter that plays a model of one step a call, and counts nothing beside. And a call that ends a closure between
 //! two steps.
-ghost use Rattle.std.specs.Prelude.{◌≡◌, None};
+ghost use Rattle.std.specs.Prelude.{◌≡◌, ℕ, None};
 ghost use Rattle.steps_events.specs.declared.event.Call.TheVariants as calls;
 ghost use Rattle.steps_events.specs.declared.event.Answer.TheVariants as answers;
 ghost use Rattle.passes.specs.Passes.{IsSamePass};

@@ -1,4 +1,4 @@
-use Rattle.std.proofs.Common.{◌≡◌, [], List}
+use Rattle.std.proofs.Common.{◌≡◌, ℕ, [], List}
 use Rattle.playing.specs.Slots.{Slot}
 use Rattle.running_spin_lock.specs.ValueSteps.{OnlySees}
 use Rattle.running_spin_lock.specs.SpinParties.{IsSpinning}

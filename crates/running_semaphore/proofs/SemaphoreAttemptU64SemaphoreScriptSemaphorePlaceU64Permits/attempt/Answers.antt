@@ -1,5 +1,5 @@
 use Rattle.running_semaphore.proofs.SemaphorePlays.{may_try, wait_took, wait_refused}
-use Rattle.running_semaphore.proofs.SemaphoreAttemptU64SemaphoreScriptSemaphorePlacePermits.attempt.Goals as goal
+use Rattle.running_semaphore.proofs.SemaphoreAttemptU64SemaphoreScriptSemaphorePlaceU64Permits.attempt.Goals as goal
 
 pub take-requires-clause-comes : goal.take-requires-clause-comes
 take-requires-clause-comes g c = may_try _ _ _ c.requires.comes
