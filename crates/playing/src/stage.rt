@@ -19,8 +19,10 @@ struct Step<M, P, V, E, D> {
     tells: PhantomData<D>,
 }
 
-impl<K, P, V, M: Script<K, P, V>, C: Rule<(), K>, E: Entry<V>, D: Deed<K, C>> Deed<K, Played<M, P, V, C>>
-    for Step<M, P, V, E, D> {
+impl<K, P, V, M: Script<K, P, V>, C: Rule<(), K>, E: Entry<V>, D: Deed<K, C>> Deed<
+    K,
+    Played<M, P, V, C>,
+> for Step<M, P, V, E, D> {
     ghost use Rattle.playing.specs.Passes.{Stepped};
 
     ghost tells = { λ key first second before found after. Stepped (M.model key) E.coming (D.tells key first second) before found after };
@@ -35,8 +37,10 @@ struct AddStep<M, P, V, E, D> {
     tells: PhantomData<D>,
 }
 
-impl<K, P, V, M: Script<K, P, V>, C: Rule<(), K>, E: AddEntry<V>, D: Deed<K, C>> Deed<K, Played<M, P, V, C>>
-    for AddStep<M, P, V, E, D> {
+impl<K, P, V, M: Script<K, P, V>, C: Rule<(), K>, E: AddEntry<V>, D: Deed<K, C>> Deed<
+    K,
+    Played<M, P, V, C>,
+> for AddStep<M, P, V, E, D> {
     ghost use Rattle.playing.specs.Passes.{Stepped};
 
     ghost tells = { λ key more second before found after. Stepped (M.model key) (E.coming more) (D.tells key more second) before found after };
@@ -198,11 +202,7 @@ impl<K, M: Script<K, P, V>, P, V, C: Rule<(), K>, A: Allocator> Stage<K, M, P, V
 
     /// A load that is no step of the model: it tells of what the pass counts alone, and the parties stay as they are.
     #[inline(always)]
-    pub fn look<D: Deed<K, C>>(
-        &self,
-        pass: &mut Pass<Played<M, P, V, C>>,
-        word: usize,
-    ) -> u64
+    pub fn look<D: Deed<K, C>>(&self, pass: &mut Pass<Played<M, P, V, C>>, word: usize) -> u64
         requires own { IsPassOf self.now pass.old }
         requires inside { word < count_of self.now }
         requires update { Updates C.none C.add (C.agrees (key_of self.now)) (counted pass.old) word (λ n. n) (D.tells (key_of self.now) 0 0 (counted pass.old)) }
@@ -273,7 +273,8 @@ impl<K, M: Script<K, P, V>, P, V, C: Rule<(), K>, A: Allocator> Stage<K, M, P, V
         ensures alone { IsWhole (part_of pass.old) → WentAlone (M.model (key_of self.now)) E.coming (parties_of pass.old) result }
         ensures told { D.tells (key_of self.now) less 0 (counted pass.old) result (counted pass.new) }
     {
-        self.words.fetch_sub::<Step<M, P, V, E, D>>(pass, word, less)
+        self.words
+            .fetch_sub::<Step<M, P, V, E, D>>(pass, word, less)
     }
 
     /// Ends the object, and answers a word. With the whole pass, that word is of a run in which only the pass's own parties are.
@@ -287,12 +288,7 @@ impl<K, M: Script<K, P, V>, P, V, C: Rule<(), K>, A: Allocator> Stage<K, M, P, V
 
     /// Ends the object, and answers two of its words. With the whole pass, those words are of a run in which only the pass's own parties
     /// are.
-    pub fn close_two(
-        self,
-        pass: Pass<Played<M, P, V, C>>,
-        word: usize,
-        second: usize,
-    ) -> (u64, u64)
+    pub fn close_two(self, pass: Pass<Played<M, P, V, C>>, word: usize, second: usize) -> (u64, u64)
         requires own { IsPassOf self pass }
         requires inside { word < count_of self }
         requires also { second < count_of self }

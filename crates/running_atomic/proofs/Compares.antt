@@ -66,7 +66,7 @@ module _ {T : Type 0} (z : Arithmetic T) (k : T) where
       let told = subst (λ (h : Held Content). IfWriting h (λ c old. (high ≡ c.high) × MatchBool (z.same (value_of z c) current) (counted s ≡ counted r) (EndsUnchanged z k a (counted r) (counted s)))) hold made in
       let value_is : value ≡ value_of z x = given ∙ (λ i. z.of_words (low_is i) (told.0 i)) in
       subst (λ (u : T). MatchBool (z.same u current) (HasTaken z u p s) (HasCompared z k a u p s)) (sym value_is)
-          (by_value a x p q r s (z.same (value_of z x) current) (same_twice p r s (same_twice p q r got.same first) second) got read.0 settled.1 told.1)
+      (by_value a x p q r s (z.same (value_of z x) current) (same_twice p r s (same_twice p q r got.same first) second) got read.0 settled.1 told.1)
 
   -- a call that compares and found another value acted so, and has left the lock
   pub has_kept : (a : AtomicAct) (call : Call T) (old : T) (p q r : Pass (PlayedAtomic T)) → act_in z a ≡ plain call → answer_to z (plain call) old ≡ answers.ErrOld old → HasCompared z k a old p q → IsSamePass q r →

@@ -211,7 +211,13 @@ impl<T: AtomicInteger, A: Allocator> Atomic<T, A> {
 
     /// Adds, wrapping, and answers the old value.
     #[inline(always)]
-    pub fn fetch_add<R: Wait>(&self, rt: &R, pass: &mut AtomicPass<T>, value: T, _order: Ordering) -> T
+    pub fn fetch_add<R: Wait>(
+        &self,
+        rt: &R,
+        pass: &mut AtomicPass<T>,
+        value: T,
+        _order: Ordering,
+    ) -> T
         requires own { IsAtomicPass self.now pass.old }
         ensures acted { HasActed T.arithmetic (opening_of self.now) (plain (calls.FetchAdd value)) (answers.Value result) pass.old pass.new }
         ensures played { HasPlayed T.arithmetic (opening_of self.now) (calls.FetchAdd value) (answers.Value result) pass.old pass.new }
@@ -226,7 +232,13 @@ impl<T: AtomicInteger, A: Allocator> Atomic<T, A> {
 
     /// Subtracts, wrapping, and answers the old value.
     #[inline(always)]
-    pub fn fetch_sub<R: Wait>(&self, rt: &R, pass: &mut AtomicPass<T>, value: T, _order: Ordering) -> T
+    pub fn fetch_sub<R: Wait>(
+        &self,
+        rt: &R,
+        pass: &mut AtomicPass<T>,
+        value: T,
+        _order: Ordering,
+    ) -> T
         requires own { IsAtomicPass self.now pass.old }
         ensures acted { HasActed T.arithmetic (opening_of self.now) (plain (calls.FetchSub value)) (answers.Value result) pass.old pass.new }
         ensures played { HasPlayed T.arithmetic (opening_of self.now) (calls.FetchSub value) (answers.Value result) pass.old pass.new }
@@ -241,7 +253,13 @@ impl<T: AtomicInteger, A: Allocator> Atomic<T, A> {
 
     /// Writes the bits that both have, and answers the old value.
     #[inline(always)]
-    pub fn fetch_and<R: Wait>(&self, rt: &R, pass: &mut AtomicPass<T>, value: T, _order: Ordering) -> T
+    pub fn fetch_and<R: Wait>(
+        &self,
+        rt: &R,
+        pass: &mut AtomicPass<T>,
+        value: T,
+        _order: Ordering,
+    ) -> T
         requires own { IsAtomicPass self.now pass.old }
         ensures acted { HasActed T.arithmetic (opening_of self.now) (plain (calls.FetchAnd value)) (answers.Value result) pass.old pass.new }
         ensures played { HasPlayed T.arithmetic (opening_of self.now) (calls.FetchAnd value) (answers.Value result) pass.old pass.new }
@@ -256,7 +274,13 @@ impl<T: AtomicInteger, A: Allocator> Atomic<T, A> {
 
     /// Writes the bits that one of them has, and answers the old value.
     #[inline(always)]
-    pub fn fetch_or<R: Wait>(&self, rt: &R, pass: &mut AtomicPass<T>, value: T, _order: Ordering) -> T
+    pub fn fetch_or<R: Wait>(
+        &self,
+        rt: &R,
+        pass: &mut AtomicPass<T>,
+        value: T,
+        _order: Ordering,
+    ) -> T
         requires own { IsAtomicPass self.now pass.old }
         ensures acted { HasActed T.arithmetic (opening_of self.now) (plain (calls.FetchOr value)) (answers.Value result) pass.old pass.new }
         ensures played { HasPlayed T.arithmetic (opening_of self.now) (calls.FetchOr value) (answers.Value result) pass.old pass.new }
@@ -271,7 +295,13 @@ impl<T: AtomicInteger, A: Allocator> Atomic<T, A> {
 
     /// Writes the bits that only one of them has, and answers the old value.
     #[inline(always)]
-    pub fn fetch_xor<R: Wait>(&self, rt: &R, pass: &mut AtomicPass<T>, value: T, _order: Ordering) -> T
+    pub fn fetch_xor<R: Wait>(
+        &self,
+        rt: &R,
+        pass: &mut AtomicPass<T>,
+        value: T,
+        _order: Ordering,
+    ) -> T
         requires own { IsAtomicPass self.now pass.old }
         ensures acted { HasActed T.arithmetic (opening_of self.now) (plain (calls.FetchXor value)) (answers.Value result) pass.old pass.new }
         ensures played { HasPlayed T.arithmetic (opening_of self.now) (calls.FetchXor value) (answers.Value result) pass.old pass.new }
@@ -307,7 +337,13 @@ impl<T: AtomicInteger, A: Allocator> Atomic<T, A> {
 
     /// Writes the greater of the two, and answers the old value.
     #[inline(always)]
-    pub fn fetch_max<R: Wait>(&self, rt: &R, pass: &mut AtomicPass<T>, value: T, _order: Ordering) -> T
+    pub fn fetch_max<R: Wait>(
+        &self,
+        rt: &R,
+        pass: &mut AtomicPass<T>,
+        value: T,
+        _order: Ordering,
+    ) -> T
         requires own { IsAtomicPass self.now pass.old }
         ensures acted { HasActed T.arithmetic (opening_of self.now) (plain (calls.FetchMax value)) (answers.Value result) pass.old pass.new }
         ensures played { HasPlayed T.arithmetic (opening_of self.now) (calls.FetchMax value) (answers.Value result) pass.old pass.new }
@@ -322,7 +358,13 @@ impl<T: AtomicInteger, A: Allocator> Atomic<T, A> {
 
     /// Writes the lesser of the two, and answers the old value.
     #[inline(always)]
-    pub fn fetch_min<R: Wait>(&self, rt: &R, pass: &mut AtomicPass<T>, value: T, _order: Ordering) -> T
+    pub fn fetch_min<R: Wait>(
+        &self,
+        rt: &R,
+        pass: &mut AtomicPass<T>,
+        value: T,
+        _order: Ordering,
+    ) -> T
         requires own { IsAtomicPass self.now pass.old }
         ensures acted { HasActed T.arithmetic (opening_of self.now) (plain (calls.FetchMin value)) (answers.Value result) pass.old pass.new }
         ensures played { HasPlayed T.arithmetic (opening_of self.now) (calls.FetchMin value) (answers.Value result) pass.old pass.new }

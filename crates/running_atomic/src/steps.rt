@@ -74,7 +74,11 @@ impl<T: AtomicInteger, A: Allocator> Atomic<T, A> {
 
     /// An exchange of the lock's word, from 0, for the writer's. How the pass comes to it may speak of its call; its caller picks it.
     #[inline(always)]
-    pub(crate) fn enter_write<E: Entry<T>>(&self, pass: &mut Pass<PlayedAtomic<T>>, _call: &Call<T>) -> u64
+    pub(crate) fn enter_write<E: Entry<T>>(
+        &self,
+        pass: &mut Pass<PlayedAtomic<T>>,
+        _call: &Call<T>,
+    ) -> u64
         requires own { IsPassOf self.now.stage pass.old }
         requires free { (counts_of pass.old).hold ≡ Free }
         requires may { MayStep (atomic_model T.arithmetic (key_of self.now.stage)) atomic_names E.coming 0 (λ w. intents.Exchange w 0 (2 ^ 64 - 1)) (parties_of pass.old) }
@@ -181,7 +185,11 @@ impl<T: AtomicInteger, A: Allocator> Atomic<T, A> {
 
     /// The load of the high word by which a call acts that took the lock for writing and stores nothing.
     #[inline(always)]
-    pub(crate) fn end_unchanged<E: Entry<T>>(&self, pass: &mut Pass<PlayedAtomic<T>>, act: &AtomicAct) -> u64
+    pub(crate) fn end_unchanged<E: Entry<T>>(
+        &self,
+        pass: &mut Pass<PlayedAtomic<T>>,
+        act: &AtomicAct,
+    ) -> u64
         requires own { IsPassOf self.now.stage pass.old }
         requires on { IsSettled (counts_of pass.old).hold }
         requires right { ChangesNothing T.arithmetic act.now (counts_of pass.old).hold }
@@ -195,11 +203,7 @@ impl<T: AtomicInteger, A: Allocator> Atomic<T, A> {
 
     /// The load of the high word of a call that compares. Where the value is another than the one compared with, the call acts by it.
     #[inline(always)]
-    pub(crate) fn compare_high(
-        &self,
-        pass: &mut Pass<PlayedAtomic<T>>,
-        by: &Comparison<T>,
-    ) -> u64
+    pub(crate) fn compare_high(&self, pass: &mut Pass<PlayedAtomic<T>>, by: &Comparison<T>) -> u64
         requires own { IsPassOf self.now.stage pass.old }
         requires on { IsSettled (counts_of pass.old).hold }
         requires right { KeepsOthers T.arithmetic by.now.act by.now.current (counts_of pass.old).hold }

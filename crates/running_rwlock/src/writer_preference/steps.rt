@@ -111,7 +111,11 @@ impl<A: Allocator> RwLockWriterPreference<A> {
 
     /// An exchange of a value at which nobody holds the lock for 2^64 - 1, and the value that it found.
     #[inline(always)]
-    pub(super) fn come_to_write<E: Entry<u64>>(&self, pass: &mut Pass<PlayedRwWriter>, seen: u64) -> u64
+    pub(super) fn come_to_write<E: Entry<u64>>(
+        &self,
+        pass: &mut Pass<PlayedRwWriter>,
+        seen: u64,
+    ) -> u64
         requires own { IsPassOf self.now.stage pass.old }
         requires free { seen < 2 }
         requires may { (put : ℕ) → put ≡ 2 ^ 64 - 1 → TableHas E.coming 0 (λ w. intents.Exchange w seen put) (parties_of pass.old) }

@@ -21,4 +21,4 @@ returns-clause-knows g c = subst (λ x. Knows g.T.AtomicInteger.arithmetic (key_
 pub returns-clause-compared : goal.returns-clause-compared
 returns-clause-compared g c =
     compared g.T.AtomicInteger.arithmetic (key_of c.args.self.now.stage) c.args.by.now.act c.args.by.now.current c.from_words.result c.read_low-low.result c.compare_high-high.result c.args.pass.now c.write_lock.new.pass c.read_low-low.new.pass c.compare_high-high.new.pass c.write_lock.ensures.on c.read_low-low.ensures.same
-        c.read_low-low.ensures.read c.compare_high-high.ensures.same c.compare_high-high.ensures.compared c.from_words.ensures.given
+    c.read_low-low.ensures.read c.compare_high-high.ensures.same c.compare_high-high.ensures.compared c.from_words.ensures.given
