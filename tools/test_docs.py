@@ -30,15 +30,16 @@ def quoted(page, stem, endings=("txt", "out", "err")):
 
 
 def listed(stem):
-    """Whether the table of examples has the example, with its text and what is printed of it."""
+    """Whether the table of examples has the example, with links to each file of it."""
     name = os.path.basename(stem)
     rows = [row for row in TEXTS["docs/TEXT.md"].splitlines() if row.startswith(f"| [{name}](../{stem}.txt)")]
     if len(rows) != 1:
         return f"docs/TEXT.md has {len(rows)} rows of it"
-    for ending in ("txt", "out", "err"):
-        lines = read(f"{stem}.{ending}").splitlines()
-        if lines and f"`{' / '.join(lines)}`" not in rows[0]:
-            return f"docs/TEXT.md does not have {stem}.{ending} as it is"
+    for ending in ("out", "err", "advice", "trace"):
+        if read(f"{stem}.{ending}") and f"[{ending}](../{stem}.{ending})" not in rows[0]:
+            return f"docs/TEXT.md has no link to {stem}.{ending}"
+    if os.path.exists(f"docs/pictures/{name}.svg") and f"[picture](pictures/{name}.svg)" not in rows[0]:
+        return f"docs/TEXT.md has no link to docs/pictures/{name}.svg"
 
 
 def anchors(page):
