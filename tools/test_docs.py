@@ -42,6 +42,19 @@ def listed(stem):
         return f"docs/TEXT.md has no link to docs/pictures/{name}.svg"
 
 
+def bare(text):
+    """The lines without their indentation, as code stands deeper in a source than on a page."""
+    return "\n" + "\n".join(line.strip() for line in text.strip("\n").split("\n")) + "\n"
+
+
+def unmade(code):
+    """What of a block of code stands in no source: a piece between blank lines, but for lines that import words."""
+    for piece in re.split(r"\n\n+", code.strip("\n")):
+        lines = [line for line in piece.split("\n") if not re.match(r"(ghost )?use ", line)]
+        if lines and not any(bare("\n".join(lines)) in source for source in SOURCES):
+            return f"no source has the code that begins with {lines[0].strip()!r}"
+
+
 def anchors(page):
     """The anchors of the page's headings, as the usual viewers make them."""
     heads = re.findall(r"^#+ (.*)$", TEXTS[page], re.MULTILINE)
@@ -68,6 +81,12 @@ for text in sorted(glob.glob("examples/*.txt")):
 
 for text in sorted(glob.glob("examples/explore/*.txt")):
     report(text, quoted("docs/EXPLORE.md", text.removesuffix(".txt")))
+
+FILES = [file for ending in ("src/**/*.rt", "proofs/**/*.antt") for file in glob.glob(f"crates/*/{ending}", recursive=True)]
+SOURCES = [bare(read(file)) for file in FILES]
+for page in PAGES:
+    for code in re.findall(r"^```(?:rust|antt)\n(.*?)^```$", TEXTS[page], re.DOTALL | re.MULTILINE):
+        report(page, unmade(code))
 
 named = set(re.findall(r"`(\w+\.edit)`", "".join(TEXTS.values())))
 edits = {os.path.basename(it): it for it in glob.glob("crates/*/must-fail/*.edit")}
