@@ -55,6 +55,26 @@ def unmade(code):
             return f"no source has the code that begins with {lines[0].strip()!r}"
 
 
+def misplaced(row):
+    """What a row of a table says that it cannot keep: that a word is in a file that it names, or that there is such a file."""
+    terms = re.findall(r"`([^`]+)`", row.split(" | ")[-1])
+    paths = [term for term in terms if re.search(r"\.(antt|rt)$", term)]
+    for path in paths:
+        if not any(file.endswith(f"/{path}") for file in CODE):
+            return f"there is no {path}"
+    text = "\n".join(code for file, code in CODE.items() if any(file.endswith(f"/{path}") for path in paths))
+    for word in re.findall(r"\w{3,}", " ".join(set(terms) - set(paths))):
+        if paths and not os.path.isdir(f"crates/{word}") and not re.search(rf"\b{word}\b", text):
+            return f"{word} is not in {', '.join(paths)}"
+
+
+def ordered(page):
+    """Whether an object's page has the headings that all of them have, in their order."""
+    heads = [head for head in re.findall(r"^## (.*)$", TEXTS[page], re.MULTILINE) if head in HEADS]
+    if heads != HEADS:
+        return f"its headings are {heads}, and are to be {HEADS}"
+
+
 def anchors(page):
     """The anchors of the page's headings, as the usual viewers make them."""
     heads = re.findall(r"^#+ (.*)$", TEXTS[page], re.MULTILINE)
@@ -82,9 +102,17 @@ for text in sorted(glob.glob("examples/*.txt")):
 for text in sorted(glob.glob("examples/explore/*.txt")):
     report(text, quoted("docs/EXPLORE.md", text.removesuffix(".txt")))
 
-FILES = [file for ending in ("src/**/*.rt", "proofs/**/*.antt") for file in glob.glob(f"crates/*/{ending}", recursive=True)]
-SOURCES = [bare(read(file)) for file in FILES]
+HEADS = ["Its steps", "Use it", "What is promised", "What is not promised", "Where its definitions stand", "Wrong bodies"]
+for page in glob.glob("docs/objects/*.md"):
+    report(page, ordered(page))
+
+FOLDERS = [f"crates/*/{folder}/**/*.{ending}" for folder in ("src", "specs", "proofs") for ending in ("rt", "antt")]
+CODE = {file: read(file) for folder in FOLDERS for file in glob.glob(folder, recursive=True)}
+SOURCES = [bare(code) for code in CODE.values()]
 for page in PAGES:
+    for row in TEXTS[page].splitlines():
+        if row.startswith("| ") and re.search(r"\.(antt|rt)` *(of|\||,|;)", row):
+            report(page, misplaced(row))
     for code in re.findall(r"^```(?:rust|antt)\n(.*?)^```$", TEXTS[page], re.DOTALL | re.MULTILINE):
         report(page, unmade(code))
 
