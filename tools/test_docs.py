@@ -68,6 +68,20 @@ def misplaced(row):
             return f"{word} is not in {', '.join(paths)}"
 
 
+def unknown(page):
+    """A clause or field that a table of the page names and no source has."""
+    column = None
+    for row in TEXTS[page].splitlines():
+        cells = row.strip("| ").split(" | ") if row.startswith("|") else []
+        heads = [cell in ("Clause", "Field") for cell in cells]
+        if not cells or any(heads):
+            column = heads.index(True) if cells else None
+        elif column is not None and column < len(cells):
+            for word in re.findall(r"`(\w+)`", cells[column]):
+                if word not in CLAUSES:
+                    return f"no source has the clause {word}"
+
+
 def ordered(page):
     """Whether an object's page has the headings that all of them have, in their order."""
     heads = [head for head in re.findall(r"^## (.*)$", TEXTS[page], re.MULTILINE) if head in HEADS]
@@ -109,7 +123,9 @@ for page in glob.glob("docs/objects/*.md"):
 FOLDERS = [f"crates/*/{folder}/**/*.{ending}" for folder in ("src", "specs", "proofs") for ending in ("rt", "antt")]
 CODE = {file: read(file) for folder in FOLDERS for file in glob.glob(folder, recursive=True)}
 SOURCES = [bare(code) for code in CODE.values()]
+CLAUSES = {name for code in CODE.values() for name in re.findall(r"\b(?:ensures\*?|requires|ghost|pub)(?: record| struct)? (\w+)", code)}
 for page in PAGES:
+    report(page, unknown(page))
     for row in TEXTS[page].splitlines():
         if row.startswith("| ") and re.search(r"\.(antt|rt)` *(of|\||,|;)", row):
             report(page, misplaced(row))
