@@ -30,15 +30,63 @@ def quoted(page, stem, endings=("txt", "out", "err")):
 
 
 def listed(stem):
-    """Whether the table of examples has the example, with its text and what is printed of it."""
+    """Whether the table of examples has the example, with links to each file of it."""
     name = os.path.basename(stem)
     rows = [row for row in TEXTS["docs/TEXT.md"].splitlines() if row.startswith(f"| [{name}](../{stem}.txt)")]
     if len(rows) != 1:
         return f"docs/TEXT.md has {len(rows)} rows of it"
-    for ending in ("txt", "out", "err"):
-        lines = read(f"{stem}.{ending}").splitlines()
-        if lines and f"`{' / '.join(lines)}`" not in rows[0]:
-            return f"docs/TEXT.md does not have {stem}.{ending} as it is"
+    for ending in ("out", "err", "advice", "trace"):
+        if read(f"{stem}.{ending}") and f"[{ending}](../{stem}.{ending})" not in rows[0]:
+            return f"docs/TEXT.md has no link to {stem}.{ending}"
+    if os.path.exists(f"docs/pictures/{name}.svg") and f"[picture](pictures/{name}.svg)" not in rows[0]:
+        return f"docs/TEXT.md has no link to docs/pictures/{name}.svg"
+
+
+def bare(text):
+    """The lines without their indentation, as code stands deeper in a source than on a page."""
+    return "\n" + "\n".join(line.strip() for line in text.strip("\n").split("\n")) + "\n"
+
+
+def unmade(code):
+    """What of a block of code stands in no source: a piece between blank lines, but for lines that import words."""
+    for piece in re.split(r"\n\n+", code.strip("\n")):
+        lines = [line for line in piece.split("\n") if not re.match(r"(ghost )?use ", line)]
+        if lines and not any(bare("\n".join(lines)) in source for source in SOURCES):
+            return f"no source has the code that begins with {lines[0].strip()!r}"
+
+
+def misplaced(row):
+    """What a row of a table says that it cannot keep: that a word is in a file that it names, or that there is such a file."""
+    terms = re.findall(r"`([^`]+)`", row.split(" | ")[-1])
+    paths = [term for term in terms if re.search(r"\.(antt|rt)$", term)]
+    for path in paths:
+        if not any(file.endswith(f"/{path}") for file in CODE):
+            return f"there is no {path}"
+    text = "\n".join(code for file, code in CODE.items() if any(file.endswith(f"/{path}") for path in paths))
+    for word in re.findall(r"\w{3,}", " ".join(set(terms) - set(paths))):
+        if paths and not os.path.isdir(f"crates/{word}") and not re.search(rf"\b{word}\b", text):
+            return f"{word} is not in {', '.join(paths)}"
+
+
+def unknown(page):
+    """A clause or field that a table of the page names and no source has."""
+    column = None
+    for row in TEXTS[page].splitlines():
+        cells = row.strip("| ").split(" | ") if row.startswith("|") else []
+        heads = [cell in ("Clause", "Field") for cell in cells]
+        if not cells or any(heads):
+            column = heads.index(True) if cells else None
+        elif column is not None and column < len(cells):
+            for word in re.findall(r"`(\w+)`", cells[column]):
+                if word not in CLAUSES:
+                    return f"no source has the clause {word}"
+
+
+def ordered(page):
+    """Whether an object's page has the headings that all of them have, in their order."""
+    heads = [head for head in re.findall(r"^## (.*)$", TEXTS[page], re.MULTILINE) if head in HEADS]
+    if heads != HEADS:
+        return f"its headings are {heads}, and are to be {HEADS}"
 
 
 def anchors(page):
@@ -67,6 +115,22 @@ for text in sorted(glob.glob("examples/*.txt")):
 
 for text in sorted(glob.glob("examples/explore/*.txt")):
     report(text, quoted("docs/EXPLORE.md", text.removesuffix(".txt")))
+
+HEADS = ["Its steps", "Use it", "What is promised", "What is not promised", "Where its definitions stand", "Wrong bodies"]
+for page in glob.glob("docs/objects/*.md"):
+    report(page, ordered(page))
+
+FOLDERS = [f"crates/*/{folder}/**/*.{ending}" for folder in ("src", "specs", "proofs") for ending in ("rt", "antt")]
+CODE = {file: read(file) for folder in FOLDERS for file in glob.glob(folder, recursive=True)}
+SOURCES = [bare(code) for code in CODE.values()]
+CLAUSES = {name for code in CODE.values() for name in re.findall(r"\b(?:ensures\*?|requires|ghost|pub)(?: record| struct)? (\w+)", code)}
+for page in PAGES:
+    report(page, unknown(page))
+    for row in TEXTS[page].splitlines():
+        if row.startswith("| ") and re.search(r"\.(antt|rt)` *(of|\||,|;)", row):
+            report(page, misplaced(row))
+    for code in re.findall(r"^```(?:rust|antt)\n(.*?)^```$", TEXTS[page], re.DOTALL | re.MULTILINE):
+        report(page, unmade(code))
 
 named = set(re.findall(r"`(\w+\.edit)`", "".join(TEXTS.values())))
 edits = {os.path.basename(it): it for it in glob.glob("crates/*/must-fail/*.edit")}
