@@ -30,8 +30,9 @@ use Rattle.steps_rw_writer.specs.declared.Leaver.{Leaver}
 use Rattle.steps_rw_writer.specs.declared.Leaver.TheVariants as leavers
 use Rattle.steps_rw_writer.specs.declared.RwWriterPlace.{RwWriterPlace}
 use Rattle.steps_rw_writer.specs.declared.RwWriterPlace.TheVariants as places
-use Rattle.steps_rw_writer.specs.Table.{lets_readers_in, lets_writer_in, lets_mark, is_marked, is_blocked, try_read_look, read_look, spins, marks_or_spins, unmarks_or_leaves, write_refused, write_look, last_look, rw_writer_table, rw_writer_begins, rw_writer_answered, rw_writer_grant}
+use Rattle.steps_rw_writer.specs.Table.{lets_readers_in, try_read_look, read_look, spins, unmarks_or_leaves, write_refused, write_look, last_look, rw_writer_table, rw_writer_begins, rw_writer_answered, rw_writer_grant}
 use Rattle.steps_rw_writer.specs.Law.{HasUnlocked}
+use Rattle.steps_rw_writer.proofs.LookLaws.{HoldsOn, of_spins, of_unmarks, of_refused, of_look, of_last_look}
 use Rattle.steps_rw_writer.proofs.PlaceLaws.{AtRwWriter, rw_writer_kept, asked_nothing, offered_nothing, enter_grants, mark_grants_none, unmark_grants_none}
 
 -- What a call that leaves has done, newest first.
@@ -90,47 +91,8 @@ read_tries T patience v = by_tests (lets_readers_in v) patience.keep (nat_lt pat
     by_tests false true false = tt
     by_tests false false left = refl
 
-spin_tries : (T : Type 0) (patience : Patience) → TriesOn {T = T} (spins patience)
-spin_tries T patience = by_test (nat_lt patience.spins 10000)
-  where
-    by_test : (b : Bool) → TriesOn {T = T} (cond b (afters.At (places.WriteLook (record { spins = patience.spins + 1; keep = patience.keep }))) (afters.At (places.LoadCounter patience)))
-    by_test true = tt
-    by_test false = tt
-
-mark_tries : (T : Type 0) (patience : Patience) (v : ℕ) → TriesOn {T = T} (marks_or_spins patience v)
-mark_tries T patience v = by_test (lets_mark v)
-  where
-    by_test : (b : Bool) → TriesOn {T = T} (cond b (afters.At (places.Mark v (v + 1) patience)) (spins patience))
-    by_test true = tt
-    by_test false = spin_tries T patience
-
-unmark_tries : (T : Type 0) (v : ℕ) → TriesOn {T = T} (unmarks_or_leaves v)
-unmark_tries T v = by_test (is_marked v)
-  where
-    by_test : (b : Bool) → TriesOn {T = T} (cond b (afters.At (places.Unmark v (v - 1))) (afters.Ends answers.Interrupted))
-    by_test true = tt
-    by_test false = refl
-
-refused_tries : (T : Type 0) (patience : Patience) (v : ℕ) → TriesOn {T = T} (write_refused patience v)
-refused_tries T patience v = by_test patience.keep
-  where
-    by_test : (b : Bool) → TriesOn {T = T} (cond b (marks_or_spins patience v) (unmarks_or_leaves v))
-    by_test true = mark_tries T patience v
-    by_test false = unmark_tries T v
-
-write_tries : (T : Type 0) (patience : Patience) (v : ℕ) → TriesOn {T = T} (write_look patience v)
-write_tries T patience v = by_test (lets_writer_in v)
-  where
-    by_test : (b : Bool) → TriesOn {T = T} (cond b (afters.At (places.Enter v patience)) (write_refused patience v))
-    by_test true = tt
-    by_test false = refused_tries T patience v
-
-last_tries : (T : Type 0) (count : ℕ) (patience : Patience) (v : ℕ) → TriesOn {T = T} (last_look count patience v)
-last_tries T count patience v = by_test (is_blocked v)
-  where
-    by_test : (b : Bool) → TriesOn {T = T} (cond b (afters.Waits (places.WriteLook patience) count) (write_look patience v))
-    by_test true = tt
-    by_test false = write_tries T patience v
+tries : (T : Type 0) → HoldsOn {T = T} TriesOn
+tries T = record { looks = λ _. tt; loads = λ _. tt; marks = λ _ _ _. tt; unmarks = λ _ _. tt; enters = λ _ _. tt; leaves = refl }
 
 -- What is kept of a call that leaves.
 
@@ -157,7 +119,7 @@ unmarked_leads :
     {T : Type 0} (c : PendingCall T) (hold : Option HoldKind) (number seen to w : ℕ) (b : Bool) → c.call ≡ calls.WriteLock → hold ≡ None → seen ≡ to + 1 →
     Leads c.own (hold_after rw_writer_table (acts.Exchange words.State seen to w b) (Some c) hold) number (acts.Exchange words.State seen to w b) (cond b (afters.At (places.Count leavers.GivenUp)) (unmarks_or_leaves w))
 unmarked_leads c hold number seen to w true call free less = (rw (unmark_grants_none c.call seen to call less) free, refl, tt)
-unmarked_leads {T} c hold number seen to w false call free less = tries_lead c.own hold number (acts.Exchange words.State seen to w false) (unmarks_or_leaves w) (unmark_tries T w)
+unmarked_leads {T} c hold number seen to w false call free less = tries_lead c.own hold number (acts.Exchange words.State seen to w false) (unmarks_or_leaves w) (of_unmarks TriesOn (tries T) w)
 
 -- a reader's release, by what it found
 read_released : {T : Type 0} (own : List (Event T)) (number w : ℕ) (b : Bool) → (w == 3) ≡ b → own ≡ [] →
@@ -174,13 +136,13 @@ leaving_leads (places.TryRead seen to) c hold memory number at leaving = exchang
 leaving_leads {T} (places.ReadLook patience) c hold memory number at leaving = tries_lead c.own hold number _ _ (read_tries T patience (memory words.State))
 leaving_leads {T} (places.Read seen to patience) c hold memory number at leaving = exchange_leads c.own _ number _ (memory words.State == seen) (afters.Ends answers.Success) _ tt (read_tries T patience (memory words.State))
 leaving_leads places.TryWrite c hold memory number at leaving = exchange_leads c.own _ number _ (memory words.State == 0) (afters.Ends answers.Success) (afters.Ends answers.Interrupted) tt refl
-leaving_leads {T} (places.WriteLook patience) c hold memory number at leaving = tries_lead c.own hold number _ _ (write_tries T patience (memory words.State))
-leaving_leads {T} (places.Enter seen patience) c hold memory number at leaving = exchange_leads c.own _ number _ (memory words.State == seen) (afters.Ends answers.Success) _ tt (refused_tries T patience (memory words.State))
+leaving_leads {T} (places.WriteLook patience) c hold memory number at leaving = tries_lead c.own hold number _ _ (of_look TriesOn (tries T) patience (memory words.State))
+leaving_leads {T} (places.Enter seen patience) c hold memory number at leaving = exchange_leads c.own _ number _ (memory words.State == seen) (afters.Ends answers.Success) _ tt (of_refused TriesOn (tries T) patience (memory words.State))
 leaving_leads {T} (places.Mark seen to patience) c hold memory number at leaving =
-    exchange_leads c.own _ number _ (memory words.State == seen) _ _ (tries_lead c.own _ number _ _ (spin_tries T patience)) (write_tries T patience (memory words.State))
+    exchange_leads c.own _ number _ (memory words.State == seen) _ _ (tries_lead c.own _ number _ _ (of_spins TriesOn (tries T) patience)) (of_look TriesOn (tries T) patience (memory words.State))
 leaving_leads (places.Unmark seen to) c hold memory number at leaving = unmarked_leads c hold number seen to (memory words.State) (memory words.State == seen) at.0 at.1 at.3.2
 leaving_leads (places.LoadCounter patience) c hold memory number at leaving = tt
-leaving_leads {T} (places.LastLook count patience) c hold memory number at leaving = tries_lead c.own hold number _ _ (last_tries T count patience (memory words.State))
+leaving_leads {T} (places.LastLook count patience) c hold memory number at leaving = tries_lead c.own hold number _ _ (of_last_look TriesOn (tries T) count patience (memory words.State) tt)
 leaving_leads places.Release c None memory number at leaving = absurd cc
 leaving_leads places.Release c (Some kinds.Read) memory number at leaving = read_released c.own number (memory words.State) (memory words.State == 3) refl leaving
 leaving_leads places.Release c (Some kinds.Write) memory number at leaving = (refl, refl, rw leaving refl)
@@ -244,7 +206,7 @@ unmarks_answers :
     {T : Type 0} (c : PendingCall T) (hold : Option HoldKind) (seen to w : ℕ) (b : Bool) → kind_wanted c.call ≡ Some kinds.Write → hold ≡ None →
     IsAnswered HasUnlocked (Some c) (acts.Exchange words.State seen to w b) (outcome_of {T = T} (cond b (afters.At (places.Count leavers.GivenUp)) (unmarks_or_leaves w))) (hold_after rw_writer_table (acts.Exchange words.State seen to w b) (Some c) hold)
 unmarks_answers c hold seen to w true wanted free = tt
-unmarks_answers {T} c hold seen to w false wanted free = tries_on HasUnlocked IsEntering c _ hold kinds.Write (unmarks_or_leaves w) wanted free (unmark_tries T w)
+unmarks_answers {T} c hold seen to w false wanted free = tries_on HasUnlocked IsEntering c _ hold kinds.Write (unmarks_or_leaves w) wanted free (of_unmarks TriesOn (tries T) w)
 
 read_release_answers :
     {T : Type 0} (c : PendingCall T) (w : ℕ) (b : Bool) → (w == 3) ≡ b → c.call ≡ calls.Unlock → c.own ≡ [] →
@@ -269,18 +231,18 @@ step_answers {T} places.TryWrite c hold memory at leaving =
     enters HasUnlocked rw_writer_table IsEntering c hold 0 (2 ^ 64 - 1) (memory words.State) kinds.Write (memory words.State == 0) (afters.Ends answers.Interrupted) (wants c calls.TryWriteLock kinds.Write at.0 refl) at.1
     (ap (λ (k : Call T). rw_writer_grant k 0 (2 ^ 64 - 1)) at.0) refl
 step_answers {T} (places.WriteLook patience) c hold memory at leaving =
-    tries_on HasUnlocked IsEntering c _ hold kinds.Write (write_look patience (memory words.State)) (wants c calls.WriteLock kinds.Write at.0 refl) at.1 (write_tries T patience (memory words.State))
+    tries_on HasUnlocked IsEntering c _ hold kinds.Write (write_look patience (memory words.State)) (wants c calls.WriteLock kinds.Write at.0 refl) at.1 (of_look TriesOn (tries T) patience (memory words.State))
 step_answers {T} (places.Enter seen patience) c hold memory at leaving =
     enters HasUnlocked rw_writer_table IsEntering c hold seen (2 ^ 64 - 1) (memory words.State) kinds.Write (memory words.State == seen) (write_refused patience (memory words.State)) (wants c calls.WriteLock kinds.Write at.0 refl) at.1 (enter_grants c.call seen at.0 at.3)
-    (refused_tries T patience (memory words.State))
+    (of_refused TriesOn (tries T) patience (memory words.State))
 step_answers {T} (places.Mark seen to patience) c hold memory at leaving =
     marks_answers c hold seen to (memory words.State) (memory words.State == seen) (spins patience) (write_look patience (memory words.State)) (wants c calls.WriteLock kinds.Write at.0 refl) at.1 (mark_grants_none c.call seen to at.0 at.3.2)
-    (spin_tries T patience) (write_tries T patience (memory words.State))
+    (of_spins TriesOn (tries T) patience) (of_look TriesOn (tries T) patience (memory words.State))
 step_answers (places.Unmark seen to) c hold memory at leaving =
     unmarks_answers c hold seen to (memory words.State) (memory words.State == seen) (wants c calls.WriteLock kinds.Write at.0 refl) at.1
 step_answers (places.LoadCounter patience) c hold memory at leaving = tt
 step_answers {T} (places.LastLook count patience) c hold memory at leaving =
-    tries_on HasUnlocked IsEntering c _ hold kinds.Write (last_look count patience (memory words.State)) (wants c calls.WriteLock kinds.Write at.0 refl) at.1 (last_tries T count patience (memory words.State))
+    tries_on HasUnlocked IsEntering c _ hold kinds.Write (last_look count patience (memory words.State)) (wants c calls.WriteLock kinds.Write at.0 refl) at.1 (of_last_look TriesOn (tries T) count patience (memory words.State) tt)
 step_answers places.Release c None memory at leaving = absurd cc
 step_answers places.Release c (Some kinds.Read) memory at leaving = read_release_answers c (memory words.State) (memory words.State == 3) refl at.0 leaving
 step_answers places.Release c (Some kinds.Write) memory at leaving = tt

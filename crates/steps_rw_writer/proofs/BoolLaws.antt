@@ -12,3 +12,8 @@ neither false false x is = (refl, is)
 
 pub none_below : (n : ℕ) → n ≡ 0 → nat_lt 0 n ≡ false
 none_below n is = rw is refl
+
+-- what holds of both ways of a test holds of the test
+pub either : {A : Type 0} (Holds : A → Type 0) (b : Bool) (x y : A) → Holds x → Holds y → Holds (cond b x y)
+either Holds true x y one other = one
+either Holds false x y one other = other

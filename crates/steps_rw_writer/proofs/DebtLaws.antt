@@ -35,11 +35,12 @@ use Rattle.steps_rw_writer.specs.declared.Leaver.{Leaver}
 use Rattle.steps_rw_writer.specs.declared.Leaver.TheVariants as leavers
 use Rattle.steps_rw_writer.specs.declared.RwWriterPlace.{RwWriterPlace}
 use Rattle.steps_rw_writer.specs.declared.RwWriterPlace.TheVariants as places
-use Rattle.steps_rw_writer.specs.Table.{is_odd, lets_writer_in, lets_mark, is_marked, is_blocked, spins, marks_or_spins, unmarks_or_leaves, write_refused, write_look, last_look, rw_writer_table, rw_writer_begins, rw_writer_answered}
+use Rattle.steps_rw_writer.specs.Table.{is_odd, is_blocked, spins, unmarks_or_leaves, write_refused, write_look, last_look, rw_writer_table, rw_writer_begins, rw_writer_answered}
 use Rattle.steps_rw_writer.specs.Marks.{is_marked_after}
 use Rattle.steps_rw_writer.specs.Law.{CountsHolds}
 use Rattle.steps_rw_writer.specs.Debts.{blocks, is_blocked_after, is_answer, adds_count, owes_count, loads_count, counts_since_load, StandsWith, NoWakeIsLost, PaysNext, CounterCountsAdds}
-use Rattle.steps_rw_writer.proofs.BoolLaws.{clash, neither, none_below}
+use Rattle.steps_rw_writer.proofs.BoolLaws.{clash, neither, none_below, either}
+use Rattle.steps_rw_writer.proofs.LookLaws.{HoldsOn, of_spins, of_unmarks, of_refused, of_look}
 use Rattle.steps_rw_writer.proofs.PlaceLaws.{AtRwWriter, here}
 use Rattle.steps_rw_writer.proofs.StageLaws.{same_call, same_place, unlike, IsAt, fact_here, begins_none, answered_at, chosen_at, stepped_at}
 use Rattle.steps_rw_writer.proofs.Laws.{writer_lock_word}
@@ -317,44 +318,8 @@ IsPlain (afters.Waits place seen) = ⊥
 IsPlain (afters.Chooses place old) = ⊥
 IsPlain (afters.Ends answer) = Unit {0}
 
-plain_spins : (T : Type 0) (patience : Patience) → IsPlain {T = T} (spins patience)
-plain_spins T patience = by_test (nat_lt patience.spins 10000)
-  where
-    by_test : (b : Bool) → IsPlain {T = T} (cond b (afters.At (places.WriteLook (record { spins = patience.spins + 1; keep = patience.keep }))) (afters.At (places.LoadCounter patience)))
-    by_test true = refl
-    by_test false = refl
-
-plain_marks : (T : Type 0) (patience : Patience) (v : ℕ) → IsPlain {T = T} (marks_or_spins patience v)
-plain_marks T patience v = by_test (lets_mark v)
-  where
-    by_test : (b : Bool) → IsPlain {T = T} (cond b (afters.At (places.Mark v (v + 1) patience)) (spins patience))
-    by_test true = refl
-    by_test false = plain_spins T patience
-
-plain_unmarks : (T : Type 0) (v : ℕ) → IsPlain {T = T} (unmarks_or_leaves v)
-plain_unmarks T v = by_test (is_marked v)
-  where
-    by_test : (b : Bool) → IsPlain {T = T} (cond b (afters.At (places.Unmark v (v - 1))) (afters.Ends answers.Interrupted))
-    by_test true = refl
-    by_test false = tt
-
-plain_refused : (T : Type 0) (patience : Patience) (v : ℕ) → IsPlain {T = T} (write_refused patience v)
-plain_refused T patience v = by_test patience.keep
-  where
-    by_test : (b : Bool) → IsPlain {T = T} (cond b (marks_or_spins patience v) (unmarks_or_leaves v))
-    by_test true = plain_marks T patience v
-    by_test false = plain_unmarks T v
-
-plain_look : (T : Type 0) (patience : Patience) (v : ℕ) → IsPlain {T = T} (write_look patience v)
-plain_look T patience v = by_test (lets_writer_in v)
-  where
-    by_test : (b : Bool) → IsPlain {T = T} (cond b (afters.At (places.Enter v patience)) (write_refused patience v))
-    by_test true = refl
-    by_test false = plain_refused T patience v
-
-plain_if : {T : Type 0} (b : Bool) (done failed : After T RwWriterPlace) → IsPlain done → IsPlain failed → IsPlain (cond b done failed)
-plain_if true done failed one other = one
-plain_if false done failed one other = other
+plain : (T : Type 0) → HoldsOn {T = T} IsPlain
+plain T = record { looks = λ _. refl; loads = λ _. refl; marks = λ _ _ _. refl; unmarks = λ _ _. refl; enters = λ _ _. refl; leaves = tt }
 
 -- the load of the counter, and the look at which it stands
 pub record LoadsCount {T : Type 0} (counter : ℕ) (act : Act T) (a : After T RwWriterPlace) : Type 0 where
@@ -377,7 +342,7 @@ last_look_stands T count w patience = by_test (is_blocked w) refl
     by_test : (b : Bool) → is_blocked w ≡ b →
         IsPlain {T = T} (cond b (afters.Waits (places.WriteLook patience) count) (write_look patience w)) ⊎ StandsNow {T = T} w (places.LastLook count patience) (acts.Load words.State w) (cond b (afters.Waits (places.WriteLook patience) count) (write_look patience w))
     by_test true is = inr (record { count = count; patience = patience; from = refl; leads = refl; looks = refl; blocked = is })
-    by_test false is = inl (plain_look T patience w)
+    by_test false is = inl (of_look IsPlain (plain T) patience w)
 
 pub write_step :
     {T : Type 0} (place : RwWriterPlace) (c : PendingCall T) (hold : Option HoldKind) (memory : Word → ℕ) → AtRwWriter place c hold → c.call ≡ calls.WriteLock →
@@ -389,10 +354,10 @@ write_step (places.TryRead seen to) c hold memory at write = unlike c.call calls
 write_step (places.ReadLook patience) c hold memory at write = unlike c.call calls.ReadLock calls.WriteLock at.0 write (λ same. absurd cc)
 write_step (places.Read seen to patience) c hold memory at write = unlike c.call calls.ReadLock calls.WriteLock at.0 write (λ same. absurd cc)
 write_step places.TryWrite c hold memory at write = unlike c.call calls.TryWriteLock calls.WriteLock at.0 write (λ same. absurd cc)
-write_step {T} (places.WriteLook patience) c hold memory at write = inl (plain_look T patience (memory words.State))
-write_step {T} (places.Enter seen patience) c hold memory at write = inl (plain_if (memory words.State == seen) (afters.Ends answers.Success) (write_refused patience (memory words.State)) tt (plain_refused T patience (memory words.State)))
-write_step {T} (places.Mark seen to patience) c hold memory at write = inl (plain_if (memory words.State == seen) (spins patience) (write_look patience (memory words.State)) (plain_spins T patience) (plain_look T patience (memory words.State)))
-write_step {T} (places.Unmark seen to) c hold memory at write = inl (plain_if (memory words.State == seen) (afters.At (places.Count leavers.GivenUp)) (unmarks_or_leaves (memory words.State)) refl (plain_unmarks T (memory words.State)))
+write_step {T} (places.WriteLook patience) c hold memory at write = inl (of_look IsPlain (plain T) patience (memory words.State))
+write_step {T} (places.Enter seen patience) c hold memory at write = inl (either IsPlain (memory words.State == seen) (afters.Ends answers.Success) (write_refused patience (memory words.State)) tt (of_refused IsPlain (plain T) patience (memory words.State)))
+write_step {T} (places.Mark seen to patience) c hold memory at write = inl (either IsPlain (memory words.State == seen) (spins patience) (write_look patience (memory words.State)) (of_spins IsPlain (plain T) patience) (of_look IsPlain (plain T) patience (memory words.State)))
+write_step {T} (places.Unmark seen to) c hold memory at write = inl (either IsPlain (memory words.State == seen) (afters.At (places.Count leavers.GivenUp)) (unmarks_or_leaves (memory words.State)) refl (of_unmarks IsPlain (plain T) (memory words.State)))
 write_step (places.LoadCounter patience) c hold memory at write = inr (inl (record { patience = patience; leads = refl; loads = refl }))
 write_step {T} (places.LastLook count patience) c hold memory at write = by_look (last_look_stands T count (memory words.State) patience)
   where

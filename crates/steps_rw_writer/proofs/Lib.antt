@@ -1,5 +1,6 @@
 pub mod BoolLaws
 pub mod WordLaws
+pub mod LookLaws
 pub mod PlaceLaws
 pub mod StageLaws
 pub mod Laws

@@ -20,13 +20,14 @@ use Rattle.steps_events.specs.declared.patience.Patience.{Patience}
 use Rattle.steps_events.specs.declared.row.After.{After}
 use Rattle.steps_events.specs.declared.row.After.TheVariants as afters
 use Rattle.steps_events.specs.Arithmetic.{Arithmetic}
-use Rattle.steps_events.specs.Rows.{carried_out, value_told, outcome_of, place_after, within}
+use Rattle.steps_events.specs.Rows.{carried_out, value_told, outcome_of, within}
 use Rattle.steps_events.specs.Past.{PendingCall, call_of, hold_of, word_in, latest_outcome, event}
 use Rattle.steps_events.specs.Moves.{Move, step_at, fault_at, hold_fault, answer_fault, choose_fault, stage_of}
 use Rattle.steps_events.specs.Runs.{IsPast}
 use Rattle.steps_events.specs.Sights.{is_sight, goes_on, stands_at_wait}
 use Rattle.steps_events.proofs.Steps.{by_move}
 use Rattle.steps_events.proofs.Parties.{IsKept, at_place, fault_at_none}
+use Rattle.steps_events.proofs.RwAnswers.{LeadsTo, leads_on}
 use Rattle.steps_rw_writer.specs.declared.Leaver.{Leaver}
 use Rattle.steps_rw_writer.specs.declared.Leaver.TheVariants as leavers
 use Rattle.steps_rw_writer.specs.declared.RwWriterPlace.{RwWriterPlace}
@@ -36,7 +37,7 @@ use Rattle.steps_rw_writer.specs.Debts.{is_blocked_after}
 use Rattle.steps_rw_writer.specs.Law.{look_of, latest_look, is_unmarked, SetsMarkFrom, MarksBesideReaders, StandsWhereBlocked}
 use Rattle.steps_rw_writer.proofs.BoolLaws.{clash}
 use Rattle.steps_rw_writer.proofs.StageLaws.{begins_none, unlike}
-use Rattle.steps_rw_writer.proofs.PlaceLaws.{AtRwWriter, here, grown, asked_nothing, offered_nothing}
+use Rattle.steps_rw_writer.proofs.PlaceLaws.{AtRwWriter, here, asked_nothing, offered_nothing}
 use Rattle.steps_rw_writer.proofs.DebtLaws.{IsPlain, LoadsCount, StandsNow, write_step, blocked_at}
 
 -- What a look says.
@@ -73,20 +74,13 @@ HasMarkedAt places.TryWrite c hold = Unit {0}
 HasMarkedAt (places.Mark seen to patience) c hold = (latest_look c.own ≡ Some seen) × (latest_outcome c.own ≡ thens.GoesOn)
 HasMarkedAt place c hold = NothingDue (latest_look c.own)
 
+-- the same of a call's own events
+abbrev HasMarkedOwn : {T : Type 0} → Call T → RwWriterPlace → List (Event T) → Option HoldKind → Type 0
+HasMarkedOwn call place own hold = HasMarkedAt place (record { call = call; own = own }) hold
+
 -- so where a step leads
 abbrev MarkedAfter : {T : Type 0} → PendingCall T → Option HoldKind → ℕ → Act T → After T RwWriterPlace → Type 0
-MarkedAfter c hold number act (afters.At place) = HasMarkedAt place (grown c (event number act thens.GoesOn)) hold
-MarkedAfter c hold number act (afters.Waits place told) = HasMarkedAt place (grown c (event number act (thens.Waits told))) hold
-MarkedAfter c hold number act (afters.Chooses place old) = HasMarkedAt place (grown c (event number act (thens.Chooses old))) hold
-MarkedAfter c hold number act (afters.Ends answer) = Unit {0}
-
-marked_on :
-    {T : Type 0} (c : PendingCall T) (hold : Option HoldKind) (number : ℕ) (act : Act T) (next : RwWriterPlace) (a : After T RwWriterPlace) → MarkedAfter c hold number act a → place_after a ≡ Some next →
-    HasMarkedAt next (grown c (event number act (outcome_of a))) hold
-marked_on {T} c hold number act next (afters.At place) to is = let made : place ≡ next = cc in subst (λ p. HasMarkedAt p (grown c (event number act thens.GoesOn)) hold) made to
-marked_on {T} c hold number act next (afters.Waits place told) to is = let made : place ≡ next = cc in subst (λ p. HasMarkedAt p (grown c (event number act (thens.Waits told))) hold) made to
-marked_on {T} c hold number act next (afters.Chooses place old) to is = let made : place ≡ next = cc in subst (λ p. HasMarkedAt p (grown c (event number act (thens.Chooses old))) hold) made to
-marked_on c hold number act next (afters.Ends answer) to is = absurd cc
+MarkedAfter c hold number act a = LeadsTo (HasMarkedOwn c.call) c.own hold number act a
 
 -- Where a call begins.
 
@@ -256,7 +250,7 @@ marked_kept {T} =
     record {
       begins = begins_marked;
       steps = λ place c hold memory number next at free is.
-          marked_on c _ number (step_at {T = T} rw_writer_table place hold memory).act next
+          leads_on (HasMarkedOwn c.call) c.own _ number (step_at {T = T} rw_writer_table place hold memory).act next
           (rw_writer_table.after place (value_told {T = T} (carried_out (rw_writer_table.intent place hold) memory))) (step_marked place c hold _ memory number) is;
       answers = answers_marked;
       chooses = chooses_marked;

@@ -40,6 +40,8 @@ use Rattle.steps_rw_writer.specs.Table.{lets_readers_in, lets_writer_in, lets_ma
 use Rattle.steps_rw_writer.specs.Debts.{loads_count}
 use Rattle.steps_rw_writer.specs.Law.{is_read_in_vain, write_spins_in, reader_waits, left_unmarking, left_refused, left_looking, left_last, goes_on_anyway, LooksToWrite, SpinsOrLoads, MarksAt, UnmarksAt, RefusedAt, LookedAt, CountsOne, ExchangedFrom, WriterStep, rw_writer_most, RwWriterStep}
 use Rattle.steps_rw_writer.proofs.WordLaws.{no_mark}
+use Rattle.steps_rw_writer.proofs.BoolLaws.{either}
+use Rattle.steps_rw_writer.proofs.LookLaws.{HoldsOn, of_spins, of_unmarks, of_refused, of_look, of_last_look}
 use Rattle.steps_rw_writer.proofs.PlaceLaws.{AtRwWriter, asked_nothing, offered_nothing, Sets, Clears}
 use Rattle.steps_rw_writer.proofs.SpinLaws.{HasSpunAt, spun_kept}
 use Rattle.steps_rw_writer.proofs.AnswerLaws.{HasCounted, HasWokenOne, IsLeaving, IsAnswering, answering_kept}
@@ -252,45 +254,8 @@ seen_after asks spins c hold act number next (afters.Ends answer) is writes reac
 
 -- what a writer's look leads to is a writer's
 
-spins_write : (T : Type 0) (patience : Patience) → StaysWriting {T = T} (spins patience)
-spins_write T patience = by_test (nat_lt patience.spins 10000)
-  where
-    by_test : (b : Bool) → StaysWriting {T = T} (cond b (afters.At (places.WriteLook (record { spins = patience.spins + 1; keep = patience.keep }))) (afters.At (places.LoadCounter patience)))
-    by_test true = tt
-    by_test false = tt
-
-unmarks_write : (T : Type 0) (v : ℕ) → StaysWriting {T = T} (unmarks_or_leaves v)
-unmarks_write T v = by_test (is_marked v)
-  where
-    by_test : (b : Bool) → StaysWriting {T = T} (cond b (afters.At (places.Unmark v (v - 1))) (afters.Ends answers.Interrupted))
-    by_test true = tt
-    by_test false = tt
-
-refused_write : (T : Type 0) (patience : Patience) (v : ℕ) → StaysWriting {T = T} (write_refused patience v)
-refused_write T patience v = by_tests patience.keep (lets_mark v)
-  where
-    by_tests : (asks marks : Bool) → StaysWriting {T = T} (cond asks (cond marks (afters.At (places.Mark v (v + 1) patience)) (spins patience)) (unmarks_or_leaves v))
-    by_tests true true = tt
-    by_tests true false = spins_write T patience
-    by_tests false marks = unmarks_write T v
-
-look_writes : (T : Type 0) (patience : Patience) (v : ℕ) → StaysWriting {T = T} (write_look patience v)
-look_writes T patience v = by_test (lets_writer_in v)
-  where
-    by_test : (b : Bool) → StaysWriting {T = T} (cond b (afters.At (places.Enter v patience)) (write_refused patience v))
-    by_test true = tt
-    by_test false = refused_write T patience v
-
-last_writes : (T : Type 0) (count : ℕ) (patience : Patience) (v : ℕ) → StaysWriting {T = T} (last_look count patience v)
-last_writes T count patience v = by_test (is_blocked v)
-  where
-    by_test : (b : Bool) → StaysWriting {T = T} (cond b (afters.Waits (places.WriteLook patience) count) (write_look patience v))
-    by_test true = tt
-    by_test false = look_writes T patience v
-
-either_writes : {T : Type 0} (b : Bool) (done missed : After T RwWriterPlace) → StaysWriting done → StaysWriting missed → StaysWriting (cond b done missed)
-either_writes true done missed on off = on
-either_writes false done missed on off = off
+stays : (T : Type 0) → HoldsOn {T = T} StaysWriting
+stays T = record { looks = λ _. tt; loads = λ _. tt; marks = λ _ _ _. tt; unmarks = λ _ _. tt; enters = λ _ _. tt; leaves = tt }
 
 -- Where a reader's step leads.
 
@@ -361,22 +326,22 @@ steps_seen {T} places.TryWrite c hold left memory number next at spun is = absur
 steps_seen {T} (places.WriteLook patience) c hold left memory number next at spun is =
     let v = memory words.State in
     let act : Act T = acts.Load words.State v in
-    seen_after patience.keep patience.spins c left act number next (write_look patience v) (record { steps = refl; quiet = refl; asking = spun.1.2; spun = spun.1.0 }) (look_writes T patience v) (look_reaches T patience v) is
+    seen_after patience.keep patience.spins c left act number next (write_look patience v) (record { steps = refl; quiet = refl; asking = spun.1.2; spun = spun.1.0 }) (of_look StaysWriting (stays T) patience v) (look_reaches T patience v) is
 steps_seen {T} (places.Enter seen patience) c hold left memory number next at spun is =
     let w = memory words.State in
     let act : Act T = acts.Exchange words.State seen (2 ^ 64 - 1) w (w == seen) in
     seen_after patience.keep patience.spins c left act number next (cond (w == seen) (afters.Ends answers.Success) (write_refused patience w)) (record { steps = refl; quiet = refl; asking = spun.1.2; spun = spun.1.0 })
-    (either_writes (w == seen) (afters.Ends answers.Success) (write_refused patience w) tt (refused_write T patience w)) (entered_reaches T patience seen w (w == seen)) is
+    (either StaysWriting (w == seen) (afters.Ends answers.Success) (write_refused patience w) tt (of_refused StaysWriting (stays T) patience w)) (entered_reaches T patience seen w (w == seen)) is
 steps_seen {T} (places.Mark seen to patience) c hold left memory number next at spun is =
     let w = memory words.State in
     let act : Act T = acts.Exchange words.State seen to w (w == seen) in
     seen_after patience.keep patience.spins c left act number next (cond (w == seen) (spins patience) (write_look patience w)) (record { steps = refl; quiet = refl; asking = spun.1.2; spun = spun.1.0 })
-    (either_writes (w == seen) (spins patience) (write_look patience w) (spins_write T patience) (look_writes T patience w)) (marked_reaches T patience seen to w (w == seen) spun.2 (mark_below seen to at.3)) is
+    (either StaysWriting (w == seen) (spins patience) (write_look patience w) (of_spins StaysWriting (stays T) patience) (of_look StaysWriting (stays T) patience w)) (marked_reaches T patience seen to w (w == seen) spun.2 (mark_below seen to at.3)) is
 steps_seen {T} (places.Unmark seen to) c hold left memory number next at spun is =
     let w = memory words.State in
     let act : Act T = acts.Exchange words.State seen to w (w == seen) in
     seen_after false (write_spins_in false c.own) c left act number next (cond (w == seen) (afters.At (places.Count leavers.GivenUp)) (unmarks_or_leaves w)) (record { steps = refl; quiet = refl; asking = spun.1.0; spun = refl })
-    (either_writes (w == seen) (afters.At (places.Count leavers.GivenUp)) (unmarks_or_leaves w) tt (unmarks_write T w)) (unmarked_reaches T (write_spins_in false c.own) seen to w (w == seen) (unmark_marks_none seen to at.3) (unmark_below seen to at.3)) is
+    (either StaysWriting (w == seen) (afters.At (places.Count leavers.GivenUp)) (unmarks_or_leaves w) tt (of_unmarks StaysWriting (stays T) w)) (unmarked_reaches T (write_spins_in false c.own) seen to w (w == seen) (unmark_marks_none seen to at.3) (unmark_below seen to at.3)) is
 steps_seen {T} (places.LoadCounter patience) c hold left memory number next at spun is =
     let count = memory words.Counter in
     let act : Act T = acts.Load words.Counter count in
@@ -384,7 +349,7 @@ steps_seen {T} (places.LoadCounter patience) c hold left memory number next at s
 steps_seen {T} (places.LastLook count patience) c hold left memory number next at spun is =
     let v = memory words.State in
     let act : Act T = acts.Load words.State v in
-    seen_after patience.keep patience.spins c left act number next (last_look count patience v) (record { steps = refl; quiet = refl; asking = spun.1.3 ∙ sym spun.1.4; spun = spun.1.0 ∙ sym spun.1.1 }) (last_writes T count patience v) (last_reaches T count patience v) is
+    seen_after patience.keep patience.spins c left act number next (last_look count patience v) (record { steps = refl; quiet = refl; asking = spun.1.3 ∙ sym spun.1.4; spun = spun.1.0 ∙ sym spun.1.1 }) (of_last_look StaysWriting (stays T) count patience v tt) (last_reaches T count patience v) is
 steps_seen {T} places.Release c hold left memory number next at spun is = released_seen _ left (value_told {T = T} (carried_out (rw_writer_table.intent places.Release hold) memory)) next is
 steps_seen {T} (places.Count who) c hold left memory number next at spun is = count_seen who c left (memory words.Counter) ((memory words.Counter + 1) % 2 ^ 64) number next (some_same (places.WakeOne who) next is)
 steps_seen {T} (places.WakeOne leavers.Reader) c hold left memory number next at spun is = absurd cc

@@ -20,7 +20,7 @@ use Rattle.steps_events.specs.declared.patience.Patience.{Patience}
 use Rattle.steps_events.specs.declared.row.After.{After}
 use Rattle.steps_events.specs.declared.row.After.TheVariants as afters
 use Rattle.steps_events.specs.Arithmetic.{Arithmetic}
-use Rattle.steps_events.specs.Rows.{carried_out, value_told, outcome_of, place_after, within, refused}
+use Rattle.steps_events.specs.Rows.{carried_out, value_told, within, refused}
 use Rattle.steps_events.specs.Past.{PendingCall, call_of, hold_of, hold_after, latest_outcome, event, is_failure}
 use Rattle.steps_events.specs.Moves.{step_at, hold_fault, answer_fault, choose_fault, stage_of}
 use Rattle.steps_events.specs.Runs.{IsPast}
@@ -29,6 +29,7 @@ use Rattle.steps_events.proofs.Holds.{eqb_other}
 use Rattle.steps_events.proofs.Spins.{answered_keep}
 use Rattle.steps_events.proofs.LastSights.{IsLook, LastSaw}
 use Rattle.steps_events.proofs.Parties.{IsKept, at_place}
+use Rattle.steps_events.proofs.RwAnswers.{LeadsTo as OwnLeadsTo, leads_on}
 use Rattle.steps_rw_writer.specs.declared.Leaver.{Leaver}
 use Rattle.steps_rw_writer.specs.declared.Leaver.TheVariants as leavers
 use Rattle.steps_rw_writer.specs.declared.RwWriterPlace.{RwWriterPlace}
@@ -102,20 +103,13 @@ AtRwWriter (places.WakeAll who) c hold = IsLeaver who c
 abbrev pub grown : {T : Type 0} → PendingCall T → Event T → PendingCall T
 grown c e = record { call = c.call; own = e ∷ c.own }
 
+-- the same of a call's own events
+abbrev pub AtOwn : {T : Type 0} → Call T → RwWriterPlace → List (Event T) → Option HoldKind → Type 0
+AtOwn call place own hold = AtRwWriter place (record { call = call; own = own }) hold
+
 -- what is kept where a step leads
 abbrev pub LeadsTo : {T : Type 0} → PendingCall T → Option HoldKind → ℕ → Act T → After T RwWriterPlace → Type 0
-LeadsTo c hold number act (afters.At place) = AtRwWriter place (grown c (event number act thens.GoesOn)) hold
-LeadsTo c hold number act (afters.Waits place seen) = AtRwWriter place (grown c (event number act (thens.Waits seen))) hold
-LeadsTo c hold number act (afters.Chooses place old) = AtRwWriter place (grown c (event number act (thens.Chooses old))) hold
-LeadsTo c hold number act (afters.Ends answer) = Unit {0}
-
-leads_on :
-    {T : Type 0} (c : PendingCall T) (hold : Option HoldKind) (number : ℕ) (act : Act T) (next : RwWriterPlace) (a : After T RwWriterPlace) → LeadsTo c hold number act a → place_after a ≡ Some next →
-    AtRwWriter next (grown c (event number act (outcome_of a))) hold
-leads_on {T} c hold number act next (afters.At place) to is = let made : place ≡ next = cc in subst (λ p. AtRwWriter p (grown c (event number act thens.GoesOn)) hold) made to
-leads_on {T} c hold number act next (afters.Waits place seen) to is = let made : place ≡ next = cc in subst (λ p. AtRwWriter p (grown c (event number act (thens.Waits seen))) hold) made to
-leads_on {T} c hold number act next (afters.Chooses place old) to is = let made : place ≡ next = cc in subst (λ p. AtRwWriter p (grown c (event number act (thens.Chooses old))) hold) made to
-leads_on c hold number act next (afters.Ends answer) to is = absurd cc
+LeadsTo c hold number act a = OwnLeadsTo (AtOwn c.call) c.own hold number act a
 
 -- Where a call begins.
 
@@ -433,7 +427,7 @@ rw_writer_kept {T} =
     record {
       begins = begins_at;
       steps = λ place c hold memory number next at free is.
-          leads_on c (hold_after {T = T} rw_writer_table (step_at {T = T} rw_writer_table place hold memory).act (Some c) hold) number (step_at {T = T} rw_writer_table place hold memory).act next
+          leads_on (AtOwn c.call) c.own (hold_after {T = T} rw_writer_table (step_at {T = T} rw_writer_table place hold memory).act (Some c) hold) number (step_at {T = T} rw_writer_table place hold memory).act next
           (rw_writer_table.after place (value_told {T = T} (carried_out (rw_writer_table.intent place hold) memory))) (steps_at place c hold memory number at) is;
       answers = answers_at;
       chooses = chooses_at;
