@@ -16,6 +16,8 @@ PAGE = 4096
 BEYOND = 64
 # The largest limit that is tried, in pages.
 MOST = 16384
+# What a program answers where memory is refused.
+REFUSED = (1, b"", b"no memory\n")
 
 
 def run_under(pages, program, text):
@@ -28,11 +30,6 @@ def run_under(pages, program, text):
     with open(text, "rb") as reader:
         done = subprocess.run([program], stdin=reader, capture_output=True, timeout=60, preexec_fn=set_limit)
     return done.returncode, done.stdout, done.stderr
-
-
-def starts(answer):
-    status, output, words = answer
-    return (status, output, words) == (1, b"", b"no memory\n") or status == 0
 
 
 def main():
@@ -52,9 +49,9 @@ def main():
         elif enough:
             print(f"{pages} pages: enough was {enough}, and it answers {answer[0]}, {answer[2]!r}")
             return 1
-        elif starts(answer):
+        elif answer == REFUSED:
             small += 1
-        elif small:
+        elif small or answer[0] == 0:
             print(f"{pages} pages: it answers {answer[0]}, {answer[2]!r}")
             return 1
         if enough and pages >= enough + BEYOND:

@@ -2,6 +2,7 @@
 ghost use Rattle.job_queue.specs.QueueShown.{IsQueuePass};
 
 use job_queue::{JobQueue, PutFault, QueuePass, Taken};
+use std::alloc::Allocator;
 use std::sync::Wait;
 use std::sync::atomic::{AtomicU64, Ordering};
 use std::test::Fail;
@@ -80,7 +81,11 @@ fn one_thread(rt: HostRuntime) -> Result<(), Fail> {
 }
 
 /// How many jobs the queue takes in until it answers `Full`, with their tickets in order; `None` where it answers something else.
-fn room_in<R: Wait>(rt: &R, queue: &JobQueue<u64>, pass: &mut QueuePass) -> Option<u64>
+pub fn room_in<R: Wait, A: Allocator>(
+    rt: &R,
+    queue: &JobQueue<u64, A>,
+    pass: &mut QueuePass,
+) -> Option<u64>
     requires own { IsQueuePass queue.now pass.old }
 {
     for job in 0..100u64 {
