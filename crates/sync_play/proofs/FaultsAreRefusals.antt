@@ -40,9 +40,6 @@ pub fails : {A B E : Type 0} (r : Result A E) (f : A → Result B E) (fault : E)
 fails {A} {B} {E} (Err d) f fault e = let same : d ≡ fault = cc in inl (ap (λ (x : E). Err x) same)
 fails (Ok x) f fault e = inr (x, refl, e)
 
-absurd_ok : {A E : Type 0} {B : Type 0} (x : A) (fault : E) → ◌≡◌ {A = Result A E} (Ok x) (Err fault) → B
-absurd_ok x fault e = absurd cc
-
 inner : {A B E : Type 0} (r : Result A E) (f : A → B) (fault : E) → (r >>= λ x. Ok (f x)) ≡ Err fault → r ≡ Err fault
 inner {A} {B} {E} (Err d) f fault e = let same : d ≡ fault = cc in ap (λ (x : E). Err x) same
 inner (Ok x) f fault e = absurd cc

@@ -1,5 +1,5 @@
 -- An input gives its one event, and a schedule the events of its run.
-use Rattle.std.proofs.Common.{◌≡◌, ℕ, suc, List, [], ◌∷◌, ◌++◌, length, Some, Result, Ok, Err, refl, sym, ap, subst, ◌∙◌, append_assoc}
+use Rattle.std.proofs.Common.{◌≡◌, ℕ, suc, List, [], ◌∷◌, ◌++◌, length, Some, Result, Ok, Err, refl, sym, ap, subst, ◌∙◌}
 use Rattle.steps_events.specs.declared.event.Event.{Event}
 use Rattle.steps_events.specs.declared.event.Input.{Input}
 use Rattle.steps_events.specs.declared.event.Object.{Object}
@@ -24,18 +24,11 @@ with_first : {A : Type 0} (x : A) (front : List A) (rest : Result (List A) LineF
 with_first x front (Ok others) = refl
 with_first x front (Err fault) = refl
 
-pub with_fronts : {A : Type 0} (front more : List A) (rest : Result (List A) LineFault) → with_front front (with_front more rest) ≡ with_front (front ++ more) rest
-with_fronts {A} front more (Ok others) = ap (λ (l : List A). Ok l) (sym (append_assoc front more others))
-with_fronts front more (Err fault) = refl
-
 abbrev ok_of : {A : Type 0} → A → Result A LineFault
 ok_of x = Ok x
 
 pub ok_is : {A : Type 0} (x y : A) → ok_of x ≡ ok_of y → x ≡ y
 ok_is x y e = cc
-
-err_same : {A B : Type 0} (x y : LineFault) → ◌≡◌ {A = Result A LineFault} (Err x) (Err y) → ◌≡◌ {A = Result B LineFault} (Err x) (Err y)
-err_same x y e = let same : x ≡ y = cc in rw same refl
 
 pub bind_ok : {A B : Type 0} (r : Result A LineFault) (f : A → Result B LineFault) (y : B) → (r >>= f) ≡ Ok y → (x : A) × (r ≡ Ok x) × (f x ≡ Ok y)
 bind_ok (Ok x) f y e = (x, refl, e)

@@ -2,17 +2,7 @@
 use Rattle.std.proofs.Common.{◌≡◌, ℕ, zero, suc, ◌+◌, List, [], ◌∷◌, ◌++◌, take, drop, Option, Some, None, refl, sym, ap, subst, ◌∙◌, append_assoc, arith}
 use Rattle.std.proofs.lemmas.List.{append-nil, take-append-drop}
 use Rattle.std.proofs.Math.Seq.{take-add, drop-nil}
-use Rattle.std.specs.Io.KnownBytes.{Appends, Consumes, Keeps}
-
-pub reads_both : (a b c : Option (List ℕ)) (xs ys : List ℕ) → Consumes a b xs → Consumes b c ys → Consumes a c (xs ++ ys)
-reads_both None b c xs ys h k = tt
-reads_both (Some a) None c xs ys h k = absurd h
-reads_both (Some a) (Some b) None xs ys h k = absurd k
-reads_both (Some a) (Some b) (Some c) xs ys h k = h ∙ ap (λ (l : List ℕ). xs ++ l) k ∙ sym (append_assoc xs ys c)
-
-pub reads_none : (a : Option (List ℕ)) → Consumes a a []
-reads_none None = tt
-reads_none (Some a) = refl
+use Rattle.std.specs.Io.KnownBytes.{Appends}
 
 pub writes_both : (a b c : Option (List ℕ)) (xs ys : List ℕ) → Appends a b xs → Appends b c ys → Appends a c (xs ++ ys)
 writes_both None b c xs ys h k = tt
@@ -23,12 +13,6 @@ writes_both (Some a) (Some b) (Some c) xs ys h k = k ∙ ap (λ (l : List ℕ). 
 pub writes_none : (a : Option (List ℕ)) → Appends a a []
 writes_none None = tt
 writes_none (Some a) = sym (append-nil a)
-
-pub keeps_written : (a b c : Option (List ℕ)) (xs : List ℕ) → Appends a b xs → Keeps b c → Appends a c xs
-keeps_written None b c xs h k = tt
-keeps_written (Some a) None c xs h k = absurd h
-keeps_written (Some a) (Some b) None xs h k = absurd k
-keeps_written (Some a) (Some b) (Some c) xs h k = k ∙ h
 
 -- the bytes in front of the rest were written
 pub record HasWritten (old new : Option (List ℕ)) (bytes rest : List ℕ) : Type 0 where

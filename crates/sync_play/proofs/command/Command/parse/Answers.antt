@@ -9,3 +9,11 @@ returns-in_default g c = search rules
 pub returns-in_err-number : goal.returns-in_err-number
 unfolding command_of
 returns-in_err-number g c = search rules
+
+pub returns-in_err-party : goal.returns-in_err-party
+unfolding command_of
+returns-in_err-party g c = search rules
+
+pub returns : goal.returns
+unfolding command_of
+returns g c = search rules
