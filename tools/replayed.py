@@ -1,9 +1,9 @@
 """Plays each text in an answer of sync-explore by sync-play, and holds what that prints against the line, or against the condition that
-the question ends with.
+the question ends with; and whether its wait closures that sleep could have gone on where the text says that they do.
 
     python3 tools/replayed.py QUESTION ANSWER
 
-Prints nothing where all agree, and else what does not, with status 1. Who holds what is read from sync-trace.
+Prints nothing where all agree, and else what does not, with status 1. Who holds what, and who wakes whom, is read from sync-trace.
 """
 
 import re
@@ -11,6 +11,7 @@ import subprocess
 import sys
 
 NO_ANSWERS = ("waits", "wakes", "chooses")
+CLOSURES = (["aborts"], ["may", "abort"], ["sleeps"])
 
 
 def calls_of(question):
@@ -20,7 +21,7 @@ def calls_of(question):
         party, _, rest = line.strip().partition(" ")
         if not party.isdigit():
             continue
-        if rest.strip() and rest.split()[-1] != "aborts" and rest.split() != ["may", "abort"]:
+        if rest.strip() and rest.split() not in CLOSURES:
             calls += [(party, " ".join(call.split())) for call in rest.split(",")]
     return calls
 
@@ -44,6 +45,22 @@ def answers_in(output):
     return answers
 
 
+def sleepers(question):
+    """The parties whose wait closures sleep."""
+    return [line.split()[0] for line in question.splitlines()[1:] if line.split()[1:] == ["sleeps"]]
+
+
+def stands(party, entries, output):
+    """Whether a party stands at its wait closure: it has waited more often than that has answered."""
+    waited = len(re.findall(f"(?m)^{party} waits ", output))
+    return waited > entries.count(f"{party} abort") + entries.count(f"{party} wait")
+
+
+def unanswered(question, entries, output, party):
+    """What is told of a call that does not answer."""
+    return "sleeps for ever" if party in sleepers(question) and stands(party, entries, output) else "for ever"
+
+
 def told(question, entries, output):
     """The line's outcome, by what sync-play printed of the text."""
     answers = answers_in(output)
@@ -52,7 +69,7 @@ def told(question, entries, output):
     for party, call in calls_of(question):
         if f"{party} {call}" in left:
             left.remove(f"{party} {call}")
-            shown.append((party, answers[party].pop(0) if answers.get(party) else "for ever"))
+            shown.append((party, answers[party].pop(0) if answers.get(party) else unanswered(question, entries, output, party)))
         else:
             shown.append((party, "-"))
     rows = []
@@ -76,6 +93,88 @@ def holders(text):
         return []
     at = rows[0].index("holds")
     return rows[-1][at : rows[0].index("call")].strip().split(", ")
+
+
+def trace_of(text):
+    """The rows of a text's trace: (party, act, what the words hold, how the call goes on)."""
+    head, *rows = run("./sync-trace", text).stdout.splitlines()
+    at = [head.index(name) for name in ("party", "act", "word", "holds", "call")]
+    for row in rows:
+        party, act, words, _, call = (row[start:end].strip() for start, end in zip(at, [*at[1:], None]))
+        parts = ["word", *words.split()]
+        yield party, act, dict(zip(parts[::2], map(int, parts[1::2]))), call
+
+
+def watched(kind, call, act):
+    """The word that a wait closure watches which a call asks after this act."""
+    if kind == "rwwriter" and call == "write_lock":
+        return "counter"
+    return "value" if kind == "condvar" and act.startswith(("load value", "exchange value")) else "word"
+
+
+def woken(kind, call, act):
+    """The word that a wake is of."""
+    if kind == "rwwriter" and act == "wake one":
+        return "counter"
+    return "value" if kind == "condvar" and call.startswith("notify") else "word"
+
+
+def fallen_asleep(ways, words):
+    """The ways in which closures that were asked may have fallen asleep by now."""
+    for party in {party for way in ways for party in dict(way)}:
+        more = set()
+        for way in ways:
+            rests = dict(way)
+            what = rests.get(party)
+            if what and what[0] == "asked" and words[what[1]] == what[2]:
+                more.add(tuple(sorted({**rests, party: ("asleep", what[1])}.items())))
+        ways = ways | more
+    return ways
+
+
+def woken_by(way, word, only_one):
+    """What a wake of a word makes of a way."""
+    asleep = [party for party, what in way if what == ("asleep", word)]
+    for some in [[party] for party in asleep] if only_one and asleep else [asleep]:
+        yield tuple(sorted((party, ("woken",) if party in some else what) for party, what in way))
+
+
+def ways_to_sleep(question, text):
+    """What the closures that sleep may be about at the end of a text, in each way in which they can have slept and gone on as it says:
+    asked, asleep or woken. None, where they cannot have."""
+    kind = question.split()[0]
+    calls = {}
+    ways = {()}
+    for party, act, words, call in trace_of(text):
+        if call == "begins":
+            calls[party] = act.split()[0]
+        if act.startswith("wake "):
+            word = woken(kind, calls[party], act)
+            ways = {after for way in ways for after in woken_by(way, word, act == "wake one")}
+        if act.startswith("its closure answers") and party in sleepers(question):
+            goes_on = act.endswith("Continue")
+            kept = set()
+            for way in ways:
+                what = dict(way)[party]
+                if not goes_on or what[0] == "woken" or (what[0] == "asked" and words[what[1]] != what[2]):
+                    kept.add(tuple(item for item in way if item[0] != party))
+            ways = kept
+        if call.startswith("waits ") and party in sleepers(question):
+            asked = ("asked", watched(kind, calls[party], act), int(call.split()[1]))
+            ways = {tuple(sorted([*way, (party, asked)])) for way in ways}
+        ways = fallen_asleep(ways, words)
+    return ways
+
+
+def slept_wrong(question, text, outcome):
+    """What is wrong with how closures sleep in a text, whose outcome may say who does so for ever."""
+    if not sleepers(question):
+        return []
+    asleep = [part.split()[0] for part in outcome.split(" | ") if "sleeps for ever" in part]
+    for way in ways_to_sleep(question, text):
+        if all(dict(way).get(party, ("up",))[0] == "asleep" for party in asleep):
+            return []
+    return [f"no closure can have slept so: {text}"]
 
 
 def left_of(question, entries):
@@ -111,8 +210,7 @@ def holds(term, question, text, entries, output):
     if what == "aborted":
         return given > 0
     if what == "waits":
-        stood = len(re.findall(f"(?m)^{first} waits ", output))
-        return stood > given + entries.count(f"{first} wait")
+        return stands(first, entries, output)
     if what == "holds write":
         return first in holders(text) or f"{first} writes" in holders(text)
     if what == "holds read":
@@ -129,6 +227,7 @@ def wrong_outcomes(question, answer):
         played = run("./sync-play", "\n".join([question.splitlines()[0], *entries]) + "\n")
         if played.returncode != 0 or told(question, entries, played.stdout) != outcome:
             wrong.append(f"{text}: {played.stderr.strip() or told(question, entries, played.stdout)}, and not {outcome}")
+        wrong += slept_wrong(question, "\n".join([question.splitlines()[0], *entries]) + "\n", outcome)
     return wrong
 
 
@@ -142,7 +241,8 @@ def wrong_terms(question, answer, terms):
     played = run("./sync-play", answer)
     if played.returncode != 0:
         return [played.stderr.strip()]
-    return [f"{term} does not hold at the end of the text" for term in terms if not holds(term, question, answer, entries, played.stdout)]
+    wrong = [f"{term} does not hold at the end of the text" for term in terms if not holds(term, question, answer, entries, played.stdout)]
+    return wrong + slept_wrong(question, answer, "")
 
 
 def main():

@@ -29,7 +29,7 @@ fn answered(alloc: Global, question: &[u8]) -> Result<String, AllocError> {
 }
 
 /// Questions, with what is told of each: a happy one, each kind of term, asked for and not, and each fault.
-const ANSWERS: [(&str, &str); 33] = [
+const ANSWERS: [(&str, &str); 37] = [
     (
         "spin 2\n1 try_lock\n2 try_lock\n",
         "\
@@ -132,6 +132,16 @@ const ANSWERS: [(&str, &str); 33] = [
     (
         "mutex 1\n1 lock\nfind ends\n\n1 unlock\n",
         "line 5: bad line, status 2",
+    ),
+    ("mutex 2\n3 sleeps\n", "line 2: no party, status 2"),
+    ("mutex 2\n2 sleeps now\n", "line 2: bad line, status 2"),
+    (
+        "condvar 2\n1 lock, start_wait, unlock\n1 sleeps\n2 notify_one\nfind stuck\n",
+        "condvar 2\n1 lock\n1 run\n1 start_wait\n2 notify_one\n2 go 1\n1 run\n2 run\n",
+    ),
+    (
+        "barrier 3 2\n1 start_wait\n2 start_wait\n3 start_wait\n3 sleeps\nfind stuck and 1 ok\n",
+        "barrier 3 2\n1 start_wait\n1 go 2\n2 start_wait\n2 go 2\n1 run\n2 run\n3 start_wait\n3 run\n",
     ),
 ];
 

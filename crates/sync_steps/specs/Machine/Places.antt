@@ -7,6 +7,7 @@ use Rattle.steps_events.specs.declared.event.Object.TheVariants as objects
 use Rattle.steps_events.specs.declared.event.Then.{Then}
 use Rattle.steps_events.specs.declared.event.Then.TheVariants as thens
 use Rattle.steps_events.specs.declared.event.Word.{Word}
+use Rattle.steps_events.specs.declared.event.Word.TheVariants as words
 use Rattle.steps_events.specs.declared.hold.HoldKind.{HoldKind}
 use Rattle.steps_events.specs.declared.row.After.{After}
 use Rattle.steps_events.specs.declared.row.Intent.{Intent}
@@ -26,8 +27,10 @@ use Rattle.steps_barrier.specs.Table.{barrier_table}
 use Rattle.steps_rw_reader.specs.declared.RwReaderPlace.{RwReaderPlace}
 use Rattle.steps_rw_reader.specs.Table.{rw_reader_table}
 use Rattle.steps_rw_writer.specs.declared.RwWriterPlace.{RwWriterPlace}
+use Rattle.steps_rw_writer.specs.declared.RwWriterPlace.TheVariants as rw_writer_places
 use Rattle.steps_rw_writer.specs.Table.{rw_writer_table}
 use Rattle.steps_condvar.specs.declared.CondvarPlace.{CondvarPlace}
+use Rattle.steps_condvar.specs.declared.CondvarPlace.TheVariants as condvar_places
 use Rattle.steps_condvar.specs.Table.{condvar_table}
 use Rattle.steps_once.specs.declared.OncePlace.{OncePlace}
 use Rattle.steps_once.specs.Table.{once_table}
@@ -145,3 +148,10 @@ answered_at z place action = at_rows z (λ P rows wrap p. wrap (rows.answered p 
 
 abbrev pub chosen_at : {T : Type 0} → Arithmetic T → Place T → Option T → Place T
 chosen_at z place choice = at_rows z (λ P rows wrap p. wrap (rows.chosen p choice)) place
+
+-- The word that a wait closure watches which was asked at a place, whose value it was told: a writer's of the writer-preferring lock watches the wake
+-- counter, that of a `Wait` for a permit the permits, and every other the lock's word.
+abbrev pub watched_word : {T : Type 0} → Object T → Place T → Word
+watched_word objects.WriterLock (places.RwWriter (rw_writer_places.WriteLook patience)) = words.Counter
+watched_word objects.Condvar (places.Condvar (condvar_places.Permit place)) = words.Value
+watched_word o place = words.State

@@ -2,7 +2,7 @@
 ghost use Rattle.std.specs.Prelude.{◌≡◌, true, is_some};
 ghost use Rattle.steps_events.specs.declared.event.Object.TheVariants as objects;
 ghost use Rattle.sync_steps.specs.Objects.{has_call as listed_call, is_rw_call as rw_call, is_register_call as register_call, wants_hold, has_word, woken_word};
-ghost use Rattle.sync_steps.specs.Machine.Places.{begins_at, intent_at, after_at, answered_at, chosen_at, grant_at, needs_hold_at};
+ghost use Rattle.sync_steps.specs.Machine.Places.{begins_at, intent_at, after_at, answered_at, chosen_at, grant_at, needs_hold_at, watched_word};
 
 use std::alloc::AllocError;
 use steps_atomic::AtomicPlace;
@@ -290,5 +290,18 @@ pub fn woken_word<T>(object: &Object<T>, call: &Call<T>, wake: Wake) -> Word
         | Object::Once
         | Object::Lazy(_)
         | Object::Atomic(_) => Word::State,
+    }
+}
+
+/// The word that a wait closure watches which was asked at this place, and whose value it was told: a word that the object has. On it a
+/// closure that sleeps does so.
+pub fn watched_word<T>(object: &Object<T>, place: &Place<T>) -> Word
+    ensures listed { result ≡ watched_word object.now place.now }
+    ensures has { has_word object.now result ≡ true }
+{
+    match (object, place) {
+        (Object::WriterLock, Place::RwWriter(RwWriterPlace::WriteLook(_))) => Word::Counter,
+        (Object::Condvar, Place::Condvar(CondvarPlace::Permit(_))) => Word::Value,
+        _ => Word::State,
     }
 }
