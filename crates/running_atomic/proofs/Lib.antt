@@ -3,5 +3,3 @@ pub mod HistoryKeeps
 pub mod AtomicKeeps
 pub mod OneHistory
 pub mod Joins
-pub mod AtomicPlays
-pub mod Compares

@@ -89,7 +89,7 @@ fn bits_and_extremes(rt: HostRuntime) -> Result<(), Fail> {
 fn update<R: Wait>(
     rt: &R,
     atomic: &Atomic<u64>,
-    pass: &mut AtomicPass<u64>,
+    pass: &mut AtomicPass,
     choice: Option<u64>,
 ) -> (Result<u64, u64>, u64)
     requires own { IsAtomicPass atomic.now pass.old }
@@ -129,12 +129,7 @@ fn a_shown_atomic_prints_its_value(rt: HostRuntime) -> Result<(), Fail> {
 }
 
 /// Adds 1 so many times.
-fn add_often<R: Wait>(
-    rt: &R,
-    atomic: &Atomic<u64>,
-    mut pass: AtomicPass<u64>,
-    times: u64,
-) -> AtomicPass<u64>
+fn add_often<R: Wait>(rt: &R, atomic: &Atomic<u64>, mut pass: AtomicPass, times: u64) -> AtomicPass
     requires own { IsAtomicPass atomic.now pass }
     ensures stayed { HasStayed pass result }
 {
@@ -144,42 +139,40 @@ fn add_often<R: Wait>(
     pass
 }
 
-/// Two threads with the halves of a pass add 1 a thousand times each: what is loaded then, and the pass that is whole again.
+/// Two threads with the halves of a pass add 1 a thousand times each: what is loaded then, and at the end.
 fn passes_meet<R: Threads + Wait + Sync>(
     rt: &R,
-    shared: &Atomic<u64>,
-    pass: AtomicPass<u64>,
-) -> (u64, AtomicPass<u64>)
-    requires own { IsAtomicPass shared.now pass }
-    ensures own { IsAtomicPass shared.now result.1 }
+    atomic: Atomic<u64>,
+    pass: AtomicPass,
+) -> (u64, u64)
+    requires own { IsAtomicPass atomic pass }
 {
+    let shared = &atomic;
     let Ok((one, two)) = pass.split(shared) else {
         unreachable!()
     };
     let (one, two) = thread::join(
         rt,
-        || -> AtomicPass<u64>
+        || -> AtomicPass
             requires { IsAtomicPass shared.now one }
             ensures { HasStayed one result }
         { add_often(rt, shared, one, 1000) },
-        || -> AtomicPass<u64>
+        || -> AtomicPass
             requires { IsAtomicPass shared.now two }
             ensures { HasStayed two result }
         { add_often(rt, shared, two, 1000) },
     );
-    let Ok(mut pass) = AtomicPass::join(one, two, shared) else {
+    let Ok(mut pass) = AtomicPass::join(one, two, &atomic) else {
         unreachable!()
     };
-    let loaded = shared.load(rt, &mut pass, ORDER);
-    (loaded, pass)
+    let loaded = atomic.load(rt, &mut pass, ORDER);
+    (loaded, atomic.into_inner(pass))
 }
 
 #[test]
 fn two_threads_add(rt: HostRuntime) -> Result<(), Fail> {
     let (atomic, pass) = Atomic::<u64>::new(rt.alloc(), 0)?;
-    let (loaded, pass) = passes_meet(&rt, &atomic, pass);
-    assert_eq!(rt; loaded, 2000);
-    assert_eq!(rt; atomic.into_inner(pass), 2000);
+    assert_eq!(rt; passes_meet(&rt, atomic, pass), (2000, 2000));
     Ok(())
 }
 
@@ -190,9 +183,9 @@ const STRIDE: u128 = (1 << 64) + (1 << 63);
 fn stride_often<R: Wait>(
     rt: &R,
     atomic: &Atomic<u128>,
-    mut pass: AtomicPass<u128>,
+    mut pass: AtomicPass,
     times: u64,
-) -> AtomicPass<u128>
+) -> AtomicPass
     requires own { IsAtomicPass atomic.now pass }
     ensures stayed { HasStayed pass result }
 {
@@ -203,12 +196,7 @@ fn stride_often<R: Wait>(
 }
 
 /// How many loads, of so many, tell a value that no number of strides makes.
-fn count_torn<R: Wait>(
-    rt: &R,
-    atomic: &Atomic<u128>,
-    pass: &mut AtomicPass<u128>,
-    times: u64,
-) -> u64
+fn count_torn<R: Wait>(rt: &R, atomic: &Atomic<u128>, pass: &mut AtomicPass, times: u64) -> u64
     requires own { IsAtomicPass atomic.now pass.old }
 {
     let mut torn = 0;
@@ -220,15 +208,15 @@ fn count_torn<R: Wait>(
     torn
 }
 
-/// Two threads add strides, while a third loads: how often it sees a torn value, and what is left of the pass.
+/// Two threads add strides, while a third loads: how often it sees a torn value, and the value at the end.
 fn watch_strides<R: Threads + Wait + Sync>(
     rt: &R,
-    shared: &Atomic<u128>,
-    pass: AtomicPass<u128>,
-) -> (u64, AtomicPass<u128>)
-    requires own { IsAtomicPass shared.now pass }
-    ensures own { IsAtomicPass shared.now result.1 }
+    atomic: Atomic<u128>,
+    pass: AtomicPass,
+) -> (u64, u128)
+    requires own { IsAtomicPass atomic pass }
 {
+    let shared = &atomic;
     let Ok((adding, mut loading)) = pass.split(shared) else {
         unreachable!()
     };
@@ -240,34 +228,32 @@ fn watch_strides<R: Threads + Wait + Sync>(
         || -> u64
             requires { IsAtomicPass shared.now loading }
         { count_torn(rt, shared, &mut loading, 2000) },
-        || -> (AtomicPass<u128>, AtomicPass<u128>)
+        || -> (AtomicPass, AtomicPass)
             requires { IsAtomicPass shared.now one × IsAtomicPass shared.now two }
             ensures { HasStayed one result.0 × HasStayed two result.1 }
         {
             thread::join(
                 rt,
-                || -> AtomicPass<u128>
+                || -> AtomicPass
                     requires { IsAtomicPass shared.now one }
                     ensures { HasStayed one result }
                 { stride_often(rt, shared, one, 1000) },
-                || -> AtomicPass<u128>
+                || -> AtomicPass
                     requires { IsAtomicPass shared.now two }
                     ensures { HasStayed two result }
                 { stride_often(rt, shared, two, 1000) },
             )
         },
     );
-    let Ok(pass) = AtomicPass::join(one, two, shared) else {
+    let Ok(pass) = AtomicPass::join(one, two, &atomic) else {
         unreachable!()
     };
-    (torn, pass)
+    (torn, atomic.into_inner(pass))
 }
 
 #[test]
 fn no_value_is_torn(rt: HostRuntime) -> Result<(), Fail> {
     let (atomic, pass) = Atomic::<u128>::new(rt.alloc(), 0)?;
-    let (torn, pass) = watch_strides(&rt, &atomic, pass);
-    assert_eq!(rt; torn, 0);
-    assert_eq!(rt; atomic.into_inner(pass), 2000 * STRIDE);
+    assert_eq!(rt; watch_strides(&rt, atomic, pass), (0, 2000 * STRIDE));
     Ok(())
 }
