@@ -143,12 +143,23 @@ fn clear_and_try(counter: &Counter, pass: &mut CounterPass) -> u64
     counter.exchange::<Tries, Untold>(pass, 0, 0, 1)
 }
 
+/// A load that is no step: what the word is, while the pass has made nothing more.
+fn peek(counter: &Counter, pass: &mut CounterPass) -> u64
+    requires own { IsPassOf counter.now pass.old }
+    requires one_word { count_of counter.now ≡ 1 }
+    ensures same { IsSamePass pass.old pass.new }
+    ensures stayed { parties_of pass.new ≡ parties_of pass.old }
+{
+    counter.look::<Untold>(pass, 0)
+}
+
 #[test]
 fn a_counter_plays_its_model(rt: HostRuntime) -> Result<(), Fail> {
     let (counter, mut pass) = Stage::new(rt.alloc(), &[0], &())?;
     assert_eq!(rt; count(&counter, &mut pass), 6);
     assert_eq!(rt; counter.word(0).load(), 6);
     assert_eq!(rt; clear_and_try(&counter, &mut pass), 0);
+    assert_eq!(rt; peek(&counter, &mut pass), 1);
     assert_eq!(rt; counter.close(pass, 0), 1);
     Ok(())
 }
@@ -193,7 +204,7 @@ fn run_and_store(ending: &Ending, pass: &mut EndingPass) -> u64
     ensures gave { result ≡ 5 }
     ensures played { HasCalled ending_model calls.CallOnce answers.Done None (parties_of pass.old) (parties_of pass.new) }
 {
-    ending.load::<Calls, Untold>(pass, 0);
+    ending.load_of::<Calls, Untold, ()>(pass, 0, &());
     let given = ending.run(
         pass,
         &mut (),
@@ -201,7 +212,7 @@ fn run_and_store(ending: &Ending, pass: &mut EndingPass) -> u64
             ensures { result ≡ 5 }
         { 5 },
     );
-    ending.store::<AfterAside, Untold>(pass, 0, 7);
+    ending.store_of::<AfterAside, Untold, ()>(pass, 0, 7, &());
     given
 }
 
@@ -210,5 +221,6 @@ fn a_call_ends_its_closure_between_two_steps(rt: HostRuntime) -> Result<(), Fail
     let (ending, mut pass) = Stage::new(rt.alloc(), &[0], &())?;
     assert_eq!(rt; run_and_store(&ending, &mut pass), 5);
     assert_eq!(rt; ending.word(0).load(), 7);
+    assert_eq!(rt; ending.close_two(pass, 0, 0), (7, 7));
     Ok(())
 }
