@@ -203,6 +203,10 @@ def holds(term, question, text, entries, output):
     if term == "ends":
         return have_ended(question, text, entries, output)
     first, _, what = term.partition(" ")
+    if term == "stuck":
+        begun = [entry.split()[0] for entry in entries if tuple(entry.split(" ", 1)) in calls_of(question)]
+        under_way = [party for party in set(begun) if begun.count(party) > len(answers_in(output).get(party, []))]
+        return bool(under_way) and all(stands(party, entries, output) for party in under_way)
     if not first.isdigit():
         words = output.splitlines()[-1].split(" failed ")[0].split()
         return what == dict(zip(words[::2], words[1::2]))[first]
