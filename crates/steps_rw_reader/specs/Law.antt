@@ -87,11 +87,11 @@ HasUnlocked done = ⊥
 
 -- What a call does next, by its own steps so far, and how it is left by what that tells.
 
--- a release takes 1 from the word, or stores 0
-abbrev pub Releases : {T : Type 0} → Act T → Then T → Type 0
-Releases (acts.Add words.State old put) outcome = (put ≡ (old + (2 ^ 64 - 1)) % 2 ^ 64) × (outcome ≡ thens.GoesOn)
-Releases (acts.Store words.State put) outcome = (put ≡ 0) × (outcome ≡ thens.GoesOn)
-Releases act outcome = ⊥
+-- a release takes 1 from the word, or stores 0, and leaves its call so
+abbrev pub Releases : {T : Type 0} → Then T → Act T → Then T → Type 0
+Releases left (acts.Add words.State old put) outcome = (put ≡ (old + (2 ^ 64 - 1)) % 2 ^ 64) × (outcome ≡ left)
+Releases left (acts.Store words.State put) outcome = (put ≡ 0) × (outcome ≡ left)
+Releases left act outcome = ⊥
 
 -- a refused call with a wait closure, which is told the value seen
 abbrev pub waits : {T : Type 0} → List (Event T) → ℕ → Then T
@@ -103,7 +103,7 @@ RwReaderStep calls.TryReadLock own act outcome = ReadsIn lets_readers_in 1 gives
 RwReaderStep calls.ReadLock own act outcome = ReadsIn lets_readers_in 1 (waits own) (reader_looked lets_readers_in (waits own)) own act outcome
 RwReaderStep calls.TryWriteLock own act outcome = (last_of is_step own ≡ None) × WritesIn 0 gives_up act outcome
 RwReaderStep calls.WriteLock own act outcome = WritesIn 0 (waits own) act outcome
-RwReaderStep calls.Unlock own act outcome = MatchOption (last_of is_step own) (Releases act outcome) (λ before. (act ≡ acts.Woke wakes.One) × (outcome ≡ thens.Answers answers.Done))
+RwReaderStep calls.Unlock own act outcome = MatchOption (last_of is_step own) (Releases thens.GoesOn act outcome) (λ before. (act ≡ acts.Woke wakes.One) × (outcome ≡ thens.Answers answers.Done))
 RwReaderStep other own act outcome = ⊥
 
 -- how many steps a call makes that waits for nobody
