@@ -79,11 +79,6 @@ AnswersByHold t (e ∷ past) =
     MatchOption (answer_of e.then) (Unit {0})
     (λ answer. MatchOption (call_of e.party past) ⊥ (λ c. IsLockAnswer c.call (acts_of (e ∷ c.own)) (hold_of t e.party (e ∷ past)) answer))
 
--- and where it answers nothing, it grants no hold
-abbrev pub AnswersWhereGranted : {T P : Type 0} → Table T P → List (Event T) → Type 0
-AnswersWhereGranted t [] = Unit {0}
-AnswersWhereGranted t (e ∷ past) = MatchOption (answer_of e.then) (hold_taken t e.act (call_of e.party past) ≡ None) (λ answer. Unit {0})
-
 -- When a call asks its wait closure.
 
 -- the spins of a `Lock` are its exchanges that failed; no other call asks
@@ -135,8 +130,6 @@ pub record MutexLaw {T : Type 0} (past : List (Event T)) : Type 0 where
   pub exact : IsExactGrant mutex_table past
   -- a locking call answers `Success` exactly where it has the hold, and an `Unlock` has stored 0 once and then woken one, and has none
   pub answers : AnswersByHold mutex_table past
-  -- a locking call that is granted the hold answers at once
-  pub ends : AnswersWhereGranted mutex_table past
   -- a wait closure is asked after 10000 spins, which are exchanges of a `Lock` that failed
   pub asks : AsksAfterSpinning lock_spins past
   -- no call goes on by itself more often
