@@ -32,14 +32,14 @@ use Rattle.steps_events.proofs.Holds.{some_same, eqb_other, no_holds, exclusive_
 use Rattle.steps_events.proofs.Steps.{by_move, tells_memory}
 use Rattle.steps_events.proofs.Spins.{spins_left, spins_spent}
 use Rattle.steps_events.proofs.Parties.{IsKept, at_place}
-use Rattle.steps_events.proofs.Asks.{asked_maps, spins_no_more, both_kept}
+use Rattle.steps_events.proofs.Asks.{IsAskedAs, waits_first, waits_as, spins_no_more, both_kept}
 use Rattle.steps_events.proofs.NextStep.{steps_as}
 use Rattle.steps_events.proofs.Own.{IsToldOf, own_at_last, at_last_maps}
 use Rattle.steps_barrier.specs.declared.BarrierPlace.{BarrierPlace}
 use Rattle.steps_barrier.specs.declared.BarrierPlace.TheVariants as places
 use Rattle.steps_barrier.specs.Rounds.{epoch_of, count_of, with_arrival, is_arrival, arrivals_in, round_of, full_rounds, IsFull, CountsArrivals}
 use Rattle.steps_barrier.specs.Table.{barrier_table, barrier_begins, barrier_intent, barrier_after}
-use Rattle.steps_barrier.specs.Law.{BarrierCause, is_ok, is_wake_of_all, is_wake, since_arrival, looks_on, steps_on, looked, BarrierStep, KeepsBarrier}
+use Rattle.steps_barrier.specs.Law.{BarrierCause, is_ok, is_wake_of_all, is_wake, since_arrival, looks_on, steps_on, looked, barrier_waiting, BarrierStep, KeepsBarrier}
 use Rattle.steps_barrier.proofs.Rounds.{count_is, epoch_is, counts_none, counts_more, later_epoch, filled_round, is_full}
 
 -- What is kept of a call at its place.
@@ -315,7 +315,7 @@ leaves_by_epoch {T} z n parties fits party past run c called v w arrived counts 
 
 -- what is so of a call where it asks its wait closure
 abbrev pub IsAskedSo : {T : Type 0} → PendingCall T → Act T → ℕ → Type 0
-IsAskedSo c act told = (looks_on c.call c.own ≡ 10000) × (sight_of words.State act ≡ Some told)
+IsAskedSo c act told = IsAskedAs barrier_waiting c act told
 
 pub record EventLaw {T : Type 0} (n party : ℕ) (past : List (Event T)) (pending : Option (PendingCall T)) (m : Move T) : Type 0 where
   pub cause : MatchBool (is_refusal m.outcome) (MatchOption pending ⊥ (λ c. BarrierCause n c.call party (event party m.act m.outcome ∷ past))) (Unit {0})
@@ -390,7 +390,7 @@ stay_law z n parties fits party past run c called hold epoch spins w true true a
     record { cause = tt; once = tt; passes = tt; wakes = tt; alone = tt; exact = λ sight. (λ full. absurd cc, λ none. absurd (none_of at.1.0 n at.1.1.3 none)); asks = tt; leaves = λ sight arrived. leaves_by_epoch z n parties fits party past run c called at.1.0 w at.1.1 counts thens.GoesOn (λ ok. absurd cc, λ other. absurd (other epoch_seen)) }
 stay_law z n parties fits party past run c called hold epoch spins w true false at counts sees spun =
     let epoch_seen : epoch_of w ≡ epoch_of at.1.0 = eqb-true (epoch_of w) epoch sees ∙ sym at.1.2 in
-    record { cause = tt; once = tt; passes = tt; wakes = tt; alone = tt; exact = λ sight. (λ full. absurd cc, λ none. absurd (none_of at.1.0 n at.1.1.3 none)); asks = (rw (has_arrived c.own _ at.1.1.2) (at.2 ∙ spins_spent spins at.3 spun), refl); leaves = λ sight arrived. leaves_by_epoch z n parties fits party past run c called at.1.0 w at.1.1 counts (thens.Waits w) (λ ok. absurd cc, λ other. absurd (other epoch_seen)) }
+    record { cause = tt; once = tt; passes = tt; wakes = tt; alone = tt; exact = λ sight. (λ full. absurd cc, λ none. absurd (none_of at.1.0 n at.1.1.3 none)); asks = (rw (has_arrived c.own _ at.1.1.2) (at.2 ∙ spins_spent spins at.3 spun), refl, refl); leaves = λ sight arrived. leaves_by_epoch z n parties fits party past run c called at.1.0 w at.1.1 counts (thens.Waits w) (λ ok. absurd cc, λ other. absurd (other epoch_seen)) }
 
 step_law :
     {T : Type 0} (z : Arithmetic T) (n parties : ℕ) → n < 2 ^ 32 → (party : ℕ) (past : List (Event T)) → IsPast z (barrier_table n) parties past → (c : PendingCall T) → call_of party past ≡ Some c →
@@ -541,7 +541,7 @@ each_steps z n parties past run =
     (both_kept (barrier_table n) (AtBarrier n) HasSeen (barrier_kept n) (seen_kept n)) (barrier_step n) past run
 
 pub keeps_barrier : {T : Type 0} (z : Arithmetic T) (n parties : ℕ) (past : List (Event T)) → n < 2 ^ 32 → IsPast z (barrier_table n) parties past → KeepsBarrier n past
-keeps_barrier z n parties [] fits run = record { told = tt; exclusive = exclusive_unheld [] refl; cause = tt; law = record { unheld = refl; counts = barrier_counts z n parties fits [] run; nobody = nobody_arrives z n parties [] run; once = tt; passes = tt; wakes = tt; alone = tt; leaves = tt; exact = tt; asks = tt; spins = λ party. tt; tells = tt; steps = tt } }
+keeps_barrier z n parties [] fits run = record { told = tt; exclusive = exclusive_unheld [] refl; cause = tt; law = record { unheld = refl; counts = barrier_counts z n parties fits [] run; nobody = nobody_arrives z n parties [] run; once = tt; passes = tt; wakes = tt; alone = tt; leaves = tt; exact = tt; waits = waits_first barrier_waiting; steps = tt } }
 keeps_barrier z n parties (e ∷ past) fits run =
     let event = event_law z n parties fits past e run in
     let unheld = no_holds (barrier_table n) (λ call from to. refl) (e ∷ past) in
@@ -559,9 +559,7 @@ keeps_barrier z n parties (e ∷ past) fits run =
         wakes = event.wakes;
         alone = event.alone;
         exact = event.exact;
-        asks = asked_maps IsAskedSo (λ c act told. looks_on c.call c.own ≡ 10000) (λ c act told so. so.0) (call_of e.party past) e.act e.then event.asks;
-        spins = spins_no_more z (barrier_table n) parties (AtBarrier n) steps_on (barrier_kept n) (spins_bounded n) (e ∷ past) run;
-        tells = asked_maps IsAskedSo (λ c act told. sight_at words.State c.call c.own act ≡ Some told) (λ c act told so. so.1) (call_of e.party past) e.act e.then event.asks;
+        waits = waits_as barrier_waiting past e event.asks (spins_no_more z (barrier_table n) parties (AtBarrier n) steps_on (barrier_kept n) (spins_bounded n) (e ∷ past) run);
         steps = each_steps z n parties (e ∷ past) run;
       };
     }

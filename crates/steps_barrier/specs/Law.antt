@@ -14,7 +14,7 @@ use Rattle.steps_events.specs.Past.{call_of, holds_of, word_in}
 use Rattle.steps_events.specs.Moves.{is_step}
 use Rattle.steps_events.specs.Sights.{is_sight, AtLast, spins_in, last_of}
 use Rattle.steps_events.specs.NextStep.{StepsAs, seen_last, Loads, Exchanges}
-use Rattle.steps_events.specs.Asks.{SpinCount, AsksAfterSpinning, SpinsNoMore, sight_at, TellsRefusal}
+use Rattle.steps_events.specs.Asks.{SpinCount, sight_at, Waiting, WaitsAs}
 use Rattle.steps_events.specs.Laws.{Keeps}
 use Rattle.steps_barrier.specs.Rounds.{epoch_of, count_of, with_arrival, is_arrival, arrivals_in, round_of, full_rounds, IsFull, CountsArrivals}
 use Rattle.steps_barrier.specs.Table.{barrier_table}
@@ -100,6 +100,10 @@ looks_on call own = once_arrived (spins_in (is_sight words.State)) call own
 abbrev pub steps_on : {T : Type 0} → SpinCount T
 steps_on call own = once_arrived (spins_in is_step) call own
 
+-- how they wait
+abbrev pub barrier_waiting : {T : Type 0} → Waiting T
+barrier_waiting = record { spins = looks_on; goes_on = steps_on; refusing = sight_at words.State; wait = λ call own. [] }
+
 -- What a call does next, by its own steps so far, and how it is left by what that tells.
 
 -- a look of a call that has not arrived: where n have, it is refused
@@ -153,12 +157,8 @@ pub record BarrierLaw {T : Type 0} (n : ℕ) (past : List (Event T)) : Type 0 wh
   pub alone : WakesAsFiller n past
   -- a barrier of 0 refuses each call, and no other refuses any
   pub exact : IsExactRefusal n past
-  -- a wait closure is asked after 10000 spins, which are looks since the call's arrival
-  pub asks : AsksAfterSpinning looks_on past
-  -- a call that has arrived goes on by itself no more often
-  pub spins : SpinsNoMore steps_on past
-  -- the closure is told the whole word that the latest look saw
-  pub tells : TellsRefusal (sight_at words.State) past
+  -- a `Wait` asks its closure after 10000 spins, which are looks since its arrival, and tells it the whole word seen; each question is a wait of its own
+  pub waits : WaitsAs barrier_waiting past
   -- each step is the one that follows its call's own, and leaves it by what it tells
   pub steps : StepsAs (BarrierStep n) past
 

@@ -27,22 +27,21 @@ use Rattle.steps_events.specs.Moves.{Move, step_at, fault_at, begin_fault}
 use Rattle.steps_events.specs.Runs.{IsPast}
 use Rattle.steps_events.specs.Sights.{sight_of, is_sight, keeps_asking}
 use Rattle.steps_events.specs.Asks.{WhereAsked}
-use Rattle.steps_events.specs.Waits.{is_wake}
 use Rattle.steps_events.specs.Laws.{IsTold, Lacks, is_refusal}
 use Rattle.steps_events.proofs.Holds.{eqb_same, hold_of_same}
 use Rattle.steps_events.proofs.Steps.{carried_goes_on, by_move, tells_memory}
 use Rattle.steps_events.proofs.LastSights.{sight_is_told, at_last_sight}
 use Rattle.steps_events.proofs.Parties.{at_place, fault_at_none}
-use Rattle.steps_events.proofs.Asks.{asked_of, asked_maps, spins_no_more}
+use Rattle.steps_events.proofs.Asks.{asked_of, waits_first, waits_as, spins_no_more}
 use Rattle.steps_events.proofs.Locks.{IsLock, IsLockIntent, IsFreeOrHeld, lock_word, lock_exclusive, locked_at}
 use Rattle.steps_mutex.specs.declared.MutexPlace.{MutexPlace}
 use Rattle.steps_mutex.specs.declared.MutexPlace.TheVariants as locks
 use Rattle.steps_mutex.specs.Table.{mutex_intent, mutex_after}
 use Rattle.steps_mutex.specs.Law as mutex_law
-use Rattle.steps_mutex.specs.Law.{LockCause, answer_of}
+use Rattle.steps_mutex.specs.Law.{acts_of, IsLockAnswer, LockCause, answer_of}
 use Rattle.steps_mutex.proofs.LockSteps.{LockLeads, lock_leads}
 use Rattle.steps_mutex.proofs.Laws as mutex
-use Rattle.steps_mutex.proofs.Laws.{AtMutex, lock_takes_none, another, held_at_one, unseen_takes_none, mutex_lacks}
+use Rattle.steps_mutex.proofs.Laws.{AtMutex, another, held_at_one, mutex_lacks}
 use Rattle.steps_semaphore.specs.declared.SemaphorePlace.{SemaphorePlace}
 use Rattle.steps_semaphore.specs.declared.SemaphorePlace.TheVariants as permits
 use Rattle.steps_semaphore.specs.Permits.{permits_given, permits_taken, is_take, number_answered}
@@ -53,7 +52,7 @@ use Rattle.steps_condvar.specs.declared.CondvarPlace.{CondvarPlace}
 use Rattle.steps_condvar.specs.declared.CondvarPlace.TheVariants as places
 use Rattle.steps_condvar.specs.Table.{condvar_table, condvar_grant, permitted, relocked}
 use Rattle.steps_condvar.specs.Waiters.{is_count, counts_in, since_count, is_wait, is_counted, CountsWaiters}
-use Rattle.steps_condvar.specs.Law.{wake_for, count_read, amount_for, condvar_gives, condvar_value, takes_in, HasAbortedSince, FoundNoPermit, FoundMutexHeld, IsSignalled, CondvarCause, IsWaitAnswer, WaitStep, is_read, is_post, PutsSum, NotifyStep, LockStep, CallStep, spins_of, gives_up, HasTried, KeepsCondvar, spins_on, refused_by, wait_of}
+use Rattle.steps_condvar.specs.Law.{wake_for, count_read, amount_for, condvar_gives, condvar_value, takes_in, HasAbortedSince, FoundNoPermit, FoundMutexHeld, IsSignalled, CondvarCause, IsAnswer, spins_of, gives_up, HasTried, KeepsCondvar, spins_on, refused_by, wait_of, condvar_waiting}
 use Rattle.steps_condvar.proofs.Counts.{CountEffect, none_wait, counts_after}
 use Rattle.steps_condvar.proofs.NextSteps.{each_steps, each_ends}
 use Rattle.steps_condvar.proofs.Places.{notify, amount_is, Progress, SawNone, SignalIs, took, AtCondvar, outcome_within, condvar_kept, spins_bounded}
@@ -153,12 +152,12 @@ pub record EventLaw {T : Type 0} (party : ℕ) (past : List (Event T)) (n : ℕ)
   pub count : CountEffect n (word_after words.Waiters m.act n) (is_count m.act) (is_counted pending) (is_counted (call_after m.outcome (event party m.act m.outcome) pending))
   pub number : number_answered m.outcome ≡ None
   pub cause : MatchBool (is_refusal m.outcome) (MatchOption pending ⊥ (λ c. CondvarCause c.call party (event party m.act m.outcome ∷ past))) (Unit {0})
-  pub answers :
-      MatchOption (answer_of m.outcome) (Unit {0})
-      (λ answer. MatchOption pending ⊥ (λ c. IsAnswer c.call c.own (m.act ∷ acts_of c.own) (hold_after condvar_table m.act pending hold) answer))
   pub exact :
       MatchOption pending (Unit {0})
       (λ c. c.call ≡ calls.TryLock → is_sight words.State m.act ≡ true → ((m.outcome ≡ thens.Answers answers.Success) ↔ (holds_of condvar_table past ≡ [])))
+  pub answers :
+      MatchOption (answer_of m.outcome) (Unit {0})
+      (λ answer. MatchOption pending ⊥ (λ c. IsAnswer c.call c.own (m.act ∷ acts_of c.own) (hold_after condvar_table m.act pending hold) answer))
   pub asks : WhereAsked IsAskedSo pending m.act m.outcome
   pub tries : MatchBool (gives_up m.outcome) (MatchOption pending ⊥ (λ c. HasTried c.call (event party m.act m.outcome ∷ c.own))) (Unit {0})
 
@@ -586,7 +585,7 @@ keeps_condvar z parties [] run =
       told = tt;
       exclusive = lock_exclusive 0 [] (lock_word z condvar_table parties (condvar_is_lock z parties) [] run);
       cause = tt;
-      law = record { waiters = none_wait; permits = record { at_most = omega arith; told = tt; lowers = tt }; answers = tt; exact = tt; asks = tt; spins = λ party. tt; tells = tt; stops = tt; tries = tt; steps = tt; within = λ party. tt };
+      law = record { waiters = none_wait; permits = record { at_most = omega arith; told = tt; lowers = tt }; answers = tt; exact = tt; waits = waits_first condvar_waiting; tries = tt; steps = tt; within = λ party. tt };
     }
 keeps_condvar {T} z parties (e ∷ past) run =
     let before = condvar_tallies z parties past run.1 in
@@ -608,10 +607,7 @@ keeps_condvar {T} z parties (e ∷ past) run =
         answers = subst (λ h. MatchOption (answer_of e.then) (Unit {0}) (λ answer. MatchOption (call_of e.party past) ⊥ (λ c. IsAnswer c.call c.own (e.act ∷ acts_of c.own) h answer)))
             (sym (hold_of_same condvar_table e.party e.act e.then past)) event.answers;
         exact = event.exact;
-        asks = asked_maps IsAskedSo (λ c act told. spins_of c.call c.own ≡ 10000) (λ c act told so. so.0) (call_of e.party past) e.act e.then event.asks;
-        spins = spins_no_more z condvar_table parties AtCondvar spins_on condvar_kept spins_bounded (e ∷ past) run;
-        tells = asked_maps IsAskedSo (λ c act told. refused_by c.call c.own act ≡ Some told) (λ c act told so. so.1) (call_of e.party past) e.act e.then event.asks;
-        stops = asked_maps IsAskedSo (λ c act told. keeps_asking (wait_of c.call c.own) ≡ true) (λ c act told so. so.2) (call_of e.party past) e.act e.then event.asks;
+        waits = waits_as condvar_waiting past e event.asks (spins_no_more z condvar_table parties AtCondvar spins_on condvar_kept spins_bounded (e ∷ past) run);
         tries = event.tries;
         steps = each_steps z parties (e ∷ past) run;
         within = each_ends z parties (e ∷ past) run;

@@ -19,12 +19,11 @@ use Rattle.steps_events.specs.declared.hold.HoldKind.TheVariants as kinds
 use Rattle.steps_events.specs.Past.{PendingCall, call_of, hold_of, is_release, is_failure}
 use Rattle.steps_events.specs.Moves.{is_step}
 use Rattle.steps_events.specs.Sights.{sight_of, is_sight, AtLastSight, keeps_asking, spins_in, acts_in}
-use Rattle.steps_events.specs.Asks.{SpinCount, but_last_try, AsksAfterSpinning, SpinsNoMore, Refusing, TellsRefusal, WaitEvents, AsksUntilAbort}
+use Rattle.steps_events.specs.Asks.{SpinCount, but_last_try, Refusing, WaitEvents, Waiting, WaitsAs}
 use Rattle.steps_events.specs.NextStep.{StepsAs, refused_waiting, EndsWithin, step_before, Loads, Exchanges}
-use Rattle.steps_events.specs.Waits.{is_wake}
 use Rattle.steps_events.specs.Laws.{IsLocked, Keeps}
 use Rattle.steps_mutex.specs.Law as mutex
-use Rattle.steps_mutex.specs.Law.{LockCause, HasTriedAll, answer_of, acts_of, IsLockAnswer, AnswersWhereGranted, IsExactGrant, MutexStep, mutex_most}
+use Rattle.steps_mutex.specs.Law.{LockCause, HasTriedAll, answer_of, acts_of, IsLockAnswer, IsExactGrant, MutexStep, mutex_most}
 use Rattle.steps_semaphore.specs.Permits.{permits, permits_taken, is_take, KeepsPermits}
 use Rattle.steps_semaphore.specs.Law.{is_empty_look}
 use Rattle.steps_condvar.specs.Table.{condvar_table}
@@ -158,6 +157,10 @@ abbrev pub wait_of : {T : Type 0} → WaitEvents T
 wait_of calls.Wait own = since_count own
 wait_of call own = own
 
+-- how they wait
+abbrev pub condvar_waiting : {T : Type 0} → Waiting T
+condvar_waiting = record { spins = spins_of; goes_on = spins_on; refusing = refused_by; wait = wait_of }
+
 -- a call that ends without the mutex
 abbrev pub gives_up : {T : Type 0} → Then T → Bool
 gives_up (thens.Answers answers.Interrupted) = true
@@ -260,14 +263,8 @@ pub record CondvarLaw {T : Type 0} (past : List (Event T)) : Type 0 where
   pub answers : AnswersByHold past
   -- `TryLock` is granted exactly where nobody holds the mutex
   pub exact : IsExactGrant condvar_table past
-  -- a wait closure is asked after 10000 spins
-  pub asks : AsksAfterSpinning spins_of past
-  -- no call goes on by itself more often
-  pub spins : SpinsNoMore spins_on past
-  -- the closure is told the permits or the mutex's word, whichever refused the call last
-  pub tells : TellsRefusal refused_by past
-  -- and in the same wait asked no more once it has answered Abort
-  pub stops : AsksUntilAbort wait_of past
+  -- a `Wait` or a `Lock` asks its closure after 10000 spins, and tells it the permits or the mutex's word, whichever refused it last
+  pub waits : WaitsAs condvar_waiting past
   -- and each call that ends without the mutex has tried so often
   pub tries : GivesUpAfterTrying past
   -- each step is the one that follows its call's own, and leaves it by what it tells

@@ -31,12 +31,12 @@ use Rattle.steps_events.proofs.NextStep.{Descends, ends_within}
 use Rattle.steps_events.proofs.Holds.{eqb_same, hold_of_same, some_same}
 use Rattle.steps_events.proofs.Steps.{by_move, tells_memory}
 use Rattle.steps_events.proofs.Parties.{IsKept, at_place}
-use Rattle.steps_events.proofs.Asks.{asked_maps, spins_no_more}
+use Rattle.steps_events.proofs.Asks.{waits_first, waits_as, spins_no_more}
 use Rattle.steps_events.proofs.Locks.{IsLock, IsLockIntent, IsFreeOrHeld, lock_word, lock_exclusive, locked_at, free_exactly}
 use Rattle.steps_mutex.specs.declared.MutexPlace.{MutexPlace}
 use Rattle.steps_mutex.specs.declared.MutexPlace.TheVariants as places
 use Rattle.steps_mutex.specs.Table.{mutex_table, mutex_begins, mutex_intent, mutex_after, mutex_answered, is_free}
-use Rattle.steps_mutex.specs.Law.{LockCause, HasTried, answer_of, acts_of, IsLockAnswer, lock_spins, steps_on, IsLeftBy, MutexStep, KeepsMutex, mutex_most}
+use Rattle.steps_mutex.specs.Law.{LockCause, HasTried, answer_of, acts_of, IsLockAnswer, lock_spins, steps_on, IsLeftBy, MutexStep, KeepsMutex, mutex_most, mutex_waiting}
 use Rattle.steps_events.specs.declared.patience.Patience.{Patience}
 use Rattle.steps_mutex.proofs.LockSteps.{HasTriedSo, AtLock, lock_begins, LockLeads, lock_after, lock_leads, lock_goes_on, lock_answered, lock_chosen}
 
@@ -304,12 +304,6 @@ step_law {T} t party past c places.Wake hold memory grants called at law =
       steps = next_step places.Wake c hold memory at;
     }
 
--- an act that does not see the word takes no hold
-pub unseen_takes_none : {T P : Type 0} (t : Table T P) (act : Act T) (pending : Option (PendingCall T)) → is_sight words.State act ≡ false → hold_taken t act pending ≡ None
-unseen_takes_none t (acts.Exchange words.State from to found true) (Some c) quiet = absurd cc
-unseen_takes_none t (acts.Swap words.State zero put) (Some c) quiet = absurd cc
-unseen_takes_none t act pending quiet = refl
-
 silent : {T P : Type 0} (t : Table T P) (party : ℕ) (past : List (Event T)) (hold : Option HoldKind) (pending : Option (PendingCall T)) (act : Act T) → is_sight words.State act ≡ false → is_step act ≡ false → EventLaw t party past hold pending (record { act = act; outcome = thens.GoesOn })
 silent t party past hold None act quiet still = record { cause = tt; exact = tt; answers = tt; asks = tt; tries = tt; steps = rw still tt }
 silent t party past hold (Some c) act quiet still =
@@ -370,7 +364,7 @@ keeps_mutex z parties [] run =
       told = tt;
       exclusive = lock_exclusive 0 [] (lock_word z mutex_table parties (mutex_is_lock z parties) [] run);
       cause = tt;
-      law = record { exact = tt; answers = tt; asks = tt; spins = λ party. tt; tells = tt; stops = tt; tries = tt; steps = tt; within = λ party. tt };
+      law = record { exact = tt; answers = tt; waits = waits_first mutex_waiting; tries = tt; steps = tt; within = λ party. tt };
     }
 keeps_mutex {T} z parties (e ∷ past) run =
     let event = event_law z parties past e run in
@@ -384,10 +378,7 @@ keeps_mutex {T} z parties (e ∷ past) run =
       law = record {
         exact = event.exact;
         answers = answered;
-        asks = asked_maps IsAskedSo (λ c act told. lock_spins c.call c.own ≡ 10000) (λ c act told so. so.0) (call_of e.party past) e.act e.then event.asks;
-        spins = spins_no_more z mutex_table parties AtMutex steps_on mutex_kept spins_bounded (e ∷ past) run;
-        tells = asked_maps IsAskedSo (λ c act told. sight_at words.State c.call c.own act ≡ Some told) (λ c act told so. so.1) (call_of e.party past) e.act e.then event.asks;
-        stops = asked_maps IsAskedSo (λ c act told. keeps_asking (whole_call c.call c.own) ≡ true) (λ c act told so. so.2) (call_of e.party past) e.act e.then event.asks;
+        waits = waits_as mutex_waiting past e event.asks (spins_no_more z mutex_table parties AtMutex steps_on mutex_kept spins_bounded (e ∷ past) run);
         tries = event.tries;
         steps = event.steps;
         within = ends_within mutex_table mutex_most mutex_rest mutex_descends z parties (e ∷ past) run;

@@ -19,7 +19,7 @@ use Rattle.steps_events.specs.Past.{call_of, holds_of, hold_of, hold_taken, is_f
 use Rattle.steps_events.specs.Moves.{is_step}
 use Rattle.steps_events.specs.Sights.{is_sight, AtLastSight, HasAborted, spins_in, stands_in, exchanges_in}
 use Rattle.steps_events.specs.NextStep.{StepsAs, refused_waiting, EndsWithin}
-use Rattle.steps_events.specs.Asks.{SpinCount, AsksAfterSpinning, SpinsNoMore, sight_at, TellsRefusal, whole_call, AsksUntilAbort}
+use Rattle.steps_events.specs.Asks.{SpinCount, sight_at, whole_call, Waiting, WaitsAs}
 use Rattle.steps_events.specs.Laws.{IsLocked, is_refusal, Keeps}
 use Rattle.steps_mutex.specs.Table.{mutex_table}
 
@@ -90,6 +90,10 @@ lock_spins other own = 0
 abbrev pub steps_on : {T : Type 0} → SpinCount T
 steps_on call own = spins_in is_step own
 
+-- how they wait
+abbrev pub mutex_waiting : {T : Type 0} → Waiting T
+mutex_waiting = record { spins = lock_spins; goes_on = steps_on; refusing = sight_at words.State; wait = whole_call }
+
 -- What a call does next, by its own steps so far, and how it is left by what that tells.
 
 -- the exchange that takes the mutex
@@ -130,14 +134,8 @@ pub record MutexLaw {T : Type 0} (past : List (Event T)) : Type 0 where
   pub exact : IsExactGrant mutex_table past
   -- a locking call answers `Success` exactly where it has the hold, and an `Unlock` has stored 0 once and then woken one, and has none
   pub answers : AnswersByHold mutex_table past
-  -- a wait closure is asked after 10000 spins, which are exchanges of a `Lock` that failed
-  pub asks : AsksAfterSpinning lock_spins past
-  -- no call goes on by itself more often
-  pub spins : SpinsNoMore steps_on past
-  -- the closure is told the value that the exchange found
-  pub tells : TellsRefusal (sight_at words.State) past
-  -- and asked no more once it has answered Abort
-  pub stops : AsksUntilAbort whole_call past
+  -- a `Lock` asks its closure after 10000 spins, which are exchanges that failed, and tells it the value found
+  pub waits : WaitsAs mutex_waiting past
   -- and each `Lock` that gives up has tried so often
   pub tries : GivesUpAfterTrying past
   -- each step is the one that follows its call's own, and leaves it by what it tells
