@@ -32,11 +32,6 @@ is_ok other = false
 abbrev pub NobodyAtZero : ℕ → ℕ → ℕ → Type 0
 NobodyAtZero n arrivals word = n ≡ 0 → (arrivals ≡ 0) × (word ≡ 0)
 
--- a call arrives once at most: the latest event is an arrival only where its call had not arrived before
-abbrev pub ArrivesOnce : {T : Type 0} → List (Event T) → Type 0
-ArrivesOnce [] = Unit {0}
-ArrivesOnce (e ∷ past) = MatchBool (is_arrival e.act) (MatchOption (call_of e.party past) ⊥ (λ c. arrivals_in c.own ≡ 0)) (Unit {0})
-
 -- the latest event answers `Ok` only where the call's own arrival stands in a round that was full before
 abbrev pub OkAfterFullRound : {T : Type 0} → ℕ → List (Event T) → Type 0
 OkAfterFullRound n [] = Unit {0}
@@ -145,8 +140,6 @@ pub record BarrierLaw {T : Type 0} (n : ℕ) (past : List (Event T)) : Type 0 wh
   pub counts : CountsArrivals n (arrivals_in past) (word_in (barrier_table n) past words.State)
   -- nobody arrives at a barrier of 0, and its word stays 0
   pub nobody : NobodyAtZero n (arrivals_in past) (word_in (barrier_table n) past words.State)
-  -- a call arrives once at most
-  pub once : ArrivesOnce past
   -- `Ok` comes after the call's own round is full
   pub passes : OkAfterFullRound n past
   -- a look of a call that has arrived answers `Ok` exactly where it sees another epoch than that of its arrival

@@ -517,7 +517,6 @@ step_law {T} z parties party past c (places.Read wake) hold memory run called at
     notify_law party past (memory words.Waiters) hold c wake (acts.Load words.Waiters (memory words.Waiters)) false at.0 refl refl refl (λ e. refl)
 step_law {T} z parties party past c (places.Post wake amount) hold memory run called at law =
     notify_law party past (memory words.Waiters) hold c wake (step_at {T = T} condvar_table (places.Post wake amount) hold memory).act false at.0 refl refl refl (λ e. refl)
-   
 step_law {T} z parties party past c (places.Wake wake) hold memory run called at law =
     notify_law party past (memory words.Waiters) hold c wake (acts.Woke wake) true at.0 refl refl refl (λ e. refl)
 step_law {T} z parties party past c places.CountIn hold memory run called at law =

@@ -15,7 +15,7 @@ use Rattle.steps_events.specs.declared.event.Event.{Event}
 use Rattle.steps_events.specs.declared.hold.HoldKind.{HoldKind}
 use Rattle.steps_events.specs.declared.hold.HoldKind.TheVariants as kinds
 use Rattle.steps_events.specs.Tables.{Table}
-use Rattle.steps_events.specs.Past.{call_of, holds_of, hold_of, hold_taken, is_failure, failures_in}
+use Rattle.steps_events.specs.Past.{call_of, holds_of, hold_of, is_failure, failures_in}
 use Rattle.steps_events.specs.Moves.{is_step}
 use Rattle.steps_events.specs.Sights.{is_sight, AtLastSight, HasAborted, spins_in, stands_in, exchanges_in}
 use Rattle.steps_events.specs.NextStep.{StepsAs, refused_waiting, EndsWithin}

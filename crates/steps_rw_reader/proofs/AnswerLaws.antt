@@ -20,9 +20,7 @@ use Rattle.steps_events.specs.declared.row.After.{After}
 use Rattle.steps_events.specs.declared.row.After.TheVariants as afters
 use Rattle.steps_events.specs.Arithmetic.{Arithmetic}
 use Rattle.steps_events.specs.Rows.{carried_out, value_told, within, refused}
-use Rattle.steps_events.specs.Past.{PendingCall, call_of, holds_of, hold_of, hold_after, word_in, latest_outcome, event}
-use Rattle.steps_events.specs.Sights.{keeps_asking}
-use Rattle.steps_events.specs.Asks.{sight_at, whole_call}
+use Rattle.steps_events.specs.Past.{PendingCall, holds_of, hold_of, hold_after, word_in, latest_outcome, event}
 use Rattle.steps_events.specs.RwAnswers.{acts_of, IsAnswered, AnswersByHold}
 use Rattle.steps_events.specs.Moves.{step_at, answer_fault, choose_fault}
 use Rattle.steps_events.specs.Runs.{IsPast}
@@ -36,7 +34,7 @@ use Rattle.steps_rw_reader.specs.Table.{lets_readers_in, try_read_look, read_loo
 use Rattle.steps_rw_reader.specs.Law.{HasUnlocked, steps_in_vain, rw_reader_waiting, KeepsRwReader}
 use Rattle.steps_rw_reader.proofs.ReaderLocks.{reader_lock_word, reader_lock_exclusive}
 use Rattle.steps_rw_reader.proofs.NextSteps.{each_steps, each_ends}
-use Rattle.steps_rw_reader.proofs.Laws.{AtRwReader, rw_reader_kept, asked_nothing, offered_nothing, rw_reader_is_lock, spins_bounded, IsAskedSo, event_law}
+use Rattle.steps_rw_reader.proofs.Laws.{AtRwReader, rw_reader_kept, asked_nothing, offered_nothing, rw_reader_is_lock, spins_bounded, event_law}
 
 -- Before its release an `Unlock` has done nothing; before its wake, all but that, and it has no hold any more and asks nobody.
 abbrev IsLeaving : {T : Type 0} → RwReaderPlace → List (Event T) → Option HoldKind → Type 0

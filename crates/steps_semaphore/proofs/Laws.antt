@@ -25,7 +25,7 @@ use Rattle.steps_events.specs.Past.{same_word, PendingCall, call_of, hold_of, wo
 use Rattle.steps_events.specs.Moves.{Move, step_at, answer_fault, is_step}
 use Rattle.steps_events.specs.Runs.{IsPast}
 use Rattle.steps_events.specs.Sights.{sight_of, is_sight, keeps_asking, HasAborted, last_of}
-use Rattle.steps_events.specs.Asks.{WhereAsked, sight_at, whole_call}
+use Rattle.steps_events.specs.Asks.{WhereAsked}
 use Rattle.steps_events.specs.Laws.{is_apart, Lacks, is_refusal}
 use Rattle.steps_events.proofs.NextStep.{Descends, ends_within}
 use Rattle.steps_events.proofs.Holds.{some_same, eqb_same, no_holds, exclusive_unheld}

@@ -215,7 +215,6 @@ spin_some places.Release left is = omega (arith, some_same 1 left is)
 spin_descends : {T : Type 0} → Descends {T = T} spin_table spin_most spin_rest
 spin_descends {T} = record { begins = spin_begun; goes = spin_goes T; some = spin_some; answered = λ place action. refl; chosen = λ place choice. refl }
 
--- no exchange fails: there is none
 counts_holds : {T : Type 0} (past : List (Event T)) → IsFreeOrHeld (word_in spin_table past words.State) (holds_of spin_table past) → CountsHolds past
 counts_holds past (inl none) = record { counted = none.0 ∙ sym (ap length none.1); most = omega (arith, none.0) }
 counts_holds past (inr held) = record { counted = held.1 ∙ sym (ap length held.2); most = omega (arith, held.1) }
