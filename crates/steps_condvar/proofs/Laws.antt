@@ -22,7 +22,7 @@ use Rattle.steps_events.specs.declared.row.After.{After}
 use Rattle.steps_events.specs.declared.row.After.TheVariants as afters
 use Rattle.steps_events.specs.Arithmetic.{Arithmetic}
 use Rattle.steps_events.specs.Rows.{carried_out, value_told, outcome_of, within}
-use Rattle.steps_events.specs.Past.{same_word, PendingCall, call_of, call_after, call_going_on, holds_of, hold_of, hold_taken, hold_after, word_in, word_after, event, is_release}
+use Rattle.steps_events.specs.Past.{same_word, PendingCall, call_of, call_after, call_going_on, holds_of, hold_of, hold_after, word_in, word_after, event}
 use Rattle.steps_events.specs.Moves.{Move, step_at, fault_at, begin_fault}
 use Rattle.steps_events.specs.Runs.{IsPast}
 use Rattle.steps_events.specs.Sights.{sight_of, is_sight, keeps_asking}
@@ -52,7 +52,7 @@ use Rattle.steps_condvar.specs.declared.CondvarPlace.{CondvarPlace}
 use Rattle.steps_condvar.specs.declared.CondvarPlace.TheVariants as places
 use Rattle.steps_condvar.specs.Table.{condvar_table, condvar_grant, permitted, relocked}
 use Rattle.steps_condvar.specs.Waiters.{is_count, counts_in, since_count, is_wait, is_counted, CountsWaiters}
-use Rattle.steps_condvar.specs.Law.{wake_for, count_read, amount_for, condvar_gives, condvar_value, takes_in, HasAbortedSince, FoundNoPermit, FoundMutexHeld, IsSignalled, CondvarCause, IsAnswer, spins_of, gives_up, HasTried, KeepsCondvar, spins_on, refused_by, wait_of, condvar_waiting}
+use Rattle.steps_condvar.specs.Law.{wake_for, count_read, amount_for, condvar_gives, condvar_value, HasAbortedSince, FoundNoPermit, FoundMutexHeld, IsSignalled, CondvarCause, IsAnswer, spins_of, gives_up, HasTried, KeepsCondvar, spins_on, refused_by, wait_of, condvar_waiting}
 use Rattle.steps_condvar.proofs.Counts.{CountEffect, none_wait, counts_after}
 use Rattle.steps_condvar.proofs.NextSteps.{each_steps, each_ends}
 use Rattle.steps_condvar.proofs.Places.{notify, amount_is, Progress, SawNone, SignalIs, took, AtCondvar, outcome_within, condvar_kept, spins_bounded}

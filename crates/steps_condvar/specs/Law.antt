@@ -16,15 +16,15 @@ use Rattle.steps_events.specs.declared.event.Then.TheVariants as thens
 use Rattle.steps_events.specs.declared.event.Event.{Event}
 use Rattle.steps_events.specs.declared.hold.HoldKind.{HoldKind}
 use Rattle.steps_events.specs.declared.hold.HoldKind.TheVariants as kinds
-use Rattle.steps_events.specs.Past.{PendingCall, call_of, hold_of, is_release, is_failure}
+use Rattle.steps_events.specs.Past.{PendingCall, call_of, hold_of, is_failure}
 use Rattle.steps_events.specs.Moves.{is_step}
-use Rattle.steps_events.specs.Sights.{sight_of, is_sight, AtLastSight, keeps_asking, spins_in, acts_in}
+use Rattle.steps_events.specs.Sights.{sight_of, AtLastSight, keeps_asking, spins_in}
 use Rattle.steps_events.specs.Asks.{SpinCount, but_last_try, Refusing, WaitEvents, Waiting, WaitsAs}
 use Rattle.steps_events.specs.NextStep.{StepsAs, refused_waiting, EndsWithin, step_before, Loads, Exchanges}
 use Rattle.steps_events.specs.Laws.{IsLocked, Keeps}
 use Rattle.steps_mutex.specs.Law as mutex
 use Rattle.steps_mutex.specs.Law.{LockCause, HasTriedAll, answer_of, acts_of, IsLockAnswer, IsExactGrant, MutexStep, mutex_most}
-use Rattle.steps_semaphore.specs.Permits.{permits, permits_taken, is_take, KeepsPermits}
+use Rattle.steps_semaphore.specs.Permits.{permits, permits_taken, KeepsPermits}
 use Rattle.steps_semaphore.specs.Law.{is_empty_look}
 use Rattle.steps_condvar.specs.Table.{condvar_table}
 use Rattle.steps_condvar.specs.Waiters.{counts_in, since_count, CountsWaiters}

@@ -1,5 +1,5 @@
 -- A lazy value keeps its law at every front of every run. The word and the closure are those of the once inside.
-use Rattle.std.proofs.Common.{◌≡◌, ℕ, ◌≤◌, ◌==◌, refl, sym, ◌∙◌, ap, subst, Bool, true, false, cond, List, [], ◌∷◌, Option, Some, None, inl, inr, arith}
+use Rattle.std.proofs.Common.{◌≡◌, ℕ, ◌≤◌, ◌==◌, refl, sym, ◌∙◌, ap, subst, Bool, true, false, cond, List, [], ◌∷◌, Option, Some, inl, inr, arith}
 use Rattle.std.specs.Prelude.{IfSome, MatchBool, MatchOption, not}
 use Rattle.std.proofs.lemmas.Bool.{eqb-true}
 use Rattle.steps_events.specs.declared.event.Word.{Word}
@@ -22,7 +22,7 @@ use Rattle.steps_events.specs.Sights.{AtLast, is_exchange, last_of}
 use Rattle.steps_events.specs.Laws.{IsTold, Lacks, is_refusal}
 use Rattle.steps_events.proofs.Holds.{some_same, no_holds, exclusive_unheld}
 use Rattle.steps_events.proofs.Steps.{by_move, tells_memory}
-use Rattle.steps_events.proofs.Parties.{IsKept, IsAtPlace, at_place, each_call}
+use Rattle.steps_events.proofs.Parties.{IsKept, at_place}
 use Rattle.steps_events.proofs.NextStep.{steps_as}
 use Rattle.steps_events.proofs.Own.{IsCallAfter, call_was}
 use Rattle.steps_once.specs.declared.OncePlace.{OncePlace}

@@ -1,5 +1,5 @@
 -- What a once keeps at every front of every run: one closure runs, once, and ends before any call tells of it.
-use Rattle.std.specs.Prelude.{◌≡◌, ◌≤◌, ℕ, ◌==◌, Bool, true, false, Option, Some, None, IfSome, List, [], ◌∷◌, MatchBool}
+use Rattle.std.specs.Prelude.{◌≡◌, ◌≤◌, ℕ, ◌==◌, Bool, true, false, Option, Some, None, List, [], ◌∷◌, MatchBool}
 use Rattle.steps_events.specs.declared.event.Word.TheVariants as words
 use Rattle.steps_events.specs.declared.event.Act.{Act}
 use Rattle.steps_events.specs.declared.event.Act.TheVariants as acts

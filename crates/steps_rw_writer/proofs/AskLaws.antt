@@ -1,39 +1,23 @@
 -- No call of a writer-preferring lock spins more than 10000 times.
-use Rattle.std.proofs.Common.{◌≡◌, ◌≢◌, ℕ, ◌-◌, ◌^◌, ◌≤◌, ◌==◌, refl, sym, ◌∙◌, subst, Bool, true, false, cond, ◌&&◌, ◌||◌, List, [], ◌∷◌, Option, Some, None, inl, inr, arith}
-use Rattle.std.specs.Prelude.{MatchOption, nat_lt, not}
-use Rattle.std.proofs.lemmas.Bool.Decides.{nat_tests}
-use Rattle.steps_events.specs.declared.event.Word.{Word}
-use Rattle.steps_events.specs.declared.event.Word.TheVariants as words
+use Rattle.std.proofs.Common.{◌≡◌, ◌≢◌, ℕ, ◌-◌, ◌^◌, ◌≤◌, ◌==◌, sym, ◌∙◌, subst, true, false, ◌&&◌, ◌||◌, List, [], ◌∷◌, Option, arith}
+use Rattle.std.specs.Prelude.{not}
 use Rattle.steps_events.specs.declared.event.Call.{Call}
 use Rattle.steps_events.specs.declared.event.Call.TheVariants as calls
-use Rattle.steps_events.specs.declared.event.Act.{Act}
-use Rattle.steps_events.specs.declared.event.Act.TheVariants as acts
-use Rattle.steps_events.specs.declared.event.Then.TheVariants as thens
 use Rattle.steps_events.specs.declared.event.Event.{Event}
 use Rattle.steps_events.specs.declared.hold.HoldKind.{HoldKind}
-use Rattle.steps_events.specs.declared.patience.Patience.{Patience}
-use Rattle.steps_events.specs.declared.row.After.TheVariants as afters
 use Rattle.steps_events.specs.Arithmetic.{Arithmetic}
-use Rattle.steps_events.specs.Rows.{outcome_of}
-use Rattle.steps_events.specs.Past.{Hold, PendingCall, call_of, holds_of, hold_of, word_in}
-use Rattle.steps_events.specs.Moves.{Move, step_at}
+use Rattle.steps_events.specs.Past.{PendingCall}
 use Rattle.steps_events.specs.Runs.{IsPast}
-use Rattle.steps_events.specs.Sights.{stands_at_wait}
 use Rattle.steps_events.specs.Asks.{SpinsNoMore}
-use Rattle.steps_events.proofs.Holds.{eqb_other}
-use Rattle.steps_events.proofs.Steps.{by_move}
-use Rattle.steps_events.proofs.Parties.{at_place}
 use Rattle.steps_events.proofs.Asks.{spins_no_more, last_try_bounded, both_kept}
 use Rattle.steps_rw_writer.specs.declared.Leaver.{Leaver}
 use Rattle.steps_rw_writer.specs.declared.Leaver.TheVariants as leavers
 use Rattle.steps_rw_writer.specs.declared.RwWriterPlace.{RwWriterPlace}
 use Rattle.steps_rw_writer.specs.declared.RwWriterPlace.TheVariants as places
-use Rattle.steps_rw_writer.specs.Table.{is_odd, lets_writer_in, is_blocked, write_look, rw_writer_table}
-use Rattle.steps_rw_writer.specs.Marks.{is_marked_after}
+use Rattle.steps_rw_writer.specs.Table.{rw_writer_table}
 use Rattle.steps_rw_writer.specs.Law.{write_spins_in, spins_on}
 use Rattle.steps_rw_writer.proofs.PlaceLaws.{AtRwWriter, IsLeaver, rw_writer_kept}
 use Rattle.steps_rw_writer.proofs.SpinLaws.{GivesUp, Leaves, HasSpunAt, spun_kept}
-use Rattle.steps_rw_writer.proofs.Laws.{writer_lock_word}
 
 -- No call spins more often.
 

@@ -41,10 +41,9 @@ use Rattle.steps_rw_writer.proofs.PlaceLaws.{AtRwWriter, Asks, MayGiveUp, failed
 use Rattle.steps_rw_writer.proofs.DebtLaws.{counter_counts_adds, no_wake_is_lost, pays_next}
 use Rattle.steps_rw_writer.proofs.WakeLaws.{readers_are_woken}
 use Rattle.steps_rw_writer.proofs.NextSteps.{each_steps, each_ends}
-use Rattle.steps_rw_writer.proofs.SpinLaws.{IsAskedSo, event_asks}
+use Rattle.steps_rw_writer.proofs.SpinLaws.{event_asks}
 use Rattle.steps_rw_writer.proofs.MarkLaws.{event_stands}
 use Rattle.steps_rw_writer.proofs.AskLaws.{spins_at_most}
-use Rattle.steps_events.specs.Asks.{whole_call}
 use Rattle.steps_events.proofs.Asks.{waits_first, waits_as}
 use Rattle.steps_rw_writer.proofs.AnswerLaws.{answers_at_every_front}
 use Rattle.steps_rw_writer.proofs.Laws.{event_keeps, writer_lock_word, setter_is_under_way}

@@ -1,43 +1,26 @@
 -- A writer stands only where the lock is blocked.
-use Rattle.std.proofs.Common.{◌≡◌, ℕ, ◌+◌, ◌-◌, ◌^◌, ◌==◌, refl, sym, ◌∙◌, subst, Bool, true, false, cond, ◌&&◌, List, [], ◌∷◌, Option, Some, None, ◌⊎◌, inl, inr}
-use Rattle.std.specs.Prelude.{MatchBool, MatchOption, nat_lt, not}
-use Rattle.steps_events.specs.declared.WaitAction.{WaitAction}
+use Rattle.std.proofs.Common.{◌≡◌, ℕ, ◌+◌, ◌-◌, ◌^◌, ◌==◌, refl, sym, ◌∙◌, subst, Bool, true, false, ◌&&◌, List, [], ◌∷◌, Option, Some, ◌⊎◌, inl, inr}
+use Rattle.std.specs.Prelude.{MatchBool, MatchOption}
 use Rattle.steps_events.specs.declared.event.Word.{Word}
 use Rattle.steps_events.specs.declared.event.Word.TheVariants as words
-use Rattle.steps_events.specs.declared.event.Call.{Call}
 use Rattle.steps_events.specs.declared.event.Call.TheVariants as calls
 use Rattle.steps_events.specs.declared.event.Act.{Act}
-use Rattle.steps_events.specs.declared.event.Act.TheVariants as acts
-use Rattle.steps_events.specs.declared.event.Answer.TheVariants as answers
 use Rattle.steps_events.specs.declared.event.Event.{Event}
-use Rattle.steps_events.specs.declared.event.Then.{Then}
-use Rattle.steps_events.specs.declared.event.Then.TheVariants as thens
 use Rattle.steps_events.specs.declared.hold.HoldKind.{HoldKind}
-use Rattle.steps_events.specs.declared.hold.HoldKind.TheVariants as kinds
-use Rattle.steps_events.specs.declared.event.Input.{Input}
-use Rattle.steps_events.specs.declared.event.Input.TheVariants as inputs
-use Rattle.steps_events.specs.declared.patience.Patience.{Patience}
 use Rattle.steps_events.specs.declared.row.After.{After}
 use Rattle.steps_events.specs.declared.row.After.TheVariants as afters
 use Rattle.steps_events.specs.Arithmetic.{Arithmetic}
-use Rattle.steps_events.specs.Rows.{carried_out, value_told, outcome_of, within}
-use Rattle.steps_events.specs.Past.{PendingCall, call_of, hold_of, word_in, latest_outcome, event}
-use Rattle.steps_events.specs.Moves.{Move, step_at, fault_at, hold_fault, answer_fault, choose_fault, stage_of}
+use Rattle.steps_events.specs.Rows.{value_told, outcome_of}
+use Rattle.steps_events.specs.Past.{PendingCall, call_of, hold_of, word_in}
+use Rattle.steps_events.specs.Moves.{Move, step_at, stage_of}
 use Rattle.steps_events.specs.Runs.{IsPast}
-use Rattle.steps_events.specs.Sights.{is_sight, goes_on, stands_at_wait}
+use Rattle.steps_events.specs.Sights.{is_sight, stands_at_wait}
 use Rattle.steps_events.proofs.Steps.{by_move}
-use Rattle.steps_events.proofs.Parties.{IsKept, at_place, fault_at_none}
-use Rattle.steps_events.proofs.RwAnswers.{LeadsTo, leads_on}
-use Rattle.steps_rw_writer.specs.declared.Leaver.{Leaver}
-use Rattle.steps_rw_writer.specs.declared.Leaver.TheVariants as leavers
 use Rattle.steps_rw_writer.specs.declared.RwWriterPlace.{RwWriterPlace}
-use Rattle.steps_rw_writer.specs.declared.RwWriterPlace.TheVariants as places
-use Rattle.steps_rw_writer.specs.Table.{is_odd, lets_readers_in, lets_writer_in, lets_mark, is_marked, is_blocked, try_read_look, read_look, spins, marks_or_spins, unmarks_or_leaves, write_refused, write_look, last_look, released, woken_one, woken_all, rw_writer_table, rw_writer_begins, rw_writer_answered}
+use Rattle.steps_rw_writer.specs.Table.{is_blocked, rw_writer_table}
 use Rattle.steps_rw_writer.specs.Debts.{is_blocked_after}
 use Rattle.steps_rw_writer.specs.Law.{StandsWhereBlocked}
-use Rattle.steps_rw_writer.proofs.BoolLaws.{clash}
-use Rattle.steps_rw_writer.proofs.StageLaws.{begins_none, unlike}
-use Rattle.steps_rw_writer.proofs.PlaceLaws.{AtRwWriter, here, asked_nothing, offered_nothing}
+use Rattle.steps_rw_writer.proofs.PlaceLaws.{here}
 use Rattle.steps_rw_writer.proofs.DebtLaws.{IsPlain, LoadsCount, StandsNow, write_step, blocked_at}
 
 -- Where a writer stands.

@@ -10,7 +10,7 @@ use Rattle.steps_events.specs.declared.event.Then.{Then}
 use Rattle.steps_events.specs.declared.event.Then.TheVariants as thens
 use Rattle.steps_events.specs.declared.event.Event.{Event}
 use Rattle.steps_events.specs.declared.hold.HoldKind.TheVariants as kinds
-use Rattle.steps_events.specs.Past.{Hold, call_of, holds_of, word_in, failures_in}
+use Rattle.steps_events.specs.Past.{Hold, call_of, holds_of, word_in}
 use Rattle.steps_events.specs.Moves.{is_step}
 use Rattle.steps_events.specs.Sights.{AtLastSight}
 use Rattle.steps_events.specs.NextStep.{StepsAs, EndsWithin}
