@@ -1,6 +1,6 @@
 -- Who reads and writes the data words: only who has the lock, and a writer is alone.
 use Rattle.std.proofs.Common.{◌≡◌, ◌≢◌, ℕ, ◌<◌, ◌==◌, refl, sym, ◌∙◌, ap, subst, Bool, true, false, cond, is_some, List, [], ◌∷◌, Option, Some, None, inl, inr, arith}
-use Rattle.std.specs.Prelude.{◌||◌, MatchOption}
+use Rattle.std.specs.Prelude.{MatchOption}
 use Rattle.std.proofs.lemmas.Bool.{eqb-true}
 use Rattle.steps_events.specs.declared.event.Word.{Word}
 use Rattle.steps_events.specs.declared.event.Word.TheVariants as words
@@ -8,8 +8,8 @@ use Rattle.steps_events.specs.declared.event.Event.{Event}
 use Rattle.steps_events.specs.declared.hold.HoldKind.{HoldKind}
 use Rattle.steps_events.specs.declared.hold.HoldKind.TheVariants as kinds
 use Rattle.steps_events.specs.Arithmetic.{Arithmetic}
-use Rattle.steps_events.specs.Past.{Hold, PendingCall, call_of, holds_of, hold_of, hold_among, word_in, is_release}
-use Rattle.steps_events.specs.Moves.{Move, step_at, is_step}
+use Rattle.steps_events.specs.Past.{Hold, PendingCall, call_of, holds_of, hold_of, hold_among, word_in}
+use Rattle.steps_events.specs.Moves.{Move, step_at}
 use Rattle.steps_events.specs.Runs.{IsPast}
 use Rattle.steps_events.specs.Sights.{acts_in}
 use Rattle.steps_events.proofs.HoldCounts.{counted_of}
@@ -18,9 +18,9 @@ use Rattle.steps_events.proofs.Steps.{by_move}
 use Rattle.steps_rw_reader.specs.Law.{CountsHolds}
 use Rattle.steps_atomic.specs.declared.AtomicPlace.{AtomicPlace}
 use Rattle.steps_atomic.specs.declared.AtomicPlace.TheVariants as places
-use Rattle.steps_atomic.specs.Register.{is_data_access, is_data_write, acts_made}
+use Rattle.steps_atomic.specs.Register.{is_data_access, is_data_write}
 use Rattle.steps_atomic.specs.Table.{atomic_table}
-use Rattle.steps_atomic.specs.Law.{AccessesUnderHold, IsAlone, WritesAlone, ActsLast, WorksUntilItLeaves, FewAccesses, RestsWithout}
+use Rattle.steps_atomic.specs.Law.{AccessesUnderHold, IsAlone, WritesAlone, FewAccesses, RestsWithout}
 use Rattle.steps_atomic.proofs.Places.{AtAtomic, HasNone, atomic_kept, here}
 use Rattle.steps_atomic.proofs.Laws.{keeps_lock}
 
@@ -84,59 +84,6 @@ accesses {T} z v parties (e ∷ past) run =
     by_move t (call_of e.party past) (hold_of t e.party past) (word_in t past) (λ (k : Option (PendingCall T)) (m : Move T). is_data_access m.act ≡ true → is_some (hold_of t e.party past) ≡ true)
     run.0.0 (record { act = e.act; outcome = e.then }) (λ call _ is. absurd cc) (λ action _ is. absurd cc) (λ choice _ is. absurd cc)
     (λ c place _ called stage. accessed_at z v place c (hold_of t e.party past) (word_in t past) (here z v parties past run.1 e.party c place called stage))
-    run.0.1.moved
-
--- a step that reads or writes a data word is of a call that has not acted
-
-unacted_at :
-    {T : Type 0} (z : Arithmetic T) (v : T) (place : AtomicPlace T) (c : PendingCall T) (hold : Option HoldKind) (memory : Word → ℕ) → AtAtomic z place c hold → is_data_access (step_at (atomic_table z v) place hold memory).act ≡ true →
-    acts_made z c.call c.own ≡ 0
-unacted_at z v places.Look c hold memory at is = absurd cc
-unacted_at z v (places.Enter seen to) c hold memory at is = absurd cc
-unacted_at z v (places.Take call) c hold memory at is = absurd cc
-unacted_at z v (places.Low call) c hold memory at is = at.3.fresh.unmade
-unacted_at z v (places.High call low) c hold memory at is = at.3.unmade
-unacted_at z v (places.Again old) c hold memory at is = at.1.unmade
-unacted_at z v (places.PutLow low high answer) c hold memory at is = at.unmade
-unacted_at z v (places.PutHigh high answer) c hold memory at is = at.unmade
-unacted_at z v (places.Leave answer) c None memory at is = absurd cc
-unacted_at z v (places.Leave answer) c (Some kinds.Read) memory at is = absurd cc
-unacted_at z v (places.Leave answer) c (Some kinds.Write) memory at is = absurd cc
-
-pub acts_last : {T : Type 0} (z : Arithmetic T) (v : T) (parties : ℕ) (past : List (Event T)) → IsPast z (atomic_table z v) parties past → ActsLast z past
-acts_last z v parties [] run = tt
-acts_last {T} z v parties (e ∷ past) run =
-    let t = atomic_table z v in
-    by_move t (call_of e.party past) (hold_of t e.party past) (word_in t past) (λ (k : Option (PendingCall T)) (m : Move T). is_data_access m.act ≡ true → MatchOption k (Unit {0}) (λ c. acts_made z c.call c.own ≡ 0))
-    run.0.0 (record { act = e.act; outcome = e.then }) (λ call _ is. absurd cc) (λ action _ is. absurd cc) (λ choice _ is. absurd cc)
-    (λ c place _ called stage. unacted_at z v place c (hold_of t e.party past) (word_in t past) (here z v parties past run.1 e.party c place called stage))
-    run.0.1.moved
-
--- a step with the lock reads or writes a data word, or leaves the lock
-
-works_at :
-    {T : Type 0} (z : Arithmetic T) (v : T) (place : AtomicPlace T) (c : PendingCall T) (hold : Option HoldKind) (memory : Word → ℕ) → AtAtomic z place c hold → is_some hold ≡ true →
-    (is_data_access (step_at (atomic_table z v) place hold memory).act || is_release (step_at (atomic_table z v) place hold memory).act) ≡ true
-works_at z v places.Look c hold memory at held = absurd (let free = at.1 in cc)
-works_at z v (places.Enter seen to) c hold memory at held = absurd (let free = at.1 in cc)
-works_at z v (places.Take call) c hold memory at held = absurd (let free = at.1 in cc)
-works_at z v (places.Low call) c hold memory at held = refl
-works_at z v (places.High call low) c hold memory at held = refl
-works_at z v (places.Again old) c hold memory at held = refl
-works_at z v (places.PutLow low high answer) c hold memory at held = refl
-works_at z v (places.PutHigh high answer) c hold memory at held = refl
-works_at z v (places.Leave answer) c None memory at held = absurd cc
-works_at z v (places.Leave answer) c (Some kinds.Read) memory at held = refl
-works_at z v (places.Leave answer) c (Some kinds.Write) memory at held = refl
-
-pub works_until : {T : Type 0} (z : Arithmetic T) (v : T) (parties : ℕ) (past : List (Event T)) → IsPast z (atomic_table z v) parties past → WorksUntilItLeaves z v past
-works_until z v parties [] run = tt
-works_until {T} z v parties (e ∷ past) run =
-    let t = atomic_table z v in
-    by_move t (call_of e.party past) (hold_of t e.party past) (word_in t past)
-    (λ (k : Option (PendingCall T)) (m : Move T). is_step m.act ≡ true → is_some (hold_of t e.party past) ≡ true → (is_data_access m.act || is_release m.act) ≡ true)
-    run.0.0 (record { act = e.act; outcome = e.then }) (λ call _ is held. absurd cc) (λ action _ is held. absurd cc) (λ choice _ is held. absurd cc)
-    (λ c place _ called stage is held. works_at z v place c (hold_of t e.party past) (word_in t past) (here z v parties past run.1 e.party c place called stage) held)
     run.0.1.moved
 
 -- a call has made few accesses

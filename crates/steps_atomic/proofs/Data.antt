@@ -42,7 +42,8 @@ use Rattle.steps_atomic.specs.Table.{look_at, puts, inside, knows, compares, ato
 use Rattle.steps_atomic.specs.Law.{DataIsRegister, AnswersAsRegister, LatestAnswers, KeepsAtomic}
 use Rattle.steps_atomic.proofs.Places.{Looks, Asks, AtAtomic, begins_at, here}
 use Rattle.steps_atomic.proofs.Laws.{keeps_lock, causes}
-use Rattle.steps_atomic.proofs.Apart.{alone, accesses, writes_alone, acts_last, works_until, few_accesses, rests_without}
+use Rattle.steps_atomic.proofs.Apart.{alone, accesses, writes_alone, few_accesses, rests_without}
+use Rattle.steps_atomic.proofs.NextSteps.{each_steps}
 
 -- the data words and the register's value
 record Data (T : Type 0) : Type 0 where
@@ -548,10 +549,9 @@ keeps_atomic {T} z closed v parties past is run =
             register = latest past run;
             accesses = accesses z v parties past run;
             apart = writes_alone z v parties past run;
-            last = acts_last z v parties past run;
-            works = works_until z v parties past run;
             few = few_accesses z v parties past run;
             rests = rests_without z v parties past run;
+            steps = each_steps z v parties past run;
           };
     }
   where

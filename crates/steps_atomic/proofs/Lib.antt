@@ -1,4 +1,5 @@
 pub mod Places
 pub mod Laws
 pub mod Apart
+pub mod NextSteps
 pub mod Data

@@ -291,7 +291,7 @@ answers_at {T} z (places.Leave answer) c hold action number at waits = absurd (a
 
 -- Where a choice leads.
 
-offered_nothing : {T : Type 0} (own : List (Event T)) → latest_outcome own ≡ thens.GoesOn → choose_fault (latest_outcome own) ≡ None → ⊥
+pub offered_nothing : {T : Type 0} (own : List (Event T)) → latest_outcome own ≡ thens.GoesOn → choose_fault (latest_outcome own) ≡ None → ⊥
 offered_nothing {T} own goes stands = let no : choose_fault {T = T} thens.GoesOn ≡ None = subst (λ (o : Then T). choose_fault o ≡ None) goes stands in absurd cc
 
 chooses_at :

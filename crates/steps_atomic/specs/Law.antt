@@ -1,5 +1,5 @@
 -- What an atomic keeps at every front of every run: one writer or only readers, and it answers as one register.
-use Rattle.std.specs.Prelude.{◌≡◌, ◌≢◌, ◌<◌, ◌||◌, ℕ, true, is_some, List, [], ◌∷◌, Some, None, MatchOption}
+use Rattle.std.specs.Prelude.{◌≡◌, ◌≢◌, ◌<◌, ℕ, true, is_some, List, [], ◌∷◌, Some, None, MatchOption}
 use Rattle.steps_events.specs.declared.event.Word.TheVariants as words
 use Rattle.steps_events.specs.declared.event.Call.{Call}
 use Rattle.steps_events.specs.declared.event.Call.TheVariants as calls
@@ -8,14 +8,15 @@ use Rattle.steps_events.specs.declared.event.Then.TheVariants as thens
 use Rattle.steps_events.specs.declared.event.Event.{Event}
 use Rattle.steps_events.specs.Arithmetic.{Arithmetic}
 use Rattle.steps_events.specs.declared.hold.HoldKind.TheVariants as kinds
-use Rattle.steps_events.specs.Past.{call_of, holds_of, hold_of, word_in, is_release}
-use Rattle.steps_events.specs.Moves.{is_step}
+use Rattle.steps_events.specs.Past.{call_of, holds_of, hold_of, word_in}
 use Rattle.steps_events.specs.Sights.{acts_in}
+use Rattle.steps_events.specs.NextStep.{StepsAs}
 use Rattle.steps_events.specs.HoldCounts.{writes_in}
 use Rattle.steps_events.specs.Laws.{Keeps}
 use Rattle.steps_rw_reader.specs.Law.{CountsHolds}
 use Rattle.steps_atomic.specs.Register.{register_after, answer_of, choice_of, HasChosen, acts_made, is_data_access, is_data_write}
 use Rattle.steps_atomic.specs.Table.{atomic_table}
+use Rattle.steps_atomic.specs.Steps.{AtomicStep}
 
 -- no call is refused
 abbrev pub AtomicCause : {T : Type 0} → Call T → ℕ → List (Event T) → Type 0
@@ -44,17 +45,6 @@ LatestAnswers z v (e ∷ past) = AnswersAsRegister z v e.party past e.then
 abbrev pub AccessesUnderHold : {T : Type 0} → Arithmetic T → T → List (Event T) → Type 0
 AccessesUnderHold z v [] = Unit {0}
 AccessesUnderHold z v (e ∷ past) = is_data_access e.act ≡ true → is_some (hold_of (atomic_table z v) e.party past) ≡ true
-
--- a call reads and writes no data word once it has acted: it acts at its last data access
-abbrev pub ActsLast : {T : Type 0} → Arithmetic T → List (Event T) → Type 0
-ActsLast z [] = Unit {0}
-ActsLast z (e ∷ past) = is_data_access e.act ≡ true → MatchOption (call_of e.party past) (Unit {0}) (λ c. acts_made z c.call c.own ≡ 0)
-
--- a call that has the lock works on the data words until it leaves the lock
-abbrev pub WorksUntilItLeaves : {T : Type 0} → Arithmetic T → T → List (Event T) → Type 0
-WorksUntilItLeaves z v [] = Unit {0}
-WorksUntilItLeaves z v (e ∷ past) =
-    is_step e.act ≡ true → is_some (hold_of (atomic_table z v) e.party past) ≡ true → (is_data_access e.act || is_release e.act) ≡ true
 
 -- a call makes four data accesses at most
 abbrev pub FewAccesses : {T : Type 0} → List (Event T) → Type 0
@@ -86,14 +76,12 @@ pub record AtomicLaw {T : Type 0} (z : Arithmetic T) (v : T) (past : List (Event
   pub accesses : AccessesUnderHold z v past
   -- and written by nobody between the accesses of another call, so no value is read half written
   pub apart : WritesAlone z v past
-  -- a call acts at its last access to them
-  pub last : ActsLast z past
-  -- where it has the lock it does nothing else
-  pub works : WorksUntilItLeaves z v past
-  -- and this in five steps of its own at most
+  -- a call leaves the lock in five steps of its own at most
   pub few : FewAccesses past
-  -- and has left the lock where it answers
+  -- and has left it where it answers
   pub rests : RestsWithout z v past
+  -- each step is the one that follows its call's own, and leaves it by what it tells
+  pub steps : StepsAs (AtomicStep z) past
 
 abbrev pub KeepsAtomic : {T : Type 0} → Arithmetic T → T → List (Event T) → Type 0
 KeepsAtomic z v past = Keeps (atomic_table z v) AtomicCause (AtomicLaw z v) past

@@ -1,3 +1,4 @@
 pub mod Register
 pub mod Table
+pub mod Steps
 pub mod Law

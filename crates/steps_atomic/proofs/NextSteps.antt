@@ -1,0 +1,312 @@
+-- Each step of an atomic is its call's next.
+use Rattle.std.proofs.Common.{◌≡◌, ℕ, ◌+◌, ◌-◌, ◌^◌, ◌==◌, refl, sym, ◌∙◌, ap, subst, Bool, true, false, cond, is_some, List, [], ◌∷◌, Option, Some, None, inl, inr, ◌⊎◌}
+use Rattle.std.specs.Prelude.{unwrap_or, MatchOption}
+use Rattle.steps_events.specs.declared.event.Word.{Word}
+use Rattle.steps_events.specs.declared.event.Word.TheVariants as words
+use Rattle.steps_events.specs.declared.event.Call.{Call}
+use Rattle.steps_events.specs.declared.event.Call.TheVariants as calls
+use Rattle.steps_events.specs.declared.event.Act.{Act}
+use Rattle.steps_events.specs.declared.event.Act.TheVariants as acts
+use Rattle.steps_events.specs.declared.event.Answer.{Answer}
+use Rattle.steps_events.specs.declared.event.Answer.TheVariants as answers
+use Rattle.steps_events.specs.declared.event.Event.{Event}
+use Rattle.steps_events.specs.declared.event.Then.{Then}
+use Rattle.steps_events.specs.declared.event.Then.TheVariants as thens
+use Rattle.steps_events.specs.declared.WaitAction.{WaitAction}
+use Rattle.steps_events.specs.declared.hold.HoldKind.{HoldKind}
+use Rattle.steps_events.specs.declared.hold.HoldKind.TheVariants as kinds
+use Rattle.steps_events.specs.Arithmetic.{Arithmetic}
+use Rattle.steps_events.specs.Rows.{carried_out, value_told, outcome_of, place_after}
+use Rattle.steps_events.specs.Past.{PendingCall, latest_outcome, event}
+use Rattle.steps_events.specs.Moves.{step_at, is_step, choose_fault}
+use Rattle.steps_events.specs.Runs.{IsPast}
+use Rattle.steps_events.specs.Sights.{last_of}
+use Rattle.steps_events.specs.NextStep.{StepsAs, seen_last}
+use Rattle.steps_events.specs.RwSteps.{open_at}
+use Rattle.steps_events.proofs.Holds.{some_same}
+use Rattle.steps_events.proofs.NextStep.{steps_follow}
+use Rattle.steps_events.proofs.Parties.{IsKeptFromRest, at_place_from_rest}
+use Rattle.steps_rw_reader.specs.Law.{Releases}
+use Rattle.steps_rw_reader.specs.Table.{lets_readers_in}
+use Rattle.steps_atomic.specs.declared.AtomicPlace.{AtomicPlace}
+use Rattle.steps_atomic.specs.declared.AtomicPlace.TheVariants as places
+use Rattle.steps_atomic.specs.Register.{act_of, compared, updated, choice_of, low_told, acts_made}
+use Rattle.steps_atomic.specs.Table.{atomic_begins, look_at, puts, inside, knows, compares, atomic_table}
+use Rattle.steps_atomic.specs.Steps.{wants, Enters, has_entered, high_told, value_found, acts_so, BeginsData, reads_again, left_knowing, Accesses, StepUnder, AtomicStep}
+use Rattle.steps_atomic.proofs.Places.{is_store, Asks, AtAtomic, HasNone, atomic_kept, offered_nothing}
+
+-- What a call at each place has done and was told.
+
+abbrev IsOutside : {T : Type 0} → List (Event T) → Type 0
+IsOutside own = (has_entered own ≡ false) × (high_told own ≡ None)
+
+abbrev IsInside : {T : Type 0} → List (Event T) → Type 0
+IsInside own = (has_entered own ≡ true) × (high_told own ≡ None)
+
+-- what it will put is its act's new value, and so will it answer
+abbrev Will : {T : Type 0} → Arithmetic T → PendingCall T → ℕ → Answer T → Type 0
+Will z c high answer = (new : _) × (acts_so z c.call c.own ≡ (answer, new)) × (high ≡ z.high new)
+
+abbrev HasDone : {T : Type 0} → Arithmetic T → AtomicPlace T → PendingCall T → Type 0
+HasDone z places.Look c = IsOutside c.own × (open_at lets_readers_in (seen_last words.State c.own) ≡ None)
+HasDone z (places.Enter seen to) c = IsOutside c.own × (open_at lets_readers_in (seen_last words.State c.own) ≡ Some seen)
+HasDone z (places.Take call) c = IsOutside c.own × (wants c.call ≡ Some kinds.Write)
+HasDone {T} z (places.Low call) c = IsInside c.own × (from : ℕ) × (to : ℕ) × (found : ℕ) × (last_of is_step c.own ≡ Some (acts.Exchange words.State from to found true))
+HasDone {T} z (places.High call low) c = IsInside c.own × (last_of is_step c.own ≡ Some (acts.Load words.Low low))
+HasDone {T} z (places.Again old) c = (has_entered c.own ≡ true) × (high : ℕ) × (last_of is_step c.own ≡ Some (acts.Load words.High high)) × (high_told c.own ≡ Some high) × (old ≡ z.of_words (low_told c.own) high)
+HasDone z (places.PutLow low high answer) c = (has_entered c.own ≡ true) × Will z c high answer × Accesses z c.call c.own (last_of is_step c.own) (acts.Store words.Low low) thens.GoesOn
+HasDone {T} z (places.PutHigh high answer) c = (has_entered c.own ≡ true) × Will z c high answer × (put : ℕ) × (last_of is_step c.own ≡ Some (acts.Store words.Low put))
+HasDone z (places.Leave answer) c = answer ≡ (acts_so z c.call c.own).0
+
+-- beside what is kept of every call
+record At {T : Type 0} (z : Arithmetic T) (place : AtomicPlace T) (c : PendingCall T) (hold : Option HoldKind) : Type 0 where
+  at : AtAtomic z place c hold
+  known : is_some (wants c.call) ≡ true
+  done : HasDone z place c
+
+leads : {T : Type 0} (z : Arithmetic T) (place next : AtomicPlace T) (c : PendingCall T) → Some place ≡ Some next → HasDone z place c → HasDone z next c
+leads z place next c is done = subst (λ p. HasDone z p c) (some_same place next is) done
+
+-- Where a call begins.
+
+begins_so : {T : Type 0} (z : Arithmetic T) (call : Call T) (place : AtomicPlace T) → atomic_begins call ≡ Some place → (is_some (wants call) ≡ true) × HasDone z place (record { call = call; own = [] })
+begins_so z calls.Load place is = (refl, leads z places.Look place _ is ((refl, refl), refl))
+begins_so z (calls.Store x) place is = (refl, leads z (places.Take (calls.Store x)) place _ is ((refl, refl), refl))
+begins_so z (calls.Swap x) place is = (refl, leads z (places.Take (calls.Swap x)) place _ is ((refl, refl), refl))
+begins_so z (calls.CompareExchange c x) place is = (refl, leads z (places.Take (calls.CompareExchange c x)) place _ is ((refl, refl), refl))
+begins_so z (calls.CompareExchangeWeak c x) place is = (refl, leads z (places.Take (calls.CompareExchangeWeak c x)) place _ is ((refl, refl), refl))
+begins_so z (calls.FetchAdd x) place is = (refl, leads z (places.Take (calls.FetchAdd x)) place _ is ((refl, refl), refl))
+begins_so z (calls.FetchSub x) place is = (refl, leads z (places.Take (calls.FetchSub x)) place _ is ((refl, refl), refl))
+begins_so z (calls.FetchAnd x) place is = (refl, leads z (places.Take (calls.FetchAnd x)) place _ is ((refl, refl), refl))
+begins_so z (calls.FetchOr x) place is = (refl, leads z (places.Take (calls.FetchOr x)) place _ is ((refl, refl), refl))
+begins_so z (calls.FetchXor x) place is = (refl, leads z (places.Take (calls.FetchXor x)) place _ is ((refl, refl), refl))
+begins_so z (calls.FetchNand x) place is = (refl, leads z (places.Take (calls.FetchNand x)) place _ is ((refl, refl), refl))
+begins_so z (calls.FetchMax x) place is = (refl, leads z (places.Take (calls.FetchMax x)) place _ is ((refl, refl), refl))
+begins_so z (calls.FetchMin x) place is = (refl, leads z (places.Take (calls.FetchMin x)) place _ is ((refl, refl), refl))
+begins_so z calls.FetchUpdate place is = (refl, leads z (places.Take calls.FetchUpdate) place _ is ((refl, refl), refl))
+begins_so z other place is = absurd cc
+
+-- Where a step leads.
+
+look_done :
+    {T : Type 0} (z : Arithmetic T) (v : ℕ) (c : PendingCall T) (next : AtomicPlace T) (b : Bool) → lets_readers_in v ≡ b → IsOutside c.own → seen_last words.State c.own ≡ Some v →
+    ◌≡◌ {A = Option (AtomicPlace T)} (Some (cond b (places.Enter v (v + 1)) places.Look)) (Some next) → HasDone z next c
+look_done z v c next true sees out seen is = leads z (places.Enter v (v + 1)) next c is (out, rw (seen, sees) refl)
+look_done z v c next false sees out seen is = leads z places.Look next c is (out, rw (seen, sees) refl)
+
+enter_done :
+    {T : Type 0} (z : Arithmetic T) (call : Call T) (own : List (Event T)) (seen to w number : ℕ) (next : AtomicPlace T) (b : Bool) → IsOutside own →
+    ◌≡◌ {A = Option (AtomicPlace T)} (Some (cond b (places.Low calls.Load) (look_at w))) (Some next) →
+    HasDone z next (record { call = call; own = event number (acts.Exchange words.State seen to w b) thens.GoesOn ∷ own })
+enter_done z call own seen to w number next true out is = leads z (places.Low calls.Load) next _ is ((refl, out.1), seen, to, w, refl)
+enter_done z call own seen to w number next false out is = look_done z w _ next (lets_readers_in w) refl out refl is
+
+inside_done :
+    {T : Type 0} (z : Arithmetic T) (call : Call T) (own : List (Event T)) (from to found : ℕ) (next : AtomicPlace T) → IsInside own → last_of is_step own ≡ Some (acts.Exchange words.State from to found true) →
+    ◌≡◌ {A = Option (AtomicPlace T)} (Some (inside z call)) (Some next) → HasDone z next (record { call = call; own = own })
+inside_done z (calls.Store x) own from to found next in_it last is =
+    leads z (puts z x answers.Done) next _ is (in_it.0, (x, refl, refl), rw last (refl, refl, refl))
+inside_done z other own from to found next in_it last is = leads z (places.Low other) next _ is (in_it, from, to, found, last)
+
+take_done :
+    {T : Type 0} (z : Arithmetic T) (call : Call T) (own : List (Event T)) (w number : ℕ) (next : AtomicPlace T) (b : Bool) → IsOutside own → wants call ≡ Some kinds.Write →
+    ◌≡◌ {A = Option (AtomicPlace T)} (Some (cond b (inside z call) (places.Take call))) (Some next) →
+    HasDone z next (record { call = call; own = event number (acts.Exchange words.State 0 (2 ^ 64 - 1) w b) thens.GoesOn ∷ own })
+take_done z call own w number next true out writes is = inside_done z call _ 0 (2 ^ 64 - 1) w next (refl, out.1) refl is
+take_done z call own w number next false out writes is = leads z (places.Take call) next _ is (out, writes)
+
+-- the load of the high word, by which the old value is known
+
+module _ {T : Type 0} (z : Arithmetic T) (own : List (Event T)) (low w number : ℕ) (next : AtomicPlace T) (in_it : IsInside own) (told : low_told own ≡ low) where
+  abbrev after_look : Call T → Then T → PendingCall T
+  after_look call outcome = record { call = call; own = event number (acts.Load words.High w) outcome ∷ own }
+
+  knew : (outcome : Then T) → value_found z (event number (acts.Load words.High w) outcome ∷ own) ≡ z.of_words low w
+  knew outcome = ap (λ h. z.of_words (low_told own) (unwrap_or h w)) in_it.1 ∙ ap (λ l. z.of_words l w) told
+
+  so : (call : Call T) (outcome : Then T) → acts_so z call (event number (acts.Load words.High w) outcome ∷ own) ≡ act_of z call (choice_of own) (z.of_words low w)
+  so call outcome = ap (act_of z call (choice_of own)) (knew outcome)
+
+  will_put : (call : Call T) (new : T) (answer : Answer T) → act_of z call (choice_of own) (z.of_words low w) ≡ (answer, new) → reads_again call (choice_of own) ≡ false →
+      ◌≡◌ {A = Option (AtomicPlace T)} (Some (puts z new answer)) (Some next) → HasDone z next (after_look call thens.GoesOn)
+  will_put call new answer gives stores is =
+      let now : acts_so z call (event number (acts.Load words.High w) thens.GoesOn ∷ own) ≡ (answer, new) = so call thens.GoesOn ∙ gives in
+      leads z (puts z new answer) next (after_look call thens.GoesOn) is (in_it.0, (new, now, refl), rw stores (refl, ap (λ o. z.low o.1) (sym now), refl))
+
+  has_acted : (call : Call T) (new : T) (answer : Answer T) → act_of z call (choice_of own) (z.of_words low w) ≡ (answer, new) →
+      ◌≡◌ {A = Option (AtomicPlace T)} (Some (places.Leave answer)) (Some next) → HasDone z next (after_look call thens.GoesOn)
+  has_acted call new answer gives is = leads z (places.Leave answer) next (after_look call thens.GoesOn) is (ap (λ o. o.0) (sym (so call thens.GoesOn ∙ gives)))
+
+  compares_done : (call : Call T) (new : T) (b : Bool) → act_of z call (choice_of own) (z.of_words low w) ≡ compared b (z.of_words low w) new → reads_again call (choice_of own) ≡ false →
+      ◌≡◌ {A = Option (AtomicPlace T)} (Some (compares z b (z.of_words low w) new)) (Some next) → HasDone z next (after_look call thens.GoesOn)
+  compares_done call new true gives stores is = will_put call new (answers.OkOld (z.of_words low w)) gives stores is
+  compares_done call new false gives stores is = has_acted call (z.of_words low w) (answers.ErrOld (z.of_words low w)) gives is
+
+  high_done : (call : Call T) → is_some (wants call) ≡ true → is_store call ≡ false → place_after (knows z call (z.of_words low w)) ≡ Some next → HasDone z next (after_look call (outcome_of (knows z call (z.of_words low w))))
+  high_done calls.Load known looks is = has_acted calls.Load _ _ refl is
+  high_done (calls.Store x) known looks is = absurd cc
+  high_done (calls.Swap x) known looks is = will_put (calls.Swap x) _ _ refl refl is
+  high_done (calls.CompareExchange c x) known looks is = compares_done (calls.CompareExchange c x) x (z.same (z.of_words low w) c) refl refl is
+  high_done (calls.CompareExchangeWeak c x) known looks is = compares_done (calls.CompareExchangeWeak c x) x (z.same (z.of_words low w) c) refl refl is
+  high_done (calls.FetchAdd x) known looks is = will_put (calls.FetchAdd x) _ _ refl refl is
+  high_done (calls.FetchSub x) known looks is = will_put (calls.FetchSub x) _ _ refl refl is
+  high_done (calls.FetchAnd x) known looks is = will_put (calls.FetchAnd x) _ _ refl refl is
+  high_done (calls.FetchOr x) known looks is = will_put (calls.FetchOr x) _ _ refl refl is
+  high_done (calls.FetchXor x) known looks is = will_put (calls.FetchXor x) _ _ refl refl is
+  high_done (calls.FetchNand x) known looks is = will_put (calls.FetchNand x) _ _ refl refl is
+  high_done (calls.FetchMax x) known looks is = will_put (calls.FetchMax x) _ _ refl refl is
+  high_done (calls.FetchMin x) known looks is = will_put (calls.FetchMin x) _ _ refl refl is
+  high_done calls.FetchUpdate known looks is =
+      leads z (places.Again (z.of_words low w)) next (after_look calls.FetchUpdate (thens.Chooses (z.of_words low w))) is (in_it.0, w, refl, rw in_it.1 refl, ap (λ l. z.of_words l w) (sym told))
+  high_done other known looks is = absurd cc
+
+-- where its closure chose nothing a `FetchUpdate` reads once more, and so acts
+again_done :
+    {T : Type 0} (z : Arithmetic T) (old : T) (own : List (Event T)) (hold : Option HoldKind) (high w number : ℕ) (next : AtomicPlace T) → Asks z old calls.FetchUpdate own hold → high_told own ≡ Some high → old ≡ z.of_words (low_told own) high →
+    ◌≡◌ {A = Option (AtomicPlace T)} (Some (places.Leave (answers.ErrOld old))) (Some next) → HasDone z next (record { call = calls.FetchUpdate; own = event number (acts.Load words.High w) thens.GoesOn ∷ own })
+again_done {T} z old own hold high w number next asks told found is = leads z (places.Leave (answers.ErrOld old)) next _ is (by_choice asks.chooses)
+  where
+    now : List (Event T)
+    now = event number (acts.Load words.High w) thens.GoesOn ∷ own
+
+    same : answers.ErrOld old ≡ answers.ErrOld (value_found z now)
+    same = ap (λ (o : T). answers.ErrOld o) (found ∙ ap (λ h. z.of_words (low_told own) (unwrap_or h w)) (sym told))
+
+    by_choice : ((latest_outcome own ≡ thens.Chooses old) × (choice_of own ≡ None)) ⊎ ((latest_outcome own ≡ thens.GoesOn) × (choice_of own ≡ Some None)) → answers.ErrOld old ≡ (acts_so z calls.FetchUpdate now).0
+    by_choice (inl stands) = subst (λ (k : Option (Option T)). answers.ErrOld old ≡ (updated k (value_found z now)).0) (sym stands.1) same
+    by_choice (inr chose) = subst (λ (k : Option (Option T)). answers.ErrOld old ≡ (updated k (value_found z now)).0) (sym chose.1) same
+
+steps_so :
+    {T : Type 0} (z : Arithmetic T) (v : T) (place : AtomicPlace T) (c : PendingCall T) (hold : Option HoldKind) (memory : Word → ℕ) (number : ℕ) (next : AtomicPlace T) → At z place c hold →
+    place_after ((atomic_table z v).after place (value_told (carried_out ((atomic_table z v).intent place hold) memory))) ≡ Some next →
+    HasDone z next (record { call = c.call; own = event number (step_at (atomic_table z v) place hold memory).act (step_at (atomic_table z v) place hold memory).outcome ∷ c.own })
+steps_so z v places.Look c hold memory number next so is = look_done z (memory words.State) _ next (lets_readers_in (memory words.State)) refl so.done.0 refl is
+steps_so z v (places.Enter seen to) c hold memory number next so is = enter_done z c.call c.own seen to (memory words.State) number next (memory words.State == seen) so.done.0 is
+steps_so {T} z v (places.Take call) c hold memory number next so is =
+    let w = memory words.State in
+    subst (λ (k : Call T). wants k ≡ Some kinds.Write → HasDone z next (record { call = k; own = event number (acts.Exchange words.State 0 (2 ^ 64 - 1) w (w == 0)) thens.GoesOn ∷ c.own })) (sym so.at.0)
+    (λ writes. take_done z call c.own w number next (w == 0) so.done.0 writes is) so.done.1
+steps_so z v (places.Low call) c hold memory number next so is = leads z (places.High call (memory words.Low)) next _ is (so.done.0, refl)
+steps_so {T} z v (places.High call low) c hold memory number next so is =
+    let w = memory words.High in
+    subst (λ (k : Call T). is_some (wants k) ≡ true → HasDone z next (record { call = k; own = event number (acts.Load words.High w) (outcome_of (knows z call (z.of_words low w))) ∷ c.own })) (sym so.at.0)
+    (λ known. high_done z c.own low w number next so.done.0 so.at.4 call known so.at.2.1 is) so.known
+steps_so {T} z v (places.Again old) c hold memory number next so is =
+    subst (λ (k : Call T). Asks z old k c.own hold → HasDone z next (record { call = k; own = event number (acts.Load words.High (memory words.High)) thens.GoesOn ∷ c.own })) (sym so.at.0)
+    (λ asks. again_done z old c.own hold so.done.1 (memory words.High) number next asks so.done.3 so.done.4 is) so.at.1
+steps_so z v (places.PutLow low high answer) c hold memory number next so is = leads z (places.PutHigh high answer) next _ is (so.done.0, so.done.1, low, refl)
+steps_so z v (places.PutHigh high answer) c hold memory number next so is = leads z (places.Leave answer) next _ is (ap (λ o. o.0) (sym so.done.1.1))
+steps_so z v (places.Leave answer) c hold memory number next so is = absurd cc
+
+-- Where the answer of a closure leads.
+
+answers_so : {T : Type 0} (z : Arithmetic T) (place : AtomicPlace T) (c : PendingCall T) (action : WaitAction) (number : ℕ) → HasDone z place c → HasDone z place (record { call = c.call; own = event number (acts.Answered action) thens.GoesOn ∷ c.own })
+answers_so z places.Look c action number done = done
+answers_so z (places.Enter seen to) c action number done = done
+answers_so z (places.Take call) c action number done = done
+answers_so z (places.Low call) c action number done = done
+answers_so z (places.High call low) c action number done = done
+answers_so z (places.Again old) c action number done = done
+answers_so z (places.PutLow low high answer) c action number done = done
+answers_so z (places.PutHigh high answer) c action number done = done
+answers_so z (places.Leave answer) c action number done = done
+
+chose_so :
+    {T : Type 0} (z : Arithmetic T) (v old : T) (own : List (Event T)) (choice : Option T) (number : ℕ) → HasDone z (places.Again old) (record { call = calls.FetchUpdate; own = own }) →
+    HasDone z ((atomic_table z v).chosen (places.Again old) choice) (record { call = calls.FetchUpdate; own = event number (acts.Chosen choice) thens.GoesOn ∷ own })
+chose_so z v old own None number done = done
+chose_so {T} z v old own (Some new) number done = (done.0, (new, ap (λ (o : T). (answers.OkOld o, new)) (sym (done.4 ∙ ap (λ h. z.of_words (low_told own) (unwrap_or h 0)) (sym done.3))), refl), rw done.2 (refl, refl, refl))
+
+-- At the other places no choice is asked for.
+chooses_so :
+    {T : Type 0} (z : Arithmetic T) (v : T) (place : AtomicPlace T) (c : PendingCall T) (hold : Option HoldKind) (choice : Option T) (number : ℕ) → At z place c hold → choose_fault (latest_outcome c.own) ≡ None →
+    HasDone z ((atomic_table z v).chosen place choice) (record { call = c.call; own = event number (acts.Chosen choice) thens.GoesOn ∷ c.own })
+chooses_so z v places.Look c hold choice number so stands = absurd (offered_nothing c.own so.at.2.fresh.goes stands)
+chooses_so z v (places.Enter seen to) c hold choice number so stands = absurd (offered_nothing c.own so.at.3.fresh.goes stands)
+chooses_so z v (places.Take call) c hold choice number so stands = absurd (offered_nothing c.own so.at.4.fresh.goes stands)
+chooses_so z v (places.Low call) c hold choice number so stands = absurd (offered_nothing c.own so.at.3.fresh.goes stands)
+chooses_so z v (places.High call low) c hold choice number so stands = absurd (offered_nothing c.own so.at.3.goes stands)
+chooses_so {T} z v (places.Again old) c hold choice number so stands =
+    subst (λ (k : Call T). HasDone z (places.Again old) (record { call = k; own = c.own }) → HasDone z ((atomic_table z v).chosen (places.Again old) choice) (record { call = k; own = event number (acts.Chosen choice) thens.GoesOn ∷ c.own })) (sym so.at.0)
+    (λ done. chose_so z v old c.own choice number done) so.done
+chooses_so z v (places.PutLow low high answer) c hold choice number so stands = absurd (offered_nothing c.own so.at.goes stands)
+chooses_so z v (places.PutHigh high answer) c hold choice number so stands = absurd (offered_nothing c.own so.at.goes stands)
+chooses_so z v (places.Leave answer) c hold choice number so stands = absurd (offered_nothing c.own so.at.goes stands)
+
+kept : {T : Type 0} (z : Arithmetic T) (v : T) → IsKeptFromRest z (atomic_table z v) HasNone (At z)
+kept z v =
+    let basic = atomic_kept z v in
+    record {
+      begins = λ call place hold is allowed values none. let so = begins_so z call place is in record { at = basic.begins call place hold is allowed values none; known = so.0; done = so.1 };
+      steps = λ place c hold memory number next so free is. record { at = basic.steps place c hold memory number next so.at free is; known = so.known; done = steps_so z v place c hold memory number next so is };
+      answers = λ place c hold action number so waits. record { at = basic.answers place c hold action number so.at waits; known = so.known; done = answers_so z place c action number so.done };
+      chooses = λ place c hold choice number so stands value. record { at = basic.chooses place c hold choice number so.at stands value; known = so.known; done = chooses_so z v place c hold choice number so stands };
+      ends = λ place c hold memory answer so is. basic.ends place c hold memory answer so.at is;
+    }
+
+-- So each step is the next.
+
+module _ {T : Type 0} (z : Arithmetic T) (call : Call T) (own : List (Event T)) (act : Act T) (outcome : Then T) where
+  of_kind : (kind : Option HoldKind) → is_some kind ≡ true → ((k : HoldKind) → StepUnder z k call own act outcome) → MatchOption kind ⊥ (λ k. StepUnder z k call own act outcome)
+  of_kind None known step = absurd cc
+  of_kind (Some k) known step = step k
+
+  enters : (kind : HoldKind) → wants call ≡ Some kind → acts_made z call own ≡ 0 → has_entered own ≡ false → Enters kind own act outcome → AtomicStep z call own act outcome
+  enters kind is unmade out step = rw is (rw unmade (rw out step))
+
+  accesses : is_some (wants call) ≡ true → acts_made z call own ≡ 0 → has_entered own ≡ true → Accesses z call own (last_of is_step own) act outcome → AtomicStep z call own act outcome
+  accesses known unmade in_it step = of_kind (wants call) known (λ k. rw unmade (rw in_it step))
+
+  leaves : is_some (wants call) ≡ true → acts_made z call own ≡ 1 → Releases (thens.Answers (acts_so z call own).0) act outcome → AtomicStep z call own act outcome
+  leaves known made step = of_kind (wants call) known (λ k. rw made step)
+
+entered_goes : (T : Type 0) (b : Bool) → ◌≡◌ {A = Then T} thens.GoesOn (cond b thens.GoesOn thens.GoesOn)
+entered_goes T true = refl
+entered_goes T false = refl
+
+reads_low : {T : Type 0} (z : Arithmetic T) (call : Call T) (low : ℕ) → is_store call ≡ false → BeginsData z call (acts.Load words.Low low) thens.GoesOn
+reads_low z (calls.Store x) low is = absurd cc
+reads_low z other low is = (refl, refl)
+
+leaves_knowing : {T : Type 0} (z : Arithmetic T) (call : Call T) (old : T) → is_some (wants call) ≡ true → is_store call ≡ false → outcome_of (knows z call old) ≡ left_knowing call old
+leaves_knowing z calls.FetchUpdate old known looks = refl
+leaves_knowing z other old known looks = refl
+
+reads_more :
+    {T : Type 0} (z : Arithmetic T) (old : T) (own : List (Event T)) (hold : Option HoldKind) (high w : ℕ) → Asks z old calls.FetchUpdate own hold → last_of is_step own ≡ Some (acts.Load words.High high) →
+    Accesses z calls.FetchUpdate own (last_of is_step own) (acts.Load words.High w) thens.GoesOn
+reads_more z old own hold high w asks last = by_choice asks.chooses
+  where
+    by_choice : ((latest_outcome own ≡ thens.Chooses old) × (choice_of own ≡ None)) ⊎ ((latest_outcome own ≡ thens.GoesOn) × (choice_of own ≡ Some None)) →
+        Accesses z calls.FetchUpdate own (last_of is_step own) (acts.Load words.High w) thens.GoesOn
+    by_choice (inl stands) = rw last (rw stands.1 (refl, refl))
+    by_choice (inr chose) = rw last (rw chose.1 (refl, refl))
+
+next_step :
+    {T : Type 0} (z : Arithmetic T) (v : T) (place : AtomicPlace T) (c : PendingCall T) (hold : Option HoldKind) (memory : Word → ℕ) → At z place c hold →
+    AtomicStep z c.call c.own (step_at (atomic_table z v) place hold memory).act (step_at (atomic_table z v) place hold memory).outcome
+next_step z v places.Look c hold memory so = enters z c.call c.own _ _ kinds.Read (ap wants so.at.0) so.at.2.fresh.unmade so.done.0.0 (rw so.done.1 (refl, refl))
+next_step {T} z v (places.Enter seen to) c hold memory so =
+    enters z c.call c.own _ _ kinds.Read (ap wants so.at.0) so.at.3.fresh.unmade so.done.0.0 (rw so.done.1 (refl, refl, so.at.2.0, entered_goes T (memory words.State == seen)))
+next_step {T} z v (places.Take call) c hold memory so = enters z c.call c.own _ _ kinds.Write so.done.1 so.at.4.fresh.unmade so.done.0.0 (refl, refl, refl, entered_goes T (memory words.State == 0))
+next_step {T} z v (places.Low call) c hold memory so =
+    accesses z c.call c.own _ _ so.known so.at.3.fresh.unmade so.done.0.0 (rw so.done.4 (subst (λ (k : Call T). BeginsData z k (acts.Load words.Low (memory words.Low)) thens.GoesOn) (sym so.at.0) (reads_low z call (memory words.Low) so.at.2.1)))
+next_step {T} z v (places.High call low) c hold memory so =
+    let w = memory words.High in
+    accesses z c.call c.own _ _ so.known so.at.3.unmade so.done.0.0
+    (rw so.done.1 (refl, subst (λ (k : Call T). is_some (wants k) ≡ true → outcome_of (knows z call (z.of_words low w)) ≡ left_knowing k (z.of_words low w)) (sym so.at.0) (λ known. leaves_knowing z call (z.of_words low w) known so.at.2.1) so.known))
+next_step {T} z v (places.Again old) c hold memory so =
+    accesses z c.call c.own _ _ so.known so.at.1.unmade so.done.0
+    (subst (λ (k : Call T). Asks z old k c.own hold → Accesses z k c.own (last_of is_step c.own) (acts.Load words.High (memory words.High)) thens.GoesOn) (sym so.at.0)
+    (λ asks. reads_more z old c.own hold so.done.1 (memory words.High) asks so.done.2) so.at.1)
+next_step z v (places.PutLow low high answer) c hold memory so = accesses z c.call c.own _ _ so.known so.at.unmade so.done.0 so.done.2
+next_step z v (places.PutHigh high answer) c hold memory so =
+    accesses z c.call c.own _ _ so.known so.at.unmade so.done.0 (rw so.done.3 (refl, so.done.1.2 ∙ ap (λ o. z.high o.1) (sym so.done.1.1), refl))
+next_step z v (places.Leave answer) c None memory so = let held = so.at.held in absurd cc
+next_step {T} z v (places.Leave answer) c (Some kinds.Read) memory so = leaves z c.call c.own _ _ so.known so.at.made (refl, ap (λ (a : Answer T). thens.Answers a) so.done)
+next_step {T} z v (places.Leave answer) c (Some kinds.Write) memory so = leaves z c.call c.own _ _ so.known so.at.made (refl, ap (λ (a : Answer T). thens.Answers a) so.done)
+
+pub each_steps : {T : Type 0} (z : Arithmetic T) (v : T) (parties : ℕ) (past : List (Event T)) → IsPast z (atomic_table z v) parties past → StepsAs (AtomicStep z) past
+each_steps z v parties past run =
+    steps_follow z (atomic_table z v) parties (At z) (AtomicStep z)
+    (λ before goes party c place called stage. at_place_from_rest z (atomic_table z v) HasNone (At z) (kept z v) parties refl before goes party c place called stage) (next_step z v) past run
