@@ -304,6 +304,38 @@ fn gives_up_writing_after_10002_looks(rt: HostRuntime) -> Result<(), Fail> {
     Ok(())
 }
 
+/// What a `read_lock` of `two` did while `one` reads, and whether `two` is refused to write then.
+fn beside_a_reader<R: Wait>(
+    rt: &R,
+    lock: &RwLockReaderPreference,
+    one: &mut RwReaderPass,
+    two: &mut RwReaderPass,
+) -> Option<((bool, u64, u64, u64), bool)>
+    requires { IsRwReaderPass lock.now one.old × IsRwReaderPass lock.now two.old }
+{
+    match RwLockReaderPreference::try_read_lock(one, lock) {
+        WaitResult::Success(hold) => {
+            let read = read_and_abort(rt, lock, two);
+            let is_refused = is_refused_to_write(lock, two);
+            lock.unlock(hold, |_| ());
+            Some((read, is_refused))
+        }
+        WaitResult::Interrupted => None,
+    }
+}
+
+/// A second reader comes in while the first is in, and is not asked.
+#[test]
+fn readers_lock_together(rt: HostRuntime) -> Result<(), Fail> {
+    let (lock, pass) = RwLockReaderPreference::new(rt.alloc())?;
+    let Ok((mut one, mut two)) = pass.split(&lock) else {
+        unreachable!()
+    };
+    let answers = beside_a_reader(&rt, &lock, &mut one, &mut two);
+    assert_eq!(rt; answers, Some(((false, 0, 0, 0), true)));
+    Ok(())
+}
+
 /// Whether `two` is refused to read and to write while `one` writes, and what it is told that waits to read.
 fn refused_beside_a_writer<R: Wait>(
     rt: &R,

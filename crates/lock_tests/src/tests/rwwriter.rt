@@ -428,6 +428,60 @@ fn readers_enter_together(rt: HostRuntime) -> Result<(), Fail> {
     Ok(())
 }
 
+/// Locks for reading with a closure that answers `Abort`, and unlocks. Whether it was interrupted, and how often it was asked.
+fn read_and_abort<R: Wait>(
+    rt: &R,
+    lock: &RwLockWriterPreference,
+    pass: &mut RwWriterPass,
+) -> (bool, u64)
+    requires { IsRwWriterPass lock.now pass.old }
+{
+    let asked = AtomicU64::new(0);
+    let locked = RwLockWriterPreference::read_lock(pass, lock, rt, |_, _| {
+        asked.fetch_add(1, Ordering::SeqCst);
+        WaitAction::Abort
+    });
+    let is_interrupted = match locked {
+        WaitResult::Success(hold) => {
+            lock.unlock(hold, |_| (), |_| ());
+            false
+        }
+        WaitResult::Interrupted => true,
+    };
+    (is_interrupted, asked.load(Ordering::SeqCst))
+}
+
+/// What a `read_lock` of `two` did while `one` reads.
+fn lock_beside_a_reader<R: Wait>(
+    rt: &R,
+    lock: &RwLockWriterPreference,
+    one: &mut RwWriterPass,
+    two: &mut RwWriterPass,
+) -> Option<(bool, u64)>
+    requires { IsRwWriterPass lock.now one.old × IsRwWriterPass lock.now two.old }
+{
+    match RwLockWriterPreference::try_read_lock(one, lock) {
+        WaitResult::Success(hold) => {
+            let read = read_and_abort(rt, lock, two);
+            lock.unlock(hold, |_| (), |_| ());
+            Some(read)
+        }
+        WaitResult::Interrupted => None,
+    }
+}
+
+/// A second reader comes in while the first is in, and is not asked.
+#[test]
+fn readers_lock_together(rt: HostRuntime) -> Result<(), Fail> {
+    let (lock, pass) = RwLockWriterPreference::new(rt.alloc())?;
+    let Ok((mut one, mut two)) = pass.split(&lock) else {
+        unreachable!()
+    };
+    let answer = lock_beside_a_reader(&rt, &lock, &mut one, &mut two);
+    assert_eq!(rt; answer, Some((false, 0)));
+    Ok(())
+}
+
 #[test]
 fn a_free_lock_is_granted_unasked(rt: HostRuntime) -> Result<(), Fail> {
     let (lock, mut pass) = RwLockWriterPreference::new(rt.alloc())?;
