@@ -9,7 +9,7 @@ use iceoryx2_pal_concurrency_sync::strategy::condition_variable::{
 };
 use iceoryx2_pal_concurrency_sync::strategy::mutex::{Mutex, MutexHold, MutexPass};
 use iceoryx2_pal_concurrency_sync::{WaitAction, WaitResult, WaitWord};
-use signal::Signal;
+use signal::{Notes, Signal};
 use std::sync::Wait;
 use std::sync::atomic::{AtomicBool, AtomicU64, Ordering};
 use std::test::Fail;
@@ -584,7 +584,7 @@ fn free_the_mutex(
 }
 
 /// Waits with closures that answer `Abort`, that of the wait once the other thread has locked the mutex, that of the mutex once it is free.
-/// Where the wait took a permit and has the mutex: how often it called the closure of the mutex.
+/// Where the wait took a permit and has the mutex: what its closure and that of the mutex noted.
 fn wait_for_the_mutex<R: Wait>(
     rt: &R,
     cond: &ConditionVariable,
@@ -592,10 +592,10 @@ fn wait_for_the_mutex<R: Wait>(
     mutex: &Mutex,
     mtx_pass: &mut MutexPass,
     steps: &LockOut,
-) -> Option<u64>
+) -> Option<[(u64, u64, u64); 2]>
     requires own { IsCondPass cond.now pass.old × IsMutexPass mutex.now mtx_pass.old }
 {
-    let calls = AtomicU64::new(0);
+    let (notes, mtx_notes) = (Notes::new(), Notes::new());
     let WaitResult::Success(hold) = Mutex::try_lock(mtx_pass, mutex) else {
         return None;
     };
@@ -606,13 +606,14 @@ fn wait_for_the_mutex<R: Wait>(
         pass,
         mutex,
         |_| (),
-        |_, _| {
+        |word, seen| {
+            notes.note(word.load(), *seen);
             steps.asked.give();
             let _ = steps.locked.awaited();
             WaitAction::Abort
         },
-        |_, _| {
-            calls.fetch_add(1, Ordering::SeqCst);
+        |word, seen| {
+            mtx_notes.note(word.load(), *seen);
             steps.locking.give();
             let _ = steps.freed.awaited();
             WaitAction::Abort
@@ -621,7 +622,7 @@ fn wait_for_the_mutex<R: Wait>(
     match answer {
         CondResult::Success(hold) => {
             mutex.unlock(hold, |_| ());
-            Some(calls.load(Ordering::SeqCst))
+            Some([notes.noted(), mtx_notes.noted()])
         }
         CondResult::Interrupted(Some(hold)) => {
             mutex.unlock(hold, |_| ());
@@ -650,12 +651,12 @@ fn success_after_both_aborts(rt: HostRuntime) -> Result<(), Fail> {
         over: Signal::new(),
         freed: Signal::new(),
     };
-    let (was_freed, calls) = thread::join(
+    let (was_freed, noted) = thread::join(
         &rt,
         || free_the_mutex(&cond, &mut one, &mutex, &mut mtx_one, &steps),
         || wait_for_the_mutex(&rt, &cond, &mut two, &mutex, &mut mtx_two, &steps),
     );
     assert!(rt; was_freed);
-    assert_eq!(rt; calls, Some(1));
+    assert_eq!(rt; noted, Some([(1, 0, 0), (1, 1, 1)]));
     Ok(())
 }
