@@ -93,15 +93,14 @@ impl Object for Crowded {
         (Passes { value, more }, other)
     }
 
-    /// Passes of a condition variable are not joined: the second is let go.
     fn whole(&self, one: Passes, two: Passes) -> Passes {
         let Ok(value) = GuardedPass::join(one.value, two.value, &self.value) else {
             unreachable!()
         };
-        Passes {
-            value,
-            more: one.more,
-        }
+        let Ok(more) = CondPass::join(one.more, two.more, &self.more) else {
+            unreachable!()
+        };
+        Passes { value, more }
     }
 
     fn turns(&self) -> u64 {

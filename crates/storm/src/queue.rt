@@ -29,9 +29,11 @@ impl Object for Crowded {
         parts
     }
 
-    /// Passes of a queue are not joined: the second is let go.
-    fn whole(&self, one: QueuePass, _two: QueuePass) -> QueuePass {
-        one
+    fn whole(&self, one: QueuePass, two: QueuePass) -> QueuePass {
+        let Ok(pass) = QueuePass::join(one, two, &self.queue) else {
+            unreachable!()
+        };
+        pass
     }
 
     fn turns(&self) -> u64 {

@@ -8,7 +8,7 @@ use iceoryx2_pal_concurrency_sync::strategy::rwlock::{
     ReadHold, RwHold, RwLockReaderPreference, RwReaderPass, WriteHold,
 };
 use iceoryx2_pal_concurrency_sync::{WaitAction, WaitResult, WaitWord};
-use signal::Signal;
+use signal::{Notes, Signal};
 use std::alloc::Global;
 use std::sync::Wait;
 use std::sync::atomic::{AtomicU64, Ordering};
@@ -501,22 +501,21 @@ fn unlock_when_asked(
     }
 }
 
-/// Locks with a closure that asks for the lock, and answers `Abort` only once it was unlocked. How often it was asked, if the call
-/// succeeded.
+/// Locks with a closure that asks for the lock, and answers `Abort` only once it was unlocked. What that noted, if the call succeeded.
 fn lock_after_unlock<R: Wait>(
     rt: &R,
     lock: &RwLockReaderPreference,
     pass: &mut RwReaderPass,
     kind: Kind,
     signals: (&Signal, &Signal, &Signal),
-) -> Option<u64>
+) -> Option<(u64, u64, u64)>
     requires { IsRwReaderPass lock.now pass.old }
 {
     let (locked, asked, unlocked) = signals;
-    let calls = AtomicU64::new(0);
+    let notes = Notes::new();
     locked.awaited();
-    let wait = |_word: &WaitWord, _seen: &u64| {
-        calls.fetch_add(1, Ordering::SeqCst);
+    let wait = |word: &WaitWord, seen: &u64| {
+        notes.note(word.load(), *seen);
         asked.give();
         if unlocked.awaited() {
             WaitAction::Abort
@@ -531,7 +530,7 @@ fn lock_after_unlock<R: Wait>(
     match answer {
         WaitResult::Success(hold) => {
             lock.unlock(hold, |_| ());
-            Some(calls.load(Ordering::SeqCst))
+            Some(notes.noted())
         }
         WaitResult::Interrupted => None,
     }
@@ -547,13 +546,13 @@ fn two_calls_meet_and_success_after_abort(rt: HostRuntime) -> Result<(), Fail> {
             unreachable!()
         };
         let (locked, asked, unlocked) = (Signal::new(), Signal::new(), Signal::new());
-        let (was_asked, entered) = thread::join(
+        let (was_asked, noted) = thread::join(
             &rt,
             || unlock_when_asked(&lock, &mut one, &locked, &asked, &unlocked),
             || lock_after_unlock(&rt, &lock, &mut two, kind, (&locked, &asked, &unlocked)),
         );
         assert!(rt; was_asked);
-        assert_eq!(rt; entered, Some(1));
+        assert_eq!(rt; noted, Some((1, u64::MAX, u64::MAX)));
     }
     Ok(())
 }
