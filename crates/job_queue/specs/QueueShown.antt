@@ -1,12 +1,18 @@
 -- What contracts see of a queue and its pass, and what a call changes in a pass.
 use Rattle.std.specs.Prelude.{◌≡◌, ◌+◌, ◌≤◌}
+use Rattle.passes.specs.Views.{joined_view}
+use Rattle.playing.specs.Passes.{both_played}
+use Rattle.tallies.specs.MutexRule.{both_holds}
+use Rattle.tallies.specs.SemaphoreRule.{both_permits}
+use Rattle.running_mutex.specs.CondRule.{both_waits}
+use Rattle.running_spin_lock.specs.ValueRule.{both_held}
 use Rattle.running_mutex.specs.MutexShown as mutexes
 use Rattle.running_mutex.specs.CondShown as conds
 use Rattle.running_spin_lock.specs.SpinShown as spins
 use Rattle.running_mutex.specs.declared.condition_variable.CondPass.{CondPass}
 use Rattle.running_spin_lock.specs.declared.pass.SpinPass.{SpinPass}
 use Rattle.passes.specs.Passes as passes
-use Rattle.passes.specs.Parts.{AddUp}
+use Rattle.passes.specs.Parts.{half, IsWhole, IsSamePart, IsAgain, AddUp}
 use Rattle.job_queue.specs.Locked.{HasLockedOnce}
 use Rattle.job_queue.specs.declared.pass.QueuePass.{QueuePass}
 use Rattle.job_queue.specs.declared.queue.JobQueue.{JobQueue}
@@ -46,3 +52,31 @@ pub record PartsAddUp (p one other : QueuePass) : Type 0 where
   pub waits : AddUp (passes.part_of (conds.waits_in (changed_in p))) (passes.part_of (conds.waits_in (changed_in one))) (passes.part_of (conds.waits_in (changed_in other)))
   pub permits : AddUp (passes.part_of (conds.permits_in (changed_in p))) (passes.part_of (conds.permits_in (changed_in one))) (passes.part_of (conds.permits_in (changed_in other)))
   pub state : AddUp (spins.part_of (state_in p)) (spins.part_of (state_in one)) (spins.part_of (state_in other))
+
+-- p counted and knows what one and other did, at each of the objects
+pub record IsJoined (p one other : QueuePass) : Type 0 where
+  pub mutex : passes.view (mutex_in p) ≡ joined_view (both_played both_holds) (passes.view (mutex_in one)) (passes.view (mutex_in other))
+  pub waits : passes.view (conds.waits_in (changed_in p)) ≡ joined_view both_waits (passes.view (conds.waits_in (changed_in one))) (passes.view (conds.waits_in (changed_in other)))
+  pub permits : passes.view (conds.permits_in (changed_in p)) ≡ joined_view (both_played both_permits) (passes.view (conds.permits_in (changed_in one))) (passes.view (conds.permits_in (changed_in other)))
+  pub state : spins.view (state_in p) ≡ joined_view both_held (spins.view (state_in one)) (spins.view (state_in other))
+
+-- p is all of the passes that there are, at each of the objects
+pub record IsWholePass (p : QueuePass) : Type 0 where
+  pub mutex : IsWhole (passes.part_of (mutex_in p))
+  pub waits : IsWhole (passes.part_of (conds.waits_in (changed_in p)))
+  pub permits : IsWhole (passes.part_of (conds.permits_in (changed_in p)))
+  pub state : IsWhole (spins.part_of (state_in p))
+
+-- q is half as much as p, at each of the objects
+pub record IsHalfOf (p q : QueuePass) : Type 0 where
+  pub mutex : IsSamePart (passes.part_of (mutex_in q)) (half (passes.part_of (mutex_in p)))
+  pub waits : IsSamePart (passes.part_of (conds.waits_in (changed_in q))) (half (passes.part_of (conds.waits_in (changed_in p))))
+  pub permits : IsSamePart (passes.part_of (conds.permits_in (changed_in q))) (half (passes.part_of (conds.permits_in (changed_in p))))
+  pub state : IsSamePart (spins.part_of (state_in q)) (half (spins.part_of (state_in p)))
+
+-- q is as much as p, at each of the objects, and so the whole where p is
+pub record IsAgainOf (p q : QueuePass) : Type 0 where
+  pub mutex : IsAgain (passes.part_of (mutex_in p)) (passes.part_of (mutex_in q))
+  pub waits : IsAgain (passes.part_of (conds.waits_in (changed_in p))) (passes.part_of (conds.waits_in (changed_in q)))
+  pub permits : IsAgain (passes.part_of (conds.permits_in (changed_in p))) (passes.part_of (conds.permits_in (changed_in q)))
+  pub state : IsAgain (spins.part_of (state_in p)) (spins.part_of (state_in q))

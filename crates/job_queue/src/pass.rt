@@ -18,7 +18,7 @@ pub struct QueuePass {
 }
 
 impl QueuePass {
-    ghost use Rattle.job_queue.specs.QueueShown.{IsQueuePass, PartsAddUp};
+    ghost use Rattle.job_queue.specs.QueueShown.{IsQueuePass, IsJoined, IsHalfOf, IsAgainOf, PartsAddUp};
 
     /// Two passes of the same queue. `Err`, which never comes today, would hand the pass back.
     pub fn split<T, A: Allocator>(
@@ -28,6 +28,7 @@ impl QueuePass {
         requires own { IsQueuePass of.now self }
         ensures never_refused { is_ok result ≡ true }
         ensures own { IfOk result (λ parts. IsQueuePass of.now parts.0 × IsQueuePass of.now parts.1) }
+        ensures halves { IfOk result (λ parts. IsHalfOf self parts.0 × IsHalfOf self parts.1) }
         ensures weights { IfOk result (λ parts. PartsAddUp self parts.0 parts.1) }
     {
         let QueuePass {
@@ -56,5 +57,44 @@ impl QueuePass {
                 state: other_state,
             },
         ))
+    }
+
+    /// One pass from two of the same queue, which weighs what both weighed. `Err`, which never comes today, would hand both back.
+    pub fn join<T, A: Allocator>(
+        a: QueuePass,
+        b: QueuePass,
+        of: &JobQueue<T, A>,
+    ) -> Result<QueuePass, (QueuePass, QueuePass)>
+        requires own { IsQueuePass of.now a × IsQueuePass of.now b }
+        ensures never_refused { is_ok result ≡ true }
+        ensures own { IfOk result (IsQueuePass of.now) }
+        ensures views { IfOk result (λ both. IsJoined both a b) }
+        ensures weights { IfOk result (λ both. PartsAddUp both a b) }
+        ensures again { (p : QueuePass) → IsHalfOf p a → IsHalfOf p b → IfOk result (IsAgainOf p) }
+    {
+        let QueuePass {
+            mutex,
+            changed,
+            state,
+        } = a;
+        let QueuePass {
+            mutex: other_mutex,
+            changed: other_changed,
+            state: other_state,
+        } = b;
+        let Ok(mutex) = MutexPass::join(mutex, other_mutex, &of.mutex) else {
+            unreachable!()
+        };
+        let Ok(changed) = CondPass::join(changed, other_changed, &of.changed) else {
+            unreachable!()
+        };
+        let Ok(state) = SpinPass::join(state, other_state, &of.state) else {
+            unreachable!()
+        };
+        Ok(QueuePass {
+            mutex,
+            changed,
+            state,
+        })
     }
 }

@@ -35,12 +35,13 @@ pub struct JobQueue<T, A: Allocator = Global> {
 }
 
 impl<T: Drop, A: Allocator + Copy> JobQueue<T, A> {
-    ghost use Rattle.job_queue.specs.QueueShown.{IsQueuePass};
+    ghost use Rattle.job_queue.specs.QueueShown.{IsQueuePass, IsWholePass};
 
-    /// An open queue that holds at most `capacity` jobs, whose first ticket is 0, and its pass. `Err` where there was no memory; then
-    /// nothing was made.
+    /// An open queue that holds at most `capacity` jobs, whose first ticket is 0, and the pass that is whole. `Err` where there was no
+    /// memory; then nothing was made.
     pub fn new(alloc: A, capacity: usize) -> Result<(JobQueue<T, A>, QueuePass), AllocError>
         ensures own { IfOk result (λ made. IsQueuePass made.0 made.1) }
+        ensures whole { IfOk result (λ made. IsWholePass made.1) }
     {
         let (mutex, mutex_pass) = Mutex::new(alloc)?;
         let (changed, changed_pass) = ConditionVariable::new(alloc)?;

@@ -16,11 +16,14 @@ pub struct LazyPass {
 }
 
 impl LazyPass {
-    ghost use Rattle.passes.specs.Parts.{AddUp};
-    ghost use Rattle.passes.specs.Views.{left_view, right_view};
-    ghost use Rattle.running_once.specs.OnceRule.{known_runs};
-    ghost use Rattle.running_spin_lock.specs.ValueRule.{core_held};
-    ghost use Rattle.running_lazy_lock.specs.LazyShown.{IsLazyPass, known_by, known_of_init, part_of, part_of_init};
+    ghost use Rattle.passes.specs.declared.part.Part.{Part};
+    ghost use Rattle.passes.specs.Parts.{half, IsAgain, IsSamePart, AddUp};
+    ghost use Rattle.passes.specs.Views.{left_view, right_view, joined_view};
+    ghost use Rattle.playing.specs.Slots.{both_parties};
+    ghost use Rattle.running_once.specs.OnceRule.{known_runs, both_runs};
+    ghost use Rattle.running_once.specs.OnceShown.{parties_of_once};
+    ghost use Rattle.running_spin_lock.specs.ValueRule.{core_held, both_held};
+    ghost use Rattle.running_lazy_lock.specs.LazyShown.{IsLazyPass, once_in, known_by, known_of_init, part_of, part_of_init};
 
     /// Two passes of the same lazy value. What they counted adds up to what this one had counted, of the once and of the closure's lock,
     /// and both know what it knew; they weigh together what it weighed. `Err`, which never comes today, would hand the pass back.
@@ -49,5 +52,35 @@ impl LazyPass {
                 init: other_init,
             },
         ))
+    }
+
+    /// One pass from two of the same lazy value, which counted and knows what both did, of the once and of the closure's lock, and weighs
+    /// what both weighed. `Err`, which never comes today, would hand both back.
+    pub fn join<T, F, G: Gives<T, F>, A: Allocator>(
+        a: LazyPass,
+        b: LazyPass,
+        of: &LazyLock<T, F, G, A>,
+    ) -> Result<LazyPass, (LazyPass, LazyPass)>
+        requires own { IsLazyPass of.now a × IsLazyPass of.now b }
+        ensures never_refused { is_ok result ≡ true }
+        ensures own { IfOk result (IsLazyPass of.now) }
+        ensures views { IfOk result (λ both. (known_by both ≡ joined_view both_runs (known_by a) (known_by b)) × (known_of_init both ≡ joined_view both_held (known_of_init a) (known_of_init b))) }
+        ensures parties { IfOk result (λ both. parties_of_once (once_in both) ≡ both_parties (parties_of_once (once_in a)) (parties_of_once (once_in b))) }
+        ensures weights { IfOk result (λ both. AddUp (part_of both) (part_of a) (part_of b) × AddUp (part_of_init both) (part_of_init a) (part_of_init b)) }
+        ensures again { (p : Part) → IsSamePart (part_of a) (half p) → IsSamePart (part_of b) (half p) → IfOk result (λ both. IsAgain p (part_of both)) }
+        ensures init_again { (p : Part) → IsSamePart (part_of_init a) (half p) → IsSamePart (part_of_init b) (half p) → IfOk result (λ both. IsAgain p (part_of_init both)) }
+    {
+        let LazyPass { once, init } = a;
+        let LazyPass {
+            once: other_once,
+            init: other_init,
+        } = b;
+        let Ok(once) = OncePass::join(once, other_once, &of.once) else {
+            unreachable!()
+        };
+        let Ok(init) = SpinPass::join(init, other_init, &of.init) else {
+            unreachable!()
+        };
+        Ok(LazyPass { once, init })
     }
 }

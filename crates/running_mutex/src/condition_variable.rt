@@ -140,12 +140,13 @@ impl Deed<(), Waits> for CountOut {
 
 impl CondPass {
     ghost use Rattle.std.specs.Prelude.{is_ok};
-    ghost use Rattle.passes.specs.Parts.{AddUp};
+    ghost use Rattle.passes.specs.declared.part.Part.{Part};
+    ghost use Rattle.passes.specs.Parts.{half, IsAgain, IsSamePart, AddUp};
     ghost use Rattle.passes.specs.Passes.{view, part_of};
-    ghost use Rattle.passes.specs.Views.{left_view, right_view};
-    ghost use Rattle.playing.specs.Passes.{core_played};
-    ghost use Rattle.tallies.specs.SemaphoreRule.{no_permits};
-    ghost use Rattle.running_mutex.specs.CondRule.{no_waits};
+    ghost use Rattle.passes.specs.Views.{left_view, right_view, joined_view};
+    ghost use Rattle.playing.specs.Passes.{core_played, both_played};
+    ghost use Rattle.tallies.specs.SemaphoreRule.{no_permits, both_permits};
+    ghost use Rattle.running_mutex.specs.CondRule.{no_waits, both_waits};
     ghost use Rattle.running_mutex.specs.CondShown.{IsCondPass, waits_in, permits_in};
 
     /// Two passes of the same condition variable. What they counted adds up to what this one had counted, and they weigh together what
@@ -175,6 +176,35 @@ impl CondPass {
                 permits: other_permits,
             },
         ))
+    }
+
+    /// One pass from two of the same condition variable, which counted what both did, and weighs what both weighed. `Err`, which never
+    /// comes today, would hand both back.
+    pub fn join<A: Allocator>(
+        a: CondPass,
+        b: CondPass,
+        of: &ConditionVariable<A>,
+    ) -> Result<CondPass, (CondPass, CondPass)>
+        requires own { IsCondPass of.now a × IsCondPass of.now b }
+        ensures never_refused { is_ok result ≡ true }
+        ensures own { IfOk result (IsCondPass of.now) }
+        ensures views { IfOk result (λ both. (view (waits_in both) ≡ joined_view both_waits (view (waits_in a)) (view (waits_in b))) × (view (permits_in both) ≡ joined_view (both_played both_permits) (view (permits_in a)) (view (permits_in b)))) }
+        ensures weights { IfOk result (λ both. AddUp (part_of (waits_in both)) (part_of (waits_in a)) (part_of (waits_in b)) × AddUp (part_of (permits_in both)) (part_of (permits_in a)) (part_of (permits_in b))) }
+        ensures again { (p : Part) → IsSamePart (part_of (waits_in a)) (half p) → IsSamePart (part_of (waits_in b)) (half p) → IfOk result (λ both. IsAgain p (part_of (waits_in both))) }
+        ensures permits_again { (p : Part) → IsSamePart (part_of (permits_in a)) (half p) → IsSamePart (part_of (permits_in b)) (half p) → IfOk result (λ both. IsAgain p (part_of (permits_in both))) }
+    {
+        let CondPass { waits, permits } = a;
+        let CondPass {
+            waits: other_waits,
+            permits: other_permits,
+        } = b;
+        let Ok(waits) = Pass::join(waits, other_waits, &of.number_of_waiters) else {
+            unreachable!()
+        };
+        let Ok(permits) = SemPass::join(permits, other_permits, &of.semaphore) else {
+            unreachable!()
+        };
+        Ok(CondPass { waits, permits })
     }
 }
 

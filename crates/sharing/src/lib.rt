@@ -7,6 +7,7 @@ ghost use Rattle.passes.specs.Parts.{half, IsSamePart, IsAgain};
 ghost use denote.Param.Send.{IsSync, IsSend};
 
 use running_barrier::{Barrier, BarrierPass};
+use running_mutex::condition_variable::{CondPass, ConditionVariable};
 use running_mutex::{Mutex, MutexPass};
 use running_rwlock::{RwLockReaderPreference, RwLockWriterPreference, RwReaderPass, RwWriterPass};
 use running_semaphore::{SemPass, Semaphore};
@@ -88,6 +89,30 @@ impl<A: Allocator> Shares<Mutex<A>> for MutexPass {
 
     fn mend(one: MutexPass, other: MutexPass, of: &Mutex<A>) -> MutexPass {
         let Ok(pass) = MutexPass::join(one, other, of) else {
+            unreachable!()
+        };
+        pass
+    }
+}
+
+impl<A: Allocator> Shares<ConditionVariable<A>> for CondPass {
+    ghost use Rattle.passes.specs.Passes.{part_of};
+    ghost use Rattle.running_mutex.specs.CondShown.{IsCondPass, waits_in, permits_in};
+
+    // It is the same part of both passes inside.
+    ghost idle = { λ condvar p. IsCondPass condvar p × (part_of (permits_in p) ≡ part_of (waits_in p)) };
+
+    ghost part = { λ p. part_of (waits_in p) };
+
+    fn cut(self, of: &ConditionVariable<A>) -> (CondPass, CondPass) {
+        let Ok(parts) = self.split(of) else {
+            unreachable!()
+        };
+        parts
+    }
+
+    fn mend(one: CondPass, other: CondPass, of: &ConditionVariable<A>) -> CondPass {
+        let Ok(pass) = CondPass::join(one, other, of) else {
             unreachable!()
         };
         pass
