@@ -24,22 +24,22 @@ use Rattle.steps_events.specs.Rows.{carried_out, value_told, outcome_of, place_a
 use Rattle.steps_events.specs.Past.{same_word, PendingCall, call_of, hold_of, word_in, word_after, event}
 use Rattle.steps_events.specs.Moves.{Move, step_at, is_step}
 use Rattle.steps_events.specs.Runs.{IsPast}
-use Rattle.steps_events.specs.Sights.{sight_of, is_sight, AtLast, spins_in, last_of}
+use Rattle.steps_events.specs.Sights.{is_sight, AtLast, spins_in, last_of}
 use Rattle.steps_events.specs.NextStep.{StepsAs, seen_last}
-use Rattle.steps_events.specs.Asks.{WhereAsked, sight_at}
+use Rattle.steps_events.specs.Asks.{WhereAsked}
 use Rattle.steps_events.specs.Laws.{Lacks, is_refusal}
 use Rattle.steps_events.proofs.Holds.{some_same, eqb_other, no_holds, exclusive_unheld}
 use Rattle.steps_events.proofs.Steps.{by_move, tells_memory}
 use Rattle.steps_events.proofs.Spins.{spins_left, spins_spent}
 use Rattle.steps_events.proofs.Parties.{IsKept, at_place}
-use Rattle.steps_events.proofs.Asks.{asked_maps, spins_no_more, both_kept}
+use Rattle.steps_events.proofs.Asks.{IsAskedAs, waits_first, waits_as, spins_no_more, both_kept}
 use Rattle.steps_events.proofs.NextStep.{steps_as}
 use Rattle.steps_events.proofs.Own.{IsToldOf, own_at_last, at_last_maps}
 use Rattle.steps_barrier.specs.declared.BarrierPlace.{BarrierPlace}
 use Rattle.steps_barrier.specs.declared.BarrierPlace.TheVariants as places
 use Rattle.steps_barrier.specs.Rounds.{epoch_of, count_of, with_arrival, is_arrival, arrivals_in, round_of, full_rounds, IsFull, CountsArrivals}
 use Rattle.steps_barrier.specs.Table.{barrier_table, barrier_begins, barrier_intent, barrier_after}
-use Rattle.steps_barrier.specs.Law.{BarrierCause, is_ok, is_wake_of_all, is_wake, since_arrival, looks_on, steps_on, looked, BarrierStep, KeepsBarrier}
+use Rattle.steps_barrier.specs.Law.{BarrierCause, is_ok, is_wake_of_all, is_wake, since_arrival, steps_on, looked, barrier_waiting, BarrierStep, KeepsBarrier}
 use Rattle.steps_barrier.proofs.Rounds.{count_is, epoch_is, counts_none, counts_more, later_epoch, filled_round, is_full}
 
 -- What is kept of a call at its place.
@@ -315,11 +315,10 @@ leaves_by_epoch {T} z n parties fits party past run c called v w arrived counts 
 
 -- what is so of a call where it asks its wait closure
 abbrev pub IsAskedSo : {T : Type 0} → PendingCall T → Act T → ℕ → Type 0
-IsAskedSo c act told = (looks_on c.call c.own ≡ 10000) × (sight_of words.State act ≡ Some told)
+IsAskedSo c act told = IsAskedAs barrier_waiting c act told
 
 pub record EventLaw {T : Type 0} (n party : ℕ) (past : List (Event T)) (pending : Option (PendingCall T)) (m : Move T) : Type 0 where
   pub cause : MatchBool (is_refusal m.outcome) (MatchOption pending ⊥ (λ c. BarrierCause n c.call party (event party m.act m.outcome ∷ past))) (Unit {0})
-  pub once : MatchBool (is_arrival m.act) (MatchOption pending ⊥ (λ c. arrivals_in c.own ≡ 0)) (Unit {0})
   pub passes : MatchBool (is_ok m.outcome) (StandsInFullRound n party past) (Unit {0})
   pub wakes : MatchBool (is_ok m.outcome) (MatchBool (is_wake_of_all m.act) (Unit {0}) (AtLast is_arrival (λ before. arrivals_in before % n + 1 ≢ n) party past)) (Unit {0})
   pub exact : is_sight words.State m.act ≡ true → ((m.outcome ≡ thens.Answers answers.Full) ↔ (n ≡ 0))
@@ -339,13 +338,12 @@ look_law :
     {T : Type 0} (n m party : ℕ) (past : List (Event T)) (c : PendingCall T) (act : Act T) (v : ℕ) (below : Bool) → n < 2 ^ 32 → c.call ≡ calls.Wait → m ≡ n → arrivals_in c.own ≡ 0 → CountsArrivals n (arrivals_in past) v →
     is_arrival act ≡ false → is_wake act ≡ false → nat_lt (count_of v) m ≡ below → EventLaw n party past (Some c) (record { act = act; outcome = outcome_of {T = T} (look_after m v below) })
 look_law n m party past c act v true fits wait same first counts quiet asleep below =
-    record { cause = tt; once = rw quiet tt; passes = tt; wakes = tt; alone = rw asleep tt; exact = λ sees. (λ full. absurd cc, λ none. absurd (none_of v n (below_of v m n same below) none)); asks = tt; leaves = λ sees arrived. absurd (omega (arith, first, arrived)) }
+    record { cause = tt; passes = tt; wakes = tt; alone = rw asleep tt; exact = λ sees. (λ full. absurd cc, λ none. absurd (none_of v n (below_of v m n same below) none)); asks = tt; leaves = λ sees arrived. absurd (omega (arith, first, arrived)) }
 look_law {T} n m party past c act v false fits wait same first counts quiet asleep below =
     let none : n ≡ 0 = nobody_fits n m (arrivals_in past) v fits counts same below in
     let refuses : Event T = event party act (thens.Answers answers.Full) in
     record {
       cause = subst (λ (k : Call T). BarrierCause n k party (refuses ∷ past)) (sym wait) none;
-      once = rw quiet tt;
       passes = tt;
       wakes = tt;
       alone = rw asleep tt;
@@ -357,8 +355,8 @@ look_law {T} n m party past c act v false fits wait same first counts quiet asle
 joined_law :
     {T : Type 0} (n party : ℕ) (past : List (Event T)) (c : PendingCall T) (seen to w : ℕ) (fills : Bool) → count_of seen < n → arrivals_in c.own ≡ 0 →
     EventLaw n party past (Some c) (record { act = acts.Exchange words.State seen to w true; outcome = outcome_of {T = T} (joined_after seen fills) })
-joined_law n party past c seen to w true below first = record { cause = tt; once = first; passes = tt; wakes = tt; alone = tt; exact = λ sees. (λ full. absurd cc, λ none. absurd (none_of seen n below none)); asks = tt; leaves = λ sees arrived. absurd (omega (arith, first, arrived)) }
-joined_law n party past c seen to w false below first = record { cause = tt; once = first; passes = tt; wakes = tt; alone = tt; exact = λ sees. (λ full. absurd cc, λ none. absurd (none_of seen n below none)); asks = tt; leaves = λ sees arrived. absurd (omega (arith, first, arrived)) }
+joined_law n party past c seen to w true below first = record { cause = tt; passes = tt; wakes = tt; alone = tt; exact = λ sees. (λ full. absurd cc, λ none. absurd (none_of seen n below none)); asks = tt; leaves = λ sees arrived. absurd (omega (arith, first, arrived)) }
+joined_law n party past c seen to w false below first = record { cause = tt; passes = tt; wakes = tt; alone = tt; exact = λ sees. (λ full. absurd cc, λ none. absurd (none_of seen n below none)); asks = tt; leaves = λ sees arrived. absurd (omega (arith, first, arrived)) }
 
 arrive_law :
     {T : Type 0} (n m party : ℕ) (past : List (Event T)) (c : PendingCall T) (seen to w : ℕ) (done : Bool) → n < 2 ^ 32 → c.call ≡ calls.Wait → m ≡ n → count_of seen < n → arrivals_in c.own ≡ 0 → CountsArrivals n (arrivals_in past) w →
@@ -377,7 +375,6 @@ stay_law z n parties fits party past run c called hold epoch spins w false left 
     let other : epoch_of w ≢ epoch_of v = λ is. eqb-false (epoch_of w) epoch sees (is ∙ at.1.2) in
     record {
       cause = tt;
-      once = tt;
       passes = own_round_full z n parties fits party past run c called v at.1.1 (λ own before counted. later_epoch n (arrivals_in past) own w v (omega (arith, below)) fits before counts counted other);
       wakes = own_not_last z n parties fits party past run c called v at.1.1 at.1.3;
       alone = tt;
@@ -387,10 +384,10 @@ stay_law z n parties fits party past run c called hold epoch spins w false left 
     }
 stay_law z n parties fits party past run c called hold epoch spins w true true at counts sees spun =
     let epoch_seen : epoch_of w ≡ epoch_of at.1.0 = eqb-true (epoch_of w) epoch sees ∙ sym at.1.2 in
-    record { cause = tt; once = tt; passes = tt; wakes = tt; alone = tt; exact = λ sight. (λ full. absurd cc, λ none. absurd (none_of at.1.0 n at.1.1.3 none)); asks = tt; leaves = λ sight arrived. leaves_by_epoch z n parties fits party past run c called at.1.0 w at.1.1 counts thens.GoesOn (λ ok. absurd cc, λ other. absurd (other epoch_seen)) }
+    record { cause = tt; passes = tt; wakes = tt; alone = tt; exact = λ sight. (λ full. absurd cc, λ none. absurd (none_of at.1.0 n at.1.1.3 none)); asks = tt; leaves = λ sight arrived. leaves_by_epoch z n parties fits party past run c called at.1.0 w at.1.1 counts thens.GoesOn (λ ok. absurd cc, λ other. absurd (other epoch_seen)) }
 stay_law z n parties fits party past run c called hold epoch spins w true false at counts sees spun =
     let epoch_seen : epoch_of w ≡ epoch_of at.1.0 = eqb-true (epoch_of w) epoch sees ∙ sym at.1.2 in
-    record { cause = tt; once = tt; passes = tt; wakes = tt; alone = tt; exact = λ sight. (λ full. absurd cc, λ none. absurd (none_of at.1.0 n at.1.1.3 none)); asks = (rw (has_arrived c.own _ at.1.1.2) (at.2 ∙ spins_spent spins at.3 spun), refl); leaves = λ sight arrived. leaves_by_epoch z n parties fits party past run c called at.1.0 w at.1.1 counts (thens.Waits w) (λ ok. absurd cc, λ other. absurd (other epoch_seen)) }
+    record { cause = tt; passes = tt; wakes = tt; alone = tt; exact = λ sight. (λ full. absurd cc, λ none. absurd (none_of at.1.0 n at.1.1.3 none)); asks = (rw (has_arrived c.own _ at.1.1.2) (at.2 ∙ spins_spent spins at.3 spun), refl, refl); leaves = λ sight arrived. leaves_by_epoch z n parties fits party past run c called at.1.0 w at.1.1 counts (thens.Waits w) (λ ok. absurd cc, λ other. absurd (other epoch_seen)) }
 
 step_law :
     {T : Type 0} (z : Arithmetic T) (n parties : ℕ) → n < 2 ^ 32 → (party : ℕ) (past : List (Event T)) → IsPast z (barrier_table n) parties past → (c : PendingCall T) → call_of party past ≡ Some c →
@@ -406,7 +403,6 @@ step_law z n parties fits party past run c called places.Wake hold memory at cou
     let some : 0 < n = omega (arith, at.1.1.3) in
     record {
       cause = tt;
-      once = tt;
       passes = own_round_full z n parties fits party past run c called at.1.0 at.1.1 (λ own before counted. filled_round n (arrivals_in past) own at.1.0 some fits before counted at.1.2);
       wakes = tt;
       alone = (refl, refl, own_is_last z n parties fits party past run c called at.1.0 at.1.1 at.1.2);
@@ -423,9 +419,9 @@ event_law {T} z n parties fits past e run =
     by_move (barrier_table n) (call_of e.party past) (hold_of (barrier_table n) e.party past) (word_in (barrier_table n) past)
     (λ (k : Option (PendingCall T)) (m : Move T). EventLaw n e.party past k m)
     run.0.0 (record { act = e.act; outcome = e.then })
-    (λ call _. record { cause = tt; once = tt; passes = tt; wakes = tt; alone = tt; exact = λ sees. absurd cc; asks = tt; leaves = λ sees arrived. absurd cc })
-    (λ action _. record { cause = tt; once = tt; passes = tt; wakes = tt; alone = tt; exact = λ sees. absurd cc; asks = tt; leaves = λ sees arrived. absurd cc })
-    (λ choice _. record { cause = tt; once = tt; passes = tt; wakes = tt; alone = tt; exact = λ sees. absurd cc; asks = tt; leaves = λ sees arrived. absurd cc })
+    (λ call _. record { cause = tt; passes = tt; wakes = tt; alone = tt; exact = λ sees. absurd cc; asks = tt; leaves = λ sees arrived. absurd cc })
+    (λ action _. record { cause = tt; passes = tt; wakes = tt; alone = tt; exact = λ sees. absurd cc; asks = tt; leaves = λ sees arrived. absurd cc })
+    (λ choice _. record { cause = tt; passes = tt; wakes = tt; alone = tt; exact = λ sees. absurd cc; asks = tt; leaves = λ sees arrived. absurd cc })
     (λ c place _ called stage.
     step_law z n parties fits e.party past run.1 c called place (hold_of (barrier_table n) e.party past) (word_in (barrier_table n) past)
     (at_place z (barrier_table n) parties (AtBarrier n) (barrier_kept n) past run.1 e.party c place called stage) (barrier_counts z n parties fits past run.1))
@@ -541,7 +537,7 @@ each_steps z n parties past run =
     (both_kept (barrier_table n) (AtBarrier n) HasSeen (barrier_kept n) (seen_kept n)) (barrier_step n) past run
 
 pub keeps_barrier : {T : Type 0} (z : Arithmetic T) (n parties : ℕ) (past : List (Event T)) → n < 2 ^ 32 → IsPast z (barrier_table n) parties past → KeepsBarrier n past
-keeps_barrier z n parties [] fits run = record { told = tt; exclusive = exclusive_unheld [] refl; cause = tt; law = record { unheld = refl; counts = barrier_counts z n parties fits [] run; nobody = nobody_arrives z n parties [] run; once = tt; passes = tt; wakes = tt; alone = tt; leaves = tt; exact = tt; asks = tt; spins = λ party. tt; tells = tt; steps = tt } }
+keeps_barrier z n parties [] fits run = record { told = tt; exclusive = exclusive_unheld [] refl; cause = tt; law = record { unheld = refl; counts = barrier_counts z n parties fits [] run; nobody = nobody_arrives z n parties [] run; passes = tt; wakes = tt; alone = tt; leaves = tt; exact = tt; waits = waits_first barrier_waiting; steps = tt } }
 keeps_barrier z n parties (e ∷ past) fits run =
     let event = event_law z n parties fits past e run in
     let unheld = no_holds (barrier_table n) (λ call from to. refl) (e ∷ past) in
@@ -553,15 +549,12 @@ keeps_barrier z n parties (e ∷ past) fits run =
         unheld = unheld;
         counts = barrier_counts z n parties fits (e ∷ past) run;
         nobody = nobody_arrives z n parties (e ∷ past) run;
-        once = event.once;
         passes = event.passes;
         leaves = event.leaves;
         wakes = event.wakes;
         alone = event.alone;
         exact = event.exact;
-        asks = asked_maps IsAskedSo (λ c act told. looks_on c.call c.own ≡ 10000) (λ c act told so. so.0) (call_of e.party past) e.act e.then event.asks;
-        spins = spins_no_more z (barrier_table n) parties (AtBarrier n) steps_on (barrier_kept n) (spins_bounded n) (e ∷ past) run;
-        tells = asked_maps IsAskedSo (λ c act told. sight_at words.State c.call c.own act ≡ Some told) (λ c act told so. so.1) (call_of e.party past) e.act e.then event.asks;
+        waits = waits_as barrier_waiting past e event.asks (spins_no_more z (barrier_table n) parties (AtBarrier n) steps_on (barrier_kept n) (spins_bounded n) (e ∷ past) run);
         steps = each_steps z n parties (e ∷ past) run;
       };
     }

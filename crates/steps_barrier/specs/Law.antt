@@ -14,7 +14,7 @@ use Rattle.steps_events.specs.Past.{call_of, holds_of, word_in}
 use Rattle.steps_events.specs.Moves.{is_step}
 use Rattle.steps_events.specs.Sights.{is_sight, AtLast, spins_in, last_of}
 use Rattle.steps_events.specs.NextStep.{StepsAs, seen_last, Loads, Exchanges}
-use Rattle.steps_events.specs.Asks.{SpinCount, AsksAfterSpinning, SpinsNoMore, sight_at, TellsRefusal}
+use Rattle.steps_events.specs.Asks.{SpinCount, sight_at, Waiting, WaitsAs}
 use Rattle.steps_events.specs.Laws.{Keeps}
 use Rattle.steps_barrier.specs.Rounds.{epoch_of, count_of, with_arrival, is_arrival, arrivals_in, round_of, full_rounds, IsFull, CountsArrivals}
 use Rattle.steps_barrier.specs.Table.{barrier_table}
@@ -31,11 +31,6 @@ is_ok other = false
 -- at a barrier of 0 nobody has arrived, and the word is 0
 abbrev pub NobodyAtZero : ℕ → ℕ → ℕ → Type 0
 NobodyAtZero n arrivals word = n ≡ 0 → (arrivals ≡ 0) × (word ≡ 0)
-
--- a call arrives once at most: the latest event is an arrival only where its call had not arrived before
-abbrev pub ArrivesOnce : {T : Type 0} → List (Event T) → Type 0
-ArrivesOnce [] = Unit {0}
-ArrivesOnce (e ∷ past) = MatchBool (is_arrival e.act) (MatchOption (call_of e.party past) ⊥ (λ c. arrivals_in c.own ≡ 0)) (Unit {0})
 
 -- the latest event answers `Ok` only where the call's own arrival stands in a round that was full before
 abbrev pub OkAfterFullRound : {T : Type 0} → ℕ → List (Event T) → Type 0
@@ -100,6 +95,10 @@ looks_on call own = once_arrived (spins_in (is_sight words.State)) call own
 abbrev pub steps_on : {T : Type 0} → SpinCount T
 steps_on call own = once_arrived (spins_in is_step) call own
 
+-- how they wait
+abbrev pub barrier_waiting : {T : Type 0} → Waiting T
+barrier_waiting = record { spins = looks_on; goes_on = steps_on; refusing = sight_at words.State; wait = λ call own. [] }
+
 -- What a call does next, by its own steps so far, and how it is left by what that tells.
 
 -- a look of a call that has not arrived: where n have, it is refused
@@ -141,8 +140,6 @@ pub record BarrierLaw {T : Type 0} (n : ℕ) (past : List (Event T)) : Type 0 wh
   pub counts : CountsArrivals n (arrivals_in past) (word_in (barrier_table n) past words.State)
   -- nobody arrives at a barrier of 0, and its word stays 0
   pub nobody : NobodyAtZero n (arrivals_in past) (word_in (barrier_table n) past words.State)
-  -- a call arrives once at most
-  pub once : ArrivesOnce past
   -- `Ok` comes after the call's own round is full
   pub passes : OkAfterFullRound n past
   -- a look of a call that has arrived answers `Ok` exactly where it sees another epoch than that of its arrival
@@ -153,12 +150,8 @@ pub record BarrierLaw {T : Type 0} (n : ℕ) (past : List (Event T)) : Type 0 wh
   pub alone : WakesAsFiller n past
   -- a barrier of 0 refuses each call, and no other refuses any
   pub exact : IsExactRefusal n past
-  -- a wait closure is asked after 10000 spins, which are looks since the call's arrival
-  pub asks : AsksAfterSpinning looks_on past
-  -- a call that has arrived goes on by itself no more often
-  pub spins : SpinsNoMore steps_on past
-  -- the closure is told the whole word that the latest look saw
-  pub tells : TellsRefusal (sight_at words.State) past
+  -- a `Wait` asks its closure after 10000 spins, which are looks since its arrival, and tells it the whole word seen; each question is a wait of its own
+  pub waits : WaitsAs barrier_waiting past
   -- each step is the one that follows its call's own, and leaves it by what it tells
   pub steps : StepsAs (BarrierStep n) past
 

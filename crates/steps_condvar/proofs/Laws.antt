@@ -22,27 +22,26 @@ use Rattle.steps_events.specs.declared.row.After.{After}
 use Rattle.steps_events.specs.declared.row.After.TheVariants as afters
 use Rattle.steps_events.specs.Arithmetic.{Arithmetic}
 use Rattle.steps_events.specs.Rows.{carried_out, value_told, outcome_of, within}
-use Rattle.steps_events.specs.Past.{same_word, PendingCall, call_of, call_after, call_going_on, holds_of, hold_of, hold_taken, hold_after, word_in, word_after, event, is_release}
+use Rattle.steps_events.specs.Past.{same_word, PendingCall, call_of, call_after, call_going_on, holds_of, hold_of, hold_after, word_in, word_after, event}
 use Rattle.steps_events.specs.Moves.{Move, step_at, fault_at, begin_fault}
 use Rattle.steps_events.specs.Runs.{IsPast}
 use Rattle.steps_events.specs.Sights.{sight_of, is_sight, keeps_asking}
 use Rattle.steps_events.specs.Asks.{WhereAsked}
-use Rattle.steps_events.specs.Waits.{is_wake}
 use Rattle.steps_events.specs.Laws.{IsTold, Lacks, is_refusal}
 use Rattle.steps_events.proofs.Holds.{eqb_same, hold_of_same}
 use Rattle.steps_events.proofs.Steps.{carried_goes_on, by_move, tells_memory}
 use Rattle.steps_events.proofs.LastSights.{sight_is_told, at_last_sight}
 use Rattle.steps_events.proofs.Parties.{at_place, fault_at_none}
-use Rattle.steps_events.proofs.Asks.{asked_of, asked_maps, spins_no_more}
+use Rattle.steps_events.proofs.Asks.{asked_of, waits_first, waits_as, spins_no_more}
 use Rattle.steps_events.proofs.Locks.{IsLock, IsLockIntent, IsFreeOrHeld, lock_word, lock_exclusive, locked_at}
 use Rattle.steps_mutex.specs.declared.MutexPlace.{MutexPlace}
 use Rattle.steps_mutex.specs.declared.MutexPlace.TheVariants as locks
 use Rattle.steps_mutex.specs.Table.{mutex_intent, mutex_after}
 use Rattle.steps_mutex.specs.Law as mutex_law
-use Rattle.steps_mutex.specs.Law.{LockCause, answer_of}
+use Rattle.steps_mutex.specs.Law.{acts_of, IsLockAnswer, LockCause, answer_of}
 use Rattle.steps_mutex.proofs.LockSteps.{LockLeads, lock_leads}
 use Rattle.steps_mutex.proofs.Laws as mutex
-use Rattle.steps_mutex.proofs.Laws.{AtMutex, lock_takes_none, another, held_at_one, unseen_takes_none, mutex_lacks}
+use Rattle.steps_mutex.proofs.Laws.{AtMutex, another, held_at_one, mutex_lacks}
 use Rattle.steps_semaphore.specs.declared.SemaphorePlace.{SemaphorePlace}
 use Rattle.steps_semaphore.specs.declared.SemaphorePlace.TheVariants as permits
 use Rattle.steps_semaphore.specs.Permits.{permits_given, permits_taken, is_take, number_answered}
@@ -53,7 +52,7 @@ use Rattle.steps_condvar.specs.declared.CondvarPlace.{CondvarPlace}
 use Rattle.steps_condvar.specs.declared.CondvarPlace.TheVariants as places
 use Rattle.steps_condvar.specs.Table.{condvar_table, condvar_grant, permitted, relocked}
 use Rattle.steps_condvar.specs.Waiters.{is_count, counts_in, since_count, is_wait, is_counted, CountsWaiters}
-use Rattle.steps_condvar.specs.Law.{wake_for, count_read, amount_for, condvar_gives, condvar_value, takes_in, HasAbortedSince, FoundNoPermit, FoundMutexHeld, IsSignalled, CondvarCause, IsWaitAnswer, WaitStep, is_read, is_post, PutsSum, NotifyStep, LockStep, CallStep, spins_of, gives_up, HasTried, KeepsCondvar, spins_on, refused_by, wait_of}
+use Rattle.steps_condvar.specs.Law.{wake_for, count_read, amount_for, condvar_gives, condvar_value, HasAbortedSince, FoundNoPermit, FoundMutexHeld, IsSignalled, CondvarCause, IsAnswer, spins_of, gives_up, HasTried, KeepsCondvar, spins_on, refused_by, wait_of, condvar_waiting}
 use Rattle.steps_condvar.proofs.Counts.{CountEffect, none_wait, counts_after}
 use Rattle.steps_condvar.proofs.NextSteps.{each_steps, each_ends}
 use Rattle.steps_condvar.proofs.Places.{notify, amount_is, Progress, SawNone, SignalIs, took, AtCondvar, outcome_within, condvar_kept, spins_bounded}
@@ -153,11 +152,12 @@ pub record EventLaw {T : Type 0} (party : ℕ) (past : List (Event T)) (n : ℕ)
   pub count : CountEffect n (word_after words.Waiters m.act n) (is_count m.act) (is_counted pending) (is_counted (call_after m.outcome (event party m.act m.outcome) pending))
   pub number : number_answered m.outcome ≡ None
   pub cause : MatchBool (is_refusal m.outcome) (MatchOption pending ⊥ (λ c. CondvarCause c.call party (event party m.act m.outcome ∷ past))) (Unit {0})
-  pub steps : MatchOption pending (Unit {0}) (λ c. CallStep c.call c.own (event party m.act m.outcome) (hold_after condvar_table m.act pending hold))
   pub exact :
       MatchOption pending (Unit {0})
       (λ c. c.call ≡ calls.TryLock → is_sight words.State m.act ≡ true → ((m.outcome ≡ thens.Answers answers.Success) ↔ (holds_of condvar_table past ≡ [])))
-  pub ends : MatchOption (answer_of m.outcome) (hold_taken condvar_table m.act pending ≡ None) (λ answer. Unit {0})
+  pub answers :
+      MatchOption (answer_of m.outcome) (Unit {0})
+      (λ answer. MatchOption pending ⊥ (λ c. IsAnswer c.call c.own (m.act ∷ acts_of c.own) (hold_after condvar_table m.act pending hold) answer))
   pub asks : WhereAsked IsAskedSo pending m.act m.outcome
   pub tries : MatchBool (gives_up m.outcome) (MatchOption pending ⊥ (λ c. HasTried c.call (event party m.act m.outcome ∷ c.own))) (Unit {0})
 
@@ -174,59 +174,42 @@ uncounted c other = rw other refl
 -- An event of a `Wait` that does not end it.
 
 going_law :
-    {T : Type 0} (party : ℕ) (past : List (Event T)) (n : ℕ) (hold : Option HoldKind) (c : PendingCall T) (act : Act T) (outcome : Then T) → c.call ≡ calls.Wait → answer_of outcome ≡ None → hold_taken condvar_table act (Some c) ≡ None →
-    CountEffect n (word_after words.Waiters act n) (is_count act) (is_counted (Some c)) (is_counted (call_going_on act (event party act outcome) (Some c))) →
-    WaitStep c.own (event party act outcome) (hold_after condvar_table act (Some c) hold) → WhereAsked (λ k act told. IsAskedBy calls.Wait k.own act told) (Some c) act outcome →
+    {T : Type 0} (party : ℕ) (past : List (Event T)) (n : ℕ) (hold : Option HoldKind) (c : PendingCall T) (act : Act T) (outcome : Then T) → c.call ≡ calls.Wait → answer_of outcome ≡ None →
+    CountEffect n (word_after words.Waiters act n) (is_count act) (is_counted (Some c)) (is_counted (call_going_on act (event party act outcome) (Some c))) → WhereAsked (λ k act told. IsAskedBy calls.Wait k.own act told) (Some c) act outcome →
     EventLaw party past n hold (Some c) (record { act = act; outcome = outcome })
-going_law {T} party past n hold c act thens.GoesOn wait goes takes count step asks =
+going_law {T} party past n hold c act thens.GoesOn wait goes count asks =
     record {
       count = count;
       number = refl;
       cause = tt;
       asks = tt;
       tries = tt;
-      steps = subst (λ (k : Call T). CallStep k c.own (event party act thens.GoesOn) (hold_after condvar_table act (Some c) hold)) (sym wait) step;
-      ends = takes;
+      answers = tt;
       exact = another calls.Wait c.call _ (sym wait) (λ same. absurd cc);
     }
-going_law {T} party past n hold c act (thens.Waits seen) wait goes takes count step asks =
+going_law {T} party past n hold c act (thens.Waits seen) wait goes count asks =
     record {
       count = count;
       number = refl;
       cause = tt;
       tries = tt;
       asks = subst (λ (k : Call T). IsAskedBy k c.own act seen) (sym wait) asks;
-      steps = subst (λ (k : Call T). CallStep k c.own (event party act (thens.Waits seen)) (hold_after condvar_table act (Some c) hold)) (sym wait) step;
-      ends = takes;
+      answers = tt;
       exact = another calls.Wait c.call _ (sym wait) (λ same. absurd cc);
     }
-going_law {T} party past n hold c act (thens.Chooses old) wait goes takes count step asks =
+going_law {T} party past n hold c act (thens.Chooses old) wait goes count asks =
     record {
       count = count;
       number = refl;
       cause = tt;
       asks = tt;
       tries = tt;
-      steps = subst (λ (k : Call T). CallStep k c.own (event party act (thens.Chooses old)) (hold_after condvar_table act (Some c) hold)) (sym wait) step;
-      ends = takes;
+      answers = tt;
       exact = another calls.Wait c.call _ (sym wait) (λ same. absurd cc);
     }
-going_law party past n hold c act (thens.Answers answer) wait goes takes count step asks = absurd cc
+going_law party past n hold c act (thens.Answers answer) wait goes count asks = absurd cc
 
 -- its step for a permit, by how it goes on
-
-looking :
-    {T : Type 0} (party : ℕ) (c : PendingCall T) (act : Act T) (outcome : Then T) (hold : Option HoldKind) → Progress c.own 1 1 1 0 → is_release act ≡ false → is_sight words.State act ≡ false → is_wake act ≡ false → answer_of outcome ≡ None →
-    WaitStep c.own (event party act outcome) hold
-looking party c act outcome hold so frees apart wake goes =
-    record {
-      unlocks = λ yes. let no : true ≡ false = sym yes ∙ frees in absurd cc;
-      wakes = λ yes. let no : true ≡ false = sym yes ∙ wake in absurd cc;
-      looks = λ sees. (so.counted, so.released, so.woke);
-      takes = λ takes. so.taken;
-      locks = λ sees. let no : true ≡ false = sym sees ∙ apart in absurd cc;
-      answers = rw goes tt;
-    }
 
 still_counted :
     {T : Type 0} (n : ℕ) (times : ℕ) (c : PendingCall T) (act : Act T) (e : Event T) → c.call ≡ calls.Wait → counts_in c.own ≡ times → is_count e.act ≡ false → is_count act ≡ false → word_after words.Waiters act n ≡ n →
@@ -238,37 +221,19 @@ still_counted {T} n times c act e wait counts quiet is_quiet keeps goes =
     inl (is_quiet, keeps, rw goes (counted_by longer times wait now ∙ sym (counted_by c times wait counts)))
 
 permit_law :
-    {T : Type 0} (party : ℕ) (past : List (Event T)) (n : ℕ) (hold : Option HoldKind) (c : PendingCall T) (act : Act T) (a : After T SemaphorePlace) → c.call ≡ calls.Wait → Progress c.own 1 1 1 0 →
-    is_count act ≡ false → is_release act ≡ false → is_sight words.State act ≡ false → is_wake act ≡ false → word_after words.Waiters act n ≡ n →
-    ((e : Event T) → call_going_on act e (Some c) ≡ Some (record { call = c.call; own = e ∷ c.own })) → WaitLeads words.Value (since_count c.own) party act a →
+    {T : Type 0} (party : ℕ) (past : List (Event T)) (n : ℕ) (hold : Option HoldKind) (c : PendingCall T) (act : Act T) (a : After T SemaphorePlace) → c.call ≡ calls.Wait → counts_in c.own ≡ 1 →
+    is_count act ≡ false → word_after words.Waiters act n ≡ n → ((e : Event T) → call_going_on act e (Some c) ≡ Some (record { call = c.call; own = e ∷ c.own })) → WaitLeads words.Value (since_count c.own) party act a →
     EventLaw party past n hold (Some c) (record { act = act; outcome = outcome_of (permitted a) })
-permit_law party past n hold c act (afters.At next) wait so quiet frees apart wake keeps goes leads =
-    going_law party past n hold c act thens.GoesOn wait refl (unseen_takes_none condvar_table act (Some c) apart) (still_counted n 1 c act (event party act thens.GoesOn) wait so.counted quiet quiet keeps (goes (event party act thens.GoesOn))) (looking party c act thens.GoesOn _ so frees apart wake refl) tt
-permit_law party past n hold c act (afters.Waits next seen) wait so quiet frees apart wake keeps goes leads =
-    going_law party past n hold c act (thens.Waits seen) wait refl (unseen_takes_none condvar_table act (Some c) apart) (still_counted n 1 c act (event party act (thens.Waits seen)) wait so.counted quiet quiet keeps (goes (event party act (thens.Waits seen))))
-    (looking party c act (thens.Waits seen) _ so frees apart wake refl) (rw so.counted leads.2, rw so.counted leads.4, leads.3)
-permit_law party past n hold c act (afters.Ends answer) wait so quiet frees apart wake keeps goes leads =
-    going_law party past n hold c act thens.GoesOn wait refl (unseen_takes_none condvar_table act (Some c) apart) (still_counted n 1 c act (event party act thens.GoesOn) wait so.counted quiet quiet keeps (goes (event party act thens.GoesOn))) (looking party c act thens.GoesOn _ so frees apart wake refl) tt
-permit_law party past n hold c act (afters.Chooses next old) wait so quiet frees apart wake keeps goes leads = absurd leads
+permit_law party past n hold c act (afters.At next) wait so quiet keeps goes leads =
+    going_law party past n hold c act thens.GoesOn wait refl (still_counted n 1 c act (event party act thens.GoesOn) wait so quiet quiet keeps (goes (event party act thens.GoesOn))) tt
+permit_law party past n hold c act (afters.Waits next seen) wait so quiet keeps goes leads =
+    going_law party past n hold c act (thens.Waits seen) wait refl (still_counted n 1 c act (event party act (thens.Waits seen)) wait so quiet quiet keeps (goes (event party act (thens.Waits seen))))
+    (rw so leads.2, rw so leads.4, leads.3)
+permit_law party past n hold c act (afters.Ends answer) wait so quiet keeps goes leads =
+    going_law party past n hold c act thens.GoesOn wait refl (still_counted n 1 c act (event party act thens.GoesOn) wait so quiet quiet keeps (goes (event party act thens.GoesOn))) tt
+permit_law party past n hold c act (afters.Chooses next old) wait so quiet keeps goes leads = absurd leads
 
 -- its lock of the mutex, by how it goes on
-
-locking :
-    {T : Type 0} (party w takes : ℕ) (c : PendingCall T) (done : Bool) (outcome : Then T) (hold : Option HoldKind) → Progress c.own 2 1 1 takes → MatchOption (answer_of outcome) (Unit {0}) (λ answer. IsWaitAnswer (takes_in c.own) hold answer) →
-    WaitStep c.own (event party (acts.Exchange words.State 0 1 w done) outcome) hold
-locking {T} party w takes c done outcome hold so answer =
-    record {
-      unlocks = λ yes. absurd cc;
-      wakes = λ yes. absurd cc;
-      looks = λ sees. absurd cc;
-      takes = λ takes. absurd cc;
-      locks = λ sees. so.counted;
-      answers = by_answer (answer_of outcome) answer;
-    }
-  where
-    by_answer : (o : Option (Answer T)) → MatchOption o (Unit {0}) (λ a. IsWaitAnswer (takes_in c.own) hold a) → MatchOption o (Unit {0}) (λ a. IsWaitAnswer (takes_in c.own) hold a × (counts_in c.own ≡ 2))
-    by_answer None is = tt
-    by_answer (Some a) is = (is, so.counted)
 
 ending :
     {T : Type 0} (n : ℕ) (c : PendingCall T) (act : Act T) (e : Event T) (answer : Answer T) → c.call ≡ calls.Wait → counts_in c.own ≡ 2 → is_count act ≡ false → word_after words.Waiters act n ≡ n →
@@ -281,10 +246,10 @@ relock_law :
     EventLaw party past n hold (Some c) (record { act = acts.Exchange words.State 0 1 w done; outcome = outcome_of (relocked signalled a) })
 relock_law {T} party past n hold signalled c w done (afters.At next) called wait free so none law found leads =
     let act : Act T = acts.Exchange words.State 0 1 w done in
-    going_law party past n hold c act thens.GoesOn wait refl (lock_takes_none condvar_table (Some c) (since_count c.own) party w done (afters.At next) next found leads refl) (still_counted n 2 c act (event party act thens.GoesOn) wait so.counted refl refl refl refl) (locking party w (took signalled) c done thens.GoesOn _ so tt) tt
+    going_law party past n hold c act thens.GoesOn wait refl (still_counted n 2 c act (event party act thens.GoesOn) wait so.counted refl refl refl refl) tt
 relock_law {T} party past n hold signalled c w done (afters.Waits next seen) called wait free so none law found leads =
     let act : Act T = acts.Exchange words.State 0 1 w done in
-    going_law party past n hold c act (thens.Waits seen) wait refl (lock_takes_none condvar_table (Some c) (since_count c.own) party w done (afters.Waits next seen) next found leads refl) (still_counted n 2 c act (event party act (thens.Waits seen)) wait so.counted refl refl refl refl) (locking party w (took signalled) c done (thens.Waits seen) _ so tt)
+    going_law party past n hold c act (thens.Waits seen) wait refl (still_counted n 2 c act (event party act (thens.Waits seen)) wait so.counted refl refl refl refl)
     (rw so.counted leads.2, rw so.counted (ap (λ v. Some v) (held_at_one w (holds_of condvar_table past) law leads.1 ∙ sym leads.4)), leads.3)
 relock_law {T} party past n hold true c w true (afters.Ends answers.Success) called wait free so none law found leads =
     let act : Act T = acts.Exchange words.State 0 1 w true in
@@ -292,12 +257,10 @@ relock_law {T} party past n hold true c w true (afters.Ends answers.Success) cal
     record {
       count = ending n c act (event party act (thens.Answers answers.Success)) answers.Success wait so.counted refl refl;
       number = refl;
-      ends = tt;
       cause = tt;
       asks = tt;
       tries = tt;
-      steps = subst (λ (k : Call T). CallStep k c.own (event party act (thens.Answers answers.Success)) (hold_after condvar_table act (Some c) hold)) (sym wait)
-          (locking party w 1 c true (thens.Answers answers.Success) (hold_after condvar_table act (Some c) hold) so (rw (granted, so.taken) refl));
+      answers = subst (λ (k : Call T). IsAnswer k c.own (act ∷ acts_of c.own) (hold_after condvar_table act (Some c) hold) answers.Success) (sym wait) (rw (granted, so.taken) refl);
       exact = another calls.Wait c.call _ (sym wait) (λ same. absurd cc);
     }
 relock_law {T} party past n hold false c w true (afters.Ends answers.Success) called wait free so none law found leads =
@@ -308,12 +271,10 @@ relock_law {T} party past n hold false c w true (afters.Ends answers.Success) ca
     record {
       count = ending n c act e answers.InterruptedHeld wait so.counted refl refl;
       number = refl;
-      ends = tt;
       asks = tt;
       tries = tt;
       cause = subst (λ (k : Call T). CondvarCause k party (e ∷ past)) (sym wait) cause;
-      steps = subst (λ (k : Call T). CallStep k c.own e (hold_after condvar_table act (Some c) hold)) (sym wait)
-          (locking party w 0 c true (thens.Answers answers.InterruptedHeld) (hold_after condvar_table act (Some c) hold) so (rw (granted, so.taken) refl));
+      answers = subst (λ (k : Call T). IsAnswer k c.own (act ∷ acts_of c.own) (hold_after condvar_table act (Some c) hold) answers.InterruptedHeld) (sym wait) (rw (granted, so.taken) refl);
       exact = another calls.Wait c.call _ (sym wait) (λ same. absurd cc);
     }
 relock_law party past n hold signalled c w false (afters.Ends answers.Success) called wait free so none law found leads = absurd (eqb-false w 0 found leads)
@@ -324,11 +285,9 @@ relock_law {T} party past n hold signalled c w false (afters.Ends answers.Interr
     record {
       count = ending n c act e answers.Interrupted wait so.counted refl refl;
       number = refl;
-      ends = tt;
       asks = tt;
       cause = subst (λ (k : Call T). CondvarCause k party (e ∷ past)) (sym wait) (held, by_signal signalled so none);
-      steps = subst (λ (k : Call T). CallStep k c.own e (hold_after condvar_table act (Some c) hold)) (sym wait)
-          (locking party w (took signalled) c false (thens.Answers answers.Interrupted) (hold_after condvar_table act (Some c) hold) so (rw free refl));
+      answers = subst (λ (k : Call T). IsAnswer k c.own (act ∷ acts_of c.own) (hold_after condvar_table act (Some c) hold) answers.Interrupted) (sym wait) (rw free refl);
       exact = another calls.Wait c.call _ (sym wait) (λ same. absurd cc);
       tries = subst (λ (k : Call T). HasTried k (e ∷ c.own)) (sym wait) leads.2;
     }
@@ -361,36 +320,34 @@ notify_waits : {T : Type 0} (wake : Wake) (call : Call T) → call ≡ notify wa
 notify_waits {T} wakes.One call is = ap (λ (k : Call T). is_wait k) is
 notify_waits {T} wakes.All call is = ap (λ (k : Call T). is_wait k) is
 
-notify_step : {T : Type 0} (wake : Wake) (call : Call T) (own : List (Event T)) (e : Event T) (hold : Option HoldKind) → call ≡ notify wake → NotifyStep wake own e → CallStep call own e hold
-notify_step {T} wakes.One call own e hold is step = subst (λ (k : Call T). CallStep k own e hold) (sym is) step
-notify_step {T} wakes.All call own e hold is step = subst (λ (k : Call T). CallStep k own e hold) (sym is) step
+notify_answers : {T : Type 0} (wake : Wake) (call : Call T) (own : List (Event T)) (made : List (Act T)) (hold : Option HoldKind) → call ≡ notify wake → IsAnswer call own made hold answers.Done
+notify_answers {T} wakes.One call own made hold is = subst (λ (k : Call T). IsAnswer k own made hold answers.Done) (sym is) refl
+notify_answers {T} wakes.All call own made hold is = subst (λ (k : Call T). IsAnswer k own made hold answers.Done) (sym is) refl
 
 notify_law :
     {T : Type 0} (party : ℕ) (past : List (Event T)) (n : ℕ) (hold : Option HoldKind) (c : PendingCall T) (wake : Wake) (act : Act T) (ends : Bool) → c.call ≡ notify wake → is_count act ≡ false → word_after words.Waiters act n ≡ n →
     is_sight words.State act ≡ false → ((e : Event T) → call_going_on act e (Some c) ≡ Some (record { call = c.call; own = e ∷ c.own })) →
-    NotifyStep wake c.own (event party act (cond ends (thens.Answers answers.Done) thens.GoesOn)) → EventLaw party past n hold (Some c) (record { act = act; outcome = cond ends (thens.Answers answers.Done) thens.GoesOn })
-notify_law {T} party past n hold c wake act true is quiet keeps apart goes step =
+    EventLaw party past n hold (Some c) (record { act = act; outcome = cond ends (thens.Answers answers.Done) thens.GoesOn })
+notify_law {T} party past n hold c wake act true is quiet keeps apart goes =
     let e : Event T = event party act (thens.Answers answers.Done) in
     record {
       count = not_counted n act (thens.Answers answers.Done) e c (notify_waits wake c.call is) quiet keeps (goes e);
       number = refl;
-      ends = tt;
       cause = tt;
       asks = tt;
       tries = tt;
-      steps = notify_step wake c.call c.own e (hold_after condvar_table act (Some c) hold) is step;
+      answers = notify_answers wake c.call c.own _ (hold_after condvar_table act (Some c) hold) is;
       exact = λ try sees. let no : true ≡ false = sym sees ∙ apart in absurd cc;
     }
-notify_law {T} party past n hold c wake act false is quiet keeps apart goes step =
+notify_law {T} party past n hold c wake act false is quiet keeps apart goes =
     let e : Event T = event party act thens.GoesOn in
     record {
       count = not_counted n act thens.GoesOn e c (notify_waits wake c.call is) quiet keeps (goes e);
       number = refl;
-      ends = unseen_takes_none condvar_table act (Some c) apart;
       cause = tt;
       asks = tt;
       tries = tt;
-      steps = notify_step wake c.call c.own e (hold_after condvar_table act (Some c) hold) is step;
+      answers = tt;
       exact = λ try sees. let no : true ≡ false = sym sees ∙ apart in absurd cc;
     }
 
@@ -405,18 +362,26 @@ mutex_waits {T} locks.Wake c hold at = ap (λ (k : Call T). is_wait k) at.0
 -- it has to do with the mutex's word alone
 mutex_quiet :
     (T : Type 0) (place : MutexPlace) (memory : Word → ℕ) (n : ℕ) →
-    (is_count {T = T} (carried_out (mutex_intent words.State place) memory) ≡ false) × (word_after {T = T} words.Waiters (carried_out (mutex_intent words.State place) memory) n ≡ n) ×
-    (is_sight {T = T} words.Waiters (carried_out (mutex_intent words.State place) memory) ≡ false) × (is_sight {T = T} words.Value (carried_out (mutex_intent words.State place) memory) ≡ false)
-mutex_quiet T locks.TryLock memory n = (refl, refl, refl, refl)
-mutex_quiet T (locks.Lock patience) memory n = (refl, refl, refl, refl)
-mutex_quiet T locks.Release memory n = (refl, refl, refl, refl)
-mutex_quiet T locks.Wake memory n = (refl, refl, refl, refl)
+    (is_count {T = T} (carried_out (mutex_intent words.State place) memory) ≡ false) × (word_after {T = T} words.Waiters (carried_out (mutex_intent words.State place) memory) n ≡ n)
+mutex_quiet T locks.TryLock memory n = (refl, refl)
+mutex_quiet T (locks.Lock patience) memory n = (refl, refl)
+mutex_quiet T locks.Release memory n = (refl, refl)
+mutex_quiet T locks.Wake memory n = (refl, refl)
 
-mutex_step : {T : Type 0} (place : MutexPlace) (c : PendingCall T) (hold : Option HoldKind) (e : Event T) (left : Option HoldKind) → AtMutex place c hold → LockStep c.call c.own e left → CallStep c.call c.own e left
-mutex_step {T} locks.TryLock c hold e left at step = subst (λ (k : Call T). LockStep k c.own e left → CallStep k c.own e left) (sym at.0) (λ same. same) step
-mutex_step {T} (locks.Lock patience) c hold e left at step = subst (λ (k : Call T). LockStep k c.own e left → CallStep k c.own e left) (sym at.0) (λ same. same) step
-mutex_step {T} locks.Release c hold e left at step = subst (λ (k : Call T). LockStep k c.own e left → CallStep k c.own e left) (sym at.0) (λ same. same) step
-mutex_step {T} locks.Wake c hold e left at step = subst (λ (k : Call T). LockStep k c.own e left → CallStep k c.own e left) (sym at.0) (λ same. same) step
+mutex_answers :
+    {T : Type 0} (place : MutexPlace) (c : PendingCall T) (hold : Option HoldKind) (made : List (Act T)) (left : Option HoldKind) (o : Option (Answer T)) → AtMutex place c hold →
+    MatchOption o (Unit {0}) (λ answer. IsLockAnswer c.call made left answer) → MatchOption o (Unit {0}) (λ answer. IsAnswer c.call c.own made left answer)
+mutex_answers {T} place c hold made left o at = by_place place at
+  where
+    as_mutex : (call : Call T) → c.call ≡ call → (MatchOption o (Unit {0}) (λ answer. IsLockAnswer call made left answer) → MatchOption o (Unit {0}) (λ answer. IsAnswer call c.own made left answer)) →
+        MatchOption o (Unit {0}) (λ answer. IsLockAnswer c.call made left answer) → MatchOption o (Unit {0}) (λ answer. IsAnswer c.call c.own made left answer)
+    as_mutex call is same = subst (λ (k : Call T). MatchOption o (Unit {0}) (λ answer. IsLockAnswer k made left answer) → MatchOption o (Unit {0}) (λ answer. IsAnswer k c.own made left answer)) (sym is) same
+
+    by_place : (p : MutexPlace) → AtMutex p c hold → MatchOption o (Unit {0}) (λ answer. IsLockAnswer c.call made left answer) → MatchOption o (Unit {0}) (λ answer. IsAnswer c.call c.own made left answer)
+    by_place locks.TryLock so = as_mutex calls.TryLock so.0 (λ same. same)
+    by_place (locks.Lock patience) so = as_mutex calls.Lock so.0 (λ same. same)
+    by_place locks.Release so = as_mutex calls.Unlock so.0 (λ same. same)
+    by_place locks.Wake so = as_mutex calls.Unlock so.0 (λ same. same)
 
 -- none of these answers a number
 
@@ -465,17 +430,16 @@ where_gives_up other A B to is = tt
 mutex_law_here :
     {T : Type 0} (party : ℕ) (past : List (Event T)) (n : ℕ) (hold : Option HoldKind) (c : PendingCall T) (act : Act T) (outcome : Then T) → is_wait c.call ≡ false → is_count act ≡ false → word_after words.Waiters act n ≡ n →
     call_going_on act (event party act outcome) (Some c) ≡ Some (record { call = c.call; own = event party act outcome ∷ c.own }) → number_answered outcome ≡ None →
-    CallStep c.call c.own (event party act outcome) (hold_after condvar_table act (Some c) hold) → mutex.EventLaw condvar_table party past hold (Some c) (record { act = act; outcome = outcome }) →
+    MatchOption (answer_of outcome) (Unit {0}) (λ answer. IsAnswer c.call c.own (act ∷ acts_of c.own) (hold_after condvar_table act (Some c) hold) answer) → mutex.EventLaw condvar_table party past hold (Some c) (record { act = act; outcome = outcome }) →
     EventLaw party past n hold (Some c) (record { act = act; outcome = outcome })
-mutex_law_here {T} party past n hold c act outcome other quiet keeps goes number step law =
+mutex_law_here {T} party past n hold c act outcome other quiet keeps goes number answers law =
     let e : Event T = event party act outcome in
     record {
       count = not_counted n act outcome e c other quiet keeps goes;
       number = number;
       cause = where_true (is_refusal outcome) _ _ (same_cause c.call party (e ∷ past) other) law.cause;
-      steps = step;
+      answers = answers;
       exact = law.exact;
-      ends = law.ends;
       asks = asked_of mutex.IsAskedSo IsAskedSo c act (λ told. same_asks c.call c.own act told other) outcome law.asks;
       tries = where_gives_up outcome _ _ (same_tries c.call (e ∷ c.own) other) law.tries;
     }
@@ -494,7 +458,7 @@ mutex_event {T} party past n hold c place memory called at law =
     (mutex.step_law condvar_table party past c place hold memory (record { locks = refl; tries = refl }) called at law) in
     mutex_law_here party past n hold c act outcome (mutex_waits place c hold at) quiet.0 quiet.1 (carried_goes_on (mutex_intent words.State place) memory (event party act outcome) c)
     (ap number_answered (outcome_within places.Mutex a) ∙ mutex_number place c hold memory at)
-    (mutex_step place c hold (event party act outcome) left at (record { uncounted = quiet.2; untaken = quiet.3; answers = there.answers })) there
+    (mutex_answers place c hold (act ∷ acts_of c.own) left (answer_of outcome) at there.answers) there
 
 -- An event that is no step: the beginning of a call, and what a closure answers.
 
@@ -506,30 +470,15 @@ begun_law :
     {T : Type 0} (party : ℕ) (past : List (Event T)) (n : ℕ) (hold : Option HoldKind) (pending : Option (PendingCall T)) (call : Call T) → begin_fault condvar_table pending hold call ≡ None →
     EventLaw party past n hold pending (record { act = acts.Begun call; outcome = thens.GoesOn })
 begun_law party past n hold (Some c) call allowed = absurd cc
-begun_law party past n hold None call allowed = record { count = inl (refl, refl, begun_uncounted (is_wait call)); number = refl; cause = tt; steps = tt; exact = tt; ends = refl; asks = tt; tries = tt }
+begun_law party past n hold None call allowed = record { count = inl (refl, refl, begun_uncounted (is_wait call)); number = refl; cause = tt; answers = tt; exact = tt; asks = tt; tries = tt }
 
 -- an act that has to do with no word
 record IsApart {T : Type 0} (act : Act T) : Type 0 where
   counts : is_count act ≡ false
-  frees : is_release act ≡ false
   mutex : is_sight words.State act ≡ false
-  waiters : is_sight words.Waiters act ≡ false
-  value : is_sight words.Value act ≡ false
-  takes : is_take words.Value act ≡ false
-  reads : is_read act ≡ false
-  wakes : is_wake act ≡ false
-  posts : is_post act ≡ false
-  sums : (amount : ℕ) → PutsSum amount act
 
 contrary : (b : Bool) (A : Type 0) → b ≡ false → b ≡ true → A
 contrary b A is_false is_true = let never : true ≡ false = sym is_true ∙ is_false in absurd cc
-
-apart_step : {T : Type 0} (call : Call T) (own : List (Event T)) (party : ℕ) (act : Act T) (hold : Option HoldKind) → IsApart act → CallStep call own (event party act thens.GoesOn) hold
-apart_step calls.Wait own party act hold apart =
-    record { unlocks = contrary _ _ apart.frees; wakes = contrary _ _ apart.wakes; looks = contrary _ _ apart.value; takes = contrary _ _ apart.takes; locks = contrary _ _ apart.mutex; answers = tt }
-apart_step calls.NotifyOne own party act hold apart = record { reads = contrary _ _ apart.reads; posts = contrary _ _ apart.posts; sums = apart.sums _; wakes = contrary _ _ apart.wakes; ends = tt; apart = apart.mutex }
-apart_step calls.NotifyAll own party act hold apart = record { reads = contrary _ _ apart.reads; posts = contrary _ _ apart.posts; sums = apart.sums _; wakes = contrary _ _ apart.wakes; ends = tt; apart = apart.mutex }
-apart_step call own party act hold apart = record { uncounted = apart.waiters; untaken = apart.value; answers = tt }
 
 apart_counts : {T : Type 0} (c : PendingCall T) (e : Event T) → is_count e.act ≡ false → is_counted (Some (record { call = c.call; own = e ∷ c.own })) ≡ is_counted (Some c)
 apart_counts {T} c e quiet =
@@ -540,7 +489,7 @@ apart_law :
     {T : Type 0} (party : ℕ) (past : List (Event T)) (n : ℕ) (hold : Option HoldKind) (pending : Option (PendingCall T)) (act : Act T) → IsApart act → word_after words.Waiters act n ≡ n →
     ((c : PendingCall T) (e : Event T) → call_going_on act e (Some c) ≡ Some (record { call = c.call; own = e ∷ c.own })) → ((e : Event T) → call_going_on act e None ≡ None) →
     EventLaw party past n hold pending (record { act = act; outcome = thens.GoesOn })
-apart_law party past n hold None act apart keeps goes none = record { count = inl (apart.counts, keeps, rw (none (event party act thens.GoesOn)) refl); number = refl; cause = tt; steps = tt; exact = tt; ends = unseen_takes_none condvar_table act None apart.mutex; asks = tt; tries = tt }
+apart_law party past n hold None act apart keeps goes none = record { count = inl (apart.counts, keeps, rw (none (event party act thens.GoesOn)) refl); number = refl; cause = tt; answers = tt; exact = tt; asks = tt; tries = tt }
 apart_law party past n hold (Some c) act apart keeps goes none =
     record {
       count = inl (apart.counts, keeps, rw (goes c (event party act thens.GoesOn)) (apart_counts c (event party act thens.GoesOn) apart.counts));
@@ -548,8 +497,7 @@ apart_law party past n hold (Some c) act apart keeps goes none =
       cause = tt;
       asks = tt;
       tries = tt;
-      steps = apart_step c.call c.own party act _ apart;
-      ends = unseen_takes_none condvar_table act (Some c) apart.mutex;
+      answers = tt;
       exact = λ try sees. contrary _ _ apart.mutex sees;
     }
 
@@ -561,52 +509,42 @@ signal_cause :
 signal_cause z parties past party c true run called signal = tt
 signal_cause z parties past party c false run called signal = no_permit z parties past party c run called signal
 
--- a step of a `Wait` on the count or in its unlock has to do with no other word
-onward :
-    {T : Type 0} (c : PendingCall T) (party : ℕ) (act : Act T) (hold : Option HoldKind) (counts releases woken takes : ℕ) → Progress c.own counts releases woken takes → (is_release act ≡ true → counts ≡ 1) → (is_wake act ≡ true → (act ≡ acts.Woke wakes.One) × (releases ≡ 1) × (woken ≡ 0)) →
-    is_sight words.State act ≡ false → is_sight words.Value act ≡ false → is_take words.Value act ≡ false → WaitStep c.own (event party act thens.GoesOn) hold
-onward c party act hold counts releases woken takes so frees wake mutex value take =
-    record { unlocks = λ yes. so.counted ∙ frees yes; wakes = λ yes. ((wake yes).0, so.released ∙ (wake yes).1, so.woke ∙ (wake yes).2); looks = contrary _ _ value; takes = contrary _ _ take; locks = contrary _ _ mutex; answers = tt }
-
 step_law :
     {T : Type 0} (z : Arithmetic T) (parties party : ℕ) (past : List (Event T)) (c : PendingCall T) (place : CondvarPlace) (hold : Option HoldKind) (memory : Word → ℕ) → IsPast z condvar_table parties past → call_of party past ≡ Some c →
     AtCondvar place c hold → IsFreeOrHeld (memory words.State) (holds_of condvar_table past) → EventLaw party past (memory words.Waiters) hold (Some c) (step_at condvar_table place hold memory)
 step_law z parties party past c (places.Mutex place) hold memory run called at law = mutex_event party past (memory words.Waiters) hold c place memory called at law
 step_law {T} z parties party past c (places.Read wake) hold memory run called at law =
-    notify_law party past (memory words.Waiters) hold c wake (acts.Load words.Waiters (memory words.Waiters)) false at.0 refl refl refl (λ e. refl) (record { reads = λ yes. at.2; posts = λ yes. absurd cc; sums = tt; wakes = λ yes. absurd cc; ends = tt; apart = refl })
+    notify_law party past (memory words.Waiters) hold c wake (acts.Load words.Waiters (memory words.Waiters)) false at.0 refl refl refl (λ e. refl)
 step_law {T} z parties party past c (places.Post wake amount) hold memory run called at law =
     notify_law party past (memory words.Waiters) hold c wake (step_at {T = T} condvar_table (places.Post wake amount) hold memory).act false at.0 refl refl refl (λ e. refl)
-    (record { reads = λ yes. absurd cc; posts = λ yes. (at.2, at.3); sums = ap (λ k. (memory words.Value + k) % 2 ^ 64) (at.4 ∙ amount_is wake (count_read c.own)); wakes = λ yes. absurd cc; ends = tt; apart = refl })
 step_law {T} z parties party past c (places.Wake wake) hold memory run called at law =
-    notify_law party past (memory words.Waiters) hold c wake (acts.Woke wake) true at.0 refl refl refl (λ e. refl) (record { reads = λ yes. absurd cc; posts = λ yes. absurd cc; sums = tt; wakes = λ yes. (refl, refl, at.2); ends = (refl, record { waiters = count_read c.own; value = at.3; three = ap (λ (made : List (Act T)). acts.Woke wake ∷ made) at.4 }); apart = refl })
+    notify_law party past (memory words.Waiters) hold c wake (acts.Woke wake) true at.0 refl refl refl (λ e. refl)
 step_law {T} z parties party past c places.CountIn hold memory run called at law =
     let act : Act T = (step_at condvar_table places.CountIn hold memory).act in
     let so : Progress c.own 0 0 0 0 = at.2 in
     let longer : PendingCall T = record { call = c.call; own = event party act thens.GoesOn ∷ c.own } in
     let now : counts_in longer.own ≡ 1 = omega (arith, so.counted) in
-    going_law party past (memory words.Waiters) hold c act thens.GoesOn at.0 refl refl (inr (inl (refl, refl, counted_by c 0 at.0 so.counted, counted_by longer 1 at.0 now)))
-    (onward c party act _ 0 0 0 0 so (λ yes. absurd cc) (λ yes. absurd cc) refl refl refl) tt
+    going_law party past (memory words.Waiters) hold c act thens.GoesOn at.0 refl (inr (inl (refl, refl, counted_by c 0 at.0 so.counted, counted_by longer 1 at.0 now))) tt
 step_law {T} z parties party past c (places.Release locks.Release) hold memory run called at law =
     let so : Progress c.own 1 0 0 0 = at.2.0 in
-    going_law party past (memory words.Waiters) hold c (acts.Store words.State 0) thens.GoesOn at.0 refl refl
-    (still_counted (memory words.Waiters) 1 c (acts.Store words.State 0) (event party (acts.Store words.State 0) thens.GoesOn) at.0 so.counted refl refl refl refl) (onward c party (acts.Store words.State 0) _ 1 0 0 0 so (λ yes. refl) (λ yes. absurd cc) refl refl refl) tt
+    going_law party past (memory words.Waiters) hold c (acts.Store words.State 0) thens.GoesOn at.0 refl
+    (still_counted (memory words.Waiters) 1 c (acts.Store words.State 0) (event party (acts.Store words.State 0) thens.GoesOn) at.0 so.counted refl refl refl refl) tt
 step_law {T} z parties party past c (places.Release locks.Wake) hold memory run called at law =
     let so : Progress c.own 1 1 0 0 = at.2.0 in
-    going_law party past (memory words.Waiters) hold c (acts.Woke wakes.One) thens.GoesOn at.0 refl refl
-    (still_counted (memory words.Waiters) 1 c (acts.Woke wakes.One) (event party (acts.Woke wakes.One) thens.GoesOn) at.0 so.counted refl refl refl refl) (onward c party (acts.Woke wakes.One) _ 1 1 0 0 so (λ yes. refl) (λ yes. (refl, refl, refl)) refl refl refl) tt
+    going_law party past (memory words.Waiters) hold c (acts.Woke wakes.One) thens.GoesOn at.0 refl
+    (still_counted (memory words.Waiters) 1 c (acts.Woke wakes.One) (event party (acts.Woke wakes.One) thens.GoesOn) at.0 so.counted refl refl refl refl) tt
 step_law z parties party past c (places.Release other) hold memory run called at law = absurd at.2
 step_law z parties party past c (places.Permit (permits.Look patience)) hold memory run called at law =
-    permit_law party past (memory words.Waiters) hold c _ _ at.0 at.2 refl refl refl refl refl (λ e. refl) (wait_leads words.Value (permits.Look patience) (since_count c.own) party memory at.3)
+    permit_law party past (memory words.Waiters) hold c _ _ at.0 at.2.counted refl refl (λ e. refl) (wait_leads words.Value (permits.Look patience) (since_count c.own) party memory at.3)
 step_law z parties party past c (places.Permit (permits.Take seen to patience)) hold memory run called at law =
-    permit_law party past (memory words.Waiters) hold c _ _ at.0 at.2 refl refl refl refl refl (λ e. refl) (wait_leads words.Value (permits.Take seen to patience) (since_count c.own) party memory at.3)
+    permit_law party past (memory words.Waiters) hold c _ _ at.0 at.2.counted refl refl (λ e. refl) (wait_leads words.Value (permits.Take seen to patience) (since_count c.own) party memory at.3)
 step_law z parties party past c (places.Permit other) hold memory run called at law = absurd at.3
 step_law {T} z parties party past c (places.CountOut signalled) hold memory run called at law =
     let act : Act T = (step_at condvar_table (places.CountOut signalled) hold memory).act in
     let so : Progress c.own 1 1 1 (took signalled) = at.3 in
     let longer : PendingCall T = record { call = c.call; own = event party act thens.GoesOn ∷ c.own } in
     let now : counts_in longer.own ≡ 2 = omega (arith, so.counted) in
-    going_law party past (memory words.Waiters) hold c act thens.GoesOn at.0 refl refl (inr (inr (refl, refl, counted_by c 1 at.0 so.counted, counted_by longer 2 at.0 now)))
-    (onward c party act _ 1 1 1 (took signalled) so (λ yes. refl) (λ yes. absurd cc) refl refl refl) tt
+    going_law party past (memory words.Waiters) hold c act thens.GoesOn at.0 refl (inr (inr (refl, refl, counted_by c 1 at.0 so.counted, counted_by longer 2 at.0 now))) tt
 step_law z parties party past c (places.Relock signalled (locks.Lock patience)) hold memory run called at law =
     let w = memory words.State in
     relock_law party past (memory words.Waiters) hold signalled c w (w == 0) (mutex_after (locks.Lock patience) (Some w)) called at.0 at.1 at.2 (signal_cause z parties past party c signalled run called at.3) law refl
@@ -623,8 +561,8 @@ event_law {T} z parties past e run =
     by_move condvar_table pending hold (word_in condvar_table past) (λ (k : Option (PendingCall T)) (m : Move T). EventLaw e.party past n hold k m)
     run.0.0 (record { act = e.act; outcome = e.then })
     (λ call is. begun_law e.party past n hold pending call (subst (λ (i : Input T). fault_at condvar_table pending hold i ≡ None) is (fault_at_none condvar_table parties past e.party run.0.0 run.0.1.allowed)))
-    (λ action _. apart_law e.party past n hold pending (acts.Answered action) (record { counts = refl; frees = refl; mutex = refl; waiters = refl; value = refl; takes = refl; reads = refl; wakes = refl; posts = refl; sums = λ amount. tt }) refl (λ c d. refl) (λ d. refl))
-    (λ choice _. apart_law e.party past n hold pending (acts.Chosen choice) (record { counts = refl; frees = refl; mutex = refl; waiters = refl; value = refl; takes = refl; reads = refl; wakes = refl; posts = refl; sums = λ amount. tt }) refl (λ c d. refl) (λ d. refl))
+    (λ action _. apart_law e.party past n hold pending (acts.Answered action) (record { counts = refl; mutex = refl }) refl (λ c d. refl) (λ d. refl))
+    (λ choice _. apart_law e.party past n hold pending (acts.Chosen choice) (record { counts = refl; mutex = refl }) refl (λ c d. refl) (λ d. refl))
     (λ c place _ called stage.
     step_law z parties e.party past c place hold (word_in condvar_table past) run.1 called (at_place z condvar_table parties AtCondvar condvar_kept past run.1 e.party c place called stage)
     (lock_word z condvar_table parties (condvar_is_lock z parties) past run.1))
@@ -646,7 +584,7 @@ keeps_condvar z parties [] run =
       told = tt;
       exclusive = lock_exclusive 0 [] (lock_word z condvar_table parties (condvar_is_lock z parties) [] run);
       cause = tt;
-      law = record { waiters = none_wait; permits = record { at_most = omega arith; told = tt; lowers = tt }; order = tt; exact = tt; ends = tt; asks = tt; spins = λ party. tt; tells = tt; stops = tt; tries = tt; steps = tt; within = λ party. tt };
+      law = record { waiters = none_wait; permits = record { at_most = omega arith; told = tt; lowers = tt }; answers = tt; exact = tt; waits = waits_first condvar_waiting; tries = tt; steps = tt; within = λ party. tt };
     }
 keeps_condvar {T} z parties (e ∷ past) run =
     let before = condvar_tallies z parties past run.1 in
@@ -665,13 +603,10 @@ keeps_condvar {T} z parties (e ∷ past) run =
           told = (subst (λ n. IfSome (sight_of words.Value e.act) (λ v. v ≡ n)) before.0 sees, rw event.number tt);
           lowers = lowered _ _ _ _ _ (is_take words.Value e.act) before (event_effect z parties past e run);
         };
-        order = subst (λ h. MatchOption (call_of e.party past) (Unit {0}) (λ c. CallStep c.call c.own e h)) (sym (hold_of_same condvar_table e.party e.act e.then past)) event.steps;
+        answers = subst (λ h. MatchOption (answer_of e.then) (Unit {0}) (λ answer. MatchOption (call_of e.party past) ⊥ (λ c. IsAnswer c.call c.own (e.act ∷ acts_of c.own) h answer)))
+            (sym (hold_of_same condvar_table e.party e.act e.then past)) event.answers;
         exact = event.exact;
-        ends = event.ends;
-        asks = asked_maps IsAskedSo (λ c act told. spins_of c.call c.own ≡ 10000) (λ c act told so. so.0) (call_of e.party past) e.act e.then event.asks;
-        spins = spins_no_more z condvar_table parties AtCondvar spins_on condvar_kept spins_bounded (e ∷ past) run;
-        tells = asked_maps IsAskedSo (λ c act told. refused_by c.call c.own act ≡ Some told) (λ c act told so. so.1) (call_of e.party past) e.act e.then event.asks;
-        stops = asked_maps IsAskedSo (λ c act told. keeps_asking (wait_of c.call c.own) ≡ true) (λ c act told so. so.2) (call_of e.party past) e.act e.then event.asks;
+        waits = waits_as condvar_waiting past e event.asks (spins_no_more z condvar_table parties AtCondvar spins_on condvar_kept spins_bounded (e ∷ past) run);
         tries = event.tries;
         steps = each_steps z parties (e ∷ past) run;
         within = each_ends z parties (e ∷ past) run;

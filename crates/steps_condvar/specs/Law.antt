@@ -16,16 +16,15 @@ use Rattle.steps_events.specs.declared.event.Then.TheVariants as thens
 use Rattle.steps_events.specs.declared.event.Event.{Event}
 use Rattle.steps_events.specs.declared.hold.HoldKind.{HoldKind}
 use Rattle.steps_events.specs.declared.hold.HoldKind.TheVariants as kinds
-use Rattle.steps_events.specs.Past.{PendingCall, call_of, hold_of, is_release, is_failure}
+use Rattle.steps_events.specs.Past.{PendingCall, call_of, hold_of, is_failure}
 use Rattle.steps_events.specs.Moves.{is_step}
-use Rattle.steps_events.specs.Sights.{sight_of, is_sight, AtLastSight, keeps_asking, spins_in, acts_in}
-use Rattle.steps_events.specs.Asks.{SpinCount, but_last_try, AsksAfterSpinning, SpinsNoMore, Refusing, TellsRefusal, WaitEvents, AsksUntilAbort}
+use Rattle.steps_events.specs.Sights.{sight_of, AtLastSight, keeps_asking, spins_in}
+use Rattle.steps_events.specs.Asks.{SpinCount, but_last_try, Refusing, WaitEvents, Waiting, WaitsAs}
 use Rattle.steps_events.specs.NextStep.{StepsAs, refused_waiting, EndsWithin, step_before, Loads, Exchanges}
-use Rattle.steps_events.specs.Waits.{is_wake}
 use Rattle.steps_events.specs.Laws.{IsLocked, Keeps}
 use Rattle.steps_mutex.specs.Law as mutex
-use Rattle.steps_mutex.specs.Law.{LockCause, HasTriedAll, answer_of, acts_of, IsLockAnswer, AnswersWhereGranted, IsExactGrant, MutexStep, mutex_most}
-use Rattle.steps_semaphore.specs.Permits.{permits, permits_taken, is_take, KeepsPermits}
+use Rattle.steps_mutex.specs.Law.{LockCause, HasTriedAll, answer_of, acts_of, IsLockAnswer, IsExactGrant, MutexStep, mutex_most}
+use Rattle.steps_semaphore.specs.Permits.{permits, permits_taken, KeepsPermits}
 use Rattle.steps_semaphore.specs.Law.{is_empty_look}
 use Rattle.steps_condvar.specs.Table.{condvar_table}
 use Rattle.steps_condvar.specs.Waiters.{counts_in, since_count, CountsWaiters}
@@ -90,7 +89,7 @@ CondvarCause calls.Wait party [] = ⊥
 CondvarCause calls.Wait party (e ∷ past) = WaitCause e.then party e past
 CondvarCause call party events = LockCause condvar_table call party events
 
--- What the steps of a call do, in their order.
+-- What a call answers.
 
 -- a call of the wake closure for one
 abbrev pub is_wake_one : {T : Type 0} → Act T → Bool
@@ -105,21 +104,6 @@ IsWaitAnswer takes (Some kinds.Read) answer = ⊥
 IsWaitAnswer zero (Some kinds.Write) answer = answer ≡ answers.InterruptedHeld
 IsWaitAnswer (suc takes) (Some kinds.Write) answer = answer ≡ answers.Success
 
--- what a `Wait` with these own events does next, by the hold that its party has then
-pub record WaitStep {T : Type 0} (own : List (Event T)) (e : Event T) (hold : Option HoldKind) : Type 0 where
-  -- it gives the mutex back once it has counted itself
-  pub unlocks : is_release e.act ≡ true → counts_in own ≡ 1
-  -- it wakes once, one, and only after it has given the mutex back
-  pub wakes : is_wake e.act ≡ true → (e.act ≡ acts.Woke wakes.One) × (acts_in is_release own ≡ 1) × (acts_in is_wake_one own ≡ 0)
-  -- it looks for a permit while it is counted, and has given the mutex back and woken one
-  pub looks : is_sight words.Value e.act ≡ true → (counts_in own ≡ 1) × (acts_in is_release own ≡ 1) × (acts_in is_wake_one own ≡ 1)
-  -- it takes one at most
-  pub takes : is_take words.Value e.act ≡ true → takes_in own ≡ 0
-  -- it locks once it has counted itself out
-  pub locks : is_sight words.State e.act ≡ true → counts_in own ≡ 2
-  -- and its answer tells whether it was signalled, and whether it has the mutex
-  pub answers : MatchOption (answer_of e.then) (Unit {0}) (λ answer. IsWaitAnswer (takes_in own) hold answer × (counts_in own ≡ 2))
-
 -- a load of the waiter count
 abbrev pub is_read : {T : Type 0} → Act T → Bool
 is_read (acts.Load words.Waiters seen) = true
@@ -130,48 +114,19 @@ abbrev pub is_post : {T : Type 0} → Act T → Bool
 is_post (acts.Add words.Value old put) = true
 is_post act = false
 
-abbrev pub PutsSum : {T : Type 0} → ℕ → Act T → Type 0
-PutsSum amount (acts.Add words.Value old put) = put ≡ (old + amount) % 2 ^ 64
-PutsSum amount act = Unit {0}
+-- How a call ends with these own events and acts, newest first, by the hold that its party then has: of the mutex's calls as at a mutex, a notify with `Done`.
+abbrev pub IsAnswer : {T : Type 0} → Call T → List (Event T) → List (Act T) → Option HoldKind → Answer T → Type 0
+IsAnswer calls.Wait own made hold answer = IsWaitAnswer (takes_in own) hold answer
+IsAnswer calls.NotifyOne own made hold answer = answer ≡ answers.Done
+IsAnswer calls.NotifyAll own made hold answer = answer ≡ answers.Done
+IsAnswer call own made hold answer = IsLockAnswer call made hold answer
 
--- The acts of a notify that has ended, newest first: it read the waiter count, posted as many permits as that tells, and woke. It made no other.
-pub record HasNotified {T : Type 0} (wake : Wake) (made : List (Act T)) : Type 0 where
-  pub waiters : ℕ
-  pub value : ℕ
-  pub three : made ≡ acts.Woke wake ∷ acts.Add words.Value value ((value + amount_for (Some wake) waiters) % 2 ^ 64) ∷ acts.Load words.Waiters waiters ∷ []
-
--- what a notify does next, with this wake
-pub record NotifyStep {T : Type 0} (wake : Wake) (own : List (Event T)) (e : Event T) : Type 0 where
-  -- it reads the waiter count once
-  pub reads : is_read e.act ≡ true → acts_in is_read own ≡ 0
-  -- it posts once, once it has read that count
-  pub posts : is_post e.act ≡ true → (acts_in is_read own ≡ 1) × (acts_in is_post own ≡ 0)
-  -- as many permits as the count tells
-  pub sums : PutsSum (amount_for (Some wake) (count_read own)) e.act
-  -- it wakes once it has posted, as its name says, and ends with that
-  pub wakes : is_wake e.act ≡ true → (e.act ≡ acts.Woke wake) × (e.then ≡ thens.Answers answers.Done) × (acts_in is_post own ≡ 1)
-  pub ends : MatchOption (answer_of e.then) (Unit {0}) (λ answer. (answer ≡ answers.Done) × HasNotified wake (acts_of (e ∷ own)))
-  -- and has to do with the mutex at no time
-  pub apart : is_sight words.State e.act ≡ false
-
--- what a call of the mutex does next, by the hold that its party has then
-pub record LockStep {T : Type 0} (call : Call T) (own : List (Event T)) (e : Event T) (hold : Option HoldKind) : Type 0 where
-  -- it has to do with the waiter count and the permits at no time
-  pub uncounted : is_sight words.Waiters e.act ≡ false
-  pub untaken : is_sight words.Value e.act ≡ false
-  -- and it answers as at a mutex, by its hold
-  pub answers : MatchOption (answer_of e.then) (Unit {0}) (λ answer. IsLockAnswer call (acts_of (e ∷ own)) hold answer)
-
-abbrev pub CallStep : {T : Type 0} → Call T → List (Event T) → Event T → Option HoldKind → Type 0
-CallStep calls.Wait own e hold = WaitStep own e hold
-CallStep calls.NotifyOne own e hold = NotifyStep wakes.One own e
-CallStep calls.NotifyAll own e hold = NotifyStep wakes.All own e
-CallStep call own e hold = LockStep call own e hold
-
--- so does the latest event
-abbrev pub StepsInOrder : {T : Type 0} → List (Event T) → Type 0
-StepsInOrder [] = Unit {0}
-StepsInOrder (e ∷ past) = MatchOption (call_of e.party past) (Unit {0}) (λ c. CallStep c.call c.own e (hold_of condvar_table e.party (e ∷ past)))
+-- so does the latest event, where it answers
+abbrev pub AnswersByHold : {T : Type 0} → List (Event T) → Type 0
+AnswersByHold [] = Unit {0}
+AnswersByHold (e ∷ past) =
+    MatchOption (answer_of e.then) (Unit {0})
+    (λ answer. MatchOption (call_of e.party past) ⊥ (λ c. IsAnswer c.call c.own (acts_of (e ∷ c.own)) (hold_of condvar_table e.party (e ∷ past)) answer))
 
 -- How often a call tries.
 
@@ -201,6 +156,10 @@ refused_by call own act = sight_of words.State act
 abbrev pub wait_of : {T : Type 0} → WaitEvents T
 wait_of calls.Wait own = since_count own
 wait_of call own = own
+
+-- how they wait
+abbrev pub condvar_waiting : {T : Type 0} → Waiting T
+condvar_waiting = record { spins = spins_of; goes_on = spins_on; refusing = refused_by; wait = wait_of }
 
 -- a call that ends without the mutex
 abbrev pub gives_up : {T : Type 0} → Then T → Bool
@@ -299,20 +258,13 @@ pub record CondvarLaw {T : Type 0} (past : List (Event T)) : Type 0 where
   pub waiters : CountsWaiters past
   -- no more permits are taken than notifies have given, and each value that is told is what was given less what was taken
   pub permits : KeepsPermits words.Value condvar_gives 0 past
-  -- each call does its steps in their order, and a `Wait` tells whether it was signalled and whether it has the mutex
-  pub order : StepsInOrder past
+  -- a `Wait` answers `Success` exactly where it was signalled and has the mutex, `InterruptedHeld` unsignalled with it, `Interrupted` without it; a call of the mutex as
+  -- at a mutex, a notify with `Done`
+  pub answers : AnswersByHold past
   -- `TryLock` is granted exactly where nobody holds the mutex
   pub exact : IsExactGrant condvar_table past
-  -- a call that is granted the mutex answers at once
-  pub ends : AnswersWhereGranted condvar_table past
-  -- a wait closure is asked after 10000 spins
-  pub asks : AsksAfterSpinning spins_of past
-  -- no call goes on by itself more often
-  pub spins : SpinsNoMore spins_on past
-  -- the closure is told the permits or the mutex's word, whichever refused the call last
-  pub tells : TellsRefusal refused_by past
-  -- and in the same wait asked no more once it has answered Abort
-  pub stops : AsksUntilAbort wait_of past
+  -- a `Wait` or a `Lock` asks its closure after 10000 spins, and tells it the permits or the mutex's word, whichever refused it last
+  pub waits : WaitsAs condvar_waiting past
   -- and each call that ends without the mutex has tried so often
   pub tries : GivesUpAfterTrying past
   -- each step is the one that follows its call's own, and leaves it by what it tells

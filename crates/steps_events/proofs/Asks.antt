@@ -1,5 +1,5 @@
 -- When a wait closure is asked, from the step at each place.
-use Rattle.std.proofs.Common.{◌≡◌, ◌≤◌, ℕ, ◌+◌, ◌-◌, refl, ◌∙◌, Bool, true, false, cond, List, Option, Some, None, arith}
+use Rattle.std.proofs.Common.{◌≡◌, ◌≤◌, ℕ, ◌+◌, ◌-◌, refl, ◌∙◌, Bool, true, false, cond, List, [], ◌∷◌, Option, Some, None, arith}
 use Rattle.std.specs.Prelude.{nat_lt, MatchOption}
 use Rattle.steps_events.specs.declared.event.Act.{Act}
 use Rattle.steps_events.specs.declared.event.Event.{Event}
@@ -15,7 +15,7 @@ use Rattle.steps_events.specs.Tables.{Table}
 use Rattle.steps_events.specs.Past.{PendingCall, call_of, hold_of}
 use Rattle.steps_events.specs.Runs.{IsPast}
 use Rattle.steps_events.specs.Sights.{keeps_asking, spins_in}
-use Rattle.steps_events.specs.Asks.{WhereAsked, SpinCount, SpinsNoMore, but_last_try}
+use Rattle.steps_events.specs.Asks.{WhereAsked, SpinCount, SpinsNoMore, but_last_try, Waiting, WaitsAs}
 use Rattle.steps_events.proofs.Spins.{HasSpun, spins_spent}
 use Rattle.steps_events.proofs.Parties.{IsKept, IsAtPlace, each_call}
 
@@ -36,6 +36,22 @@ asked_maps P Q maps None act (thens.Waits told) asked = absurd asked
 asked_maps P Q maps None act thens.GoesOn asked = tt
 asked_maps P Q maps None act (thens.Chooses old) asked = tt
 asked_maps P Q maps None act (thens.Answers answer) asked = tt
+
+-- what is so of a call where it asks, so that it waits as it should
+abbrev pub IsAskedAs : {T : Type 0} → Waiting T → PendingCall T → Act T → ℕ → Type 0
+IsAskedAs w c act told = (w.spins c.call c.own ≡ 10000) × (w.refusing c.call c.own act ≡ Some told) × (keeps_asking (w.wait c.call c.own) ≡ true)
+
+pub waits_first : {T : Type 0} (w : Waiting T) → WaitsAs {T = T} w []
+waits_first w = record { asks = tt; spins = λ party. tt; tells = tt; stops = tt }
+
+pub waits_as : {T : Type 0} (w : Waiting T) (past : List (Event T)) (e : Event T) → WhereAsked (IsAskedAs w) (call_of e.party past) e.act e.then → SpinsNoMore w.goes_on (e ∷ past) → WaitsAs w (e ∷ past)
+waits_as w past e asked spins =
+    record {
+      asks = asked_maps (IsAskedAs w) (λ c act told. w.spins c.call c.own ≡ 10000) (λ c act told so. so.0) (call_of e.party past) e.act e.then asked;
+      spins = spins;
+      tells = asked_maps (IsAskedAs w) (λ c act told. w.refusing c.call c.own act ≡ Some told) (λ c act told so. so.1) (call_of e.party past) e.act e.then asked;
+      stops = asked_maps (IsAskedAs w) (λ c act told. keeps_asking (w.wait c.call c.own) ≡ true) (λ c act told so. so.2) (call_of e.party past) e.act e.then asked;
+    }
 
 -- a refused call asks only after all its spins, and while it keeps on asking
 pub refused_asks :

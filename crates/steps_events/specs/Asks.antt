@@ -59,3 +59,21 @@ whole_call call own = own
 -- a wait closure is asked only where it has not yet answered Abort in the same wait
 abbrev pub AsksUntilAbort : {T : Type 0} → WaitEvents T → List (Event T) → Type 0
 AsksUntilAbort of_wait past = AsksWhere (λ c act told. keeps_asking (of_wait c.call c.own) ≡ true) past
+
+-- How an object's calls wait that ask a wait closure: how often they have spun, what they do no more often, what refuses them, and which events are those of one wait.
+pub record Waiting (T : Type 0) : Type 0 where
+  pub spins : SpinCount T
+  pub goes_on : SpinCount T
+  pub refusing : Refusing T
+  pub wait : WaitEvents T
+
+-- What each of them keeps.
+pub record WaitsAs {T : Type 0} (w : Waiting T) (past : List (Event T)) : Type 0 where
+  -- a wait closure is asked only after exactly 10000 spins
+  pub asks : AsksAfterSpinning w.spins past
+  -- no call goes on by itself more often
+  pub spins : SpinsNoMore w.goes_on past
+  -- the closure is told what refused its call last
+  pub tells : TellsRefusal w.refusing past
+  -- and in the same wait asked no more once it has answered Abort
+  pub stops : AsksUntilAbort w.wait past

@@ -13,5 +13,4 @@ pub mod Sights
 pub mod Asks
 pub mod NextStep
 pub mod RwSteps
-pub mod Waits
 pub mod Laws

@@ -1,5 +1,5 @@
 -- A lazy value keeps its law at every front of every run. The word and the closure are those of the once inside.
-use Rattle.std.proofs.Common.{◌≡◌, ℕ, ◌≤◌, ◌==◌, refl, sym, ◌∙◌, ap, subst, Bool, true, false, cond, List, [], ◌∷◌, Option, Some, None, inl, inr, arith}
+use Rattle.std.proofs.Common.{◌≡◌, ℕ, ◌≤◌, ◌==◌, refl, sym, ◌∙◌, ap, subst, Bool, true, false, cond, List, [], ◌∷◌, Option, Some, inl, inr, arith}
 use Rattle.std.specs.Prelude.{IfSome, MatchBool, MatchOption, not}
 use Rattle.std.proofs.lemmas.Bool.{eqb-true}
 use Rattle.steps_events.specs.declared.event.Word.{Word}
@@ -19,11 +19,10 @@ use Rattle.steps_events.specs.Past.{same_word, PendingCall, call_of, hold_of, wo
 use Rattle.steps_events.specs.Moves.{Move, step_at, is_step}
 use Rattle.steps_events.specs.Runs.{IsPast}
 use Rattle.steps_events.specs.Sights.{AtLast, is_exchange, last_of}
-use Rattle.steps_events.specs.Waits.{stands, is_wake}
 use Rattle.steps_events.specs.Laws.{IsTold, Lacks, is_refusal}
 use Rattle.steps_events.proofs.Holds.{some_same, no_holds, exclusive_unheld}
 use Rattle.steps_events.proofs.Steps.{by_move, tells_memory}
-use Rattle.steps_events.proofs.Parties.{IsKept, IsAtPlace, at_place, each_call}
+use Rattle.steps_events.proofs.Parties.{IsKept, at_place}
 use Rattle.steps_events.proofs.NextStep.{steps_as}
 use Rattle.steps_events.proofs.Own.{IsCallAfter, call_was}
 use Rattle.steps_once.specs.declared.OncePlace.{OncePlace}
@@ -36,7 +35,7 @@ use Rattle.steps_once.proofs.Closures.{is_miss, missed_since, IsClosureIntent, R
 use Rattle.steps_lazy.specs.declared.LazyPlace.{LazyPlace}
 use Rattle.steps_lazy.specs.declared.LazyPlace.TheVariants as places
 use Rattle.steps_lazy.specs.Table.{lazy_table, lazy_begins, lazy_intent, reads_next, lazy_after}
-use Rattle.steps_lazy.specs.Law.{LazyCause, is_read, shows_end, has_shown, LazyStep, OnlyForces, KeepsLazy}
+use Rattle.steps_lazy.specs.Law.{LazyCause, is_read, shows_end, has_shown, LazyStep, KeepsLazy}
 
 -- What is kept of a call at its place.
 
@@ -187,7 +186,6 @@ pub record EventLaw {T : Type 0} (v : T) (party : ℕ) (past : List (Event T)) (
       MatchBool (is_read m.act)
       ((m.act ≡ acts.ReadCell v) × (m.outcome ≡ thens.Answers (answers.Value v)) × (word_in (lazy_table v) past words.State ≡ 2) × (ends_in past ≡ 1))
       (m.outcome ≡ thens.GoesOn)
-  pub spins : (stands m.outcome ≡ false) × (is_wake m.act ≡ false)
 
 -- a step in the once inside goes on
 goes_on_at : (T : Type 0) (place : OncePlace) (found : ℕ) → outcome_of {T = T} (reads_next (found_after place found)) ≡ thens.GoesOn
@@ -210,30 +208,30 @@ goes_on_at T onces.Stay found = by_test (found == 2)
     by_test true = refl
     by_test false = refl
 
--- a step that goes on, and reads, ends and wakes nothing
+-- a step that goes on, and reads nothing
 goes_on_law :
-    {T : Type 0} (v : T) (party : ℕ) (past : List (Event T)) (c : PendingCall T) (act : Act T) (outcome : Then T) → outcome ≡ thens.GoesOn → is_read act ≡ false → is_wake act ≡ false →
+    {T : Type 0} (v : T) (party : ℕ) (past : List (Event T)) (c : PendingCall T) (act : Act T) (outcome : Then T) → outcome ≡ thens.GoesOn → is_read act ≡ false →
     MatchBool (is_end act) (AtLast is_begin (λ before. begins_in before ≡ 0) party past) (Unit {0}) →
     MatchBool (is_load act) (IfSome (last_of is_step c.own) (λ before. 1 ≤ begins_in past)) (Unit {0}) → EventLaw v party past (Some c) (record { act = act; outcome = outcome })
-goes_on_law {T} v party past c act outcome goes reads wakes ends waits =
+goes_on_law {T} v party past c act outcome goes reads ends waits =
     subst (λ (o : Then T). EventLaw v party past (Some c) (record { act = act; outcome = o })) (sym goes)
-    (record { cause = tt; own = ends; waits = waits; answers = rw reads refl; spins = (refl, wakes) })
+    (record { cause = tt; own = ends; waits = waits; answers = rw reads refl })
 
 step_law :
     {T : Type 0} (z : Arithmetic T) (v : T) (parties party : ℕ) (past : List (Event T)) → IsPast z (lazy_table v) parties past → (c : PendingCall T) → call_of party past ≡ Some c →
     (place : LazyPlace) (hold : Option HoldKind) → AtLazy place c hold → EventLaw v party past (Some c) (step_at (lazy_table v) place hold (word_in (lazy_table v) past))
 step_law z v parties party past run c called (places.Once onces.IsCompleted) hold at = absurd at.own
 step_law {T} z v parties party past run c called (places.Once onces.Look) hold at =
-    goes_on_law v party past c _ _ (goes_on_at T onces.Look _) refl refl tt (rw at.own tt)
+    goes_on_law v party past c _ _ (goes_on_at T onces.Look _) refl tt (rw at.own tt)
 step_law {T} z v parties party past run c called (places.Once onces.Begin) hold at =
-    goes_on_law v party past c _ _ (goes_on_at T onces.Begin _) refl refl tt tt
+    goes_on_law v party past c _ _ (goes_on_at T onces.Begin _) refl tt tt
 step_law {T} z v parties party past run c called (places.Once onces.Run) hold at =
     let front = closure_front z (lazy_table v) parties (runs_one z v parties) past run in
-    goes_on_law v party past c _ _ (goes_on_at T onces.Run 0) refl refl (own_began z (lazy_table v) parties party past run c called at.own (at_most_one _ _ _ front.state).0) tt
+    goes_on_law v party past c _ _ (goes_on_at T onces.Run 0) refl (own_began z (lazy_table v) parties party past run c called at.own (at_most_one _ _ _ front.state).0) tt
 step_law {T} z v parties party past run c called (places.Once onces.Complete) hold at =
-    goes_on_law v party past c _ _ (goes_on_at T onces.Complete 0) refl refl tt tt
+    goes_on_law v party past c _ _ (goes_on_at T onces.Complete 0) refl tt tt
 step_law {T} z v parties party past run c called (places.Once onces.Stay) hold at =
-    goes_on_law v party past c _ _ (goes_on_at T onces.Stay _) refl refl tt (has_begun (last_of is_step c.own) (missed_since z (lazy_table v) parties (runs_one z v parties) past run party c called at.own))
+    goes_on_law v party past c _ _ (goes_on_at T onces.Stay _) refl tt (has_begun (last_of is_step c.own) (missed_since z (lazy_table v) parties (runs_one z v parties) past run party c called at.own))
 step_law z v parties party past run c called places.Read hold at =
     let two = two_since z v parties past run party c called at.own in
     let front = closure_front z (lazy_table v) parties (runs_one z v parties) past run in
@@ -242,7 +240,6 @@ step_law z v parties party past run c called places.Read hold at =
       own = tt;
       waits = tt;
       answers = (refl, refl, two, complete_ended _ _ _ front.state two);
-      spins = (refl, refl);
     }
 
 event_law :
@@ -250,9 +247,9 @@ event_law :
 event_law {T} z v parties past e run =
     by_move (lazy_table v) (call_of e.party past) (hold_of (lazy_table v) e.party past) (word_in (lazy_table v) past) (λ (k : Option (PendingCall T)) (m : Move T). EventLaw v e.party past k m)
     run.0.0 (record { act = e.act; outcome = e.then })
-    (λ call _. record { cause = tt; own = tt; waits = tt; answers = refl; spins = (refl, refl) })
-    (λ action _. record { cause = tt; own = tt; waits = tt; answers = refl; spins = (refl, refl) })
-    (λ choice _. record { cause = tt; own = tt; waits = tt; answers = refl; spins = (refl, refl) })
+    (λ call _. record { cause = tt; own = tt; waits = tt; answers = refl })
+    (λ action _. record { cause = tt; own = tt; waits = tt; answers = refl })
+    (λ choice _. record { cause = tt; own = tt; waits = tt; answers = refl })
     (λ c place _ called stage.
     step_law z v parties e.party past run.1 c called place (hold_of (lazy_table v) e.party past) (at_place z (lazy_table v) parties AtLazy (lazy_kept v) past run.1 e.party c place called stage))
     run.0.1.moved
@@ -284,17 +281,10 @@ lazy_step v (places.Once onces.Complete) c hold memory at = rw (at.call, at.led.
 lazy_step {T} v (places.Once onces.Stay) c hold memory at = rw (at.call, at.led.1, goes_on_at T onces.Stay (memory words.State)) (stay_on c.own (memory words.State) at.led.0)
 lazy_step v places.Read c hold memory at = rw (at.call, at.led) (refl, refl)
 
-only_forces : {T : Type 0} (z : Arithmetic T) (v : T) (parties : ℕ) (past : List (Event T)) (e : Event T) → IsPast z (lazy_table v) parties past → OnlyForces (e ∷ past)
-only_forces {T} z v parties past e run = by_call (call_of e.party past) (each_call z (lazy_table v) parties AtLazy (lazy_kept v) past run e.party)
-  where
-    by_call : (pending : Option (PendingCall T)) → IsAtPlace (lazy_table v) AtLazy pending (hold_of (lazy_table v) e.party past) → MatchOption pending (Unit {0}) (λ c. c.call ≡ calls.Force)
-    by_call None at = tt
-    by_call (Some c) at = at.2.call
-
 pub keeps_lazy : {T : Type 0} (z : Arithmetic T) (v : T) (parties : ℕ) (past : List (Event T)) → IsPast z (lazy_table v) parties past → KeepsLazy v past
 keeps_lazy z v parties [] run =
     let front = closure_front z (lazy_table v) parties (runs_one z v parties) [] run in
-    record { told = tt; exclusive = exclusive_unheld [] refl; cause = tt; law = record { unheld = refl; one = omega arith; ends = omega arith; own = tt; steps = tt; waits = tt; answers = tt; calls = tt; stays = tt; spins = tt; state = tells_state (lazy_table v) [] front.state } }
+    record { told = tt; exclusive = exclusive_unheld [] refl; cause = tt; law = record { unheld = refl; one = omega arith; ends = omega arith; own = tt; steps = tt; waits = tt; answers = tt; stays = tt; state = tells_state (lazy_table v) [] front.state } }
 keeps_lazy z v parties (e ∷ past) run =
     let event = event_law z v parties past e run in
     let front = closure_front z (lazy_table v) parties (runs_one z v parties) (e ∷ past) run in
@@ -313,9 +303,7 @@ keeps_lazy z v parties (e ∷ past) run =
             steps = steps_as z (lazy_table v) parties AtLazy (LazyStep v) (lazy_kept v) (lazy_step v) (e ∷ past) run;
             waits = event.waits;
             answers = event.answers;
-            calls = only_forces z v parties past e run.1;
             stays = stays_complete z (lazy_table v) parties (runs_one z v parties) past e run;
-            spins = event.spins;
             state = tells_state (lazy_table v) (e ∷ past) front.state;
           };
     }

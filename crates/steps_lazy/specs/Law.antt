@@ -1,5 +1,5 @@
 -- What a lazy value keeps at every front of every run: one closure runs, once, and every answer is its value, read after its end.
-use Rattle.std.specs.Prelude.{◌≡◌, ◌≤◌, ℕ, ◌==◌, Bool, true, false, List, [], ◌∷◌, Option, Some, None, MatchBool, MatchOption}
+use Rattle.std.specs.Prelude.{◌≡◌, ◌≤◌, ℕ, ◌==◌, Bool, true, false, List, [], ◌∷◌, Option, Some, None, MatchBool}
 use Rattle.steps_events.specs.declared.event.Word.TheVariants as words
 use Rattle.steps_events.specs.declared.event.Act.{Act}
 use Rattle.steps_events.specs.declared.event.Act.TheVariants as acts
@@ -9,11 +9,10 @@ use Rattle.steps_events.specs.declared.event.Call.TheVariants as calls
 use Rattle.steps_events.specs.declared.event.Then.{Then}
 use Rattle.steps_events.specs.declared.event.Then.TheVariants as thens
 use Rattle.steps_events.specs.declared.event.Event.{Event}
-use Rattle.steps_events.specs.Past.{call_of, holds_of, word_in}
+use Rattle.steps_events.specs.Past.{holds_of, word_in}
 use Rattle.steps_events.specs.Moves.{is_step}
 use Rattle.steps_events.specs.Sights.{last_of}
 use Rattle.steps_events.specs.NextStep.{StepsAs}
-use Rattle.steps_events.specs.Waits.{OnlySpins}
 use Rattle.steps_events.specs.Laws.{Keeps}
 use Rattle.steps_once.specs.Closures.{begins_in, ends_in, EndsItsOwn, WaitsForAnother, StaysTwo, TellsState, has_tried, RunsOnce}
 use Rattle.steps_lazy.specs.Table.{lazy_table}
@@ -35,11 +34,6 @@ AnswersWhatItReads v (e ∷ past) =
     MatchBool (is_read e.act)
     ((e.act ≡ acts.ReadCell v) × (e.then ≡ thens.Answers (answers.Value v)) × (word_in (lazy_table v) past words.State ≡ 2) × (ends_in past ≡ 1))
     (e.then ≡ thens.GoesOn)
-
--- each call is a `Force`
-abbrev pub OnlyForces : {T : Type 0} → List (Event T) → Type 0
-OnlyForces [] = Unit {0}
-OnlyForces (e ∷ past) = MatchOption (call_of e.party past) (Unit {0}) (λ c. c.call ≡ calls.Force)
 
 -- The steps.
 
@@ -79,12 +73,8 @@ pub record LazyLaw {T : Type 0} (v : T) (past : List (Event T)) : Type 0 where
   pub waits : WaitsForAnother past
   -- every answer is v, read from the cell after the closure's end; an event that reads nothing answers nothing
   pub answers : AnswersWhatItReads v past
-  -- it has no call but `Force`
-  pub calls : OnlyForces past
   -- a word that is 2 stays so
   pub stays : StaysTwo (lazy_table v) past
-  -- a call that waits only spins: none stands at a closure, and none wakes
-  pub spins : OnlySpins past
   pub state : TellsState (lazy_table v) past
 
 abbrev pub KeepsLazy : {T : Type 0} → T → List (Event T) → Type 0

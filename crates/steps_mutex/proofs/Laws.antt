@@ -1,5 +1,5 @@
 -- A mutex keeps its law at every front of every run.
-use Rattle.std.proofs.Common.{◌≡◌, ◌≢◌, ◌≤◌, ℕ, zero, ◌==◌, refl, sym, ◌∙◌, ap, subst, Bool, true, false, cond, is_some, List, [], ◌∷◌, Option, Some, None, ◌↔◌, inl, inr, arith, ◌<◌}
+use Rattle.std.proofs.Common.{◌≡◌, ◌≢◌, ◌≤◌, ℕ, ◌==◌, refl, sym, ◌∙◌, ap, subst, Bool, true, false, cond, is_some, List, [], ◌∷◌, Option, Some, None, ◌↔◌, inl, inr, arith, ◌<◌}
 use Rattle.std.specs.Prelude.{MatchBool, MatchOption, not, nat_lt}
 use Rattle.std.proofs.lemmas.Bool.{eqb-true, eqb-false}
 use Rattle.steps_events.specs.declared.WaitAction.{WaitAction}
@@ -25,18 +25,18 @@ use Rattle.steps_events.specs.Past.{Hold, same_word, PendingCall, call_of, holds
 use Rattle.steps_events.specs.Moves.{Move, step_at, hold_fault, answer_fault, choose_fault, is_step}
 use Rattle.steps_events.specs.Runs.{IsPast}
 use Rattle.steps_events.specs.Sights.{sight_of, is_sight, keeps_asking, HasAborted, spins_in}
-use Rattle.steps_events.specs.Asks.{WhereAsked, sight_at, whole_call}
+use Rattle.steps_events.specs.Asks.{WhereAsked}
 use Rattle.steps_events.specs.Laws.{Lacks, is_refusal}
 use Rattle.steps_events.proofs.NextStep.{Descends, ends_within}
 use Rattle.steps_events.proofs.Holds.{eqb_same, hold_of_same, some_same}
 use Rattle.steps_events.proofs.Steps.{by_move, tells_memory}
 use Rattle.steps_events.proofs.Parties.{IsKept, at_place}
-use Rattle.steps_events.proofs.Asks.{asked_maps, spins_no_more}
+use Rattle.steps_events.proofs.Asks.{waits_first, waits_as, spins_no_more}
 use Rattle.steps_events.proofs.Locks.{IsLock, IsLockIntent, IsFreeOrHeld, lock_word, lock_exclusive, locked_at, free_exactly}
 use Rattle.steps_mutex.specs.declared.MutexPlace.{MutexPlace}
 use Rattle.steps_mutex.specs.declared.MutexPlace.TheVariants as places
 use Rattle.steps_mutex.specs.Table.{mutex_table, mutex_begins, mutex_intent, mutex_after, mutex_answered, is_free}
-use Rattle.steps_mutex.specs.Law.{LockCause, HasTried, answer_of, acts_of, IsLockAnswer, lock_spins, steps_on, IsLeftBy, MutexStep, KeepsMutex, mutex_most}
+use Rattle.steps_mutex.specs.Law.{LockCause, HasTried, answer_of, acts_of, IsLockAnswer, lock_spins, steps_on, IsLeftBy, MutexStep, KeepsMutex, mutex_most, mutex_waiting}
 use Rattle.steps_events.specs.declared.patience.Patience.{Patience}
 use Rattle.steps_mutex.proofs.LockSteps.{HasTriedSo, AtLock, lock_begins, LockLeads, lock_after, lock_leads, lock_goes_on, lock_answered, lock_chosen}
 
@@ -185,7 +185,6 @@ pub record EventLaw {T P : Type 0} (t : Table T P) (party : ℕ) (past : List (E
   pub answers :
       MatchOption (answer_of m.outcome) (Unit {0})
       (λ answer. MatchOption pending ⊥ (λ c. IsLockAnswer c.call (m.act ∷ acts_of c.own) (hold_after t m.act pending hold) answer))
-  pub ends : MatchOption (answer_of m.outcome) (hold_taken t m.act pending ≡ None) (λ answer. Unit {0})
   pub asks : WhereAsked IsAskedSo pending m.act m.outcome
   pub tries : MatchBool (is_refusal m.outcome) (MatchOption pending ⊥ (λ c. HasTried c.call (event party m.act m.outcome ∷ c.own))) (Unit {0})
   pub steps : MatchBool (is_step m.act) (MatchOption pending ⊥ (λ c. MutexStep c.call c.own m.act m.outcome)) (Unit {0})
@@ -225,7 +224,6 @@ try_lock_law {T} t party past hold c w true grants is first free e law =
       cause = tt;
       exact = λ try sees. (λ granted. (free_exactly w (holds_of t past) law).0 (eqb-true w 0 e), λ none. refl);
       answers = subst (λ (k : Call T). IsLockAnswer k (act ∷ acts_of c.own) (hold_after t act (Some c) hold) answers.Success) (sym is) (rw granted refl);
-      ends = tt;
       asks = tt;
       tries = tt;
       steps = as_call calls.TryLock c.call c.own _ _ is (first, refl, refl);
@@ -237,7 +235,6 @@ try_lock_law {T} t party past hold c w false grants is first free e law =
       cause = subst (λ (k : Call T). LockCause t k party (refuses ∷ past)) (sym is) (rw (eqb_same party) (locked_at t past w law (eqb-false w 0 e)));
       exact = λ try sees. (λ granted. absurd cc, λ none. absurd (eqb-false w 0 e ((free_exactly w (holds_of t past) law).1 none)));
       answers = subst (λ (k : Call T). IsLockAnswer k (act ∷ acts_of c.own) hold answers.Interrupted) (sym is) (rw free refl);
-      ends = tt;
       asks = tt;
       tries = subst (λ (k : Call T). HasTried k (refuses ∷ c.own)) (sym is) tt;
       steps = as_call calls.TryLock c.call c.own _ _ is (first, refl, refl);
@@ -248,9 +245,9 @@ lock_law :
     (w == 0) ≡ done → IsFreeOrHeld w (holds_of t past) → LockLeads c.own party w (acts.Exchange words.State 0 1 w done) a → MutexStep c.call c.own (acts.Exchange words.State 0 1 w done) (outcome_of {T = T} a) →
     EventLaw t party past hold (Some c) (record { act = acts.Exchange words.State 0 1 w done; outcome = outcome_of {T = T} a })
 lock_law t party past hold c w done (afters.At next) grants called is free e law leads steps =
-    record { cause = tt; exact = another calls.Lock c.call _ (sym is) (λ same. absurd cc); answers = tt; ends = lock_takes_none t (Some c) c.own party w done (afters.At next) next e leads refl; asks = tt; tries = tt; steps = steps }
+    record { cause = tt; exact = another calls.Lock c.call _ (sym is) (λ same. absurd cc); answers = tt; asks = tt; tries = tt; steps = steps }
 lock_law {T} t party past hold c w done (afters.Waits next seen) grants called is free e law leads steps =
-    record { cause = tt; exact = another calls.Lock c.call _ (sym is) (λ same. absurd cc); answers = tt; ends = lock_takes_none t (Some c) c.own party w done (afters.Waits next seen) next e leads refl; asks = (subst (λ (k : Call T). lock_spins k c.own ≡ 10000) (sym is) leads.2, ap (λ v. Some v) (held_at_one w (holds_of t past) law leads.1 ∙ sym leads.4), leads.3); tries = tt; steps = steps }
+    record { cause = tt; exact = another calls.Lock c.call _ (sym is) (λ same. absurd cc); answers = tt; asks = (subst (λ (k : Call T). lock_spins k c.own ≡ 10000) (sym is) leads.2, ap (λ v. Some v) (held_at_one w (holds_of t past) law leads.1 ∙ sym leads.4), leads.3); tries = tt; steps = steps }
 lock_law {T} t party past hold c w true (afters.Ends answers.Success) grants called is free e law leads steps =
     let act : Act T = acts.Exchange words.State 0 1 w true in
     let granted : t.grant c.call 0 1 ≡ Some kinds.Write = ap (λ (k : Call T). t.grant k 0 1) is ∙ grants.locks in
@@ -258,7 +255,6 @@ lock_law {T} t party past hold c w true (afters.Ends answers.Success) grants cal
       cause = tt;
       exact = another calls.Lock c.call _ (sym is) (λ same. absurd cc);
       answers = subst (λ (k : Call T). IsLockAnswer k (act ∷ acts_of c.own) (hold_after t act (Some c) hold) answers.Success) (sym is) (rw granted refl);
-      ends = tt;
       asks = tt;
       tries = tt;
       steps = steps;
@@ -273,7 +269,6 @@ lock_law {T} t party past hold c w false (afters.Ends answers.Interrupted) grant
       cause = subst (λ (k : Call T). LockCause t k party (refuses ∷ past)) (sym is) (rw (eqb_same party) (aborted, locked_at t past w law leads.0));
       exact = another calls.Lock c.call _ (sym is) (λ same. absurd cc);
       answers = subst (λ (k : Call T). IsLockAnswer k (act ∷ acts_of c.own) hold answers.Interrupted) (sym is) (rw free refl);
-      ends = tt;
       asks = tt;
       tries = subst (λ (k : Call T). HasTried k (refuses ∷ c.own)) (sym is) leads.2;
       steps = steps;
@@ -298,28 +293,21 @@ step_law t party past c (places.Lock patience) hold memory grants called at law 
     let w = memory words.State in
     lock_law t party past hold c w (w == 0) (mutex_after (places.Lock patience) (Some w)) grants called at.0 at.2 refl law (lock_leads words.State patience c.own party w at.1) (next_step (places.Lock patience) c hold memory at)
 step_law t party past c places.Release hold memory grants called at law =
-    record { cause = tt; exact = another calls.Unlock c.call _ (sym at.0) (λ same. absurd cc); answers = tt; ends = refl; asks = tt; tries = tt; steps = next_step places.Release c hold memory at }
+    record { cause = tt; exact = another calls.Unlock c.call _ (sym at.0) (λ same. absurd cc); answers = tt; asks = tt; tries = tt; steps = next_step places.Release c hold memory at }
 step_law {T} t party past c places.Wake hold memory grants called at law =
     record {
       cause = tt;
       exact = another calls.Unlock c.call _ (sym at.0) (λ same. absurd cc);
       answers = subst (λ (k : Call T). IsLockAnswer k (acts.Woke wakes.One ∷ acts_of c.own) hold answers.Done) (sym at.0) (refl, rw at.1 refl, at.3);
-      ends = tt;
       asks = tt;
       tries = tt;
       steps = next_step places.Wake c hold memory at;
     }
 
--- an act that does not see the word takes no hold
-pub unseen_takes_none : {T P : Type 0} (t : Table T P) (act : Act T) (pending : Option (PendingCall T)) → is_sight words.State act ≡ false → hold_taken t act pending ≡ None
-unseen_takes_none t (acts.Exchange words.State from to found true) (Some c) quiet = absurd cc
-unseen_takes_none t (acts.Swap words.State zero put) (Some c) quiet = absurd cc
-unseen_takes_none t act pending quiet = refl
-
 silent : {T P : Type 0} (t : Table T P) (party : ℕ) (past : List (Event T)) (hold : Option HoldKind) (pending : Option (PendingCall T)) (act : Act T) → is_sight words.State act ≡ false → is_step act ≡ false → EventLaw t party past hold pending (record { act = act; outcome = thens.GoesOn })
-silent t party past hold None act quiet still = record { cause = tt; exact = tt; answers = tt; ends = unseen_takes_none t act None quiet; asks = tt; tries = tt; steps = rw still tt }
+silent t party past hold None act quiet still = record { cause = tt; exact = tt; answers = tt; asks = tt; tries = tt; steps = rw still tt }
 silent t party past hold (Some c) act quiet still =
-    record { cause = tt; exact = λ try sees. let no : true ≡ false = sym sees ∙ quiet in absurd cc; answers = tt; ends = unseen_takes_none t act (Some c) quiet; asks = tt; tries = tt; steps = rw still tt }
+    record { cause = tt; exact = λ try sees. let no : true ≡ false = sym sees ∙ quiet in absurd cc; answers = tt; asks = tt; tries = tt; steps = rw still tt }
 
 event_law :
     {T : Type 0} (z : Arithmetic T) (parties : ℕ) (past : List (Event T)) (e : Event T) → IsPast z mutex_table parties (e ∷ past) →
@@ -376,7 +364,7 @@ keeps_mutex z parties [] run =
       told = tt;
       exclusive = lock_exclusive 0 [] (lock_word z mutex_table parties (mutex_is_lock z parties) [] run);
       cause = tt;
-      law = record { exact = tt; answers = tt; ends = tt; asks = tt; spins = λ party. tt; tells = tt; stops = tt; tries = tt; steps = tt; within = λ party. tt };
+      law = record { exact = tt; answers = tt; waits = waits_first mutex_waiting; tries = tt; steps = tt; within = λ party. tt };
     }
 keeps_mutex {T} z parties (e ∷ past) run =
     let event = event_law z parties past e run in
@@ -390,11 +378,7 @@ keeps_mutex {T} z parties (e ∷ past) run =
       law = record {
         exact = event.exact;
         answers = answered;
-        ends = event.ends;
-        asks = asked_maps IsAskedSo (λ c act told. lock_spins c.call c.own ≡ 10000) (λ c act told so. so.0) (call_of e.party past) e.act e.then event.asks;
-        spins = spins_no_more z mutex_table parties AtMutex steps_on mutex_kept spins_bounded (e ∷ past) run;
-        tells = asked_maps IsAskedSo (λ c act told. sight_at words.State c.call c.own act ≡ Some told) (λ c act told so. so.1) (call_of e.party past) e.act e.then event.asks;
-        stops = asked_maps IsAskedSo (λ c act told. keeps_asking (whole_call c.call c.own) ≡ true) (λ c act told so. so.2) (call_of e.party past) e.act e.then event.asks;
+        waits = waits_as mutex_waiting past e event.asks (spins_no_more z mutex_table parties AtMutex steps_on mutex_kept spins_bounded (e ∷ past) run);
         tries = event.tries;
         steps = event.steps;
         within = ends_within mutex_table mutex_most mutex_rest mutex_descends z parties (e ∷ past) run;

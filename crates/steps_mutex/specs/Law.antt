@@ -15,11 +15,11 @@ use Rattle.steps_events.specs.declared.event.Event.{Event}
 use Rattle.steps_events.specs.declared.hold.HoldKind.{HoldKind}
 use Rattle.steps_events.specs.declared.hold.HoldKind.TheVariants as kinds
 use Rattle.steps_events.specs.Tables.{Table}
-use Rattle.steps_events.specs.Past.{call_of, holds_of, hold_of, hold_taken, is_failure, failures_in}
+use Rattle.steps_events.specs.Past.{call_of, holds_of, hold_of, is_failure, failures_in}
 use Rattle.steps_events.specs.Moves.{is_step}
 use Rattle.steps_events.specs.Sights.{is_sight, AtLastSight, HasAborted, spins_in, stands_in, exchanges_in}
 use Rattle.steps_events.specs.NextStep.{StepsAs, refused_waiting, EndsWithin}
-use Rattle.steps_events.specs.Asks.{SpinCount, AsksAfterSpinning, SpinsNoMore, sight_at, TellsRefusal, whole_call, AsksUntilAbort}
+use Rattle.steps_events.specs.Asks.{SpinCount, sight_at, whole_call, Waiting, WaitsAs}
 use Rattle.steps_events.specs.Laws.{IsLocked, is_refusal, Keeps}
 use Rattle.steps_mutex.specs.Table.{mutex_table}
 
@@ -79,11 +79,6 @@ AnswersByHold t (e ∷ past) =
     MatchOption (answer_of e.then) (Unit {0})
     (λ answer. MatchOption (call_of e.party past) ⊥ (λ c. IsLockAnswer c.call (acts_of (e ∷ c.own)) (hold_of t e.party (e ∷ past)) answer))
 
--- and where it answers nothing, it grants no hold
-abbrev pub AnswersWhereGranted : {T P : Type 0} → Table T P → List (Event T) → Type 0
-AnswersWhereGranted t [] = Unit {0}
-AnswersWhereGranted t (e ∷ past) = MatchOption (answer_of e.then) (hold_taken t e.act (call_of e.party past) ≡ None) (λ answer. Unit {0})
-
 -- When a call asks its wait closure.
 
 -- the spins of a `Lock` are its exchanges that failed; no other call asks
@@ -94,6 +89,10 @@ lock_spins other own = 0
 -- the steps of any kind after which a call went on by itself
 abbrev pub steps_on : {T : Type 0} → SpinCount T
 steps_on call own = spins_in is_step own
+
+-- how they wait
+abbrev pub mutex_waiting : {T : Type 0} → Waiting T
+mutex_waiting = record { spins = lock_spins; goes_on = steps_on; refusing = sight_at words.State; wait = whole_call }
 
 -- What a call does next, by its own steps so far, and how it is left by what that tells.
 
@@ -135,16 +134,8 @@ pub record MutexLaw {T : Type 0} (past : List (Event T)) : Type 0 where
   pub exact : IsExactGrant mutex_table past
   -- a locking call answers `Success` exactly where it has the hold, and an `Unlock` has stored 0 once and then woken one, and has none
   pub answers : AnswersByHold mutex_table past
-  -- a locking call that is granted the hold answers at once
-  pub ends : AnswersWhereGranted mutex_table past
-  -- a wait closure is asked after 10000 spins, which are exchanges of a `Lock` that failed
-  pub asks : AsksAfterSpinning lock_spins past
-  -- no call goes on by itself more often
-  pub spins : SpinsNoMore steps_on past
-  -- the closure is told the value that the exchange found
-  pub tells : TellsRefusal (sight_at words.State) past
-  -- and asked no more once it has answered Abort
-  pub stops : AsksUntilAbort whole_call past
+  -- a `Lock` asks its closure after 10000 spins, which are exchanges that failed, and tells it the value found
+  pub waits : WaitsAs mutex_waiting past
   -- and each `Lock` that gives up has tried so often
   pub tries : GivesUpAfterTrying past
   -- each step is the one that follows its call's own, and leaves it by what it tells

@@ -23,7 +23,6 @@ use Rattle.steps_events.specs.Moves.{Move, step_at, is_step}
 use Rattle.steps_events.specs.Runs.{IsPast}
 use Rattle.steps_events.specs.Sights.{AtLast, last_of}
 use Rattle.steps_events.specs.NextStep.{StepsAs}
-use Rattle.steps_events.specs.Waits.{stands, is_wake}
 use Rattle.steps_events.specs.Laws.{Lacks, is_refusal}
 use Rattle.steps_events.proofs.Holds.{some_same, no_holds, exclusive_unheld}
 use Rattle.steps_events.proofs.Steps.{by_move, tells_memory}
@@ -36,7 +35,7 @@ use Rattle.steps_once.specs.declared.OncePlace.TheVariants as places
 use Rattle.steps_once.specs.Table.{once_table, once_begins, once_intent, found_after, once_after}
 use Rattle.steps_once.specs.Closures.{is_begin, is_end, is_load, begins_in, ends_in}
 use Rattle.steps_once.proofs.ClosureSteps.{IsLed, look_led, stay_led, begin_led, miss_led, quiet_led, look_runs, stay_runs, begin_runs, end_runs, complete_runs}
-use Rattle.steps_once.specs.Law.{OnceCause, OnceStep, tells_end, flag_of, is_done, KeepsOnce, once_most}
+use Rattle.steps_once.specs.Law.{OnceCause, OnceStep, tells_end, is_done, KeepsOnce, once_most}
 use Rattle.steps_once.proofs.Closures.{is_running, has_missed, missed_since, IsClosureIntent, RunsOneClosure, IsState, at_most_one, complete_ended, closure_front, stays_complete, tells_state, own_began}
 
 -- What is kept of a call at its place.
@@ -263,22 +262,20 @@ pub record EventLaw {T : Type 0} (party : ℕ) (past : List (Event T)) (w : ℕ)
   pub own : MatchBool (is_end m.act) (AtLast is_begin (λ before. begins_in before ≡ 0) party past) (Unit {0})
   pub waits : MatchBool (is_load m.act) (MatchOption pending ⊥ (λ c. IfSome (last_of is_step c.own) (λ before. 1 ≤ begins_in past))) (Unit {0})
   pub answers : MatchBool (tells_end m.outcome) (ends_in past ≡ 1) (Unit {0})
-  pub tells : IfSome (flag_of m.outcome) (λ flag. flag ≡ (w == 2))
   pub done : MatchBool (is_done m.outcome) (word_after words.State m.act w ≡ 2) (Unit {0})
-  pub spins : (stands m.outcome ≡ false) × (is_wake m.act ≡ false)
 
 -- of a load
 flag_law :
     {T : Type 0} (party : ℕ) (past : List (Event T)) (c : PendingCall T) (w : ℕ) (flag : Bool) → last_of is_step c.own ≡ None → IsState w (begins_in past) (ends_in past) → (w == 2) ≡ flag →
     EventLaw party past w (Some c) (record { act = acts.Load words.State w; outcome = thens.Answers (answers.Flag flag) })
-flag_law party past c w true first state sees = record { cause = tt; own = tt; waits = rw first tt; answers = complete_ended _ _ _ state (eqb-true w 2 sees); tells = sym sees; done = tt; spins = (refl, refl) }
-flag_law party past c w false first state sees = record { cause = tt; own = tt; waits = rw first tt; answers = tt; tells = sym sees; done = tt; spins = (refl, refl) }
+flag_law party past c w true first state sees = record { cause = tt; own = tt; waits = rw first tt; answers = complete_ended _ _ _ state (eqb-true w 2 sees); done = tt }
+flag_law party past c w false first state sees = record { cause = tt; own = tt; waits = rw first tt; answers = tt; done = tt }
 
 seen_law :
     {T : Type 0} (party : ℕ) (past : List (Event T)) (c : PendingCall T) (w : ℕ) (on : OncePlace) (complete : Bool) → IfSome (last_of is_step c.own) (λ before. 1 ≤ begins_in past) → IsState w (begins_in past) (ends_in past) → (w == 2) ≡ complete →
     EventLaw party past w (Some c) (record { act = acts.Load words.State w; outcome = outcome_of {T = T} (seen_after on complete) })
-seen_law party past c w on true waits state sees = record { cause = tt; own = tt; waits = waits; answers = complete_ended _ _ _ state (eqb-true w 2 sees); tells = tt; done = eqb-true w 2 sees; spins = (refl, refl) }
-seen_law party past c w on false waits state sees = record { cause = tt; own = tt; waits = waits; answers = tt; tells = tt; done = tt; spins = (refl, refl) }
+seen_law party past c w on true waits state sees = record { cause = tt; own = tt; waits = waits; answers = complete_ended _ _ _ state (eqb-true w 2 sees); done = eqb-true w 2 sees }
+seen_law party past c w on false waits state sees = record { cause = tt; own = tt; waits = waits; answers = tt; done = tt }
 
 -- whatever its step before was
 pub has_begun : {T : Type 0} {begins : ℕ} (last : Option (Act T)) → 1 ≤ begins → IfSome last (λ before. 1 ≤ begins)
@@ -288,8 +285,8 @@ has_begun (Some before) begun = begun
 begin_law :
     {T : Type 0} (party : ℕ) (past : List (Event T)) (c : PendingCall T) (w : ℕ) (done : Bool) →
     EventLaw party past w (Some c) (record { act = acts.Exchange words.State 0 1 w done; outcome = outcome_of {T = T} (begin_after done) })
-begin_law party past c w true = record { cause = tt; own = tt; waits = tt; answers = tt; tells = tt; done = tt; spins = (refl, refl) }
-begin_law party past c w false = record { cause = tt; own = tt; waits = tt; answers = tt; tells = tt; done = tt; spins = (refl, refl) }
+begin_law party past c w true = record { cause = tt; own = tt; waits = tt; answers = tt; done = tt }
+begin_law party past c w false = record { cause = tt; own = tt; waits = tt; answers = tt; done = tt }
 
 step_law :
     {T : Type 0} (z : Arithmetic T) (parties party : ℕ) (past : List (Event T)) → IsPast z once_table parties past → (c : PendingCall T) → call_of party past ≡ Some c →
@@ -299,9 +296,9 @@ step_law z parties party past run c called places.IsCompleted hold memory at sta
 step_law z parties party past run c called places.Look hold memory at state = seen_law party past c (memory words.State) places.Begin (memory words.State == 2) (rw at tt) state refl
 step_law z parties party past run c called places.Begin hold memory at state = begin_law party past c (memory words.State) (memory words.State == 0)
 step_law z parties party past run c called places.Run hold memory at state =
-    record { cause = tt; own = own_began z once_table parties party past run c called at (at_most_one _ _ _ state).0; waits = tt; answers = tt; tells = tt; done = tt; spins = (refl, refl) }
+    record { cause = tt; own = own_began z once_table parties party past run c called at (at_most_one _ _ _ state).0; waits = tt; answers = tt; done = tt }
 step_law z parties party past run c called places.Complete hold memory at state =
-    record { cause = tt; own = tt; waits = tt; answers = omega (arith, at, own_among is_end past party c called, (at_most_one _ _ _ state).1); tells = tt; done = refl; spins = (refl, refl) }
+    record { cause = tt; own = tt; waits = tt; answers = omega (arith, at, own_among is_end past party c called, (at_most_one _ _ _ state).1); done = refl }
 step_law z parties party past run c called places.Stay hold memory at state = seen_law party past c (memory words.State) places.Stay (memory words.State == 2) (has_begun (last_of is_step c.own) (missed_since z once_table parties (runs_one z parties) past run party c called at)) state refl
 
 event_law :
@@ -311,9 +308,9 @@ event_law {T} z parties past e run =
     by_move once_table (call_of e.party past) (hold_of once_table e.party past) (word_in once_table past)
     (λ (k : Option (PendingCall T)) (m : Move T). EventLaw e.party past (word_in once_table past words.State) k m)
     run.0.0 (record { act = e.act; outcome = e.then })
-    (λ call _. record { cause = tt; own = tt; waits = tt; answers = tt; tells = tt; done = tt; spins = (refl, refl) })
-    (λ action _. record { cause = tt; own = tt; waits = tt; answers = tt; tells = tt; done = tt; spins = (refl, refl) })
-    (λ choice _. record { cause = tt; own = tt; waits = tt; answers = tt; tells = tt; done = tt; spins = (refl, refl) })
+    (λ call _. record { cause = tt; own = tt; waits = tt; answers = tt; done = tt })
+    (λ action _. record { cause = tt; own = tt; waits = tt; answers = tt; done = tt })
+    (λ choice _. record { cause = tt; own = tt; waits = tt; answers = tt; done = tt })
     (λ c place _ called stage.
     step_law z parties e.party past run.1 c called place (hold_of once_table e.party past) (word_in once_table past)
     (at_place z once_table parties AtOnce once_kept past run.1 e.party c place called stage)
@@ -347,7 +344,7 @@ once_descends {T} = record { begins = once_begun; goes = once_goes T; some = onc
 
 pub keeps_once : {T : Type 0} (z : Arithmetic T) (parties : ℕ) (past : List (Event T)) → IsPast z once_table parties past → KeepsOnce past
 keeps_once z parties [] run =
-    record { told = tt; exclusive = exclusive_unheld [] refl; cause = tt; law = record { unheld = refl; one = omega arith; ends = omega arith; own = tt; steps = tt; within = λ party. tt; waits = tt; answers = tt; tells = tt; done = tt; stays = tt; spins = tt; state = tells_state once_table [] (closure_front z once_table parties (runs_one z parties) [] run).state } }
+    record { told = tt; exclusive = exclusive_unheld [] refl; cause = tt; law = record { unheld = refl; one = omega arith; ends = omega arith; own = tt; steps = tt; within = λ party. tt; waits = tt; answers = tt; done = tt; stays = tt; state = tells_state once_table [] (closure_front z once_table parties (runs_one z parties) [] run).state } }
 keeps_once z parties (e ∷ past) run =
     let event = event_law z parties past e run in
     let front = closure_front z once_table parties (runs_one z parties) (e ∷ past) run in
@@ -357,7 +354,7 @@ keeps_once z parties (e ∷ past) run =
       told = tells_memory z once_table parties (e ∷ past) run;
       exclusive = exclusive_unheld _ unheld;
       cause = event.cause;
-      law = record { unheld = unheld; one = most.0; ends = most.2; own = event.own; steps = each_steps z parties (e ∷ past) run; within = ends_within once_table once_most once_rest once_descends z parties (e ∷ past) run; waits = event.waits; answers = event.answers; tells = event.tells; done = event.done; stays = stays_complete z once_table parties (runs_one z parties) past e run; spins = event.spins; state = tells_state once_table (e ∷ past) front.state };
+      law = record { unheld = unheld; one = most.0; ends = most.2; own = event.own; steps = each_steps z parties (e ∷ past) run; within = ends_within once_table once_most once_rest once_descends z parties (e ∷ past) run; waits = event.waits; answers = event.answers; done = event.done; stays = stays_complete z once_table parties (runs_one z parties) past e run; state = tells_state once_table (e ∷ past) front.state };
     }
 
 -- a once has no other word

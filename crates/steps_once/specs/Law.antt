@@ -1,5 +1,5 @@
 -- What a once keeps at every front of every run: one closure runs, once, and ends before any call tells of it.
-use Rattle.std.specs.Prelude.{◌≡◌, ◌≤◌, ℕ, ◌==◌, Bool, true, false, Option, Some, None, IfSome, List, [], ◌∷◌, MatchBool}
+use Rattle.std.specs.Prelude.{◌≡◌, ◌≤◌, ℕ, ◌==◌, Bool, true, false, Option, Some, None, List, [], ◌∷◌, MatchBool}
 use Rattle.steps_events.specs.declared.event.Word.TheVariants as words
 use Rattle.steps_events.specs.declared.event.Act.{Act}
 use Rattle.steps_events.specs.declared.event.Act.TheVariants as acts
@@ -13,7 +13,6 @@ use Rattle.steps_events.specs.Past.{holds_of, word_in}
 use Rattle.steps_events.specs.Moves.{is_step}
 use Rattle.steps_events.specs.Sights.{last_of}
 use Rattle.steps_events.specs.NextStep.{StepsAs, EndsWithin}
-use Rattle.steps_events.specs.Waits.{OnlySpins}
 use Rattle.steps_events.specs.Laws.{Keeps}
 use Rattle.steps_once.specs.Closures.{begins_in, ends_in, EndsItsOwn, WaitsForAnother, StaysTwo, TellsState, has_tried, RunsOnce}
 use Rattle.steps_once.specs.Table.{once_table}
@@ -52,15 +51,6 @@ abbrev pub AnswersAfterEnd : {T : Type 0} → List (Event T) → Type 0
 AnswersAfterEnd [] = Unit {0}
 AnswersAfterEnd (e ∷ past) = MatchBool (tells_end e.then) (ends_in past ≡ 1) (Unit {0})
 
-abbrev pub flag_of : {T : Type 0} → Then T → Option Bool
-flag_of (thens.Answers (answers.Flag flag)) = Some flag
-flag_of other = None
-
--- `IsCompleted` answers whether the word is 2
-abbrev pub TellsCompletion : {T : Type 0} → List (Event T) → Type 0
-TellsCompletion [] = Unit {0}
-TellsCompletion (e ∷ past) = IfSome (flag_of e.then) (λ flag. flag ≡ (word_in once_table past words.State == 2))
-
 abbrev pub is_done : {T : Type 0} → Then T → Bool
 is_done (thens.Answers answers.Done) = true
 is_done other = false
@@ -88,14 +78,10 @@ pub record OnceLaw {T : Type 0} (past : List (Event T)) : Type 0 where
   pub waits : WaitsForAnother past
   -- `Done` and `true` come after its end
   pub answers : AnswersAfterEnd past
-  -- `IsCompleted` answers whether the word is 2
-  pub tells : TellsCompletion past
   -- once `Done` has been answered the word is 2
   pub done : DoneAtTwo past
   -- and 2 it stays
   pub stays : StaysTwo once_table past
-  -- a call that waits spins: none stands at a closure, and none wakes
-  pub spins : OnlySpins past
   pub state : TellsState once_table past
 
 abbrev pub KeepsOnce : {T : Type 0} → List (Event T) → Type 0

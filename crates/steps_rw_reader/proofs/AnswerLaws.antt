@@ -20,23 +20,21 @@ use Rattle.steps_events.specs.declared.row.After.{After}
 use Rattle.steps_events.specs.declared.row.After.TheVariants as afters
 use Rattle.steps_events.specs.Arithmetic.{Arithmetic}
 use Rattle.steps_events.specs.Rows.{carried_out, value_told, within, refused}
-use Rattle.steps_events.specs.Past.{PendingCall, call_of, holds_of, hold_of, hold_after, word_in, latest_outcome, event}
-use Rattle.steps_events.specs.Sights.{keeps_asking}
-use Rattle.steps_events.specs.Asks.{sight_at, whole_call}
+use Rattle.steps_events.specs.Past.{PendingCall, holds_of, hold_of, hold_after, word_in, latest_outcome, event}
 use Rattle.steps_events.specs.RwAnswers.{acts_of, IsAnswered, AnswersByHold}
 use Rattle.steps_events.specs.Moves.{step_at, answer_fault, choose_fault}
 use Rattle.steps_events.specs.Runs.{IsPast}
 use Rattle.steps_events.proofs.RwAnswers.{wants, unlocked, IsTryOn, tries_on, enters, LeadsTo, leads_on, try_leads, answers_by_hold}
 use Rattle.steps_events.proofs.Parties.{IsKept, at_place}
-use Rattle.steps_events.proofs.Asks.{asked_maps, spins_no_more}
+use Rattle.steps_events.proofs.Asks.{waits_first, waits_as, spins_no_more}
 use Rattle.steps_events.proofs.Steps.{tells_memory}
 use Rattle.steps_rw_reader.specs.declared.RwReaderPlace.{RwReaderPlace}
 use Rattle.steps_rw_reader.specs.declared.RwReaderPlace.TheVariants as places
 use Rattle.steps_rw_reader.specs.Table.{lets_readers_in, try_read_look, read_look, rw_reader_table, rw_reader_begins, rw_reader_answered, rw_reader_grant}
-use Rattle.steps_rw_reader.specs.Law.{HasUnlocked, lock_spins, steps_in_vain, KeepsRwReader}
+use Rattle.steps_rw_reader.specs.Law.{HasUnlocked, steps_in_vain, rw_reader_waiting, KeepsRwReader}
 use Rattle.steps_rw_reader.proofs.ReaderLocks.{reader_lock_word, reader_lock_exclusive}
 use Rattle.steps_rw_reader.proofs.NextSteps.{each_steps, each_ends}
-use Rattle.steps_rw_reader.proofs.Laws.{AtRwReader, rw_reader_kept, asked_nothing, offered_nothing, rw_reader_is_lock, spins_bounded, IsAskedSo, event_law}
+use Rattle.steps_rw_reader.proofs.Laws.{AtRwReader, rw_reader_kept, asked_nothing, offered_nothing, rw_reader_is_lock, spins_bounded, event_law}
 
 -- Before its release an `Unlock` has done nothing; before its wake, all but that, and it has no hold any more and asks nobody.
 abbrev IsLeaving : {T : Type 0} → RwReaderPlace → List (Event T) → Option HoldKind → Type 0
@@ -188,7 +186,7 @@ answers_at_every_front {T} z parties past run =
 pub keeps_rw_reader : {T : Type 0} (z : Arithmetic T) (parties : ℕ) (past : List (Event T)) → IsPast z rw_reader_table parties past → KeepsRwReader past
 keeps_rw_reader z parties [] run =
     let word = reader_lock_word z rw_reader_table parties (rw_reader_is_lock z parties) [] run in
-    record { told = tt; exclusive = reader_lock_exclusive 0 [] word.counts; cause = tt; law = record { counts = word.counts; exact = tt; answers = tt; asks = tt; spins = λ party. tt; tells = tt; stops = tt; steps = tt; within = λ party. tt } }
+    record { told = tt; exclusive = reader_lock_exclusive 0 [] word.counts; cause = tt; law = record { counts = word.counts; exact = tt; answers = tt; waits = waits_first rw_reader_waiting; steps = tt; within = λ party. tt } }
 keeps_rw_reader z parties (e ∷ past) run =
     let event = event_law z parties past e run in
     let word = reader_lock_word z rw_reader_table parties (rw_reader_is_lock z parties) (e ∷ past) run in
@@ -200,10 +198,7 @@ keeps_rw_reader z parties (e ∷ past) run =
         counts = word.counts;
         exact = event.exact;
         answers = answers_at_every_front z parties (e ∷ past) run;
-        asks = asked_maps IsAskedSo (λ c act told. lock_spins c.call c.own ≡ 10000) (λ c act told so. so.0) (call_of e.party past) e.act e.then event.asks;
-        spins = spins_no_more z rw_reader_table parties AtRwReader steps_in_vain rw_reader_kept spins_bounded (e ∷ past) run;
-        tells = asked_maps IsAskedSo (λ c act told. sight_at words.State c.call c.own act ≡ Some told) (λ c act told so. so.1) (call_of e.party past) e.act e.then event.asks;
-        stops = asked_maps IsAskedSo (λ c act told. keeps_asking (whole_call c.call c.own) ≡ true) (λ c act told so. so.2) (call_of e.party past) e.act e.then event.asks;
+        waits = waits_as rw_reader_waiting past e event.asks (spins_no_more z rw_reader_table parties AtRwReader steps_in_vain rw_reader_kept spins_bounded (e ∷ past) run);
         steps = each_steps z parties (e ∷ past) run;
         within = each_ends z parties (e ∷ past) run;
       };

@@ -33,7 +33,7 @@ use Rattle.steps_events.proofs.Parties.{IsKept}
 use Rattle.steps_rw_reader.specs.declared.RwReaderPlace.{RwReaderPlace}
 use Rattle.steps_rw_reader.specs.declared.RwReaderPlace.TheVariants as places
 use Rattle.steps_rw_reader.specs.Table.{lets_readers_in, read_look, rw_reader_table, rw_reader_begins, rw_reader_after, rw_reader_answered}
-use Rattle.steps_rw_reader.specs.Law.{is_in_vain, waits, rw_reader_most, RwReaderStep}
+use Rattle.steps_rw_reader.specs.Law.{is_in_vain, left_refused, rw_reader_most, RwReaderStep}
 use Rattle.steps_rw_reader.proofs.Laws.{AtRwReader, rw_reader_kept, read_after}
 
 -- What the latest step of a call told, at each place.
@@ -161,19 +161,19 @@ once_outcome : {T : Type 0} (w : ℕ) (b : Bool) → outcome_of {T = T} {P = RwR
 once_outcome w true = refl
 once_outcome w false = refl
 
-read_outcome : {T : Type 0} (patience : Patience) (own : List (Event T)) (v : ℕ) (b : Bool) → HasSpun is_in_vain patience own → outcome_of {T = T} (read_after patience v b) ≡ cond b thens.GoesOn (waits own v)
+read_outcome : {T : Type 0} (patience : Patience) (own : List (Event T)) (v : ℕ) (b : Bool) → HasSpun is_in_vain patience own → outcome_of {T = T} (read_after patience v b) ≡ cond b thens.GoesOn (left_refused own v)
 read_outcome patience own v true spun = refl
 read_outcome patience own v false spun = refused_left is_in_vain places.ReadLook patience v own spun
 
 enter_outcome :
     {T : Type 0} (patience : Patience) (own : List (Event T)) (w : ℕ) (done : Bool) → HasSpun is_in_vain patience own →
-    outcome_of {T = T} (cond done (afters.Ends answers.Success) (read_look patience w)) ≡ cond done (thens.Answers answers.Success) (reader_looked lets_readers_in (waits own) w)
+    outcome_of {T = T} (cond done (afters.Ends answers.Success) (read_look patience w)) ≡ cond done (thens.Answers answers.Success) (reader_looked lets_readers_in (left_refused own) w)
 enter_outcome patience own w true spun = refl
 enter_outcome patience own w false spun = read_outcome patience own w (lets_readers_in w) spun
 
 write_outcome :
     {T : Type 0} (patience : Patience) (own : List (Event T)) (w : ℕ) (b : Bool) → HasSpun is_in_vain patience own →
-    outcome_of {T = T} (cond b (afters.Ends answers.Success) (within places.Write (refused patience w))) ≡ cond b (thens.Answers answers.Success) (waits own w)
+    outcome_of {T = T} (cond b (afters.Ends answers.Success) (within places.Write (refused patience w))) ≡ cond b (thens.Answers answers.Success) (left_refused own w)
 write_outcome patience own w true spun = refl
 write_outcome patience own w false spun = refused_left is_in_vain places.Write patience w own spun
 

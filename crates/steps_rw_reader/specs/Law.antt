@@ -19,7 +19,7 @@ use Rattle.steps_events.specs.Moves.{is_step}
 use Rattle.steps_events.specs.Sights.{is_sight, AtLastSight, HasAborted, HasMissed, spins_in, last_of}
 use Rattle.steps_events.specs.NextStep.{StepsAs, refused_waiting, EndsWithin}
 use Rattle.steps_events.specs.RwSteps.{gives_up, reader_looked, ReadsIn, WritesIn}
-use Rattle.steps_events.specs.Asks.{SpinCount, AsksAfterSpinning, SpinsNoMore, sight_at, TellsRefusal, whole_call, AsksUntilAbort}
+use Rattle.steps_events.specs.Asks.{SpinCount, sight_at, whole_call, Waiting, WaitsAs}
 use Rattle.steps_events.specs.Laws.{IsLocked, Keeps}
 use Rattle.steps_rw_reader.specs.Table.{lets_readers_in, rw_reader_table}
 
@@ -79,6 +79,10 @@ abbrev pub steps_in_vain : {T : Type 0} → SpinCount T
 steps_in_vain calls.WriteLock own = spins_in is_step own
 steps_in_vain other own = lock_spins other own
 
+-- how they wait
+abbrev pub rw_reader_waiting : {T : Type 0} → Waiting T
+rw_reader_waiting = record { spins = lock_spins; goes_on = steps_in_vain; refusing = sight_at words.State; wait = whole_call }
+
 -- what an `Unlock` has done once it ends, newest first: it has subtracted 1 from the word, or stored 0 there, and has then woken one
 abbrev pub HasUnlocked : {T : Type 0} → List (Act T) → Type 0
 HasUnlocked (acts.Woke wakes.One ∷ acts.Add words.State old put ∷ []) = put ≡ (old + (2 ^ 64 - 1)) % 2 ^ 64
@@ -94,15 +98,15 @@ Releases left (acts.Store words.State put) outcome = (put ≡ 0) × (outcome ≡
 Releases left act outcome = ⊥
 
 -- a refused call with a wait closure, which is told the value seen
-abbrev pub waits : {T : Type 0} → List (Event T) → ℕ → Then T
-waits own v = refused_waiting own (spins_in is_in_vain own) v
+abbrev pub left_refused : {T : Type 0} → List (Event T) → ℕ → Then T
+left_refused own v = refused_waiting own (spins_in is_in_vain own) v
 
 -- the next step of each call; no other has one
 abbrev pub RwReaderStep : {T : Type 0} → Call T → List (Event T) → Act T → Then T → Type 0
 RwReaderStep calls.TryReadLock own act outcome = ReadsIn lets_readers_in 1 gives_up gives_up own act outcome
-RwReaderStep calls.ReadLock own act outcome = ReadsIn lets_readers_in 1 (waits own) (reader_looked lets_readers_in (waits own)) own act outcome
+RwReaderStep calls.ReadLock own act outcome = ReadsIn lets_readers_in 1 (left_refused own) (reader_looked lets_readers_in (left_refused own)) own act outcome
 RwReaderStep calls.TryWriteLock own act outcome = (last_of is_step own ≡ None) × WritesIn 0 gives_up act outcome
-RwReaderStep calls.WriteLock own act outcome = WritesIn 0 (waits own) act outcome
+RwReaderStep calls.WriteLock own act outcome = WritesIn 0 (left_refused own) act outcome
 RwReaderStep calls.Unlock own act outcome = MatchOption (last_of is_step own) (Releases thens.GoesOn act outcome) (λ before. (act ≡ acts.Woke wakes.One) × (outcome ≡ thens.Answers answers.Done))
 RwReaderStep other own act outcome = ⊥
 
@@ -121,14 +125,8 @@ pub record RwReaderLaw {T : Type 0} (past : List (Event T)) : Type 0 where
   pub exact : IsExactGrant past
   -- a locking call answers `Success` with the hold of its kind, `Interrupted` with none; an `Unlock` ends with `Done`, freed and woken
   pub answers : AnswersByHold rw_reader_table HasUnlocked past
-  -- a wait closure is asked after 10000 spins, which are tries in vain of a `ReadLock` or a `WriteLock`
-  pub asks : AsksAfterSpinning lock_spins past
-  -- no call tries in vain more often and goes on by itself
-  pub spins : SpinsNoMore steps_in_vain past
-  -- the closure is told the value that the latest try saw
-  pub tells : TellsRefusal (sight_at words.State) past
-  -- and asked no more once it has answered Abort
-  pub stops : AsksUntilAbort whole_call past
+  -- a `ReadLock` or a `WriteLock` asks its closure after 10000 spins, which are tries in vain, and tells it the value seen
+  pub waits : WaitsAs rw_reader_waiting past
   -- each step is the one that follows its call's own, and leaves it by what it tells
   pub steps : StepsAs RwReaderStep past
   -- a call that waits for nobody makes so many steps at most, and answers with the last

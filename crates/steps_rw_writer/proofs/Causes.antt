@@ -34,18 +34,17 @@ use Rattle.steps_rw_writer.specs.declared.RwWriterPlace.{RwWriterPlace}
 use Rattle.steps_rw_writer.specs.declared.RwWriterPlace.TheVariants as places
 use Rattle.steps_rw_writer.specs.Table.{is_odd, lets_readers_in, lets_writer_in, lets_mark, is_marked, is_blocked, try_read_look, read_look, spins, marks_or_spins, unmarks_or_leaves, write_refused, write_look, last_look, released, woken_one, woken_all, rw_writer_table}
 use Rattle.steps_rw_writer.specs.Marks.{is_marked_after}
-use Rattle.steps_rw_writer.specs.Law.{CountsHolds, HasMissedAfterAbort, RwWriterCause, IsExactGrant, spins_of, told_by, KeepsRwWriter}
+use Rattle.steps_rw_writer.specs.Law.{CountsHolds, HasMissedAfterAbort, RwWriterCause, IsExactGrant, rw_writer_waiting, KeepsRwWriter}
 use Rattle.steps_rw_writer.proofs.WordLaws.{held_by_none, writer_lock_exclusive}
 use Rattle.steps_rw_writer.proofs.StageLaws.{same_call}
 use Rattle.steps_rw_writer.proofs.PlaceLaws.{AtRwWriter, Asks, MayGiveUp, failed_after_abort, IsLeaver, even_word, held_above, here}
 use Rattle.steps_rw_writer.proofs.DebtLaws.{counter_counts_adds, no_wake_is_lost, pays_next}
 use Rattle.steps_rw_writer.proofs.WakeLaws.{readers_are_woken}
 use Rattle.steps_rw_writer.proofs.NextSteps.{each_steps, each_ends}
-use Rattle.steps_rw_writer.proofs.SpinLaws.{IsAskedSo, event_asks}
-use Rattle.steps_rw_writer.proofs.MarkLaws.{event_marks, event_stands}
-use Rattle.steps_rw_writer.proofs.AskLaws.{spins_at_most, stands_after_last_look}
-use Rattle.steps_events.specs.Asks.{whole_call}
-use Rattle.steps_events.proofs.Asks.{asked_maps}
+use Rattle.steps_rw_writer.proofs.SpinLaws.{event_asks}
+use Rattle.steps_rw_writer.proofs.MarkLaws.{event_stands}
+use Rattle.steps_rw_writer.proofs.AskLaws.{spins_at_most}
+use Rattle.steps_events.proofs.Asks.{waits_first, waits_as}
 use Rattle.steps_rw_writer.proofs.AnswerLaws.{answers_at_every_front}
 use Rattle.steps_rw_writer.proofs.Laws.{event_keeps, writer_lock_word, setter_is_under_way}
 
@@ -480,7 +479,7 @@ event_exact {T} z parties past e run =
 pub keeps_rw_writer : {T : Type 0} (z : Arithmetic T) (parties : ℕ) (past : List (Event T)) → IsPast z rw_writer_table parties past → KeepsRwWriter past
 keeps_rw_writer z parties [] run =
     let word = writer_lock_word z parties [] run in
-    record { told = tt; cause = tt; exclusive = writer_lock_exclusive 0 [] false word.counts; law = record { counts = word.counts; mark = tt; keeps_out = tt; exact = tt; answers = tt; asks = tt; spins = spins_at_most z parties [] run; waits = tt; tells = tt; stops = tt; marks = tt; stands = tt; adds = counter_counts_adds z parties [] run; counted = no_wake_is_lost z parties [] run; pays = pays_next z parties [] run; woken = readers_are_woken z parties [] run; steps = tt; within = λ party. tt } }
+    record { told = tt; cause = tt; exclusive = writer_lock_exclusive 0 [] false word.counts; law = record { counts = word.counts; mark = tt; keeps_out = tt; exact = tt; answers = tt; waits = waits_first rw_writer_waiting; stands = tt; adds = counter_counts_adds z parties [] run; counted = no_wake_is_lost z parties [] run; pays = pays_next z parties [] run; woken = readers_are_woken z parties [] run; steps = tt; within = λ party. tt } }
 keeps_rw_writer z parties (e ∷ past) run =
     let word = event_keeps z parties past e run (writer_lock_word z parties past run.1) in
     let asks = event_asks z parties past e run in
@@ -494,12 +493,7 @@ keeps_rw_writer z parties (e ∷ past) run =
         keeps_out = word.keeps_out;
         exact = event_exact z parties past e run;
         answers = answers_at_every_front z parties (e ∷ past) run;
-        asks = asked_maps IsAskedSo (λ c act told. spins_of c.call c.own ≡ 10000) (λ c act told so. so.0) (call_of e.party past) e.act e.then asks;
-        spins = spins_at_most z parties (e ∷ past) run;
-        waits = stands_after_last_look z parties (e ∷ past) run;
-        tells = asked_maps IsAskedSo (λ c act told. told_by c.call c.own act ≡ Some told) (λ c act told so. so.1) (call_of e.party past) e.act e.then asks;
-        stops = asked_maps IsAskedSo (λ c act told. keeps_asking (whole_call c.call c.own) ≡ true) (λ c act told so. so.2) (call_of e.party past) e.act e.then asks;
-        marks = event_marks z parties past e run;
+        waits = waits_as rw_writer_waiting past e asks (spins_at_most z parties (e ∷ past) run);
         stands = event_stands z parties past e run;
         adds = counter_counts_adds z parties (e ∷ past) run;
         counted = no_wake_is_lost z parties (e ∷ past) run;

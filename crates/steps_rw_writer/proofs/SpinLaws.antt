@@ -33,7 +33,7 @@ use Rattle.steps_rw_writer.specs.declared.RwWriterPlace.{RwWriterPlace}
 use Rattle.steps_rw_writer.specs.declared.RwWriterPlace.TheVariants as places
 use Rattle.steps_rw_writer.specs.Table.{lets_readers_in, lets_writer_in, lets_mark, is_marked, is_blocked, is_mark, try_read_look, read_look, spins, marks_or_spins, unmarks_or_leaves, write_refused, write_look, last_look, released, woken_one, woken_all, rw_writer_table, rw_writer_begins, rw_writer_answered}
 use Rattle.steps_rw_writer.specs.Debts.{loads_count}
-use Rattle.steps_rw_writer.specs.Law.{is_read_in_vain, leaves_no_move, is_write_in_vain, write_spins_in, spins_of, has_just_loaded, count_told, told_by}
+use Rattle.steps_rw_writer.specs.Law.{is_read_in_vain, leaves_no_move, is_write_in_vain, write_spins_in, spins_of, count_told, told_by}
 use Rattle.steps_rw_writer.proofs.WordLaws.{no_mark, is_marking}
 use Rattle.steps_rw_writer.proofs.PlaceLaws.{Clears, grown, mark_clears, writer_enters, asked_nothing, offered_nothing}
 
@@ -59,7 +59,7 @@ Leaves other own = Unit {0}
 abbrev pub HasSpunAt : {T : Type 0} → RwWriterPlace → PendingCall T → Option HoldKind → Type 0
 HasSpunAt (places.ReadLook patience) c hold = (c.call ≡ calls.ReadLock) × HasSpun is_read_in_vain patience c.own
 HasSpunAt (places.Read seen to patience) c hold = (c.call ≡ calls.ReadLock) × HasSpun is_read_in_vain patience c.own × (latest_outcome c.own ≡ thens.GoesOn)
-HasSpunAt (places.WriteLook patience) c hold = (c.call ≡ calls.WriteLock) × Spun patience c.own × (has_just_loaded c.own ≡ false)
+HasSpunAt (places.WriteLook patience) c hold = (c.call ≡ calls.WriteLock) × Spun patience c.own
 HasSpunAt (places.Enter seen patience) c hold = (c.call ≡ calls.WriteLock) × Spun patience c.own × (is_mark seen (2 ^ 64 - 1) ≡ false) × (latest_outcome c.own ≡ thens.GoesOn)
 HasSpunAt (places.Mark seen to patience) c hold = (c.call ≡ calls.WriteLock) × Spun patience c.own × (is_mark seen to ≡ true) × (latest_outcome c.own ≡ thens.GoesOn) × (patience.keep ≡ true)
 HasSpunAt (places.Unmark seen to) c hold = (c.call ≡ calls.WriteLock) × GivesUp c.own × Clears seen to
@@ -115,7 +115,7 @@ begins_spun {T} calls.TryWriteLock place hold is allowed =
     subst (λ p. HasSpunAt {T = T} p (record { call = calls.TryWriteLock; own = [] }) hold) made tt
 begins_spun {T} calls.WriteLock place hold is allowed =
     let made : places.WriteLook (record { spins = 0; keep = true }) ≡ place = cc in
-    subst (λ p. HasSpunAt {T = T} p (record { call = calls.WriteLock; own = [] }) hold) made (refl, (refl, omega arith, refl), refl)
+    subst (λ p. HasSpunAt {T = T} p (record { call = calls.WriteLock; own = [] }) hold) made (refl, (refl, omega arith, refl))
 begins_spun {T} calls.Unlock place hold is allowed =
     let made : places.Release ≡ place = cc in
     subst (λ p. HasSpunAt {T = T} p (record { call = calls.Unlock; own = [] }) hold) made tt
@@ -166,7 +166,7 @@ spins_spun {T} c hold number act patience call spun quiet tries asks = by_test (
   where
     by_test : (b : Bool) → nat_lt patience.spins 10000 ≡ b →
         SpunAfter {T = T} c hold number act (cond b (afters.At (places.WriteLook (record { spins = patience.spins + 1; keep = patience.keep }))) (afters.At (places.LoadCounter patience)))
-    by_test true is = (call, (rw (tries, quiet.0) (omega (arith, spun.0)), spins_left patience.spins is, rw quiet.1 spun.2), quiet.0)
+    by_test true is = (call, (rw (tries, quiet.0) (omega (arith, spun.0)), spins_left patience.spins is, rw quiet.1 spun.2))
     by_test false is =
         let spent : patience.spins ≡ 10000 = spins_spent patience.spins spun.1 is in
         (call, (rw quiet.0 (omega (arith, spun.0, spent)), spent, refl, rw quiet.1 (spun.2 ∙ asks), asks))
@@ -233,7 +233,7 @@ last_look_spun {T} c hold number count v patience call spun loaded = by_test (is
 
     by_test : (b : Bool) → SpunAfter {T = T} c hold number (acts.Load words.State v) (cond b (afters.Waits (places.WriteLook patience) count) (write_look patience v))
     by_test true = (
-      (call, (omega (arith, so.0), so.1, so.2), refl),
+      (call, (omega (arith, so.0), so.1, so.2)),
       (
         subst (λ (k : Call T). spins_of k c.own ≡ 10000) (sym call) spun.0,
         subst (λ (k : Call T). told_by k c.own (acts.Load words.State v) ≡ Some count) (sym call) (ap count_told loaded),
@@ -343,7 +343,7 @@ answers_spun :
     HasSpunAt {T = T} (rw_writer_answered place action) (record { call = c.call; own = event number (acts.Answered action) thens.GoesOn ∷ c.own }) hold
 answers_spun (places.ReadLook patience) c hold action number at waits = (at.0, answered_spun is_read_in_vain patience c.own number action at.1 refl)
 answers_spun (places.Read seen to patience) c hold action number at waits = absurd (asked_nothing c.own at.2 waits)
-answers_spun (places.WriteLook patience) c hold action number at waits = (at.0, (omega (arith, at.1.0), at.1.1, answered_keep patience.keep action c.own number at.1.2), refl)
+answers_spun (places.WriteLook patience) c hold action number at waits = (at.0, (omega (arith, at.1.0), at.1.1, answered_keep patience.keep action c.own number at.1.2))
 answers_spun (places.Enter seen patience) c hold action number at waits = absurd (asked_nothing c.own at.3 waits)
 answers_spun (places.Mark seen to patience) c hold action number at waits = absurd (asked_nothing c.own at.3 waits)
 answers_spun (places.LoadCounter patience) c hold action number at waits = absurd (asked_nothing c.own at.1.2 waits)
@@ -359,7 +359,7 @@ chooses_spun :
     HasSpunAt {T = T} place (record { call = c.call; own = event number (acts.Chosen choice) thens.GoesOn ∷ c.own }) hold
 chooses_spun (places.ReadLook patience) c hold choice number at stands = (at.0, passed_on is_read_in_vain patience c.own number (acts.Chosen choice) thens.GoesOn at.1 refl refl)
 chooses_spun (places.Read seen to patience) c hold choice number at stands = absurd (offered_nothing c.own at.2 stands)
-chooses_spun (places.WriteLook patience) c hold choice number at stands = (at.0, (omega (arith, at.1.0), at.1.1, at.1.2), refl)
+chooses_spun (places.WriteLook patience) c hold choice number at stands = (at.0, (omega (arith, at.1.0), at.1.1, at.1.2))
 chooses_spun (places.Enter seen patience) c hold choice number at stands = absurd (offered_nothing c.own at.3 stands)
 chooses_spun (places.Mark seen to patience) c hold choice number at stands = absurd (offered_nothing c.own at.3 stands)
 chooses_spun (places.LoadCounter patience) c hold choice number at stands = absurd (offered_nothing c.own at.1.2 stands)

@@ -19,7 +19,7 @@ use Rattle.steps_events.specs.Moves.{is_step}
 use Rattle.steps_events.specs.Sights.{is_sight, is_beginning, AtLastSight, HasAborted, HasMissed, OtherWroteSinceSight, sight_of, goes_on, stands_at_wait, spins_in, last_of, keeps_asking}
 use Rattle.steps_events.specs.NextStep.{StepsAs, refused_waiting, EndsWithin, step_before, Loads, Exchanges}
 use Rattle.steps_events.specs.RwSteps.{gives_up, reader_looked, ReadsIn, WritesIn}
-use Rattle.steps_events.specs.Asks.{SpinCount, but_last_try, AsksAfterSpinning, SpinsNoMore, Refusing, TellsRefusal, whole_call, AsksUntilAbort}
+use Rattle.steps_events.specs.Asks.{SpinCount, but_last_try, Refusing, whole_call, Waiting, WaitsAs}
 use Rattle.steps_events.specs.Laws.{IsLocked, Keeps}
 use Rattle.steps_rw_writer.specs.Table.{lets_readers_in, lets_writer_in, lets_mark, is_marked, is_blocked, is_mark, rw_writer_table}
 use Rattle.steps_rw_writer.specs.Marks.{setter_of, is_marked_after, has_marked}
@@ -141,23 +141,6 @@ spins_on calls.ReadLock own = spins_in is_read_in_vain own
 spins_on calls.WriteLock own = but_last_try own (write_spins_in true own)
 spins_on call own = 0
 
--- the latest of these events loaded the counter
-abbrev pub has_just_loaded : {T : Type 0} → List (Event T) → Bool
-has_just_loaded [] = false
-has_just_loaded (e ∷ own) = loads_count e.act
-
--- a writer's last look, which follows its load of the counter
-abbrev pub is_last_look : {T : Type 0} → Act T → List (Event T) → Bool
-is_last_look (acts.Load words.State seen) own = has_just_loaded own
-is_last_look act own = false
-
--- where its last look is in vain, a writer stands
-abbrev pub StandsAfterLastLook : {T : Type 0} → List (Event T) → Type 0
-StandsAfterLastLook [] = Unit {0}
-StandsAfterLastLook (e ∷ past) =
-    MatchOption (call_of e.party past) (Unit {0})
-    (λ c. c.call ≡ calls.WriteLock → is_last_look e.act c.own ≡ true → is_write_in_vain e.act ≡ true → stands_at_wait e.then ≡ true)
-
 -- What a wait closure is told: of a reader what its latest act saw of the word, of a writer the count that it loaded last.
 
 abbrev pub count_told : {T : Type 0} → Option (Act T) → Option ℕ
@@ -169,34 +152,11 @@ told_by calls.ReadLock own act = sight_of words.State act
 told_by calls.WriteLock own act = count_told (last_of loads_count own)
 told_by call own act = None
 
--- A writer marks before it waits.
+-- how they wait
+abbrev pub rw_writer_waiting : {T : Type 0} → Waiting T
+rw_writer_waiting = record { spins = spins_of; goes_on = spins_on; refusing = told_by; wait = whole_call }
 
--- what an act tells that was a look: a load of the word, or an exchange that failed
-abbrev pub look_of : {T : Type 0} → Act T → Option ℕ
-look_of (acts.Load words.State seen) = Some seen
-look_of (acts.Exchange words.State from to found false) = Some found
-look_of act = None
-
--- what the call's latest act told, where that was a look after which it goes on by itself
-abbrev pub latest_look : {T : Type 0} → List (Event T) → Option ℕ
-latest_look [] = None
-latest_look (e ∷ own) = if goes_on e.then then look_of e.act else None
-
--- readers are in, and the mark is not set, but may be
-abbrev pub is_unmarked : ℕ → Bool
-is_unmarked word = lets_mark word && not (lets_writer_in word)
-
--- an exchange of this value for one more
-abbrev pub SetsMarkFrom : {T : Type 0} → ℕ → Act T → Type 0
-SetsMarkFrom seen (acts.Exchange words.State from to found done) = (from ≡ seen) × (to ≡ seen + 1)
-SetsMarkFrom seen act = ⊥
-
--- a `WriteLock` whose look shows readers and no mark tries in its next step to set it
-abbrev pub MarksBesideReaders : {T : Type 0} → List (Event T) → Type 0
-MarksBesideReaders [] = Unit {0}
-MarksBesideReaders (e ∷ past) =
-    MatchOption (call_of e.party past) (Unit {0})
-    (λ c. c.call ≡ calls.WriteLock → MatchOption (latest_look c.own) (Unit {0}) (λ seen. is_unmarked seen ≡ true → SetsMarkFrom seen e.act))
+-- Where a writer stands.
 
 -- a writer's wait closure is asked only by an event that sees the word, where a write hold stands, or the mark and a read hold
 abbrev pub StandsWhereBlocked : {T : Type 0} → List (Event T) → Type 0
@@ -336,19 +296,9 @@ pub record RwWriterLaw {T : Type 0} (past : List (Event T)) : Type 0 where
   pub exact : IsExactGrant past
   -- a locking call answers `Success` with the hold of its kind, `Interrupted` with none; an `Unlock` ends with `Done`, freed, counted and woken
   pub answers : AnswersByHold rw_writer_table HasUnlocked past
-  -- a wait closure is asked after 10000 spins
-  pub asks : AsksAfterSpinning spins_of past
-  -- no call spins more often
-  pub spins : SpinsNoMore spins_on past
-  -- and a writer that has loaded the counter, and then looks in vain, stands
-  pub waits : StandsAfterLastLook past
-  -- a reader's closure is told what the latest look saw, a writer's the count that it loaded last
-  pub tells : TellsRefusal told_by past
-  -- and asked no more once it has answered Abort
-  pub stops : AsksUntilAbort whole_call past
-  -- a writer that sees readers and no mark tries to set it next
-  pub marks : MarksBesideReaders past
-  -- and stands only where the lock is blocked: by a writer, or by the mark beside readers
+  -- a `ReadLock` or a `WriteLock` asks its closure after 10000 spins; a reader tells it what its latest look saw, a writer the count that it loaded last
+  pub waits : WaitsAs rw_writer_waiting past
+  -- a writer stands only where the lock is blocked: by a writer, or by the mark beside readers
   pub stands : StandsWhereBlocked past
   -- the counter is the number of adds on it so far, modulo 2 ^ 64
   pub adds : CounterCountsAdds past

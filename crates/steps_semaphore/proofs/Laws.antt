@@ -25,19 +25,19 @@ use Rattle.steps_events.specs.Past.{same_word, PendingCall, call_of, hold_of, wo
 use Rattle.steps_events.specs.Moves.{Move, step_at, answer_fault, is_step}
 use Rattle.steps_events.specs.Runs.{IsPast}
 use Rattle.steps_events.specs.Sights.{sight_of, is_sight, keeps_asking, HasAborted, last_of}
-use Rattle.steps_events.specs.Asks.{WhereAsked, sight_at, whole_call}
+use Rattle.steps_events.specs.Asks.{WhereAsked}
 use Rattle.steps_events.specs.Laws.{is_apart, Lacks, is_refusal}
 use Rattle.steps_events.proofs.NextStep.{Descends, ends_within}
 use Rattle.steps_events.proofs.Holds.{some_same, eqb_same, no_holds, exclusive_unheld}
 use Rattle.steps_events.proofs.Steps.{by_move, tells_memory}
 use Rattle.steps_events.proofs.Spins.{begun_spun, HasSpun}
 use Rattle.steps_events.proofs.Parties.{IsKept, at_place}
-use Rattle.steps_events.proofs.Asks.{asked_maps, spins_no_more}
+use Rattle.steps_events.proofs.Asks.{waits_first, waits_as, spins_no_more}
 use Rattle.steps_semaphore.specs.declared.SemaphorePlace.{SemaphorePlace}
 use Rattle.steps_semaphore.specs.declared.SemaphorePlace.TheVariants as places
 use Rattle.steps_semaphore.specs.Table.{semaphore_table, semaphore_begins, semaphore_intent, semaphore_after, semaphore_answered}
 use Rattle.steps_semaphore.specs.Permits.{permits_given, permits_taken, is_take, number_answered}
-use Rattle.steps_semaphore.specs.Law.{permits_posted, semaphore_gives, semaphore_value, SemaphoreCause, is_empty_look, wait_spins, permits_seen, look_of, refused_as, IsLeftBy, IsPostStep, SemaphoreStep, KeepsSemaphore, semaphore_most}
+use Rattle.steps_semaphore.specs.Law.{permits_posted, semaphore_gives, semaphore_value, SemaphoreCause, is_empty_look, wait_spins, permits_seen, look_of, refused_as, IsLeftBy, IsPostStep, SemaphoreStep, KeepsSemaphore, semaphore_most, semaphore_waiting}
 use Rattle.steps_semaphore.proofs.Permits.{Effect, Tallies, tallies_first, tallies_after, lowered}
 use Rattle.steps_semaphore.proofs.WaitSteps.{one_less, AtWait, WaitLeads, wait_leads, wait_goes_on, wait_effect, wait_answered, wait_chosen}
 
@@ -390,7 +390,7 @@ semaphore_descends {T} initial = record { begins = semaphore_begun; goes = semap
 
 pub keeps_semaphore : {T : Type 0} (z : Arithmetic T) (initial parties : ℕ) (past : List (Event T)) → initial < 2 ^ 64 → IsPast z (semaphore_table initial) parties past → KeepsSemaphore initial past
 keeps_semaphore z initial parties [] fits run =
-    record { told = tt; exclusive = exclusive_unheld [] refl; cause = tt; law = record { unheld = refl; permits = record { at_most = omega arith; told = tt; lowers = tt }; asks = tt; spins = λ party. tt; tells = tt; stops = tt; steps = tt; within = λ party. tt } }
+    record { told = tt; exclusive = exclusive_unheld [] refl; cause = tt; law = record { unheld = refl; permits = record { at_most = omega arith; told = tt; lowers = tt }; waits = waits_first semaphore_waiting; steps = tt; within = λ party. tt } }
 keeps_semaphore z initial parties (e ∷ past) fits run =
     let before = semaphore_tallies z initial parties fits past run.1 in
     let after = semaphore_tallies z initial parties fits (e ∷ past) run in
@@ -407,10 +407,7 @@ keeps_semaphore z initial parties (e ∷ past) fits run =
           told = (rw before.0 at event.told, rw before.0 at event.answered);
           lowers = lowered _ _ _ _ _ (is_take words.State e.act) before event.effect;
         };
-        asks = asked_maps IsAskedSo (λ c act told. wait_spins c.call c.own ≡ 10000) (λ c act told so. so.0) (call_of e.party past) e.act e.then event.asks;
-        spins = spins_no_more z (semaphore_table initial) parties AtSemaphore wait_spins (semaphore_kept initial) spins_bounded (e ∷ past) run;
-        tells = asked_maps IsAskedSo (λ c act told. sight_at words.State c.call c.own act ≡ Some told) (λ c act told so. so.1) (call_of e.party past) e.act e.then event.asks;
-        stops = asked_maps IsAskedSo (λ c act told. keeps_asking (whole_call c.call c.own) ≡ true) (λ c act told so. so.2) (call_of e.party past) e.act e.then event.asks;
+        waits = waits_as semaphore_waiting past e event.asks (spins_no_more z (semaphore_table initial) parties AtSemaphore wait_spins (semaphore_kept initial) spins_bounded (e ∷ past) run);
         steps = event.steps;
         within = ends_within (semaphore_table initial) semaphore_most semaphore_rest (semaphore_descends initial) z parties (e ∷ past) run;
       };

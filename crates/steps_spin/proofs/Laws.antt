@@ -16,10 +16,9 @@ use Rattle.steps_events.specs.declared.row.After.{After}
 use Rattle.steps_events.specs.declared.row.After.TheVariants as afters
 use Rattle.steps_events.specs.Arithmetic.{Arithmetic}
 use Rattle.steps_events.specs.Rows.{carried_out, value_told, outcome_of, place_after}
-use Rattle.steps_events.specs.Past.{Hold, same_word, PendingCall, call_of, holds_of, hold_of, hold_among, word_in, latest_outcome, event, is_failure, failures_in}
+use Rattle.steps_events.specs.Past.{Hold, same_word, PendingCall, call_of, holds_of, hold_of, hold_among, word_in, latest_outcome, event}
 use Rattle.steps_events.specs.Moves.{Move, step_at, hold_fault, answer_fault, choose_fault, is_step}
 use Rattle.steps_events.specs.Runs.{IsPast}
-use Rattle.steps_events.specs.Waits.{stands, is_wake}
 use Rattle.steps_events.specs.Laws.{Lacks, is_refusal}
 use Rattle.steps_events.proofs.Holds.{eqb_same, some_same}
 use Rattle.steps_events.proofs.Steps.{by_move, tells_memory}
@@ -121,31 +120,29 @@ pub record EventLaw {T : Type 0} (party : ℕ) (past : List (Event T)) (pending 
   pub cause : MatchBool (is_refusal m.outcome) (MatchOption pending ⊥ (λ c. SpinCause c.call party (event party m.act m.outcome ∷ past))) (Unit {0})
   pub leaves : MatchBool (is_step m.act) (MatchOption pending ⊥ (λ c. IsLeft c.call (is_unheld (holds_of spin_table past)) m.outcome)) (Unit {0})
   pub hands_on : IsHandedOn party m.outcome (holds_of spin_table past) (holds_after spin_table party pending m.act (holds_of spin_table past))
-  pub spins : (stands m.outcome ≡ false) × (is_wake m.act ≡ false)
-  pub exchanges : is_failure m.act ≡ false
 
 try_lock_law :
     {T : Type 0} (party : ℕ) (past : List (Event T)) (c : PendingCall T) (w : ℕ) (free : Bool) → c.call ≡ calls.TryLock → (w == 0) ≡ free → IsFreeOrHeld w (holds_of spin_table past) →
     EventLaw party past (Some c) (record { act = acts.Swap words.State w 1; outcome = outcome_of {T = T} {P = SpinPlace} (tried free) })
-try_lock_law party past c zero true is e (inl none) = record { cause = tt; leaves = rw (is, none.1) refl; hands_on = (none.1, rw (is, none.1) refl); spins = (refl, refl); exchanges = refl }
+try_lock_law party past c zero true is e (inl none) = record { cause = tt; leaves = rw (is, none.1) refl; hands_on = (none.1, rw (is, none.1) refl) }
 try_lock_law party past c zero true is e (inr held) = absurd (omega (arith, held.1))
 try_lock_law party past c zero false is e law = absurd cc
 try_lock_law party past c (suc w) true is e law = absurd (omega (arith, eqb-true (suc w) 0 e))
 try_lock_law party past c (suc w) false is e (inl none) = absurd (omega (arith, none.0))
 try_lock_law party past c (suc w) false is e (inr held) =
-    record { cause = rw (is, eqb_same party) (rw held.2 (omega arith)); leaves = rw (is, held.2) refl; hands_on = refl; spins = (refl, refl); exchanges = refl }
+    record { cause = rw (is, eqb_same party) (rw held.2 (omega arith)); leaves = rw (is, held.2) refl; hands_on = refl }
 
 lock_law :
     {T : Type 0} (party : ℕ) (past : List (Event T)) (c : PendingCall T) (w : ℕ) (free : Bool) → (c.call ≡ calls.Lock) ⊎ (c.call ≡ calls.BlockingLock) → (w == 0) ≡ free → IsFreeOrHeld w (holds_of spin_table past) →
     EventLaw party past (Some c) (record { act = acts.Swap words.State w 1; outcome = outcome_of {T = T} {P = SpinPlace} (swapped free) })
-lock_law party past c zero true (inl is) e (inl none) = record { cause = tt; leaves = rw (is, none.1) refl; hands_on = (none.1, rw (is, none.1) refl); spins = (refl, refl); exchanges = refl }
-lock_law party past c zero true (inr is) e (inl none) = record { cause = tt; leaves = rw (is, none.1) refl; hands_on = (none.1, rw (is, none.1) refl); spins = (refl, refl); exchanges = refl }
+lock_law party past c zero true (inl is) e (inl none) = record { cause = tt; leaves = rw (is, none.1) refl; hands_on = (none.1, rw (is, none.1) refl) }
+lock_law party past c zero true (inr is) e (inl none) = record { cause = tt; leaves = rw (is, none.1) refl; hands_on = (none.1, rw (is, none.1) refl) }
 lock_law party past c zero true is e (inr held) = absurd (omega (arith, held.1))
 lock_law party past c zero false is e law = absurd cc
 lock_law party past c (suc w) true is e law = absurd (omega (arith, eqb-true (suc w) 0 e))
 lock_law party past c (suc w) false is e (inl none) = absurd (omega (arith, none.0))
-lock_law party past c (suc w) false (inl is) e (inr held) = record { cause = tt; leaves = rw (is, held.2) refl; hands_on = refl; spins = (refl, refl); exchanges = refl }
-lock_law party past c (suc w) false (inr is) e (inr held) = record { cause = tt; leaves = rw (is, held.2) refl; hands_on = refl; spins = (refl, refl); exchanges = refl }
+lock_law party past c (suc w) false (inl is) e (inr held) = record { cause = tt; leaves = rw (is, held.2) refl; hands_on = refl }
+lock_law party past c (suc w) false (inr is) e (inr held) = record { cause = tt; leaves = rw (is, held.2) refl; hands_on = refl }
 
 -- who has a hold is the one holder
 only_holder : (w party : ℕ) (holds : List Hold) → IsFreeOrHeld w holds → is_some (hold_among party holds) ≡ true → ◌≡◌ {A = List Hold} holds ((party, kinds.Write) ∷ [])
@@ -159,7 +156,7 @@ only_holder w party holds (inr held) has = held.2 ∙ by_test (held.0 == party) 
 unlock_law :
     {T : Type 0} (party : ℕ) (past : List (Event T)) (c : PendingCall T) → c.call ≡ calls.Unlock → holds_of spin_table past ≡ (party, kinds.Write) ∷ [] →
     EventLaw party past (Some c) (record { act = acts.Store words.State 0; outcome = thens.Answers answers.Done })
-unlock_law party past c is mine = record { cause = tt; leaves = rw is refl; hands_on = (mine, rw (mine, eqb_same party) refl); spins = (refl, refl); exchanges = refl }
+unlock_law party past c is mine = record { cause = tt; leaves = rw is refl; hands_on = (mine, rw (mine, eqb_same party) refl) }
 
 step_law :
     {T : Type 0} (party : ℕ) (past : List (Event T)) (c : PendingCall T) (place : SpinPlace) (memory : Word → ℕ) → AtSpin place c (hold_of spin_table party past) →
@@ -172,9 +169,9 @@ event_law : {T : Type 0} (z : Arithmetic T) (parties : ℕ) (past : List (Event 
 event_law {T} z parties past e run =
     by_move spin_table (call_of e.party past) (hold_of spin_table e.party past) (word_in spin_table past) (λ (k : Option (PendingCall T)) (m : Move T). EventLaw e.party past k m)
     run.0.0 (record { act = e.act; outcome = e.then })
-    (λ call _. record { cause = tt; leaves = tt; hands_on = refl; spins = (refl, refl); exchanges = refl })
-    (λ action _. record { cause = tt; leaves = tt; hands_on = refl; spins = (refl, refl); exchanges = refl })
-    (λ choice _. record { cause = tt; leaves = tt; hands_on = refl; spins = (refl, refl); exchanges = refl })
+    (λ call _. record { cause = tt; leaves = tt; hands_on = refl })
+    (λ action _. record { cause = tt; leaves = tt; hands_on = refl })
+    (λ choice _. record { cause = tt; leaves = tt; hands_on = refl })
     (λ c place _ called stage.
     step_law e.party past c place (word_in spin_table past) (at_place z spin_table parties AtSpin spin_kept past run.1 e.party c place called stage) (lock_word z spin_table parties (spin_is_lock z parties) past run.1))
     run.0.1.moved
@@ -218,11 +215,6 @@ spin_some places.Release left is = omega (arith, some_same 1 left is)
 spin_descends : {T : Type 0} → Descends {T = T} spin_table spin_most spin_rest
 spin_descends {T} = record { begins = spin_begun; goes = spin_goes T; some = spin_some; answered = λ place action. refl; chosen = λ place choice. refl }
 
--- no exchange fails: there is none
-never_fails : {T : Type 0} (z : Arithmetic T) (parties : ℕ) (past : List (Event T)) → IsPast z spin_table parties past → failures_in past ≡ 0
-never_fails z parties [] run = refl
-never_fails z parties (e ∷ past) run = rw (event_law z parties past e run).exchanges (omega (arith, never_fails z parties past run.1))
-
 counts_holds : {T : Type 0} (past : List (Event T)) → IsFreeOrHeld (word_in spin_table past words.State) (holds_of spin_table past) → CountsHolds past
 counts_holds past (inl none) = record { counted = none.0 ∙ sym (ap length none.1); most = omega (arith, none.0) }
 counts_holds past (inr held) = record { counted = held.1 ∙ sym (ap length held.2); most = omega (arith, held.1) }
@@ -233,7 +225,7 @@ keeps_spin z parties [] run =
       told = tt;
       exclusive = lock_exclusive 0 [] (lock_word z spin_table parties (spin_is_lock z parties) [] run);
       cause = tt;
-      law = record { leaves = tt; steps = tt; within = λ party. tt; hands_on = tt; spins = tt; word = counts_holds [] (lock_word z spin_table parties (spin_is_lock z parties) [] run); failed = refl };
+      law = record { leaves = tt; steps = tt; within = λ party. tt; hands_on = tt; word = counts_holds [] (lock_word z spin_table parties (spin_is_lock z parties) [] run) };
     }
 keeps_spin z parties (e ∷ past) run =
     let event = event_law z parties past e run in
@@ -242,7 +234,7 @@ keeps_spin z parties (e ∷ past) run =
       told = tells_memory z spin_table parties (e ∷ past) run;
       exclusive = lock_exclusive _ (holds_of spin_table (e ∷ past)) held;
       cause = event.cause;
-      law = record { leaves = event.leaves; steps = steps_as z spin_table parties AtSpin SpinStep spin_kept spin_step (e ∷ past) run; within = ends_within spin_table spin_most spin_rest spin_descends z parties (e ∷ past) run; hands_on = event.hands_on; spins = event.spins; word = counts_holds (e ∷ past) held; failed = never_fails z parties (e ∷ past) run };
+      law = record { leaves = event.leaves; steps = steps_as z spin_table parties AtSpin SpinStep spin_kept spin_step (e ∷ past) run; within = ends_within spin_table spin_most spin_rest spin_descends z parties (e ∷ past) run; hands_on = event.hands_on; word = counts_holds (e ∷ past) held };
     }
 
 -- a spin lock has no other word

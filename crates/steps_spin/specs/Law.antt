@@ -10,11 +10,10 @@ use Rattle.steps_events.specs.declared.event.Then.{Then}
 use Rattle.steps_events.specs.declared.event.Then.TheVariants as thens
 use Rattle.steps_events.specs.declared.event.Event.{Event}
 use Rattle.steps_events.specs.declared.hold.HoldKind.TheVariants as kinds
-use Rattle.steps_events.specs.Past.{Hold, call_of, holds_of, word_in, failures_in}
+use Rattle.steps_events.specs.Past.{Hold, call_of, holds_of, word_in}
 use Rattle.steps_events.specs.Moves.{is_step}
 use Rattle.steps_events.specs.Sights.{AtLastSight}
 use Rattle.steps_events.specs.NextStep.{StepsAs, EndsWithin}
-use Rattle.steps_events.specs.Waits.{OnlySpins}
 use Rattle.steps_events.specs.Laws.{IsLocked, Keeps}
 use Rattle.steps_spin.specs.Table.{spin_table}
 
@@ -90,12 +89,8 @@ pub record SpinLaw {T : Type 0} (past : List (Event T)) : Type 0 where
   pub within : EndsWithin spin_most past
   -- `Success` takes the lock from nobody, `Done` gives it back, and nothing else changes who has it
   pub hands_on : HandsOn past
-  -- a call that waits only spins: none stands at a closure, and none wakes
-  pub spins : OnlySpins past
   -- the word is the number of holds, 1 at most
   pub word : CountsHolds past
-  -- a swap does not count as a failed exchange
-  pub failed : failures_in past ≡ 0
 
 abbrev pub KeepsSpin : {T : Type 0} → List (Event T) → Type 0
 KeepsSpin past = Keeps spin_table SpinCause SpinLaw past
