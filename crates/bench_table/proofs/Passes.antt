@@ -1,18 +1,12 @@
 -- A pass over a list that writes each element once.
 use Rattle.std.proofs.Common.{◌≡◌, ℕ, ◌+◌, ◌<◌, ◌≤◌, List, [], ◌∷◌, length, map, get_or, take, drop, refl, sym, ◌∙◌, ap, add-zero, arith}
 use Rattle.std.proofs.Math.ListN.{set}
-use Rattle.std.proofs.lemmas.List.{take_more_set, take_all, take_more, map-append, get_or-drop, drop-set-lt, drop-drop}
+use Rattle.std.proofs.lemmas.List.{take_more_set, take_more, map-append, get_or-drop, drop-set-lt, drop-drop}
 
 -- a pass has come to i: what f sees of the elements before it is g of what f saw, and the others are as they were
 pub record HasPassed {X Y : Type 0} (f : X → Y) (g : Y → Y) (before now : List X) (i : ℕ) : Type 0 where
   pub front : map f (take i now) ≡ map g (map f (take i before))
   pub back : drop i now ≡ drop i before
-
-pub passed_start : {X Y : Type 0} (f : X → Y) (g : Y → Y) (xs : List X) → HasPassed f g xs xs 0
-passed_start f g xs = record { front = refl; back = refl }
-
-pub passed_end : {X Y : Type 0} (f : X → Y) (g : Y → Y) (before now : List X) (i : ℕ) → length before ≤ i → length now ≤ i → HasPassed f g before now i → map f now ≡ map g (map f before)
-passed_end f g before now i hb hn h = rw (take_all i now hn, take_all i before hb) at h.front
 
 -- the element that the pass comes to is as it was
 pub passed_here : {X Y : Type 0} (f : X → Y) (g : Y → Y) (before now : List X) (i : ℕ) (d : X) → HasPassed f g before now i → get_or now i d ≡ get_or before i d

@@ -16,9 +16,6 @@ use Rattle.steps_events.specs.Tables.{Table}
 use Rattle.playing.specs.Models.{Model}
 use Rattle.playing.specs.Plays.{events_of}
 
-pub events_of_same : {V : Type 0} (q : ℕ) (act : Act V) (outcome : Then V) (past : List (Event V)) → events_of q (event q act outcome ∷ past) ≡ event q act outcome ∷ events_of q past
-events_of_same q act outcome past = rw (eqb_same q) refl
-
 pub events_of_other : {V : Type 0} (q p : ℕ) (act : Act V) (outcome : Then V) (past : List (Event V)) → p ≢ q → events_of p (event q act outcome ∷ past) ≡ events_of p past
 events_of_other q p act outcome past other = rw (eqb_other q p other) refl
 

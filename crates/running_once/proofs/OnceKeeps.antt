@@ -12,11 +12,6 @@ use Rattle.running_once.specs.declared.Runs.{Runs}
 use Rattle.running_once.specs.OnceRule.{no_runs, both_runs, known_runs, IsRun, OnceAgrees, OnceView, OneClosure, KnownHasEnded, learns, began, ended, Says, Loaded, Exchanged, Stored}
 use Rattle.running_once.specs.OnceTally.{runs_add_up}
 
--- one of the two is true
-one_of : (x y : Bool) → (x || y) ≡ true → (x ≡ true) ⊎ (y ≡ true)
-one_of true y e = inl refl
-one_of false y e = inr e
-
 or_true : (x y : Bool) → x ≡ true → (x || y) ≡ true
 or_true true y e = refl
 or_true false y e = cc

@@ -57,9 +57,6 @@ alone_is words v rest is alone only =
 marked_where : (words : List ℕ) (t : MarkedHolds) → (is : IsMarkedOrHeld words t) → is.mark ≡ 1 → IsMarked (get_or words 0 0)
 marked_where words t is one = let word = is.word_is in let both = is.one_mark in let room = is.room in record { odd = omega (arith, word, one, both); unwritten = λ all. absurd (omega (arith, word, one, both, room, all)) }
 
-unmarked_where : (words : List ℕ) (t : MarkedHolds) → (is : IsMarkedOrHeld words t) → ¬ IsMarked (get_or words 0 0) → is.mark ≡ 0
-unmarked_where words t is not = dite (ℕ_discrete is.mark 1) (λ one. absurd (not (marked_where words t is one))) (λ other. let both = is.one_mark in omega (arith, other, both))
-
 pub loads : (v : View MarkedHolds) → Updates nothing_marked both_marked RwWriterAgrees v 0 (λ x. x) (Loaded v)
 loads v = by_look nothing_marked both_marked RwWriterAgrees v 0 (Loaded v) (λ words homes rest is alone fits. (
   looked v (get_or words 0 0),

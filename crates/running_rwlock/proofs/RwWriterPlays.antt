@@ -233,9 +233,6 @@ looked_to_write way found p q went patience done comes = went calls.WriteLock (p
 pub comes_to_enter : (patience : Patience) (seen : ℕ) (done : List (Slot ℕ)) (p : Parties ℕ) → seen < 2 → WriteGoes (write_look patience seen) done p → WriteGoes (afters.At (places.Enter seen patience)) done p
 comes_to_enter patience seen done p free at = when_true calls.WriteLock (lets_writer_in seen) (afters.At (places.Enter seen patience)) (write_refused patience seen) done p (lt_true seen 2 free) at
 
-pub not_free : (patience : Patience) (seen : ℕ) (done : List (Slot ℕ)) (p : Parties ℕ) → 2 ≤ seen → WriteGoes (write_look patience seen) done p → WriteGoes (write_refused patience seen) done p
-not_free patience seen done p held at = when_false calls.WriteLock (lets_writer_in seen) (afters.At (places.Enter seen patience)) (write_refused patience seen) done p (lt_false seen 2 held) at
-
 pub may_enter : (patience : Patience) (seen : ℕ) (done : List (Slot ℕ)) (p : Parties ℕ) → WriteGoes (afters.At (places.Enter seen patience)) done p → (put : ℕ) → put ≡ 2 ^ 64 - 1 → TableHas Going 0 (λ w. intents.Exchange w seen put) p
 may_enter patience seen done p at put is = may_exchange Going calls.WriteLock (places.Enter seen patience) done p seen (2 ^ 64 - 1) put is refl at
 
@@ -412,13 +409,6 @@ unlocking kind after p q has goes = record { call = calls.Unlock; done = p.resti
 
 pub last_reader : (found : ℕ) (p q : Parties ℕ) → found ≡ 3 → Unlocks kinds.Read (released (Some found)) p q → Unlocks kinds.Read (afters.At (places.Count leavers.Reader)) p q
 last_reader found p q is goes = λ done holding. when_true calls.Unlock (found == 3) (afters.At (places.Count leavers.Reader)) (afters.Ends answers.Done) done q (hit found 3 is) (goes done holding)
-
-ends_so : (found : ℕ) (done : List (Slot ℕ)) (q : Parties ℕ) → (found == 3) ≡ false → CallGoes calls.Unlock (afters.Ends answers.Done) done q → CallGoes calls.Unlock (unlocked kinds.Read found) done q
-ends_so found done q test at = rw test at
-
-pub another_reader : (found : ℕ) (p q : Parties ℕ) → found ≢ 3 → Unlocks kinds.Read (released (Some found)) p q → Unlocks kinds.Read (unlocked kinds.Read found) p q
-another_reader found p q other goes =
-    λ done holding. ends_so found done q (ne_eqb found 3 other) (when_false calls.Unlock (found == 3) (afters.At (places.Count leavers.Reader)) (afters.Ends answers.Done) done q (ne_eqb found 3 other) (goes done holding))
 
 wakes_so : (found : ℕ) (done : List (Slot ℕ)) (q : Parties ℕ) → (found == 3) ≡ true → CallGoes calls.Unlock (afters.At (places.WakeOne leavers.Reader)) done q → CallGoes calls.Unlock (unlocked kinds.Read found) done q
 wakes_so found done q test at = rw test at
