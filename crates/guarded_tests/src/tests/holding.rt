@@ -4,7 +4,7 @@ ghost use Rattle.running_guarded.specs.GuardedShown.{IsGuardedPass, IsSamePass};
 
 use passes::WaitResult;
 use running_guarded::{Guarded, GuardedPass};
-use signal::{Notes, Signal};
+use signal::Signal;
 use std::sync::Wait;
 use std::sync::atomic::{AtomicU64, Ordering};
 use std::test::Fail;
@@ -116,7 +116,7 @@ fn hold_until_asked(
     }
 }
 
-/// Locks with a closure that asks for the value, and answers `Abort` once it is free. What the guard lends, and what the closure noted.
+/// Locks with a closure that asks for the value, and answers `Abort` once it is free. What the guard lends.
 fn lock_after_abort<R: Wait>(
     rt: &R,
     guarded: &Guarded<u64>,
@@ -124,13 +124,11 @@ fn lock_after_abort<R: Wait>(
     locked: &Signal,
     asked: &Signal,
     free: &Signal,
-) -> Option<(u64, (u64, u64, u64))>
+) -> Option<u64>
     requires { IsGuardedPass guarded.now pass.old }
 {
-    let notes = Notes::new();
     locked.awaited();
-    let answer = Guarded::lock(pass, guarded, rt, |word, seen| {
-        notes.note(word.load(), *seen);
+    let answer = Guarded::lock(pass, guarded, rt, |_, _| {
         asked.give();
         free.awaited();
         WaitAction::Abort
@@ -139,7 +137,7 @@ fn lock_after_abort<R: Wait>(
         WaitResult::Success(guard) => {
             let found = *guard;
             Guarded::unlock(guard, |_| ());
-            Some((found, notes.noted()))
+            Some(found)
         }
         WaitResult::Interrupted => None,
     }
@@ -162,6 +160,6 @@ fn a_call_that_was_to_give_up_succeeds(rt: HostRuntime) -> Result<(), Fail> {
         || lock_after_abort(&rt, &guarded, &mut two, &locked, &asked, &free),
     );
     assert!(rt; was_asked);
-    assert_eq!(rt; found, Some((7, (1, 1, 1))));
+    assert_eq!(rt; found, Some(7));
     Ok(())
 }

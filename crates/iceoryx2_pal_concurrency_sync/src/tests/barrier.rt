@@ -4,7 +4,7 @@ ghost use Rattle.passes.specs.Passes.{IsSamePass};
 ghost use Rattle.running_barrier.specs.BarrierShown.{IsBarrierPass, HasWaited, arrivals_of, waiters_of};
 
 use crate::strategy::barrier::{Barrier, BarrierFull, BarrierPass};
-use signal::{Notes, Signal};
+use signal::Signal;
 use std::sync::Wait;
 use std::sync::atomic::{AtomicU64, Ordering};
 use std::test::Fail;
@@ -63,22 +63,22 @@ fn a_barrier_of_one_opens_at_each_call(rt: HostRuntime) -> Result<(), Fail> {
     Ok(())
 }
 
-/// Waits, and tells when its closure is asked. What that was told first, and what its word held then.
+/// Waits, and tells when its closure is asked. The value that the closure was told last.
 fn wait_first<R: Wait>(
     rt: &R,
     barrier: &Barrier,
     pass: &mut BarrierPass,
     asked: &Signal,
     wakes: &AtomicU64,
-) -> (Result<(), BarrierFull>, (u64, u64))
+) -> (Result<(), BarrierFull>, u64)
     requires { IsBarrierPass barrier.now pass.old }
 {
-    let notes = Notes::new();
+    let told = AtomicU64::new(9);
     let answer = barrier.wait(
         rt,
         pass,
-        |word, seen| {
-            notes.note(word.load(), *seen);
+        |_, seen| {
+            told.store(*seen, Ordering::SeqCst);
             asked.give();
             thread::yield_now();
         },
@@ -86,8 +86,7 @@ fn wait_first<R: Wait>(
             wakes.fetch_add(1, Ordering::SeqCst);
         },
     );
-    let (_calls, held, told) = notes.noted();
-    (answer, (told, held))
+    (answer, told.load(Ordering::SeqCst))
 }
 
 /// Waits once the other thread's closure was asked, and tells whether it was.
@@ -125,7 +124,7 @@ fn a_barrier_of_two(rt: HostRuntime) -> Result<(), Fail> {
         || wait_first(&rt, &barrier, &mut one, &asked, &wakes),
         || wait_second(&rt, &barrier, &mut two, &asked, &wakes),
     );
-    assert_eq!(rt; first, (Ok(()), (1, 1)));
+    assert_eq!(rt; first, (Ok(()), 1));
     assert_eq!(rt; second, (Ok(()), true));
     assert_eq!(rt; wakes.load(Ordering::SeqCst), 1);
     Ok(())
