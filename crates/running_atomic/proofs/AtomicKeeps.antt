@@ -1,5 +1,6 @@
 -- Each step of an atomic keeps its rule.
-use Rattle.std.proofs.Common.{◌≡◌, ℕ, ◌+◌, ◌-◌, ◌%◌, ◌^◌, ◌<◌, ◌==◌, List, [], ◌∷◌, ◌++◌, get_or, set, sym, refl, ap, ◌∙◌, subst, arith, length-set, get_or-set_same, get_or-set_other}
+use Rattle.std.proofs.Common.{◌≡◌, ℕ, ◌+◌, ◌-◌, ◌%◌, ◌^◌, ◌<◌, ◌==◌, Bool, true, false, List, [], ◌∷◌, ◌++◌, get_or, set, sym, refl, ap, ◌∙◌, subst, arith, length-set, get_or-set_same, get_or-set_other}
+use Rattle.std.specs.Prelude.{MatchBool}
 use prog.Atomic.{either}
 use Rattle.steps_events.specs.Arithmetic.{Arithmetic}
 use Rattle.passes.specs.declared.view.View.{View}
@@ -16,8 +17,8 @@ use Rattle.running_atomic.specs.declared.history.AtomicAct.{AtomicAct}
 use Rattle.running_atomic.specs.declared.history.AtomicAct.TheVariants as act
 use Rattle.running_atomic.specs.declared.history.Heard.{Heard}
 use Rattle.running_atomic.specs.History.{content, heard, both_heard, atomic_tally, no_acts, both_tallies, heard_adds_up, same_content, tells_same_content}
-use Rattle.running_atomic.specs.AtomicRule.{register_after, IsRegister, HasHistory, AtomicAgrees, data_of, register_of, value_of, act_in, acts_in, answer_to, history_in, known, each_once}
-use Rattle.running_atomic.specs.AtomicSteps.{StartsWith, now_holds, EntersRead, EntersWrite, Leaves, IfHeld, ReadsLow, ReadsHigh, EndsLoad, IfWriting, StoresLow, EndsStore, EndsUnchanged, Settles, Acts, ActsAt, IsReading, IsSettled, IsWriting, IsOn, IsRight, ChangesNothing, IsLast}
+use Rattle.running_atomic.specs.AtomicRule.{register_after, value_after, IsRegister, HasHistory, AtomicAgrees, data_of, register_of, value_of, act_in, acts_in, answer_to, history_in, known, each_once}
+use Rattle.running_atomic.specs.AtomicSteps.{StartsWith, now_holds, EntersRead, EntersWrite, Leaves, IfHeld, ReadsLow, ReadsHigh, EndsLoad, IfWriting, StoresLow, EndsStore, EndsUnchanged, Settles, Acts, ActsAt, IsReading, IsSettled, IsWriting, IsOn, IsRight, ChangesNothing, KeepsOthers, ComparesHigh, IsLast}
 use Rattle.running_atomic.proofs.LockKeeps.{enters_read, enters_write, reads, leaves_read, writes}
 use Rattle.running_atomic.proofs.HistoryKeeps.{begins, alone, marks_in, more, extends, absorbs, seen_known, acts_append, acts_length, each_act}
 
@@ -209,6 +210,32 @@ module _ {T : Type 0} (z : Arithmetic T) (k : T) where
         refl,
         record { three_words = r.three_words; locks = r.locks; has = subst (HasHistory z k (both_heard w.tally.heard rest.heard)) (right ∙ sym old_is) (extends z k v.tally.heard rest.heard a (value_of z x) has) },
         (refl, subst (λ (g : Held Content). IfWriting g (λ c found. ActsAt z k a found v w)) (sym is) (acts v rest v.tally.hold a (value_of z x) has only)),
+      ))
+
+  -- by the value that is compared: where it is another, the act is made
+  comparing : (words : List ℕ) (v : View B) (rest : B) (a : AtomicAct) (current : T) (x : Content) (b : Bool) → z.same (value_of z x) current ≡ b → v.tally.hold ≡ Writing x x →
+      (z.same (value_of z x) current ≡ false → value_after z (act_in z a) (value_of z x) ≡ value_of z x) → IsRegister z k words (both_tallies v.tally rest) → (IsWhole v.part → rest ≡ no_acts) →
+      (w : View B) × (w.part ≡ v.part) × IsRegister z k words (both_tallies w.tally rest) × MatchBool b (w ≡ v) (EndsUnchanged z k a v w)
+  comparing words v rest a current x true same is so r only = (v, refl, r, refl)
+  comparing words v rest a current x false same is so r only = let d : Content = data_of words in let n : ℕ = get_or words 0 0 in
+      let t = writes same_content tells_same_content n d x x rest.hold (subst (λ (h : Held Content). Locks n d (both_held same_content h rest.hold)) is r.locks) in
+      let old_is : value_of z (register_of (both_held same_content v.tally.hold rest.hold) d) ≡ value_of z x = ap (value_of z) (ap (λ (g : Held Content). register_of (both_held same_content g rest.hold) d) is ∙ ap (λ (g : Held Content). register_of (both_held same_content (Writing x x) g) d) t.0) in
+      let has : HasHistory z k (both_heard v.tally.heard rest.heard) (value_of z x) = subst (HasHistory z k (both_heard v.tally.heard rest.heard)) old_is r.has in
+      let w : View B = after has.history a v.tally.hold v in (
+        w,
+        refl,
+        record { three_words = r.three_words; locks = r.locks; has = subst (HasHistory z k (both_heard w.tally.heard rest.heard)) (so same ∙ sym old_is) (extends z k v.tally.heard rest.heard a (value_of z x) has) },
+        (refl, subst (λ (g : Held Content). IfWriting g (λ c found. ActsAt z k a found v w)) (sym is) (acts v rest v.tally.hold a (value_of z x) has only)),
+      )
+
+  pub compares_high : (v : View B) (a : AtomicAct) (current : T) → IsSettled v.tally.hold → KeepsOthers z a current v.tally.hold → Update v 2 (λ n. n) (ComparesHigh z k a current v)
+  compares_high v a current on so = by_look no_acts both_tallies (AtomicAgrees z k) v 2 (ComparesHigh z k a current v) (λ words homes rest r only fits. let x = (settled_is v.tally.hold on).0 in let is = (settled_is v.tally.hold on).1 in let d : Content = data_of words in let n : ℕ = get_or words 0 0 in
+      let t = writes same_content tells_same_content n d x x rest.hold (subst (λ (h : Held Content). Locks n d (both_held same_content h rest.hold)) is r.locks) in
+      let made = comparing words v rest a current x (z.same (value_of z x) current) refl is (subst (KeepsOthers z a current) is so) r only in (
+        made.0,
+        made.1,
+        made.2,
+        subst (λ (g : Held Content). IfWriting g (λ c old. (d.high ≡ c.high) × MatchBool (z.same (value_of z c) current) (made.0 ≡ v) (EndsUnchanged z k a v made.0))) (sym is) (ap (λ (c : Content). c.high) (sym t.2), made.3),
       ))
 
   pub settles : (v : View B) → Update v 0 (λ n. n) (λ _ w. Settles z k v w)

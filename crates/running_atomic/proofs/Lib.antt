@@ -1,5 +1,9 @@
 pub mod LockKeeps
 pub mod HistoryKeeps
 pub mod AtomicKeeps
+pub mod Runs
+pub mod AtEnd
 pub mod OneHistory
 pub mod Joins
+pub mod AtomicPlays
+pub mod Compares

@@ -1,5 +1,6 @@
 -- What the steps of an atomic tell, and what holds whenever its rule does.
-use Rattle.std.specs.Prelude.{◌≡◌, ◌≢◌, ℕ, ◌≤◌, List, [], ◌∷◌, ◌++◌, length}
+use Rattle.std.specs.Prelude.{◌≡◌, ◌≢◌, ℕ, ◌≤◌, false, MatchBool, List, [], ◌∷◌, ◌++◌, length}
+use mathlib.Core.Option as maybe
 use mathlib.Core.Option.{some}
 use lib.ListN.{get_elem?}
 use Rattle.atomic_table.specs.Table.{State}
@@ -12,12 +13,18 @@ use Rattle.tallies.specs.Counts.{count_at, one_more, both_counts}
 use Rattle.tallies.specs.declared.held.Held.{Held}
 use Rattle.tallies.specs.declared.held.Held.TheVariants.{Free, Reading, Writing, Torn}
 use Rattle.tallies.specs.Held.{write_holds}
+use Rattle.steps_atomic.specs.declared.AtomicPlace.{AtomicPlace}
+use Rattle.playing.specs.declared.played.Played.{Played}
+use Rattle.playing.specs.Passes.{none_played, both_played, PlaysAndCounts}
+use Rattle.running_atomic.specs.declared.script.AtomicScript.{AtomicScript}
 use Rattle.running_atomic.specs.declared.history.AtomicTally.{AtomicTally}
 use Rattle.running_atomic.specs.declared.history.Content.{Content}
 use Rattle.running_atomic.specs.declared.history.AtomicAct.{AtomicAct}
 use Rattle.running_atomic.specs.declared.history.AtomicAct.TheVariants as act
 use Rattle.running_atomic.specs.declared.history.Heard.{Heard}
 use Rattle.running_atomic.specs.History.{content, both_heard, atomic_tally, both_tallies, no_acts}
+use Rattle.running_atomic.specs.AtomicModel.{atomic_model, atomic_names}
+use Rattle.running_atomic.specs.AtomicParties.{StandsAtRun}
 use Rattle.running_atomic.specs.AtomicRule.{RegisterAct, answer_to, value_after, register_after, value_of, act_in, history_in, known, each_once, data_of, AtomicAgrees}
 
 abbrev V : Type 0
@@ -132,6 +139,16 @@ IsRight z a new h = IfWriting h (λ x found. value_after z (act_in z a) (value_o
 abbrev pub ChangesNothing : {T : Type 0} → Arithmetic T → AtomicAct → Held Content → Type 0
 ChangesNothing z a h = IfWriting h (λ x found. value_after z (act_in z a) (value_of z found) ≡ value_of z found)
 
+-- the act leaves the value as it is wherever that is not the one compared with
+abbrev pub KeepsOthers : {T : Type 0} → Arithmetic T → AtomicAct → T → Held Content → Type 0
+KeepsOthers z a current h = IfWriting h (λ x found. z.same (value_of z x) current ≡ false → value_after z (act_in z a) (value_of z found) ≡ value_of z found)
+
+-- The load of the high word of a call that compares. Where the value is the one compared with, nothing changed, and the call goes on; else
+-- this is its last access.
+abbrev pub ComparesHigh : {T : Type 0} → Arithmetic T → T → AtomicAct → T → V → ℕ → V → Type 0
+ComparesHigh z opening a current v found w =
+    IfWriting v.tally.hold (λ x old. (found ≡ x.high) × MatchBool (z.same (value_of z x) current) (w ≡ v) (EndsUnchanged z opening a v w))
+
 -- all of the history was seen, whose start the pass knew
 pub record Settles {T : Type 0} (z : Arithmetic T) (opening : T) (v w : V) : Type 0 where
   pub history : List AtomicAct
@@ -155,17 +172,26 @@ pub record IsLast {T : Type 0} (z : Arithmetic T) (opening : T) (t : Heard) (val
   pub own : t.own ≡ each_once (history_in z t)
   pub value_is : value ≡ register_after z opening (history_in z t)
 
+-- what a pass of an atomic is in its model, and counts beside
+abbrev pub PlayedAtomic : Type 0 → Type 0
+PlayedAtomic T = Played AtomicScript (AtomicPlace T) T AtomicTally
+
 -- what all passes know together
-abbrev pub all_of : List V → AtomicTally
-all_of views = sum_of no_acts (both_tallies) views
+abbrev pub all_of : {T : Type 0} → List (View (PlayedAtomic T)) → PlayedAtomic T
+all_of views = sum_of (none_played no_acts) (both_played both_tallies) views
+
+-- the rule over all passes of an atomic: its words are those of a run of the model, in which the passes are parties, and the register's
+abbrev pub AtomicRules : {T : Type 0} → Arithmetic T → T → List ℕ → List (maybe.Option (Unit {0})) → PlayedAtomic T → Type 0
+AtomicRules z opening = PlaysAndCounts (atomic_model z opening) atomic_names (AtomicAgrees z opening)
 
 -- Whenever the rule holds there is one history: what each pass has seen begins it, each act in it is one pass's own, and while no write
--- hold stands the data words are the register after it.
-pub record IsOneHistory {T : Type 0} (z : Arithmetic T) (opening : T) (s : State (Unit {0}) V) : Type 0 where
+-- hold stands the data words are the register after it; and that is the register after a run in which all passes are the parties.
+pub record IsOneHistory {T : Type 0} (z : Arithmetic T) (opening : T) (s : State (Unit {0}) (View (PlayedAtomic T))) : Type 0 where
   pub history : List (RegisterAct T)
-  pub begins : (i : ℕ) (v : V) → get_elem? s.views i ≡ some v → StartsWith history (history_in z v.tally.heard)
-  pub own : (all_of s.views).heard.own ≡ each_once history
-  pub value_is : write_holds (all_of s.views).hold ≡ 0 → value_of z (data_of s.words) ≡ register_after z opening history
+  pub begins : (i : ℕ) (v : View (PlayedAtomic T)) → get_elem? s.views i ≡ some v → StartsWith history (history_in z v.tally.counts.heard)
+  pub own : (all_of s.views).counts.heard.own ≡ each_once history
+  pub value_is : write_holds (all_of s.views).counts.hold ≡ 0 → value_of z (data_of s.words) ≡ register_after z opening history
+  pub in_run : write_holds (all_of s.views).counts.hold ≡ 0 → StandsAtRun z opening (all_of s.views).parties (register_after z opening history)
 
 abbrev pub OneHistory : {T : Type 0} → Arithmetic T → Type 0
-OneHistory {T} z = (opening : T) (s : State (Unit {0}) V) → IsCounted no_acts (both_tallies) (AtomicAgrees z opening) s → IsOneHistory z opening s
+OneHistory {T} z = (opening : T) (s : State (Unit {0}) (View (PlayedAtomic T))) → IsCounted (none_played no_acts) (both_played both_tallies) (AtomicRules z opening) s → IsOneHistory z opening s

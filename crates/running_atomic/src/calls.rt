@@ -1,26 +1,42 @@
 //! The atomic, and its calls.
-ghost use Rattle.std.specs.Prelude.{◌≡◌, IfOk, IfErr, Some, None};
+ghost use Rattle.std.specs.Prelude.{◌≡◌, List, false, MatchBool, IfOk, IfErr, Some, None};
 ghost use Rattle.steps_events.specs.declared.event.Call.TheVariants as calls;
 ghost use Rattle.steps_events.specs.declared.event.Answer.TheVariants as answers;
+ghost use Rattle.steps_events.specs.declared.hold.HoldKind.TheVariants as kinds;
+ghost use Rattle.steps_events.specs.Arithmetic.{IsValue};
+ghost use Rattle.steps_atomic.specs.declared.AtomicPlace.TheVariants as places;
+ghost use Rattle.steps_atomic.specs.Table.{inside};
 ghost use Rattle.tallies.specs.declared.held.Held.TheVariants.{Free};
-ghost use Rattle.passes.specs.Objects.{IsPassOf, key_of, count_of};
 ghost use Rattle.passes.specs.Passes.{IsSamePass, view};
 ghost use Rattle.passes.specs.Views.{first_view};
+ghost use Rattle.playing.specs.Slots.{Slot, no_parties, all_of};
+ghost use Rattle.playing.specs.Plays.{HasCalled};
+ghost use Rattle.playing.specs.Passes.{played, parties_of, counts_of, counted};
+ghost use Rattle.playing.specs.Stages.{IsPassOf, key_of, count_of};
+ghost use Rattle.running_atomic.specs.AtomicParties.{Writes, IsNext, Reads, Knows, Puts, MayPut, HasPut, HasReplaced};
+ghost use Rattle.running_atomic.specs.AtomicModel.{atomic_model};
 ghost use Rattle.running_atomic.specs.AtomicRule.{plain, update, value_after, act_in, answer_to, value_of};
 ghost use Rattle.running_atomic.specs.History.{no_acts};
 ghost use Rattle.running_atomic.specs.AtomicSteps.{IsReading, IsSettled, IfWriting, ActsAt, OneHistory};
 
+use crate::begins::{LoadBegins, NothingChosen};
 use crate::history::{AtomicAct, AtomicTally, Content};
 use crate::pass::AtomicPass;
+use crate::script::{AtomicScript, PlayedAtomic};
 use crate::shown::AtomicShown;
-use passes::{Pass, Words};
+use crate::steps::Comparison;
+use passes::Pass;
+use playing::{Entry, GoesOn, Stage};
 use std::alloc::{AllocError, Allocator, Global};
 use std::hint::spin_loop;
+use std::marker::Brand;
 use std::sync::Wait;
 use std::sync::atomic::Ordering;
 use std::thread;
+use steps_atomic::AtomicPlace;
 use steps_events::SPIN_REPETITIONS;
 use steps_events::atomic::internal::AtomicInteger;
+use steps_events::event::Call;
 use steps_rw_reader::reader_enters;
 
 /// An integer that threads read and write whole, as one register. Each call acts once, under a lock inside; `load` and `shown` hold it
@@ -29,17 +45,26 @@ use steps_rw_reader::reader_enters;
 /// every step is sequentially consistent.
 #[derive(Drop)]
 pub struct Atomic<T: AtomicInteger, A: Allocator = Global> {
-    pub(crate) words: Words<T, AtomicTally, A>,
-    ghost three_words: { count_of words ≡ 3 },
+    pub(crate) stage: Stage<T, AtomicScript, AtomicPlace<T>, T, AtomicTally, A>,
+    ghost three_words: { count_of stage ≡ 3 },
 }
 
 /// The words of a value.
 #[inline(always)]
 fn content<T: AtomicInteger>(value: T) -> Content
     ensures value { value_of T.arithmetic result ≡ value }
+    ensures is_value { IsValue T.arithmetic value }
 {
     let (low, high) = value.to_words();
     Content { low, high }
+}
+
+/// Whether a value is the one that a call compares with.
+#[inline(always)]
+fn is_same<T: AtomicInteger>(old: T, current: T) -> bool
+    ensures { result ≡ T.arithmetic.same old current }
+{
+    old == current
 }
 
 /// What a call does before it tries again, and how often it has then tried: it spins 10000 times, and from then on yields, so that whoever
@@ -56,60 +81,54 @@ fn pause(tries: u64) -> u64 {
 }
 
 impl<T: AtomicInteger, A: Allocator> Atomic<T, A> {
-    ghost use Rattle.running_atomic.specs.AtomicShown.{IsAtomicPass, opening_of, loaded_in, pass_in, HasActed, HasActedAt, HasTaken, IsHolding, HasGot, IsLastOf};
+    ghost use Rattle.running_atomic.specs.AtomicShown.{IsAtomicPass, opening_of, loaded_in, pass_in, HasActed, HasActedAt, HasTaken, HasCompared, HasPlayed, IsHolding, HasGot};
 
     /// An atomic of this value, and the pass that is whole. `Err` where there was no memory; then nothing was made.
-    pub fn new(alloc: A, value: T) -> Result<(Atomic<T, A>, AtomicPass), AllocError>
+    pub fn new(alloc: A, value: T) -> Result<(Atomic<T, A>, AtomicPass<T>), AllocError>
         ensures own { IfOk result (λ made. IsAtomicPass made.0 made.1) }
         ensures opening { IfOk result (λ made. opening_of made.0 ≡ value) }
-        ensures first { IfOk result (λ made. view (pass_in made.1) ≡ first_view no_acts) }
+        ensures first { IfOk result (λ made. view (pass_in made.1) ≡ first_view (played no_parties no_acts)) }
     {
         let (low, high) = value.to_words();
-        let (words, pass) = Words::new(alloc, &[0, low, high], &value)?;
-        Ok((Atomic { words }, AtomicPass { pass }))
-    }
-
-    /// Ends the atomic, and answers its value. With the whole pass that is the register's after the pass's own acts, which are all.
-    pub fn into_inner(self, pass: AtomicPass) -> T
-        requires own { IsAtomicPass self pass }
-        ensures last { IsLastOf T.arithmetic (opening_of self) pass result }
-    {
-        let Atomic { words } = self;
-        let AtomicPass { pass } = pass;
-        let (low, high) = words.close_two(pass, 1, 2);
-        T::from_words(low, high)
+        let (stage, pass) = Stage::new(alloc, &[0, low, high], &value)?;
+        Ok((Atomic { stage }, AtomicPass { pass }))
     }
 
     /// The value.
     #[inline(always)]
-    pub fn load<R: Wait>(&self, rt: &R, pass: &mut AtomicPass, _order: Ordering) -> T
+    pub fn load<R: Wait>(&self, rt: &R, pass: &mut AtomicPass<T>, _order: Ordering) -> T
         requires own { IsAtomicPass self.now pass.old }
         ensures acted { HasActed T.arithmetic (opening_of self.now) (plain calls.Load) (answers.Value result) pass.old pass.new }
+        ensures played { HasPlayed T.arithmetic (opening_of self.now) calls.Load (answers.Value result) pass.old pass.new }
     {
         self.load_by(rt, &mut pass.pass)
     }
 
     /// Writes the value.
     #[inline(always)]
-    pub fn store<R: Wait>(&self, rt: &R, pass: &mut AtomicPass, value: T, _order: Ordering)
+    pub fn store<R: Wait>(&self, rt: &R, pass: &mut AtomicPass<T>, value: T, _order: Ordering)
         requires own { IsAtomicPass self.now pass.old }
         ensures acted { HasActed T.arithmetic (opening_of self.now) (plain (calls.Store value)) answers.Done pass.old pass.new }
+        ensures played { HasPlayed T.arithmetic (opening_of self.now) (calls.Store value) answers.Done pass.old pass.new }
     {
         let new = content(value);
-        self.write_lock(rt, &mut pass.pass);
-        self.put(&mut pass.pass, value, &AtomicAct::Store(new));
+        self.write_lock(rt, &mut pass.pass, &Call::Store(value));
+        let act = AtomicAct::Store(new);
+        self.put::<GoesOn>(&mut pass.pass, value, &act);
     }
 
     /// Writes the value, and answers the old one.
     #[inline(always)]
-    pub fn swap<R: Wait>(&self, rt: &R, pass: &mut AtomicPass, value: T, _order: Ordering) -> T
+    pub fn swap<R: Wait>(&self, rt: &R, pass: &mut AtomicPass<T>, value: T, _order: Ordering) -> T
         requires own { IsAtomicPass self.now pass.old }
         ensures acted { HasActed T.arithmetic (opening_of self.now) (plain (calls.Swap value)) (answers.Value result) pass.old pass.new }
+        ensures played { HasPlayed T.arithmetic (opening_of self.now) (calls.Swap value) (answers.Value result) pass.old pass.new }
     {
+        let call = Call::Swap(value);
         let words = content(value);
-        let old = self.take(rt, &mut pass.pass);
-        let new = value;
-        self.replace(&mut pass.pass, old, new, &AtomicAct::Swap(words))
+        let old = self.take(rt, &mut pass.pass, &call);
+        let act = AtomicAct::Swap(words);
+        self.replace(&mut pass.pass, old, value, &act, &call)
     }
 
     /// Writes `new` where the value is `current`, and answers `Ok` with the old value; else `Err` with it, and nothing is written.
@@ -117,7 +136,7 @@ impl<T: AtomicInteger, A: Allocator> Atomic<T, A> {
     pub fn compare_exchange<R: Wait>(
         &self,
         rt: &R,
-        pass: &mut AtomicPass,
+        pass: &mut AtomicPass<T>,
         current: T,
         new: T,
         _success: Ordering,
@@ -126,15 +145,22 @@ impl<T: AtomicInteger, A: Allocator> Atomic<T, A> {
         requires own { IsAtomicPass self.now pass.old }
         ensures changed { IfOk result (λ old. HasActed T.arithmetic (opening_of self.now) (plain (calls.CompareExchange current new)) (answers.OkOld old) pass.old pass.new) }
         ensures kept { IfErr result (λ old. HasActed T.arithmetic (opening_of self.now) (plain (calls.CompareExchange current new)) (answers.ErrOld old) pass.old pass.new) }
+        ensures played_changed { IfOk result (λ old. HasPlayed T.arithmetic (opening_of self.now) (calls.CompareExchange current new) (answers.OkOld old) pass.old pass.new) }
+        ensures played_kept { IfErr result (λ old. HasPlayed T.arithmetic (opening_of self.now) (calls.CompareExchange current new) (answers.ErrOld old) pass.old pass.new) }
     {
         let from = content(current);
         let to = content(new);
-        let old = self.take(rt, &mut pass.pass);
-        let act = AtomicAct::CompareExchange(from, to);
-        if old == current {
-            Ok(self.replace(&mut pass.pass, old, new, &act))
+        let call = Call::CompareExchange(current, new);
+        let by = Comparison {
+            act: AtomicAct::CompareExchange(from, to),
+            current,
+        };
+        let old = self.compare(rt, &mut pass.pass, &call, &by);
+        if is_same(old, current) {
+            Ok(self.replace(&mut pass.pass, old, new, &by.act, &call))
         } else {
-            Err(self.keep(&mut pass.pass, old, &act))
+            self.leave_write(&mut pass.pass);
+            Err(old)
         }
     }
 
@@ -143,7 +169,7 @@ impl<T: AtomicInteger, A: Allocator> Atomic<T, A> {
     pub fn compare_exchange_weak<R: Wait>(
         &self,
         rt: &R,
-        pass: &mut AtomicPass,
+        pass: &mut AtomicPass<T>,
         current: T,
         new: T,
         _success: Ordering,
@@ -152,76 +178,128 @@ impl<T: AtomicInteger, A: Allocator> Atomic<T, A> {
         requires own { IsAtomicPass self.now pass.old }
         ensures changed { IfOk result (λ old. HasActed T.arithmetic (opening_of self.now) (plain (calls.CompareExchangeWeak current new)) (answers.OkOld old) pass.old pass.new) }
         ensures kept { IfErr result (λ old. HasActed T.arithmetic (opening_of self.now) (plain (calls.CompareExchangeWeak current new)) (answers.ErrOld old) pass.old pass.new) }
+        ensures played_changed { IfOk result (λ old. HasPlayed T.arithmetic (opening_of self.now) (calls.CompareExchangeWeak current new) (answers.OkOld old) pass.old pass.new) }
+        ensures played_kept { IfErr result (λ old. HasPlayed T.arithmetic (opening_of self.now) (calls.CompareExchangeWeak current new) (answers.ErrOld old) pass.old pass.new) }
     {
         let from = content(current);
         let to = content(new);
-        let old = self.take(rt, &mut pass.pass);
-        let act = AtomicAct::CompareExchangeWeak(from, to);
-        if old == current {
-            Ok(self.replace(&mut pass.pass, old, new, &act))
+        let call = Call::CompareExchangeWeak(current, new);
+        let by = Comparison {
+            act: AtomicAct::CompareExchangeWeak(from, to),
+            current,
+        };
+        let old = self.compare(rt, &mut pass.pass, &call, &by);
+        if is_same(old, current) {
+            Ok(self.replace(&mut pass.pass, old, new, &by.act, &call))
         } else {
-            Err(self.keep(&mut pass.pass, old, &act))
+            self.leave_write(&mut pass.pass);
+            Err(old)
         }
     }
 
     /// Adds, wrapping, and answers the old value.
     #[inline(always)]
-    pub fn fetch_add<R: Wait>(&self, rt: &R, pass: &mut AtomicPass, value: T, _order: Ordering) -> T
+    pub fn fetch_add<R: Wait>(
+        &self,
+        rt: &R,
+        pass: &mut AtomicPass<T>,
+        value: T,
+        _order: Ordering,
+    ) -> T
         requires own { IsAtomicPass self.now pass.old }
         ensures acted { HasActed T.arithmetic (opening_of self.now) (plain (calls.FetchAdd value)) (answers.Value result) pass.old pass.new }
+        ensures played { HasPlayed T.arithmetic (opening_of self.now) (calls.FetchAdd value) (answers.Value result) pass.old pass.new }
     {
+        let call = Call::FetchAdd(value);
         let words = content(value);
-        let old = self.take(rt, &mut pass.pass);
+        let old = self.take(rt, &mut pass.pass, &call);
         let new = old.overflowing_add(value).0;
-        self.replace(&mut pass.pass, old, new, &AtomicAct::FetchAdd(words))
+        let act = AtomicAct::FetchAdd(words);
+        self.replace(&mut pass.pass, old, new, &act, &call)
     }
 
     /// Subtracts, wrapping, and answers the old value.
     #[inline(always)]
-    pub fn fetch_sub<R: Wait>(&self, rt: &R, pass: &mut AtomicPass, value: T, _order: Ordering) -> T
+    pub fn fetch_sub<R: Wait>(
+        &self,
+        rt: &R,
+        pass: &mut AtomicPass<T>,
+        value: T,
+        _order: Ordering,
+    ) -> T
         requires own { IsAtomicPass self.now pass.old }
         ensures acted { HasActed T.arithmetic (opening_of self.now) (plain (calls.FetchSub value)) (answers.Value result) pass.old pass.new }
+        ensures played { HasPlayed T.arithmetic (opening_of self.now) (calls.FetchSub value) (answers.Value result) pass.old pass.new }
     {
+        let call = Call::FetchSub(value);
         let words = content(value);
-        let old = self.take(rt, &mut pass.pass);
+        let old = self.take(rt, &mut pass.pass, &call);
         let new = old.overflowing_sub(value).0;
-        self.replace(&mut pass.pass, old, new, &AtomicAct::FetchSub(words))
+        let act = AtomicAct::FetchSub(words);
+        self.replace(&mut pass.pass, old, new, &act, &call)
     }
 
     /// Writes the bits that both have, and answers the old value.
     #[inline(always)]
-    pub fn fetch_and<R: Wait>(&self, rt: &R, pass: &mut AtomicPass, value: T, _order: Ordering) -> T
+    pub fn fetch_and<R: Wait>(
+        &self,
+        rt: &R,
+        pass: &mut AtomicPass<T>,
+        value: T,
+        _order: Ordering,
+    ) -> T
         requires own { IsAtomicPass self.now pass.old }
         ensures acted { HasActed T.arithmetic (opening_of self.now) (plain (calls.FetchAnd value)) (answers.Value result) pass.old pass.new }
+        ensures played { HasPlayed T.arithmetic (opening_of self.now) (calls.FetchAnd value) (answers.Value result) pass.old pass.new }
     {
+        let call = Call::FetchAnd(value);
         let words = content(value);
-        let old = self.take(rt, &mut pass.pass);
+        let old = self.take(rt, &mut pass.pass, &call);
         let new = old & value;
-        self.replace(&mut pass.pass, old, new, &AtomicAct::FetchAnd(words))
+        let act = AtomicAct::FetchAnd(words);
+        self.replace(&mut pass.pass, old, new, &act, &call)
     }
 
     /// Writes the bits that one of them has, and answers the old value.
     #[inline(always)]
-    pub fn fetch_or<R: Wait>(&self, rt: &R, pass: &mut AtomicPass, value: T, _order: Ordering) -> T
+    pub fn fetch_or<R: Wait>(
+        &self,
+        rt: &R,
+        pass: &mut AtomicPass<T>,
+        value: T,
+        _order: Ordering,
+    ) -> T
         requires own { IsAtomicPass self.now pass.old }
         ensures acted { HasActed T.arithmetic (opening_of self.now) (plain (calls.FetchOr value)) (answers.Value result) pass.old pass.new }
+        ensures played { HasPlayed T.arithmetic (opening_of self.now) (calls.FetchOr value) (answers.Value result) pass.old pass.new }
     {
+        let call = Call::FetchOr(value);
         let words = content(value);
-        let old = self.take(rt, &mut pass.pass);
+        let old = self.take(rt, &mut pass.pass, &call);
         let new = old | value;
-        self.replace(&mut pass.pass, old, new, &AtomicAct::FetchOr(words))
+        let act = AtomicAct::FetchOr(words);
+        self.replace(&mut pass.pass, old, new, &act, &call)
     }
 
     /// Writes the bits that only one of them has, and answers the old value.
     #[inline(always)]
-    pub fn fetch_xor<R: Wait>(&self, rt: &R, pass: &mut AtomicPass, value: T, _order: Ordering) -> T
+    pub fn fetch_xor<R: Wait>(
+        &self,
+        rt: &R,
+        pass: &mut AtomicPass<T>,
+        value: T,
+        _order: Ordering,
+    ) -> T
         requires own { IsAtomicPass self.now pass.old }
         ensures acted { HasActed T.arithmetic (opening_of self.now) (plain (calls.FetchXor value)) (answers.Value result) pass.old pass.new }
+        ensures played { HasPlayed T.arithmetic (opening_of self.now) (calls.FetchXor value) (answers.Value result) pass.old pass.new }
     {
+        let call = Call::FetchXor(value);
         let words = content(value);
-        let old = self.take(rt, &mut pass.pass);
+        let old = self.take(rt, &mut pass.pass, &call);
         let new = old ^ value;
-        self.replace(&mut pass.pass, old, new, &AtomicAct::FetchXor(words))
+        let act = AtomicAct::FetchXor(words);
+        self.replace(&mut pass.pass, old, new, &act, &call)
     }
 
     /// Writes the bits that not both have, and answers the old value.
@@ -229,41 +307,62 @@ impl<T: AtomicInteger, A: Allocator> Atomic<T, A> {
     pub fn fetch_nand<R: Wait>(
         &self,
         rt: &R,
-        pass: &mut AtomicPass,
+        pass: &mut AtomicPass<T>,
         value: T,
         _order: Ordering,
     ) -> T
         requires own { IsAtomicPass self.now pass.old }
         ensures acted { HasActed T.arithmetic (opening_of self.now) (plain (calls.FetchNand value)) (answers.Value result) pass.old pass.new }
+        ensures played { HasPlayed T.arithmetic (opening_of self.now) (calls.FetchNand value) (answers.Value result) pass.old pass.new }
     {
+        let call = Call::FetchNand(value);
         let words = content(value);
-        let old = self.take(rt, &mut pass.pass);
+        let old = self.take(rt, &mut pass.pass, &call);
         let new = !(old & value);
-        self.replace(&mut pass.pass, old, new, &AtomicAct::FetchNand(words))
+        let act = AtomicAct::FetchNand(words);
+        self.replace(&mut pass.pass, old, new, &act, &call)
     }
 
     /// Writes the greater of the two, and answers the old value.
     #[inline(always)]
-    pub fn fetch_max<R: Wait>(&self, rt: &R, pass: &mut AtomicPass, value: T, _order: Ordering) -> T
+    pub fn fetch_max<R: Wait>(
+        &self,
+        rt: &R,
+        pass: &mut AtomicPass<T>,
+        value: T,
+        _order: Ordering,
+    ) -> T
         requires own { IsAtomicPass self.now pass.old }
         ensures acted { HasActed T.arithmetic (opening_of self.now) (plain (calls.FetchMax value)) (answers.Value result) pass.old pass.new }
+        ensures played { HasPlayed T.arithmetic (opening_of self.now) (calls.FetchMax value) (answers.Value result) pass.old pass.new }
     {
+        let call = Call::FetchMax(value);
         let words = content(value);
-        let old = self.take(rt, &mut pass.pass);
+        let old = self.take(rt, &mut pass.pass, &call);
         let new = old.max(value);
-        self.replace(&mut pass.pass, old, new, &AtomicAct::FetchMax(words))
+        let act = AtomicAct::FetchMax(words);
+        self.replace(&mut pass.pass, old, new, &act, &call)
     }
 
     /// Writes the lesser of the two, and answers the old value.
     #[inline(always)]
-    pub fn fetch_min<R: Wait>(&self, rt: &R, pass: &mut AtomicPass, value: T, _order: Ordering) -> T
+    pub fn fetch_min<R: Wait>(
+        &self,
+        rt: &R,
+        pass: &mut AtomicPass<T>,
+        value: T,
+        _order: Ordering,
+    ) -> T
         requires own { IsAtomicPass self.now pass.old }
         ensures acted { HasActed T.arithmetic (opening_of self.now) (plain (calls.FetchMin value)) (answers.Value result) pass.old pass.new }
+        ensures played { HasPlayed T.arithmetic (opening_of self.now) (calls.FetchMin value) (answers.Value result) pass.old pass.new }
     {
+        let call = Call::FetchMin(value);
         let words = content(value);
-        let old = self.take(rt, &mut pass.pass);
+        let old = self.take(rt, &mut pass.pass, &call);
         let new = old.min(value);
-        self.replace(&mut pass.pass, old, new, &AtomicAct::FetchMin(words))
+        let act = AtomicAct::FetchMin(words);
+        self.replace(&mut pass.pass, old, new, &act, &call)
     }
 
     /// Asks `f` once, under the write lock, what to write in place of the old value, and writes that; answers `Ok` with the old value.
@@ -273,7 +372,7 @@ impl<T: AtomicInteger, A: Allocator> Atomic<T, A> {
     pub fn fetch_update<R: Wait, F: FnMut(T) -> Option<T>>(
         &self,
         rt: &R,
-        pass: &mut AtomicPass,
+        pass: &mut AtomicPass<T>,
         _set_order: Ordering,
         _fetch_order: Ordering,
         mut f: F,
@@ -282,22 +381,26 @@ impl<T: AtomicInteger, A: Allocator> Atomic<T, A> {
         requires may { (value : T) → F.pre f value }
         ensures changed { IfOk result (λ old. (new : T) × F.post f old (Some new) × HasActed T.arithmetic (opening_of self.now) (update (Some new)) (answers.OkOld old) pass.old pass.new) }
         ensures kept { IfErr result (λ old. F.post f old None × HasActed T.arithmetic (opening_of self.now) (update None) (answers.ErrOld old) pass.old pass.new) }
+        ensures played_changed { IfOk result (λ old. HasPlayed T.arithmetic (opening_of self.now) calls.FetchUpdate (answers.OkOld old) pass.old pass.new) }
+        ensures played_kept { IfErr result (λ old. HasPlayed T.arithmetic (opening_of self.now) calls.FetchUpdate (answers.ErrOld old) pass.old pass.new) }
     {
-        let old = self.take(rt, &mut pass.pass);
+        let old = self.take(rt, &mut pass.pass, &Call::FetchUpdate);
         match f(old) {
             Some(new) => {
                 let words = content(new);
                 let act = AtomicAct::FetchUpdate(Some(words));
-                Ok(self.replace(&mut pass.pass, old, new, &act))
+                self.put::<Brand>(&mut pass.pass, new, &act);
+                Ok(old)
             }
-            None => Err(self.keep(&mut pass.pass, old, &AtomicAct::FetchUpdate(None))),
+            None => Err(self.keep(&mut pass.pass, old)),
         }
     }
 
     /// The value, to be printed. It is loaded here, and not when it is printed.
-    pub fn shown<R: Wait>(&self, rt: &R, pass: &mut AtomicPass) -> AtomicShown<T>
+    pub fn shown<R: Wait>(&self, rt: &R, pass: &mut AtomicPass<T>) -> AtomicShown<T>
         requires own { IsAtomicPass self.now pass.old }
         ensures acted { HasActed T.arithmetic (opening_of self.now) (plain calls.Load) (answers.Value (loaded_in result)) pass.old pass.new }
+        ensures played { HasPlayed T.arithmetic (opening_of self.now) calls.Load (answers.Value (loaded_in result)) pass.old pass.new }
     {
         let value = self.load(rt, pass, Ordering::SeqCst);
         AtomicShown { value }
@@ -305,11 +408,12 @@ impl<T: AtomicInteger, A: Allocator> Atomic<T, A> {
 
     /// Loads under a read hold.
     #[inline(always)]
-    fn load_by<R: Wait>(&self, rt: &R, pass: &mut Pass<AtomicTally>) -> T
-        requires own { IsPassOf self.now.words pass.old }
-        requires rest { (view pass.old).tally.hold ≡ Free }
-        ensures acted { HasActedAt T.arithmetic (key_of self.now.words) (plain calls.Load) (answers.Value result) pass.old pass.new }
-        ensures rest { (view pass.new).tally.hold ≡ Free }
+    fn load_by<R: Wait>(&self, rt: &R, pass: &mut Pass<PlayedAtomic<T>>) -> T
+        requires own { IsPassOf self.now.stage pass.old }
+        requires rest { (counts_of pass.old).hold ≡ Free }
+        ensures acted { HasActedAt T.arithmetic (key_of self.now.stage) (plain calls.Load) (answers.Value result) pass.old pass.new }
+        ensures rest { (counts_of pass.new).hold ≡ Free }
+        ensures played { HasCalled (atomic_model T.arithmetic (key_of self.now.stage)) calls.Load (answers.Value result) None (parties_of pass.old) (parties_of pass.new) }
     {
         self.read_lock(rt, pass);
         let low = self.read_low(pass);
@@ -320,12 +424,13 @@ impl<T: AtomicInteger, A: Allocator> Atomic<T, A> {
 
     /// Takes the lock for reading.
     #[inline(always)]
-    fn read_lock<R: Wait>(&self, rt: &R, pass: &mut Pass<AtomicTally>)
-        requires own { IsPassOf self.now.words pass.old }
-        requires rest { (view pass.old).tally.hold ≡ Free }
+    fn read_lock<R: Wait>(&self, rt: &R, pass: &mut Pass<PlayedAtomic<T>>)
+        requires own { IsPassOf self.now.stage pass.old }
+        requires rest { (counts_of pass.old).hold ≡ Free }
         ensures on { HasGot IsReading pass.old pass.new }
+        ensures next { IsNext T.arithmetic (key_of self.now.stage) calls.Load (places.Low calls.Load) (Some kinds.Read) (all_of (parties_of pass.old)) (parties_of pass.new) }
     {
-        let mut seen = self.look(pass);
+        let mut seen = self.look::<LoadBegins>(pass);
         let mut tries = 0;
         for _ in rt.forever() {
             match reader_enters(seen) {
@@ -338,89 +443,135 @@ impl<T: AtomicInteger, A: Allocator> Atomic<T, A> {
                 }
                 None => {
                     tries = pause(tries);
-                    seen = self.look(pass);
+                    seen = self.look::<GoesOn>(pass);
                 }
             }
         }
     }
 
-    /// Takes the lock for writing.
+    /// Takes the lock for writing, in this call.
     #[inline(always)]
-    fn write_lock<R: Wait>(&self, rt: &R, pass: &mut Pass<AtomicTally>)
-        requires own { IsPassOf self.now.words pass.old }
-        requires rest { (view pass.old).tally.hold ≡ Free }
+    fn write_lock<R: Wait>(&self, rt: &R, pass: &mut Pass<PlayedAtomic<T>>, call: &Call<T>)
+        requires own { IsPassOf self.now.stage pass.old }
+        requires rest { (counts_of pass.old).hold ≡ Free }
+        requires writes { Writes T.arithmetic (key_of self.now.stage) call.now }
         ensures on { HasGot IsSettled pass.old pass.new }
+        ensures next { IsNext T.arithmetic (key_of self.now.stage) call.now (inside T.arithmetic call.now) (Some kinds.Write) (all_of (parties_of pass.old)) (parties_of pass.new) }
     {
+        if self.enter_write::<Brand>(pass, call) == 0 {
+            return;
+        }
         let mut tries = 0;
         for _ in rt.forever() {
-            if self.enter_write(pass) == 0 {
+            tries = pause(tries);
+            if self.enter_write::<GoesOn>(pass, call) == 0 {
                 return;
             }
-            tries = pause(tries);
         }
     }
 
-    /// Takes the lock for writing, and reads the value.
+    /// Takes the lock for writing, in this call, and reads the value.
     #[inline(always)]
-    fn take<R: Wait>(&self, rt: &R, pass: &mut Pass<AtomicTally>) -> T
-        requires own { IsPassOf self.now.words pass.old }
-        requires rest { (view pass.old).tally.hold ≡ Free }
+    fn take<R: Wait>(&self, rt: &R, pass: &mut Pass<PlayedAtomic<T>>, call: &Call<T>) -> T
+        requires own { IsPassOf self.now.stage pass.old }
+        requires rest { (counts_of pass.old).hold ≡ Free }
+        requires writes { Writes T.arithmetic (key_of self.now.stage) call.now }
+        requires reads { Reads T.arithmetic call.now }
         ensures taken { HasTaken T.arithmetic result pass.old pass.new }
+        ensures knows { Knows T.arithmetic (key_of self.now.stage) call.now result (all_of (parties_of pass.old)) (parties_of pass.new) }
     {
-        self.write_lock(rt, pass);
+        self.write_lock(rt, pass, call);
         let low = self.read_low(pass);
         let high = self.read_high(pass);
         T::from_words(low, high)
     }
 
+    /// Takes the lock for writing, in this call, and compares the value. Where it is another than the one compared with, the call has acted.
+    #[inline(always)]
+    fn compare<R: Wait>(
+        &self,
+        rt: &R,
+        pass: &mut Pass<PlayedAtomic<T>>,
+        call: &Call<T>,
+        by: &Comparison<T>,
+    ) -> T
+        requires own { IsPassOf self.now.stage pass.old }
+        requires rest { (counts_of pass.old).hold ≡ Free }
+        requires writes { Writes T.arithmetic (key_of self.now.stage) call.now }
+        requires reads { Reads T.arithmetic call.now }
+        requires right { (old : T) → T.arithmetic.same old by.now.current ≡ false → value_after T.arithmetic (act_in T.arithmetic by.now.act) old ≡ old }
+        ensures compared { MatchBool (T.arithmetic.same result by.now.current) (HasTaken T.arithmetic result pass.old pass.new) (HasCompared T.arithmetic (key_of self.now.stage) by.now.act result pass.old pass.new) }
+        ensures knows { Knows T.arithmetic (key_of self.now.stage) call.now result (all_of (parties_of pass.old)) (parties_of pass.new) }
+    {
+        self.write_lock(rt, pass, call);
+        let low = self.read_low(pass);
+        let high = self.compare_high(pass, by);
+        T::from_words(low, high)
+    }
+
     /// Writes a value by this act, and leaves the lock.
     #[inline(always)]
-    fn put(&self, pass: &mut Pass<AtomicTally>, new: T, act: &AtomicAct)
-        requires own { IsPassOf self.now.words pass.old }
-        requires on { IsSettled (view pass.old).tally.hold }
-        requires right { IfWriting (view pass.old).tally.hold (λ _ found. value_after T.arithmetic (act_in T.arithmetic act.now) (value_of T.arithmetic found) ≡ new) }
+    fn put<E: Entry<T>>(&self, pass: &mut Pass<PlayedAtomic<T>>, new: T, act: &AtomicAct)
+        requires own { IsPassOf self.now.stage pass.old }
+        requires on { IsSettled (counts_of pass.old).hold }
+        requires right { IfWriting (counts_of pass.old).hold (λ _ found. value_after T.arithmetic (act_in T.arithmetic act.now) (value_of T.arithmetic found) ≡ new) }
+        requires may { MayPut T.arithmetic (key_of self.now.stage) E.coming new (parties_of pass.old) }
         ensures same { IsSamePass pass.old pass.new }
-        ensures acted { IfWriting (view pass.old).tally.hold (λ _ found. ActsAt T.arithmetic (key_of self.now.words) act.now found (view pass.old) (view pass.new)) }
-        ensures rest { (view pass.new).tally.hold ≡ Free }
+        ensures acted { IfWriting (counts_of pass.old).hold (λ _ found. ActsAt T.arithmetic (key_of self.now.stage) act.now found (counted pass.old) (counted pass.new)) }
+        ensures rest { (counts_of pass.new).hold ≡ Free }
+        ensures put { HasPut T.arithmetic (key_of self.now.stage) E.coming new (parties_of pass.old) (parties_of pass.new) }
     {
         let (low, high) = new.to_words();
-        self.store_low(pass, low);
+        self.store_low::<E>(pass, low);
         self.end_store(pass, high, act);
         self.leave_write(pass);
     }
 
-    /// Writes a value in place of the one that was read, by this act, leaves the lock, and answers the old value.
+    /// Writes a value in place of the one that was read, by this act of this call, leaves the lock, and answers the old value.
     #[inline(always)]
-    fn replace(&self, pass: &mut Pass<AtomicTally>, old: T, new: T, act: &AtomicAct) -> T
-        requires own { IsPassOf self.now.words pass.old }
+    fn replace(
+        &self,
+        pass: &mut Pass<PlayedAtomic<T>>,
+        old: T,
+        new: T,
+        act: &AtomicAct,
+        call: &Call<T>,
+    ) -> T
+        requires own { IsPassOf self.now.stage pass.old }
         requires holding { IsHolding T.arithmetic old pass.old }
         requires right { value_after T.arithmetic (act_in T.arithmetic act.now) old ≡ new }
+        requires knows { (done : List (Slot T)) × Knows T.arithmetic (key_of self.now.stage) call.now old done (parties_of pass.old) }
+        requires puts { Puts T.arithmetic call.now old new (answer_to T.arithmetic (act_in T.arithmetic act.now) old) }
         ensures old { result ≡ old }
-        ensures acted { HasActedAt T.arithmetic (key_of self.now.words) (act_in T.arithmetic act.now) (answer_to T.arithmetic (act_in T.arithmetic act.now) old) pass.old pass.new }
-        ensures rest { (view pass.new).tally.hold ≡ Free }
+        ensures acted { HasActedAt T.arithmetic (key_of self.now.stage) (act_in T.arithmetic act.now) (answer_to T.arithmetic (act_in T.arithmetic act.now) old) pass.old pass.new }
+        ensures rest { (counts_of pass.new).hold ≡ Free }
+        ensures played { HasReplaced T.arithmetic (key_of self.now.stage) call.now old (answer_to T.arithmetic (act_in T.arithmetic act.now) old) (parties_of pass.old) (parties_of pass.new) }
     {
-        self.put(pass, new, act);
+        let _call = call;
+        self.put::<GoesOn>(pass, new, act);
         old
     }
 
-    /// Keeps the value that was read, by this act, leaves the lock, and answers the value.
+    /// Keeps the value that was read, in a `fetch_update` whose closure has chosen nothing, leaves the lock, and answers the value.
     #[inline(always)]
-    fn keep(&self, pass: &mut Pass<AtomicTally>, old: T, act: &AtomicAct) -> T
-        requires own { IsPassOf self.now.words pass.old }
+    fn keep(&self, pass: &mut Pass<PlayedAtomic<T>>, old: T) -> T
+        requires own { IsPassOf self.now.stage pass.old }
         requires holding { IsHolding T.arithmetic old pass.old }
-        requires right { value_after T.arithmetic (act_in T.arithmetic act.now) old ≡ old }
+        requires knows { (done : List (Slot T)) × Knows T.arithmetic (key_of self.now.stage) calls.FetchUpdate old done (parties_of pass.old) }
         ensures old { result ≡ old }
-        ensures acted { HasActedAt T.arithmetic (key_of self.now.words) (act_in T.arithmetic act.now) (answer_to T.arithmetic (act_in T.arithmetic act.now) old) pass.old pass.new }
-        ensures rest { (view pass.new).tally.hold ≡ Free }
+        ensures acted { HasActedAt T.arithmetic (key_of self.now.stage) (update None) (answers.ErrOld old) pass.old pass.new }
+        ensures rest { (counts_of pass.new).hold ≡ Free }
+        ensures played { HasReplaced T.arithmetic (key_of self.now.stage) calls.FetchUpdate old (answers.ErrOld old) (parties_of pass.old) (parties_of pass.new) }
     {
-        self.end_unchanged(pass, act);
+        self.end_unchanged::<NothingChosen>(pass, &AtomicAct::FetchUpdate(None));
         self.leave_write(pass);
         old
     }
 }
 
 /// Whenever the rule of an atomic holds there is one history: what each pass has seen begins it, each act in it is one pass's own, and
-/// while no write hold stands the data words are the register after it. Says so of the rule alone, and does nothing.
+/// while no write hold stands the data words are the register after it, as after a run of the model in which all passes are the parties.
+/// Says so of the rule alone, and does nothing.
 #[tactic(auto, using(crate::proofs::OneHistory::one_history))]
 pub fn one_history<T: AtomicInteger>()
     ensures one { OneHistory T.arithmetic }

@@ -4,14 +4,18 @@
 //! in it are its own. All passes see one history, in which each answer is the one that the model's register gives.
 #![tactic(auto)]
 
+mod begins;
 mod calls;
 mod deeds;
+mod ends;
 mod history;
 mod pass;
+mod script;
 mod shown;
 mod steps;
 
 pub use calls::{Atomic, one_history};
 pub use history::{AtomicAct, AtomicTally, Content, Counts, Heard, Place, Seen};
 pub use pass::AtomicPass;
+pub use script::{AtomicScript, PlayedAtomic};
 pub use shown::AtomicShown;

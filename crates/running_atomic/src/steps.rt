@@ -1,20 +1,33 @@
 //! The steps on the words of an atomic, one atomic step each.
 ghost use Rattle.std.specs.Prelude.{◌≡◌, ◌<◌, ◌-◌, ◌^◌, ◌+◌};
 ghost use Rattle.tallies.specs.declared.held.Held.TheVariants.{Free};
-ghost use Rattle.passes.specs.Objects.{IsPassOf, key_of};
-ghost use Rattle.passes.specs.Passes.{IsSamePass, view};
+ghost use Rattle.passes.specs.Passes.{IsSamePass};
+ghost use Rattle.playing.specs.Plays.{Going, MayStep, Went};
+ghost use Rattle.playing.specs.Passes.{parties_of, counts_of, counted};
+ghost use Rattle.playing.specs.Stages.{IsPassOf, key_of};
+ghost use Rattle.running_atomic.specs.AtomicModel.{atomic_model, atomic_names};
 ghost use Rattle.passes.specs.Views.{looked};
-ghost use Rattle.running_atomic.specs.AtomicSteps.{EntersRead, EntersWrite, Leaves, ReadsLow, ReadsHigh, EndsLoad, EndsStore, EndsUnchanged, StoresLow, Settles, IsReading, IsSettled, IsWriting, IsOn, IsRight, ChangesNothing};
+ghost use Rattle.running_atomic.specs.AtomicSteps.{EntersRead, EntersWrite, Leaves, ReadsLow, ReadsHigh, EndsLoad, EndsStore, EndsUnchanged, StoresLow, Settles, IsReading, IsSettled, IsWriting, IsOn, IsRight, ChangesNothing, KeepsOthers, ComparesHigh};
 
 use crate::calls::Atomic;
 use crate::deeds::{
     EndLoad, EnterRead, EnterWrite, Leave, Look, ReadHigh, ReadLow, Settle, StoreLow,
 };
-use crate::history::{AtomicAct, AtomicTally};
+use crate::history::AtomicAct;
+use crate::script::PlayedAtomic;
 use passes::Pass;
+use playing::{Entry, GoesOn};
 use std::alloc::Allocator;
 use std::marker::Brand;
 use steps_events::atomic::internal::AtomicInteger;
+use steps_events::event::Call;
+
+/// A call that compares: its act, and the value that it compares with.
+#[derive(Drop)]
+pub(crate) struct Comparison<T> {
+    pub(crate) act: AtomicAct,
+    pub(crate) current: T,
+}
 
 /// The lock's word.
 const STATE: usize = 0;
@@ -29,140 +42,188 @@ const HIGH: usize = 2;
 const WRITTEN: u64 = u64::MAX;
 
 impl<T: AtomicInteger, A: Allocator> Atomic<T, A> {
+    ghost use Rattle.steps_events.specs.declared.row.Intent.TheVariants as intents;
+
     /// A load of the lock's word.
     #[inline(always)]
-    pub(crate) fn look(&self, pass: &mut Pass<AtomicTally>) -> u64
-        requires own { IsPassOf self.now.words pass.old }
+    pub(crate) fn look<E: Entry<T>>(&self, pass: &mut Pass<PlayedAtomic<T>>) -> u64
+        requires own { IsPassOf self.now.stage pass.old }
+        requires may { MayStep (atomic_model T.arithmetic (key_of self.now.stage)) atomic_names E.coming 0 (λ w. intents.Load w) (parties_of pass.old) }
         ensures same { IsSamePass pass.old pass.new }
-        ensures saw { view pass.new ≡ looked (view pass.old) result }
+        ensures went { Went (atomic_model T.arithmetic (key_of self.now.stage)) E.coming (parties_of pass.old) result (parties_of pass.new) }
+        ensures saw { counted pass.new ≡ looked (counted pass.old) result }
     {
-        self.words.load::<Look>(pass, STATE)
+        self.stage.load::<E, Look>(pass, STATE)
     }
 
     /// An exchange of the lock's word for one more.
     #[inline(always)]
-    pub(crate) fn enter_read(&self, pass: &mut Pass<AtomicTally>, from: u64, to: u64) -> u64
-        requires own { IsPassOf self.now.words pass.old }
-        requires free { (view pass.old).tally.hold ≡ Free }
+    pub(crate) fn enter_read(&self, pass: &mut Pass<PlayedAtomic<T>>, from: u64, to: u64) -> u64
+        requires own { IsPassOf self.now.stage pass.old }
+        requires free { (counts_of pass.old).hold ≡ Free }
         requires room { from < 2 ^ 64 - 2 }
         requires next { to ≡ from + 1 }
+        requires may { MayStep (atomic_model T.arithmetic (key_of self.now.stage)) atomic_names Going 0 (λ w. intents.Exchange w from to) (parties_of pass.old) }
         ensures same { IsSamePass pass.old pass.new }
-        ensures tried { EntersRead from (view pass.old) result (view pass.new) }
+        ensures went { Went (atomic_model T.arithmetic (key_of self.now.stage)) Going (parties_of pass.old) result (parties_of pass.new) }
+        ensures tried { EntersRead from (counted pass.old) result (counted pass.new) }
     {
-        self.words
-            .compare_exchange::<EnterRead>(pass, STATE, from, to)
+        self.stage
+            .exchange::<GoesOn, EnterRead>(pass, STATE, from, to)
     }
 
-    /// An exchange of the lock's word, from 0, for the writer's.
+    /// An exchange of the lock's word, from 0, for the writer's. How the pass comes to it may speak of its call; its caller picks it.
     #[inline(always)]
-    pub(crate) fn enter_write(&self, pass: &mut Pass<AtomicTally>) -> u64
-        requires own { IsPassOf self.now.words pass.old }
-        requires free { (view pass.old).tally.hold ≡ Free }
+    pub(crate) fn enter_write<E: Entry<T>>(
+        &self,
+        pass: &mut Pass<PlayedAtomic<T>>,
+        _call: &Call<T>,
+    ) -> u64
+        requires own { IsPassOf self.now.stage pass.old }
+        requires free { (counts_of pass.old).hold ≡ Free }
+        requires may { MayStep (atomic_model T.arithmetic (key_of self.now.stage)) atomic_names E.coming 0 (λ w. intents.Exchange w 0 (2 ^ 64 - 1)) (parties_of pass.old) }
         ensures same { IsSamePass pass.old pass.new }
-        ensures tried { EntersWrite (view pass.old) result (view pass.new) }
+        ensures went { Went (atomic_model T.arithmetic (key_of self.now.stage)) E.coming (parties_of pass.old) result (parties_of pass.new) }
+        ensures tried { EntersWrite (counted pass.old) result (counted pass.new) }
     {
-        self.words
-            .compare_exchange::<EnterWrite>(pass, STATE, 0, WRITTEN)
+        self.stage
+            .exchange::<E, EnterWrite>(pass, STATE, 0, WRITTEN)
     }
 
     /// The end of a read hold.
     #[inline(always)]
-    pub(crate) fn leave_read(&self, pass: &mut Pass<AtomicTally>)
-        requires own { IsPassOf self.now.words pass.old }
-        requires on { IsReading (view pass.old).tally.hold }
+    pub(crate) fn leave_read(&self, pass: &mut Pass<PlayedAtomic<T>>) -> u64
+        requires own { IsPassOf self.now.stage pass.old }
+        requires on { IsReading (counts_of pass.old).hold }
+        requires may { MayStep (atomic_model T.arithmetic (key_of self.now.stage)) atomic_names Going 0 (λ w. intents.Subtract w 1) (parties_of pass.old) }
         ensures same { IsSamePass pass.old pass.new }
-        ensures left { Leaves (view pass.old) (view pass.new) }
+        ensures went { Went (atomic_model T.arithmetic (key_of self.now.stage)) Going (parties_of pass.old) result (parties_of pass.new) }
+        ensures left { Leaves (counted pass.old) (counted pass.new) }
     {
-        self.words.fetch_sub::<Leave>(pass, STATE, 1);
+        self.stage.subtract::<GoesOn, Leave>(pass, STATE, 1)
     }
 
     /// The end of a write hold.
     #[inline(always)]
-    pub(crate) fn leave_write(&self, pass: &mut Pass<AtomicTally>)
-        requires own { IsPassOf self.now.words pass.old }
-        requires on { IsSettled (view pass.old).tally.hold }
+    pub(crate) fn leave_write(&self, pass: &mut Pass<PlayedAtomic<T>>)
+        requires own { IsPassOf self.now.stage pass.old }
+        requires on { IsSettled (counts_of pass.old).hold }
+        requires may { MayStep (atomic_model T.arithmetic (key_of self.now.stage)) atomic_names Going 0 (λ w. intents.Store w 0) (parties_of pass.old) }
         ensures same { IsSamePass pass.old pass.new }
-        ensures left { Leaves (view pass.old) (view pass.new) }
+        ensures went { Went (atomic_model T.arithmetic (key_of self.now.stage)) Going (parties_of pass.old) 0 (parties_of pass.new) }
+        ensures left { Leaves (counted pass.old) (counted pass.new) }
     {
-        self.words.store::<Leave>(pass, STATE, 0);
+        self.stage.store::<GoesOn, Leave>(pass, STATE, 0);
     }
 
     /// A load of the low word.
     #[inline(always)]
-    pub(crate) fn read_low(&self, pass: &mut Pass<AtomicTally>) -> u64
-        requires own { IsPassOf self.now.words pass.old }
-        requires on { IsOn (view pass.old).tally.hold }
+    pub(crate) fn read_low(&self, pass: &mut Pass<PlayedAtomic<T>>) -> u64
+        requires own { IsPassOf self.now.stage pass.old }
+        requires on { IsOn (counts_of pass.old).hold }
+        requires may { MayStep (atomic_model T.arithmetic (key_of self.now.stage)) atomic_names Going 1 (λ w. intents.Load w) (parties_of pass.old) }
         ensures same { IsSamePass pass.old pass.new }
-        ensures read { ReadsLow (view pass.old) result (view pass.new) }
+        ensures went { Went (atomic_model T.arithmetic (key_of self.now.stage)) Going (parties_of pass.old) result (parties_of pass.new) }
+        ensures read { ReadsLow (counted pass.old) result (counted pass.new) }
     {
-        self.words.load::<ReadLow>(pass, LOW)
+        self.stage.load::<GoesOn, ReadLow>(pass, LOW)
     }
 
     /// A load of the high word, after which the call goes on.
     #[inline(always)]
-    pub(crate) fn read_high(&self, pass: &mut Pass<AtomicTally>) -> u64
-        requires own { IsPassOf self.now.words pass.old }
-        requires on { IsOn (view pass.old).tally.hold }
+    pub(crate) fn read_high(&self, pass: &mut Pass<PlayedAtomic<T>>) -> u64
+        requires own { IsPassOf self.now.stage pass.old }
+        requires on { IsOn (counts_of pass.old).hold }
+        requires may { MayStep (atomic_model T.arithmetic (key_of self.now.stage)) atomic_names Going 2 (λ w. intents.Load w) (parties_of pass.old) }
         ensures same { IsSamePass pass.old pass.new }
-        ensures read { ReadsHigh (view pass.old) result (view pass.new) }
+        ensures went { Went (atomic_model T.arithmetic (key_of self.now.stage)) Going (parties_of pass.old) result (parties_of pass.new) }
+        ensures read { ReadsHigh (counted pass.old) result (counted pass.new) }
     {
-        self.words.load::<ReadHigh>(pass, HIGH)
+        self.stage.load::<GoesOn, ReadHigh>(pass, HIGH)
     }
 
     /// The load of the high word by which a `load` acts.
     #[inline(always)]
-    pub(crate) fn end_load(&self, pass: &mut Pass<AtomicTally>) -> u64
-        requires own { IsPassOf self.now.words pass.old }
-        requires on { IsReading (view pass.old).tally.hold }
+    pub(crate) fn end_load(&self, pass: &mut Pass<PlayedAtomic<T>>) -> u64
+        requires own { IsPassOf self.now.stage pass.old }
+        requires on { IsReading (counts_of pass.old).hold }
+        requires may { MayStep (atomic_model T.arithmetic (key_of self.now.stage)) atomic_names Going 2 (λ w. intents.Load w) (parties_of pass.old) }
         ensures same { IsSamePass pass.old pass.new }
-        ensures ended { EndsLoad T.arithmetic (key_of self.now.words) (view pass.old) result (view pass.new) }
+        ensures went { Went (atomic_model T.arithmetic (key_of self.now.stage)) Going (parties_of pass.old) result (parties_of pass.new) }
+        ensures ended { EndsLoad T.arithmetic (key_of self.now.stage) (counted pass.old) result (counted pass.new) }
     {
-        self.words.load::<EndLoad>(pass, HIGH)
+        self.stage.load::<GoesOn, EndLoad>(pass, HIGH)
     }
 
     /// The store of the low word.
     #[inline(always)]
-    pub(crate) fn store_low(&self, pass: &mut Pass<AtomicTally>, new: u64)
-        requires own { IsPassOf self.now.words pass.old }
-        requires on { IsWriting (view pass.old).tally.hold }
+    pub(crate) fn store_low<E: Entry<T>>(&self, pass: &mut Pass<PlayedAtomic<T>>, new: u64)
+        requires own { IsPassOf self.now.stage pass.old }
+        requires on { IsWriting (counts_of pass.old).hold }
+        requires may { MayStep (atomic_model T.arithmetic (key_of self.now.stage)) atomic_names E.coming 1 (λ w. intents.Store w new) (parties_of pass.old) }
         ensures same { IsSamePass pass.old pass.new }
-        ensures stored { StoresLow (view pass.old) new (view pass.new) }
+        ensures went { Went (atomic_model T.arithmetic (key_of self.now.stage)) E.coming (parties_of pass.old) new (parties_of pass.new) }
+        ensures stored { StoresLow (counted pass.old) new (counted pass.new) }
     {
-        self.words.store::<StoreLow>(pass, LOW, new);
+        self.stage.store::<E, StoreLow>(pass, LOW, new);
     }
 
     /// The store of the high word, by which a call acts that stores.
     #[inline(always)]
-    pub(crate) fn end_store(&self, pass: &mut Pass<AtomicTally>, new: u64, act: &AtomicAct)
-        requires own { IsPassOf self.now.words pass.old }
-        requires on { IsWriting (view pass.old).tally.hold }
-        requires right { IsRight T.arithmetic act.now new (view pass.old).tally.hold }
+    pub(crate) fn end_store(&self, pass: &mut Pass<PlayedAtomic<T>>, new: u64, act: &AtomicAct)
+        requires own { IsPassOf self.now.stage pass.old }
+        requires on { IsWriting (counts_of pass.old).hold }
+        requires right { IsRight T.arithmetic act.now new (counts_of pass.old).hold }
+        requires may { MayStep (atomic_model T.arithmetic (key_of self.now.stage)) atomic_names Going 2 (λ w. intents.Store w new) (parties_of pass.old) }
         ensures same { IsSamePass pass.old pass.new }
-        ensures ended { EndsStore T.arithmetic (key_of self.now.words) act.now (view pass.old) new (view pass.new) }
+        ensures went { Went (atomic_model T.arithmetic (key_of self.now.stage)) Going (parties_of pass.old) new (parties_of pass.new) }
+        ensures ended { EndsStore T.arithmetic (key_of self.now.stage) act.now (counted pass.old) new (counted pass.new) }
     {
-        self.words
-            .store_of::<Brand, AtomicAct>(pass, HIGH, new, act);
+        self.stage
+            .store_of::<GoesOn, Brand, AtomicAct>(pass, HIGH, new, act);
     }
 
     /// The load of the high word by which a call acts that took the lock for writing and stores nothing.
     #[inline(always)]
-    pub(crate) fn end_unchanged(&self, pass: &mut Pass<AtomicTally>, act: &AtomicAct)
-        requires own { IsPassOf self.now.words pass.old }
-        requires on { IsSettled (view pass.old).tally.hold }
-        requires right { ChangesNothing T.arithmetic act.now (view pass.old).tally.hold }
+    pub(crate) fn end_unchanged<E: Entry<T>>(
+        &self,
+        pass: &mut Pass<PlayedAtomic<T>>,
+        act: &AtomicAct,
+    ) -> u64
+        requires own { IsPassOf self.now.stage pass.old }
+        requires on { IsSettled (counts_of pass.old).hold }
+        requires right { ChangesNothing T.arithmetic act.now (counts_of pass.old).hold }
+        requires may { MayStep (atomic_model T.arithmetic (key_of self.now.stage)) atomic_names E.coming 2 (λ w. intents.Load w) (parties_of pass.old) }
         ensures same { IsSamePass pass.old pass.new }
-        ensures ended { EndsUnchanged T.arithmetic (key_of self.now.words) act.now (view pass.old) (view pass.new) }
+        ensures went { Went (atomic_model T.arithmetic (key_of self.now.stage)) E.coming (parties_of pass.old) result (parties_of pass.new) }
+        ensures ended { EndsUnchanged T.arithmetic (key_of self.now.stage) act.now (counted pass.old) (counted pass.new) }
     {
-        self.words.load_of::<Brand, AtomicAct>(pass, HIGH, act);
+        self.stage.load_of::<E, Brand, AtomicAct>(pass, HIGH, act)
+    }
+
+    /// The load of the high word of a call that compares. Where the value is another than the one compared with, the call acts by it.
+    #[inline(always)]
+    pub(crate) fn compare_high(&self, pass: &mut Pass<PlayedAtomic<T>>, by: &Comparison<T>) -> u64
+        requires own { IsPassOf self.now.stage pass.old }
+        requires on { IsSettled (counts_of pass.old).hold }
+        requires right { KeepsOthers T.arithmetic by.now.act by.now.current (counts_of pass.old).hold }
+        requires may { MayStep (atomic_model T.arithmetic (key_of self.now.stage)) atomic_names Going 2 (λ w. intents.Load w) (parties_of pass.old) }
+        ensures same { IsSamePass pass.old pass.new }
+        ensures went { Went (atomic_model T.arithmetic (key_of self.now.stage)) Going (parties_of pass.old) result (parties_of pass.new) }
+        ensures compared { ComparesHigh T.arithmetic (key_of self.now.stage) by.now.act by.now.current (counted pass.old) result (counted pass.new) }
+    {
+        self.stage
+            .load_of::<GoesOn, Brand, Comparison<T>>(pass, HIGH, by)
     }
 
     /// A load by which a pass sees all of the history.
     #[inline(always)]
-    pub(crate) fn settle(&self, pass: &mut Pass<AtomicTally>)
-        requires own { IsPassOf self.now.words pass.old }
+    pub(crate) fn settle(&self, pass: &mut Pass<PlayedAtomic<T>>)
+        requires own { IsPassOf self.now.stage pass.old }
         ensures same { IsSamePass pass.old pass.new }
-        ensures settled { Settles T.arithmetic (key_of self.now.words) (view pass.old) (view pass.new) }
+        ensures stayed { parties_of pass.new ≡ parties_of pass.old }
+        ensures settled { Settles T.arithmetic (key_of self.now.stage) (counted pass.old) (counted pass.new) }
     {
-        self.words.load::<Settle>(pass, STATE);
+        self.stage.look::<Settle>(pass, STATE);
     }
 }

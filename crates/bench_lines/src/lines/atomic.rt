@@ -18,7 +18,7 @@ pub fn load(rt: &impl Wait, alloc: Global) -> Result<u32, AllocError> {
 struct Reads<'r, R: Wait> {
     rt: &'r R,
     atomic: Atomic<u64>,
-    pass: AtomicPass,
+    pass: AtomicPass<u64>,
     ghost own: { IsAtomicPass atomic pass },
 }
 
@@ -39,7 +39,7 @@ pub fn load_wide(rt: &impl Wait, alloc: Global) -> Result<u32, AllocError> {
 struct ReadsWide<'r, R: Wait> {
     rt: &'r R,
     atomic: Atomic<u128>,
-    pass: AtomicPass,
+    pass: AtomicPass<u128>,
     ghost own: { IsAtomicPass atomic pass },
 }
 
@@ -60,7 +60,7 @@ pub fn store(rt: &impl Wait, alloc: Global) -> Result<u32, AllocError> {
 struct Writes<'r, R: Wait> {
     rt: &'r R,
     atomic: Atomic<u64>,
-    pass: AtomicPass,
+    pass: AtomicPass<u64>,
     ghost own: { IsAtomicPass atomic pass },
 }
 
@@ -82,7 +82,7 @@ pub fn fetch_add(rt: &impl Wait, alloc: Global) -> Result<u32, AllocError> {
 struct Adds<'r, R: Wait> {
     rt: &'r R,
     atomic: Atomic<u64>,
-    pass: AtomicPass,
+    pass: AtomicPass<u64>,
     ghost own: { IsAtomicPass atomic pass },
 }
 
@@ -103,7 +103,7 @@ pub fn fetch_add_wide(rt: &impl Wait, alloc: Global) -> Result<u32, AllocError> 
 struct AddsWide<'r, R: Wait> {
     rt: &'r R,
     atomic: Atomic<u128>,
-    pass: AtomicPass,
+    pass: AtomicPass<u128>,
     ghost own: { IsAtomicPass atomic pass },
 }
 
@@ -124,7 +124,7 @@ pub fn compare_exchange(rt: &impl Wait, alloc: Global) -> Result<u32, AllocError
 struct Exchanges<'r, R: Wait> {
     rt: &'r R,
     atomic: Atomic<u64>,
-    pass: AtomicPass,
+    pass: AtomicPass<u64>,
     ghost own: { IsAtomicPass atomic pass },
 }
 

@@ -89,7 +89,7 @@ fn bits_and_extremes(rt: HostRuntime) -> Result<(), Fail> {
 fn update<R: Wait>(
     rt: &R,
     atomic: &Atomic<u64>,
-    pass: &mut AtomicPass,
+    pass: &mut AtomicPass<u64>,
     choice: Option<u64>,
 ) -> (Result<u64, u64>, u64)
     requires own { IsAtomicPass atomic.now pass.old }
@@ -129,7 +129,12 @@ fn a_shown_atomic_prints_its_value(rt: HostRuntime) -> Result<(), Fail> {
 }
 
 /// Adds 1 so many times.
-fn add_often<R: Wait>(rt: &R, atomic: &Atomic<u64>, mut pass: AtomicPass, times: u64) -> AtomicPass
+fn add_often<R: Wait>(
+    rt: &R,
+    atomic: &Atomic<u64>,
+    mut pass: AtomicPass<u64>,
+    times: u64,
+) -> AtomicPass<u64>
     requires own { IsAtomicPass atomic.now pass }
     ensures stayed { HasStayed pass result }
 {
@@ -143,7 +148,7 @@ fn add_often<R: Wait>(rt: &R, atomic: &Atomic<u64>, mut pass: AtomicPass, times:
 fn passes_meet<R: Threads + Wait + Sync>(
     rt: &R,
     atomic: Atomic<u64>,
-    pass: AtomicPass,
+    pass: AtomicPass<u64>,
 ) -> (u64, u64)
     requires own { IsAtomicPass atomic pass }
 {
@@ -153,11 +158,11 @@ fn passes_meet<R: Threads + Wait + Sync>(
     };
     let (one, two) = thread::join(
         rt,
-        || -> AtomicPass
+        || -> AtomicPass<u64>
             requires { IsAtomicPass shared.now one }
             ensures { HasStayed one result }
         { add_often(rt, shared, one, 1000) },
-        || -> AtomicPass
+        || -> AtomicPass<u64>
             requires { IsAtomicPass shared.now two }
             ensures { HasStayed two result }
         { add_often(rt, shared, two, 1000) },
@@ -183,9 +188,9 @@ const STRIDE: u128 = (1 << 64) + (1 << 63);
 fn stride_often<R: Wait>(
     rt: &R,
     atomic: &Atomic<u128>,
-    mut pass: AtomicPass,
+    mut pass: AtomicPass<u128>,
     times: u64,
-) -> AtomicPass
+) -> AtomicPass<u128>
     requires own { IsAtomicPass atomic.now pass }
     ensures stayed { HasStayed pass result }
 {
@@ -196,7 +201,12 @@ fn stride_often<R: Wait>(
 }
 
 /// How many loads, of so many, tell a value that no number of strides makes.
-fn count_torn<R: Wait>(rt: &R, atomic: &Atomic<u128>, pass: &mut AtomicPass, times: u64) -> u64
+fn count_torn<R: Wait>(
+    rt: &R,
+    atomic: &Atomic<u128>,
+    pass: &mut AtomicPass<u128>,
+    times: u64,
+) -> u64
     requires own { IsAtomicPass atomic.now pass.old }
 {
     let mut torn = 0;
@@ -212,7 +222,7 @@ fn count_torn<R: Wait>(rt: &R, atomic: &Atomic<u128>, pass: &mut AtomicPass, tim
 fn watch_strides<R: Threads + Wait + Sync>(
     rt: &R,
     atomic: Atomic<u128>,
-    pass: AtomicPass,
+    pass: AtomicPass<u128>,
 ) -> (u64, u128)
     requires own { IsAtomicPass atomic pass }
 {
@@ -228,17 +238,17 @@ fn watch_strides<R: Threads + Wait + Sync>(
         || -> u64
             requires { IsAtomicPass shared.now loading }
         { count_torn(rt, shared, &mut loading, 2000) },
-        || -> (AtomicPass, AtomicPass)
+        || -> (AtomicPass<u128>, AtomicPass<u128>)
             requires { IsAtomicPass shared.now one × IsAtomicPass shared.now two }
             ensures { HasStayed one result.0 × HasStayed two result.1 }
         {
             thread::join(
                 rt,
-                || -> AtomicPass
+                || -> AtomicPass<u128>
                     requires { IsAtomicPass shared.now one }
                     ensures { HasStayed one result }
                 { stride_often(rt, shared, one, 1000) },
-                || -> AtomicPass
+                || -> AtomicPass<u128>
                     requires { IsAtomicPass shared.now two }
                     ensures { HasStayed two result }
                 { stride_often(rt, shared, two, 1000) },

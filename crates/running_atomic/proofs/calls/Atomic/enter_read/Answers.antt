@@ -1,5 +1,5 @@
 use Rattle.running_atomic.proofs.AtomicKeeps.{read_enters}
 use Rattle.running_atomic.proofs.calls.Atomic.enter_read.Goals as goal
 
-pub compare_exchange-requires-clause-update : goal.compare_exchange-requires-clause-update
-compare_exchange-requires-clause-update g c = read_enters _ _ _ _ _ c.requires.free c.requires.room c.requires.next
+pub exchange-requires-clause-update : goal.exchange-requires-clause-update
+exchange-requires-clause-update g c = read_enters _ _ _ _ _ c.requires.free c.requires.room c.requires.next

@@ -1,5 +1,5 @@
 use Rattle.running_atomic.proofs.AtomicKeeps.{settles}
 use Rattle.running_atomic.proofs.calls.Atomic.settle.Goals as goal
 
-pub load-requires-clause-update : goal.load-requires-clause-update
-load-requires-clause-update g c = settles _ _ _
+pub look-requires-clause-update : goal.look-requires-clause-update
+look-requires-clause-update g c = settles _ _ _

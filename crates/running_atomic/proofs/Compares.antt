@@ -1,0 +1,94 @@
+-- What a call knows that compares: it has taken the lock and the value, or has acted.
+use Rattle.std.proofs.Common.{◌≡◌, ℕ, refl, sym, ap, subst, ◌∙◌, Bool, true, false, length}
+use Rattle.std.specs.Prelude.{MatchBool}
+use Rattle.steps_events.specs.declared.event.Call.{Call}
+use Rattle.steps_events.specs.declared.event.Answer.{Answer}
+use Rattle.steps_events.specs.declared.event.Answer.TheVariants as answers
+use Rattle.steps_events.specs.Arithmetic.{Arithmetic}
+use Rattle.passes.specs.declared.pass.Pass.{Pass}
+use Rattle.passes.specs.declared.view.View.{View}
+use Rattle.passes.specs.Passes.{IsSamePass}
+use Rattle.passes.specs.Parts.{IsWhole}
+use Rattle.steps_atomic.specs.Register as register
+use Rattle.tallies.specs.Counts.{one_more}
+use Rattle.tallies.specs.declared.held.Held.{Held}
+use Rattle.tallies.specs.declared.held.Held.TheVariants.{Free, Writing}
+use Rattle.playing.specs.Passes.{counts_of, counted}
+use Rattle.running_atomic.specs.declared.history.AtomicTally.{AtomicTally}
+use Rattle.running_atomic.specs.declared.history.Content.{Content}
+use Rattle.running_atomic.specs.declared.history.AtomicAct.{AtomicAct}
+use Rattle.running_atomic.specs.declared.history.Heard.{Heard}
+use Rattle.running_atomic.specs.AtomicRule.{RegisterAct, plain, value_of, act_in, answer_to, history_in}
+use Rattle.running_atomic.specs.AtomicSteps.{PlayedAtomic, StartsWith, Acts, ActsAt, IfHeld, IfWriting, IsSettled, Leaves, now_holds, ReadsLow, EndsUnchanged, ComparesHigh}
+use Rattle.running_atomic.specs.AtomicShown.{HasGot, HasActedAt, HasTaken, HasCompared}
+use Rattle.running_atomic.proofs.AtomicKeeps.{settled_is}
+
+same_twice : {T : Type 0} (p q r : Pass (PlayedAtomic T)) → IsSamePass p q → IsSamePass q r → IsSamePass p r
+same_twice p q r first second = (second.0 ∙ first.0, second.1 ∙ first.1)
+
+module _ {T : Type 0} (z : Arithmetic T) (k : T) where
+  -- an act counts from whatever the pass was before, where it had seen and weighed the same
+  acts_since : (a : RegisterAct T) (answer : Answer T) (v u w : View AtomicTally) → u.tally.heard ≡ v.tally.heard → u.part ≡ v.part → Acts z k a answer u w → Acts z k a answer v w
+  acts_since a answer v u w heard part acts = record {
+    before = acts.before;
+    answered = acts.answered;
+    begins = subst (λ (h : Heard). StartsWith acts.before (history_in z h)) heard acts.begins;
+    alone = λ whole. acts.alone (subst IsWhole (sym part) whole) ∙ ap (history_in z) heard;
+    seen = acts.seen;
+    own = acts.own ∙ ap (λ (h : Heard). one_more (length acts.before) h.own) heard;
+    marks = acts.marks;
+    part = acts.part ∙ part;
+  }
+
+  by_value : (a : AtomicAct) (x : Content) (p q r s : Pass (PlayedAtomic T)) (b : Bool) → IsSamePass p s → HasGot IsSettled p q → counted r ≡ counted q → (counts_of q).hold ≡ Writing x x →
+      MatchBool b (counted s ≡ counted r) (EndsUnchanged z k a (counted r) (counted s)) → MatchBool b (HasTaken z (value_of z x) p s) (HasCompared z k a (value_of z x) p s)
+  by_value a x p q r s true same got read is made =
+      let all : counted s ≡ counted q = made ∙ read in record {
+        same = same;
+        part = ap (λ (v : View AtomicTally). v.part) all ∙ got.part;
+        heard = ap (λ (v : View AtomicTally). v.tally.heard) all ∙ got.heard;
+        holding = record { words = x; on = ap (λ (v : View AtomicTally). v.tally.hold) all ∙ is; value_is = refl };
+      }
+  by_value a x p q r s false same got read is made =
+      let hold : (counts_of r).hold ≡ Writing x x = ap (λ (v : View AtomicTally). v.tally.hold) read ∙ is in
+      let acts : ActsAt z k a x (counted r) (counted s) = subst (λ (h : Held Content). IfWriting h (λ _ found. ActsAt z k a found (counted r) (counted s))) hold made.1 in record {
+        acted = (same, acts_since (act_in z a) (answer_to z (act_in z a) (value_of z x)) (counted p) (counted r) (counted s) (ap (λ (v : View AtomicTally). v.tally.heard) read ∙ got.heard) (ap (λ (v : View AtomicTally). v.part) read ∙ got.part) acts);
+        on = subst IsSettled (sym (made.0 ∙ hold)) refl;
+      }
+
+  pub compared : (a : AtomicAct) (current value : T) (low high : ℕ) (p q r s : Pass (PlayedAtomic T)) → HasGot IsSettled p q → IsSamePass q r → ReadsLow (counted q) low (counted r) → IsSamePass r s →
+      ComparesHigh z k a current (counted r) high (counted s) → value ≡ z.of_words low high → MatchBool (z.same value current) (HasTaken z value p s) (HasCompared z k a value p s)
+  compared a current value low high p q r s got first read second made given =
+      let settled = settled_is (counts_of q).hold got.on in
+      let x : Content = settled.0 in
+      let hold : (counts_of r).hold ≡ Writing x x = ap (λ (v : View AtomicTally). v.tally.hold) read.0 ∙ settled.1 in
+      let low_is : low ≡ x.low = subst (λ (h : Held Content). IfHeld h (λ (c : Content). low ≡ c.low)) settled.1 read.1 in
+      let told = subst (λ (h : Held Content). IfWriting h (λ c old. (high ≡ c.high) × MatchBool (z.same (value_of z c) current) (counted s ≡ counted r) (EndsUnchanged z k a (counted r) (counted s)))) hold made in
+      let value_is : value ≡ value_of z x = given ∙ (λ i. z.of_words (low_is i) (told.0 i)) in
+      subst (λ (u : T). MatchBool (z.same u current) (HasTaken z u p s) (HasCompared z k a u p s)) (sym value_is)
+      (by_value a x p q r s (z.same (value_of z x) current) (same_twice p r s (same_twice p q r got.same first) second) got read.0 settled.1 told.1)
+
+  -- a call that compares and found another value acted so, and has left the lock
+  pub has_kept : (a : AtomicAct) (call : Call T) (old : T) (p q r : Pass (PlayedAtomic T)) → act_in z a ≡ plain call → answer_to z (plain call) old ≡ answers.ErrOld old → HasCompared z k a old p q → IsSamePass q r →
+      Leaves (counted q) (counted r) → HasActedAt z k (plain call) (answers.ErrOld old) p r
+  has_kept a call old p q r is answered made same left =
+      let told : Acts z k (plain call) (answers.ErrOld old) (counted p) (counted q) = subst (λ (x : Answer T). Acts z k (plain call) x (counted p) (counted q)) answered (subst (λ (x : RegisterAct T). Acts z k x (answer_to z x old) (counted p) (counted q)) is made.acted.1) in
+      let after : Acts z k (plain call) (answers.ErrOld old) (counted p) (now_holds Free (counted q)) = record {
+        before = told.before;
+        answered = told.answered;
+        begins = told.begins;
+        alone = told.alone;
+        seen = told.seen;
+        own = told.own;
+        marks = told.marks;
+        part = told.part;
+      } in
+      (same_twice p q r made.acted.0 same, subst (λ (x : View AtomicTally). Acts z k (plain call) (answers.ErrOld old) (counted p) x) (sym left) after)
+
+  -- it answers that it found another
+  pub answers_other : (current old new : T) → z.same old current ≡ false → (register.compared (z.same old current) old new).0 ≡ answers.ErrOld old
+  answers_other current old new is = ap (λ (b : Bool). (register.compared b old new).0) is
+
+  -- it answers that it found this one
+  pub answers_same : (current old new : T) (x : Content) → value_of z x ≡ current → z.same old current ≡ true → (register.compared (z.same old (value_of z x)) old new).0 ≡ answers.OkOld old
+  answers_same current old new x is same = ap (λ (u : T). (register.compared (z.same old u) old new).0) is ∙ ap (λ (b : Bool). (register.compared b old new).0) same

@@ -1,0 +1,18 @@
+use Rattle.std.proofs.Common.{Some, sym, subst}
+use Rattle.steps_events.specs.declared.hold.HoldKind.TheVariants as kinds
+use Rattle.playing.specs.Slots.{all_of}
+use Rattle.playing.specs.Passes.{parties_of}
+use Rattle.playing.specs.Stages.{key_of}
+use Rattle.running_atomic.specs.AtomicParties.{Knows}
+use Rattle.running_atomic.proofs.AtomicPlays.{reads_next, may_read_low, reads_low, may_read_high, reads_high}
+use Rattle.running_atomic.proofs.calls.Atomic.take.Goals as goal
+
+pub read_low-low-requires-clause-may : goal.read_low-low-requires-clause-may
+read_low-low-requires-clause-may g c κs within = may_read_low _ _ _ (Some kinds.Write) _ _ (reads_next _ _ _ _ _ c.requires.reads c.write_lock.ensures.next)
+
+pub read_high-high-requires-clause-may : goal.read_high-high-requires-clause-may
+read_high-high-requires-clause-may g c κs within = may_read_high _ _ _ _ (Some kinds.Write) _ _ (reads_low _ _ _ (Some kinds.Write) _ _ _ _ (reads_next _ _ _ _ _ c.requires.reads c.write_lock.ensures.next) c.read_low-low.ensures.went)
+
+pub returns-clause-knows : goal.returns-clause-knows
+returns-clause-knows g c = subst (λ x. Knows g.T.AtomicInteger.arithmetic (key_of c.args.self.now.stage) c.args.call.now x (all_of (parties_of c.args.pass.now)) (parties_of c.read_high-high.new.pass)) (sym c.from_words.ensures.given)
+    (reads_high _ _ _ _ _ (Some kinds.Write) _ _ _ (reads_low _ _ _ (Some kinds.Write) _ _ _ _ (reads_next _ _ _ _ _ c.requires.reads c.write_lock.ensures.next) c.read_low-low.ensures.went) c.read_high-high.ensures.went)

@@ -1,0 +1,67 @@
+-- The party of the model that a pass of an atomic is, and how its calls go.
+use Rattle.std.specs.Prelude.{◌≡◌, ℕ, List, Option, Some, None}
+use Rattle.steps_events.specs.declared.event.Call.{Call}
+use Rattle.steps_events.specs.declared.event.Answer.{Answer}
+use Rattle.steps_events.specs.declared.event.Event.{Event}
+use Rattle.steps_events.specs.declared.event.Then.TheVariants as thens
+use Rattle.steps_events.specs.declared.hold.HoldKind.{HoldKind}
+use Rattle.steps_events.specs.declared.hold.HoldKind.TheVariants as kinds
+use Rattle.steps_events.specs.declared.row.After.TheVariants as afters
+use Rattle.steps_events.specs.Arithmetic.{Arithmetic, IsValue, IsClosed}
+use Rattle.steps_events.specs.Moves.{hold_fault, CallValues}
+use Rattle.steps_events.specs.Runs.{IsPast}
+use Rattle.steps_atomic.specs.declared.AtomicPlace.{AtomicPlace}
+use Rattle.steps_atomic.specs.declared.AtomicPlace.TheVariants as places
+use Rattle.steps_atomic.specs.Table.{atomic_table, atomic_begins, atomic_grant, puts, inside, knows}
+use Rattle.steps_atomic.specs.Register.{register_after}
+use Rattle.playing.specs.Slots.{Slot, Parties, slot_at, all_of}
+use Rattle.playing.specs.Plays.{events_of, Matches, Coming, ComesBy, IsAt, Leads, HasEnded}
+use Rattle.running_atomic.specs.AtomicModel.{atomic_model}
+
+-- a call that takes the lock for writing, and what it was handed are values
+pub record Writes {T : Type 0} (z : Arithmetic T) (v : T) (call : Call T) : Type 0 where
+  pub begins : atomic_begins call ≡ Some (places.Take call)
+  pub grants : atomic_grant call ≡ Some kinds.Write
+  pub free : hold_fault (atomic_table z v) call None ≡ None
+  pub values : CallValues z call
+
+-- and reads the value, once it has the lock
+abbrev pub Reads : {T : Type 0} → Arithmetic T → Call T → Type 0
+Reads z call = inside z call ≡ places.Low call
+
+-- it puts a new value in the place of the old one, and then answers so
+abbrev pub Puts : {T : Type 0} → Arithmetic T → Call T → T → T → Answer T → Type 0
+Puts z call old new answer = knows z call old ≡ afters.At (puts z new answer)
+
+module _ {T : Type 0} (z : Arithmetic T) (v : T) where
+  -- the call goes on at this place
+  abbrev pub IsNext : Call T → AtomicPlace T → Option HoldKind → List (Slot T) → Parties T → Type 0
+  IsNext call place hold done p = IsAt (atomic_model z v) call place thens.GoesOn hold done p
+
+  -- the call has the lock for writing, knows the old value, and goes on as that tells
+  abbrev pub Knows : Call T → T → List (Slot T) → Parties T → Type 0
+  Knows call old done p = Leads (atomic_model z v) call (knows z call old) (Some kinds.Write) done p
+
+  -- a call comes so to where it puts this value
+  abbrev pub ComesToPut : Coming T → Call T → T → Answer T → List (Slot T) → Parties T → Type 0
+  ComesToPut coming call new answer done p = ComesBy (atomic_model z v) coming call (puts z new answer) (Some kinds.Write) done p
+
+  abbrev pub MayPut : Coming T → T → Parties T → Type 0
+  MayPut coming new p = (call : Call T) × (answer : Answer T) × (done : List (Slot T)) × ComesToPut coming call new answer done p
+
+  -- and has put it, left the lock and answered
+  abbrev pub HasPut : Coming T → T → Parties T → Parties T → Type 0
+  HasPut coming new p q = (call : Call T) (answer : Answer T) (done : List (Slot T)) → ComesToPut coming call new answer done p → HasEnded (atomic_model z v) call answer None done q
+
+  -- a call that knew the old value has left the lock, and answered so
+  abbrev pub HasReplaced : Call T → T → Answer T → Parties T → Parties T → Type 0
+  HasReplaced call old answer p q = (done : List (Slot T)) → Knows call old done p → HasEnded (atomic_model z v) call answer None done q
+
+  -- There is a run in which no other parties are than these, each with all events that it has made, and this value is the register's
+  -- after it. The premises are those of the model's law.
+  pub record StandsAtRun (p : Parties T) (value : T) : Type 0 where
+    pub parties : ℕ
+    pub past : List (Event T)
+    pub run : IsPast z (atomic_table z v) parties past
+    pub each : (q : ℕ) → Matches (slot_at q (all_of p)) (events_of q past)
+    pub value_is : IsClosed z → IsValue z v → value ≡ register_after z v past
