@@ -46,6 +46,10 @@ pub record HasGoneIn (p q : QueuePass) : Type 0 where
   pub mutex : mutexes.grants_of (mutex_in p) + 1 ≤ mutexes.grants_of (mutex_in q)
   pub state : spins.grants_of (state_in p) + 1 ≤ spins.grants_of (state_in q)
 
+-- it had the state's lock twice at least, and so looked at the state again
+abbrev pub HasLookedTwice : QueuePass → QueuePass → Type 0
+HasLookedTwice p q = spins.grants_of (state_in p) + 2 ≤ spins.grants_of (state_in q)
+
 -- one and other weigh together what p weighs, at each of the objects
 pub record PartsAddUp (p one other : QueuePass) : Type 0 where
   pub mutex : AddUp (passes.part_of (mutex_in p)) (passes.part_of (mutex_in one)) (passes.part_of (mutex_in other))

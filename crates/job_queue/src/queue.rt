@@ -65,7 +65,7 @@ impl<T: Drop, A: Allocator + Copy> JobQueue<T, A> {
 }
 
 impl<T, A: Allocator> JobQueue<T, A> {
-    ghost use Rattle.job_queue.specs.QueueShown.{IsQueuePass, HasStayed, HasGoneInOnce, HasGoneIn, changed_in};
+    ghost use Rattle.job_queue.specs.QueueShown.{IsQueuePass, HasStayed, HasGoneInOnce, HasGoneIn, HasLookedTwice, changed_in};
 
     /// Puts a job at the queue's end, gives its ticket, and notifies one that waits. Else the job comes back, and nobody is notified: as
     /// `Closed`, `Full` or `TicketsOut`, by the state (`QueueState::put`).
@@ -85,7 +85,7 @@ impl<T, A: Allocator> JobQueue<T, A> {
         ensures handed_back { IfErr result (λ fault. job_of fault ≡ job) }
         ensures unnotified { IfErr result (λ _. changed_in pass.new ≡ changed_in pass.old) }
         ensures notified { IfOk result (λ _. HasNotified (λ waiting. min 1 waiting) (changed_in pass.old) (changed_in pass.new)) }
-        ensures woke { IfOk result (λ _. HasWoken K.Fn wake_one) }
+        ensures woke { HasWoken K.Fn wake_one }
     {
         let put = put_locked(
             &mut pass.mutex,
@@ -121,6 +121,7 @@ impl<T, A: Allocator> JobQueue<T, A> {
         ensures went_in { HasGoneIn pass.old pass.new }
         ensures never_empty { ¬ IsEmptyAnswer result }
         ensures aborted { IsInterrupted result → MayAnswerAbort W.Fn wait IsEmpty }
+        ensures looked_again { IsInterrupted result → HasLookedTwice pass.old pass.new }
         ensures woke { HasWoken K.Fn wake_one }
     {
         take_locked(
@@ -182,11 +183,18 @@ fn put_locked<T, A: Allocator, R: Wait, K: Fn(&WaitWord)>(
     ensures locked { HasLockedOnce mtx_pass.old mtx_pass.new }
     ensures spun { HasSpunOnce pass.old pass.new }
     ensures handed_back { IfErr result (λ fault. job_of fault ≡ job) }
+    ensures woke { HasWoken K.Fn wake_one.now }
 {
     match Mutex::lock(mtx_pass, mutex, rt, |_, _| go_on()) {
         WaitResult::Success(hold) => {
             let put = put_now(&hold, pass, rt, state, job);
-            mutex.unlock(hold, |word| wake_one(word));
+            mutex.unlock(
+                hold,
+                |word: &WaitWord|
+                    requires { K.IsAlwaysCallable wake_one.now }
+                    ensures { K.post wake_one.entry.now word.entry result }
+                { wake_one(word) },
+            );
             put
         }
         WaitResult::Interrupted => unreachable!(),
@@ -238,6 +246,7 @@ fn take_locked<T, A: Allocator, R: Wait, W: Fn(&WaitWord, &u64) -> WaitAction, K
     ensures went_in { state_grants_of pass.old + 1 ≤ state_grants_of pass.new }
     ensures never_empty { ¬ IsEmptyAnswer result }
     ensures aborted { IsInterrupted result → MayAnswerAbort W.Fn wait.now IsEmpty }
+    ensures looked_again { IsInterrupted result → state_grants_of pass.old + 2 ≤ state_grants_of pass.new }
     ensures woke { HasWoken K.Fn wake_one }
 {
     match Mutex::lock(mtx_pass, &queue.mutex, rt, |_, _| go_on()) {
@@ -286,6 +295,7 @@ fn look<'p, T, A: Allocator, R: Wait, W: Fn(&WaitWord, &u64) -> WaitAction, K: F
     ensures went_in { state_grants_of pass.old + 1 ≤ state_grants_of pass.new }
     ensures never_empty { IfDone result (λ taken. ¬ IsEmptyAnswer taken) }
     ensures aborted { IfDone result (λ taken. IsInterrupted taken → MayAnswerAbort W.Fn wait.now IsEmpty) }
+    ensures looked_again { IfDone result (λ taken. IsInterrupted taken → state_grants_of pass.old + 2 ≤ state_grants_of pass.new) }
 {
     match take_now(&hold, pass, rt, &queue.state) {
         Taken::Empty => match sleep_once(hold, queue, rt, cond_pass, wait, wake_one) {

@@ -328,6 +328,7 @@ impl<T, A: Allocator> Guarded<T, A> {
         requires may { W.IsAlwaysCallable wake_one.now }
         ensures same { (object_of result ≡ seat.table_id) × (number_of result ≡ seat.id) }
         ensures off { Lets seat.me.0 (view result) }
+        ensures woke { HasWoken W.Fn wake_one.now }
     {
         let mut seat = seat;
         self.leave(&mut seat, value, wake_one);

@@ -1,12 +1,12 @@
 //! A call that waits until it can act on the value, and one that changes it for those that wait.
-ghost use Rattle.std.specs.Prelude.{◌≡◌, ◌<◌, IfSome, true, false, None};
+ghost use Rattle.std.specs.Prelude.{◌≡◌, ◌<◌, ◌≤◌, ◌+◌, IfSome, true, false, None};
 ghost use Rattle.passes.specs.Answers.{IfSuccess, IfInterrupted, MayAnswerAbort, HasWoken};
 ghost use Rattle.running_semaphore.specs.SemaphoreShown.{IsEmpty};
 ghost use Rattle.running_mutex.specs.MutexParties.{HasMutex};
 ghost use Rattle.running_mutex.specs.CondShown.{IsCondPass, HasNotified, HasStayed as HasWaitedAtMost};
 ghost use Rattle.running_spin_lock.specs.ValueSteps.{Lets, has_vacant_slot};
 ghost use Rattle.running_guarded.specs.GuardedSteps.{Acts, PlaysBoth};
-ghost use Rattle.running_guarded.specs.GuardedShown.{IsGuardedPass, HasStayed, HasLockedOnce, object_of, number_of, view, id_of};
+ghost use Rattle.running_guarded.specs.GuardedShown.{IsGuardedPass, HasStayed, HasLockedOnce, grants_of, object_of, number_of, view, id_of};
 ghost use Rattle.running_guarded.specs.Acting.{ActsOn, IfActed, IfGaveUp};
 
 use crate::guarded::{Guarded, go_on};
@@ -60,6 +60,9 @@ impl<T: Drop, A: Allocator> Guarded<T, A> {
         ensures waited { HasWaitedAtMost changed_pass.old changed_pass.new }
         ensures acted { IfSuccess result (ActsOn F.FnMut) }
         ensures aborted { IfInterrupted result (MayAnswerAbort W.Fn wait IsEmpty) }
+        ensures looked { grants_of pass.old + 1 ≤ grants_of pass.new }
+        ensures looked_again { IfInterrupted result (grants_of pass.old + 2 ≤ grants_of pass.new) }
+        ensures woke { HasWoken K.Fn wake_one }
     {
         let mut act = act;
         for _ in rt.forever() {
@@ -141,6 +144,8 @@ impl<T: Drop, A: Allocator> Guarded<T, A> {
         ensures waited { HasWaitedAtMost changed_pass.old changed_pass.new }
         ensures acted { IfActed result (ActsOn F.FnMut) }
         ensures aborted { IfGaveUp result (MayAnswerAbort W.Fn wait.now IsEmpty) }
+        ensures granted { grants_of pass.new ≡ grants_of pass.old + 1 }
+        ensures woke { HasWoken K.Fn wake_one.now }
     {
         let mut seat = pass.rise();
         let mut value = self.enter_soon(&mut seat, rt);
@@ -193,13 +198,14 @@ impl<T: Drop, A: Allocator> Guarded<T, A> {
         ensures off { Lets seat.me.0 (view result.0) }
         ensures waited { HasWaitedAtMost changed_pass.old changed_pass.new }
         ensures aborted { result.1 ≡ false → MayAnswerAbort W.Fn wait.now IsEmpty }
+        ensures woke { HasWoken K.Fn wake_one.now }
     {
         let (left, slept) = changed.wait_around(
             rt,
             changed_pass,
             move |_: &CountedWait<'_>| -> GuardedPass
                 requires { (seat.table_id ≡ id_of self.now) × (seat.me.0.tally.counts.holds ≡ 1) × HasMutex seat.me.0.tally.parties × 0 < seat.me.0.part.share × (has_vacant_slot seat.me.1 ≡ true) × K.IsAlwaysCallable wake_one.now }
-                ensures { (object_of result ≡ seat.table_id) × (number_of result ≡ seat.id) × Lets seat.me.0 (view result) }
+                ensures { (object_of result ≡ seat.table_id) × (number_of result ≡ seat.id) × Lets seat.me.0 (view result) × HasWoken K.Fn wake_one.entry.now }
             { self.sit(seat, value, wake_one) },
             |word: &WaitWord, seen: &u64| -> WaitAction
                 requires { W.IsAlwaysCallable wait.now }
@@ -224,6 +230,8 @@ impl<T: Drop, A: Allocator> Guarded<T, A> {
         requires may { K.IsAlwaysCallable wake_one.now × F.IsAlwaysCallable act.old }
         ensures stayed { HasStayed pass.old pass.new }
         ensures acted { IfSome result (ActsOn F.FnMut) }
+        ensures granted { grants_of pass.new ≡ grants_of pass.old + 1 }
+        ensures woke { HasWoken K.Fn wake_one.now }
     {
         let mut seat = pass.rise();
         let mut value = self.enter_soon(&mut seat, rt);
