@@ -1,6 +1,6 @@
 -- How a call waits that has a wait closure: it spins so often, then asks; what it tells the closure; and that it asks no more once that has
 -- answered Abort. What counts as a spin, what refuses a call, and which events are those of one wait, is each object's own.
-use Rattle.std.specs.Prelude.{◌≡◌, ◌≤◌, ℕ, ◌-◌, true, if◌then◌else◌, List, [], ◌∷◌, Option, Some, MatchOption}
+use Rattle.std.specs.Prelude.{◌≡◌, ◌≤◌, ℕ, ◌+◌, ◌-◌, Bool, true, if◌then◌else◌, List, [], ◌∷◌, Option, Some, MatchBool, MatchOption}
 use Rattle.steps_events.specs.declared.event.Word.{Word}
 use Rattle.steps_events.specs.declared.event.Call.{Call}
 use Rattle.steps_events.specs.declared.event.Act.{Act}
@@ -8,7 +8,8 @@ use Rattle.steps_events.specs.declared.event.Event.{Event}
 use Rattle.steps_events.specs.declared.event.Then.{Then}
 use Rattle.steps_events.specs.declared.event.Then.TheVariants as thens
 use Rattle.steps_events.specs.Past.{PendingCall, call_of}
-use Rattle.steps_events.specs.Sights.{sight_of, keeps_asking}
+use Rattle.steps_events.specs.Sights.{sight_of, keeps_asking, spins_in, stands_in, acts_in}
+use Rattle.steps_events.specs.Laws.{is_refusal}
 
 -- where an act leaves its call at its wait closure, P of the call, the act and what the closure is told
 abbrev pub WhereAsked : {T : Type 0} → (PendingCall T → Act T → ℕ → Type 0) → Option (PendingCall T) → Act T → Then T → Type 0
@@ -59,3 +60,29 @@ whole_call call own = own
 -- a wait closure is asked only where it has not yet answered Abort in the same wait
 abbrev pub AsksUntilAbort : {T : Type 0} → WaitEvents T → List (Event T) → Type 0
 AsksUntilAbort of_wait past = AsksWhere (λ c act told. keeps_asking (of_wait c.call c.own) ≡ true) past
+
+-- How an object's calls wait that ask a wait closure, which are these: which of their acts are tries in vain, and what one of them tells the closure.
+
+-- their spins; no other call spins
+abbrev pub spins_where : {T : Type 0} → (Call T → Bool) → (Act T → Bool) → SpinCount T
+spins_where waits in_vain call own = if waits call then spins_in in_vain own else 0
+
+-- one that gives up has tried 10001 times, and once more for each time that it stood at its closure, and each time in vain
+abbrev pub GivesUpAfterTrying : {T : Type 0} → (Call T → Bool) → (Act T → Bool) → List (Event T) → Type 0
+GivesUpAfterTrying waits in_vain [] = Unit {0}
+GivesUpAfterTrying waits in_vain (e ∷ past) =
+    MatchBool (is_refusal e.then)
+    (MatchOption (call_of e.party past) ⊥ (λ c. waits c.call ≡ true → acts_in in_vain (e ∷ c.own) ≡ 10001 + stands_in (e ∷ c.own)))
+    (Unit {0})
+
+pub record Waits {T : Type 0} (waits : Call T → Bool) (in_vain : Act T → Bool) (refusing : Refusing T) (past : List (Event T)) : Type 0 where
+  -- a wait closure is asked only after exactly 10000 spins
+  pub asks : AsksAfterSpinning (spins_where waits in_vain) past
+  -- no call spins more often
+  pub spins : SpinsNoMore (spins_where waits in_vain) past
+  -- the closure is told what refused its call last
+  pub tells : TellsRefusal refusing past
+  -- and asked no more once it has answered Abort
+  pub stops : AsksUntilAbort whole_call past
+  -- so often has a call tried that gives up
+  pub tries : GivesUpAfterTrying waits in_vain past

@@ -24,20 +24,21 @@ use Rattle.steps_events.specs.Rows.{carried_out, value_told, outcome_of, place_a
 use Rattle.steps_events.specs.Past.{same_word, PendingCall, call_of, hold_of, word_in, word_after, latest_outcome, event}
 use Rattle.steps_events.specs.Moves.{Move, step_at, answer_fault, is_step}
 use Rattle.steps_events.specs.Runs.{IsPast}
-use Rattle.steps_events.specs.Sights.{sight_of, is_sight, keeps_asking, HasAborted, last_of}
-use Rattle.steps_events.specs.Asks.{WhereAsked, sight_at, whole_call}
+use Rattle.steps_events.specs.Sights.{sight_of, is_sight, HasAborted, stands_at_wait, spins_in, last_of}
+use Rattle.steps_events.specs.Asks.{sight_at}
+use Rattle.steps_events.specs.NextStep.{StepsAs, refused_waiting}
 use Rattle.steps_events.specs.Laws.{is_apart, Lacks, is_refusal}
 use Rattle.steps_events.proofs.NextStep.{Descends, ends_within}
 use Rattle.steps_events.proofs.Holds.{some_same, eqb_same, no_holds, exclusive_unheld}
 use Rattle.steps_events.proofs.Steps.{by_move, tells_memory}
 use Rattle.steps_events.proofs.Spins.{begun_spun, HasSpun}
 use Rattle.steps_events.proofs.Parties.{IsKept, at_place}
-use Rattle.steps_events.proofs.Asks.{asked_maps, spins_no_more}
+use Rattle.steps_events.proofs.Waits.{StepsWait, waits_so}
 use Rattle.steps_semaphore.specs.declared.SemaphorePlace.{SemaphorePlace}
 use Rattle.steps_semaphore.specs.declared.SemaphorePlace.TheVariants as places
 use Rattle.steps_semaphore.specs.Table.{semaphore_table, semaphore_begins, semaphore_intent, semaphore_after, semaphore_answered}
 use Rattle.steps_semaphore.specs.Permits.{permits_given, permits_taken, is_take, number_answered}
-use Rattle.steps_semaphore.specs.Law.{permits_posted, semaphore_gives, semaphore_value, SemaphoreCause, is_empty_look, wait_spins, permits_seen, look_of, refused_as, IsLeftBy, IsPostStep, SemaphoreStep, KeepsSemaphore, semaphore_most}
+use Rattle.steps_semaphore.specs.Law.{permits_posted, semaphore_gives, semaphore_value, SemaphoreCause, is_wait, is_empty_look, permits_seen, look_of, is_zero, is_look_or_take, refused_as, IsLeftBy, ReadsValue, IsPostStep, WantsPermit, SemaphoreStep, KeepsSemaphore, semaphore_most}
 use Rattle.steps_semaphore.proofs.Permits.{Effect, Tallies, tallies_first, tallies_after, lowered}
 use Rattle.steps_semaphore.proofs.WaitSteps.{one_less, AtWait, WaitLeads, wait_leads, wait_goes_on, wait_effect, wait_answered, wait_chosen}
 
@@ -189,35 +190,19 @@ semaphore_kept initial =
       chooses = λ place c hold choice number at stands. chooses_at place c hold choice number at;
     }
 
--- No call spins more than 10000 times.
-spins_bounded : {T : Type 0} (place : SemaphorePlace) (c : PendingCall T) (hold : Option HoldKind) → AtSemaphore place c hold → wait_spins c.call c.own ≤ 10000
-spins_bounded {T} places.Value c hold at = subst (λ (k : Call T). wait_spins k c.own ≤ 10000) (sym at.0) (omega arith)
-spins_bounded {T} (places.Post n) c hold at = subst (λ (k : Call T). wait_spins k c.own ≤ 10000) (sym at.0) (omega arith)
-spins_bounded {T} places.Wake c hold at = subst (λ (k : Call T). wait_spins k c.own ≤ 10000) (sym at.1) (omega arith)
-spins_bounded {T} places.TryLook c hold at = subst (λ (k : Call T). wait_spins k c.own ≤ 10000) (sym at.0) (omega arith)
-spins_bounded {T} (places.TryTake seen to) c hold at = subst (λ (k : Call T). wait_spins k c.own ≤ 10000) (sym at.0) (omega arith)
-spins_bounded {T} (places.Look patience) c hold at = subst (λ (k : Call T). wait_spins k c.own ≤ 10000) (sym at.0) (omega (arith, at.1.spun, at.1.within_limit))
-spins_bounded {T} (places.Take seen to patience) c hold at = subst (λ (k : Call T). wait_spins k c.own ≤ 10000) (sym at.0) (omega (arith, at.1.0.spun, at.1.0.within_limit))
-
 -- What a step does to the word, what it tells, and why it refuses.
-
--- what is so of a call where it asks its wait closure
-abbrev IsAskedSo : {T : Type 0} → PendingCall T → Act T → ℕ → Type 0
-IsAskedSo c act told = (wait_spins c.call c.own ≡ 10000) × (sight_of words.State act ≡ Some told) × (keeps_asking c.own ≡ true)
 
 pub record EventLaw {T : Type 0} (initial party : ℕ) (past : List (Event T)) (pending : Option (PendingCall T)) (w : ℕ) (m : Move T) : Type 0 where
   pub effect : Effect w (word_after words.State m.act w) (semaphore_gives m.act pending) (is_take words.State m.act)
   pub told : IfSome (sight_of words.State m.act) (λ v. v ≡ w)
   pub answered : IfSome (number_answered m.outcome) (λ v. v ≡ w)
   pub cause : MatchBool (is_refusal m.outcome) (MatchOption pending ⊥ (λ c. SemaphoreCause initial c.call party (event party m.act m.outcome ∷ past))) (Unit {0})
-  pub asks : WhereAsked IsAskedSo pending m.act m.outcome
   pub steps : MatchBool (is_step m.act) (MatchOption pending ⊥ (λ c. SemaphoreStep c.call c.own m.act m.outcome)) (Unit {0})
 
 -- what follows from a look, apart from the act
 pub record LookLaw {T : Type 0} (initial party : ℕ) (past : List (Event T)) (c : PendingCall T) (w : ℕ) (act : Act T) (outcome : Then T) : Type 0 where
   pub answered : IfSome (number_answered outcome) (λ v. v ≡ w)
   pub cause : MatchBool (is_refusal outcome) (SemaphoreCause initial c.call party (event party act outcome ∷ past)) (Unit {0})
-  pub asks : WhereAsked IsAskedSo (Some c) act outcome
 
 try_law :
     {T : Type 0} (initial party : ℕ) (past : List (Event T)) (c : PendingCall T) (w : ℕ) (act : Act T) (gone : Bool) → c.call ≡ calls.TryWait → w ≡ semaphore_value initial past → is_sight words.State act ≡ true → (w == 0) ≡ gone →
@@ -227,17 +212,15 @@ try_law {T} initial party past c w act true try law sight sees =
     record {
       answered = tt;
       cause = subst (λ (k : Call T). SemaphoreCause initial k party (refuses ∷ past)) (sym try) (rw (eqb_same party, sight) (sym law ∙ eqb-true w 0 sees));
-      asks = tt;
     }
-try_law initial party past c w act false try law sight sees = record { answered = tt; cause = tt; asks = tt }
+try_law initial party past c w act false try law sight sees = record { answered = tt; cause = tt }
 
 wait_law :
     {T : Type 0} (initial party : ℕ) (past : List (Event T)) (c : PendingCall T) (w : ℕ) (act : Act T) (a : After T SemaphorePlace) → call_of party past ≡ Some c → c.call ≡ calls.Wait →
     w ≡ semaphore_value initial past → sight_of words.State act ≡ Some w → WaitLeads words.State c.own party act a → LookLaw initial party past c w act (outcome_of {T = T} a)
-wait_law initial party past c w act (afters.At next) called wait law told leads = record { answered = tt; cause = tt; asks = tt }
-wait_law {T} initial party past c w act (afters.Waits next seen) called wait law told leads =
-    record { answered = tt; cause = tt; asks = (subst (λ (k : Call T). wait_spins k c.own ≡ 10000) (sym wait) leads.2, leads.4, leads.3) }
-wait_law initial party past c w act (afters.Ends answers.Success) called wait law told leads = record { answered = tt; cause = tt; asks = tt }
+wait_law initial party past c w act (afters.At next) called wait law told leads = record { answered = tt; cause = tt }
+wait_law initial party past c w act (afters.Waits next seen) called wait law told leads = record { answered = tt; cause = tt }
+wait_law initial party past c w act (afters.Ends answers.Success) called wait law told leads = record { answered = tt; cause = tt }
 wait_law {T} initial party past c w act (afters.Ends answers.Interrupted) called wait law told leads =
     let refuses : Event T = event party act (thens.Answers answers.Interrupted) in
     let aborted : HasAborted party past = rw called leads.2 in
@@ -245,14 +228,13 @@ wait_law {T} initial party past c w act (afters.Ends answers.Interrupted) called
     record {
       answered = tt;
       cause = subst (λ (k : Call T). SemaphoreCause initial k party (refuses ∷ past)) (sym wait) (rw (eqb_same party, leads.0) (aborted, sym law ∙ none));
-      asks = tt;
     }
 wait_law initial party past c w act other called wait law told leads = absurd leads
 
 -- a load of the word
 load_law : {T : Type 0} (initial party : ℕ) (past : List (Event T)) (c : PendingCall T) (w : ℕ) (outcome : Then T) → LookLaw initial party past c w (acts.Load words.State w) outcome → SemaphoreStep c.call c.own (acts.Load words.State w) outcome →
     EventLaw initial party past (Some c) w (record { act = acts.Load words.State w; outcome = outcome })
-load_law initial party past c w outcome law steps = record { effect = inl (refl, refl, refl); told = refl; answered = law.answered; cause = law.cause; asks = law.asks; steps = steps }
+load_law initial party past c w outcome law steps = record { effect = inl (refl, refl, refl); told = refl; answered = law.answered; cause = law.cause; steps = steps }
 
 -- an exchange from the value seen, by whether it was done
 take_law :
@@ -261,8 +243,8 @@ take_law :
     EventLaw initial party past (Some c) w (record { act = acts.Exchange words.State seen to w done; outcome = outcome_of {T = T} (cond done (afters.Ends answers.Success) a) })
 take_law initial party past c w seen to a true less is law steps =
     let found : w ≡ to + 1 = eqb-true w seen is ∙ less in
-    record { effect = inr (inr (λ gone. absurd (omega (arith, found, gone)), omega (arith, found), refl, refl)); told = refl; answered = tt; cause = tt; asks = tt; steps = steps }
-take_law initial party past c w seen to a false less is law steps = record { effect = inl (refl, refl, refl); told = refl; answered = law.answered; cause = law.cause; asks = law.asks; steps = steps }
+    record { effect = inr (inr (λ gone. absurd (omega (arith, found, gone)), omega (arith, found), refl, refl)); told = refl; answered = tt; cause = tt; steps = steps }
+take_law initial party past c w seen to a false less is law steps = record { effect = inl (refl, refl, refl); told = refl; answered = law.answered; cause = law.cause; steps = steps }
 
 -- What follows a step, by its kind.
 
@@ -296,11 +278,11 @@ taken_left call own seen to v a false left = left
 step_law :
     {T : Type 0} (initial party : ℕ) (past : List (Event T)) (c : PendingCall T) (place : SemaphorePlace) (hold : Option HoldKind) (memory : Word → ℕ) → call_of party past ≡ Some c → AtSemaphore place c hold →
     memory words.State ≡ semaphore_value initial past → EventLaw initial party past (Some c) (memory words.State) (step_at (semaphore_table initial) place hold memory)
-step_law initial party past c places.Value hold memory called at law = record { effect = inl (refl, refl, refl); told = refl; answered = refl; cause = tt; asks = tt; steps = as_call calls.Value c.call c.own _ _ at.0 (at.1, refl) }
+step_law initial party past c places.Value hold memory called at law = record { effect = inl (refl, refl, refl); told = refl; answered = refl; cause = tt; steps = as_call calls.Value c.call c.own _ _ at.0 (at.1, refl) }
 step_law {T} initial party past c (places.Post n) hold memory called at law =
     let gives : n ≡ permits_posted c.call = sym (ap (λ (k : Call T). permits_posted k) at.0) in
-    record { effect = inr (inl (ap (λ k. (memory words.State + k) % 2 ^ 64) gives, refl)); told = refl; answered = tt; cause = tt; asks = tt; steps = as_call (calls.Post n) c.call c.own _ _ at.0 (rw at.1 (refl, refl)) }
-step_law initial party past c places.Wake hold memory called at law = record { effect = inl (refl, refl, refl); told = tt; answered = tt; cause = tt; asks = tt; steps = as_call (calls.Post at.0) c.call c.own _ _ at.1 (wake_step at.0 (last_of is_step c.own) at.2) }
+    record { effect = inr (inl (ap (λ k. (memory words.State + k) % 2 ^ 64) gives, refl)); told = refl; answered = tt; cause = tt; steps = as_call (calls.Post n) c.call c.own _ _ at.0 (rw at.1 (refl, refl)) }
+step_law initial party past c places.Wake hold memory called at law = record { effect = inl (refl, refl, refl); told = tt; answered = tt; cause = tt; steps = as_call (calls.Post at.0) c.call c.own _ _ at.1 (wake_step at.0 (last_of is_step c.own) at.2) }
 step_law initial party past c places.TryLook hold memory called at law =
     let w = memory words.State in
     load_law initial party past c w _ (try_law initial party past c w (acts.Load words.State w) (w == 0) at.0 law refl refl)
@@ -316,7 +298,6 @@ step_law initial party past c (places.Look patience) hold memory called at law =
       told = refl;
       answered = looks.answered;
       cause = looks.cause;
-      asks = looks.asks;
       steps = as_call calls.Wait c.call c.own _ _ at.0 (rw at.2 refl, wait_left patience c.own (memory words.State) (memory words.State == 0) patience.keep (nat_lt patience.spins 10000) at.1 refl refl);
     }
 step_law initial party past c (places.Take seen to patience) hold memory called at law =
@@ -326,7 +307,6 @@ step_law initial party past c (places.Take seen to patience) hold memory called 
       told = refl;
       answered = looks.answered;
       cause = looks.cause;
-      asks = looks.asks;
       steps = as_call calls.Wait c.call c.own _ _ at.0 (rw at.2 (take_is seen to at.1.1), taken_left calls.Wait c.own seen to (memory words.State) (looked patience (memory words.State) (memory words.State == 0) patience.keep (nat_lt patience.spins 10000)) (memory words.State == seen) (wait_left patience c.own (memory words.State) (memory words.State == 0) patience.keep (nat_lt patience.spins 10000) at.1.0 refl refl));
     }
 
@@ -337,9 +317,9 @@ event_law {T} z initial parties past e run law =
     by_move (semaphore_table initial) (call_of e.party past) (hold_of (semaphore_table initial) e.party past) (word_in (semaphore_table initial) past)
     (λ (k : Option (PendingCall T)) (m : Move T). EventLaw initial e.party past k (word_in (semaphore_table initial) past words.State) m)
     run.0.0 (record { act = e.act; outcome = e.then })
-    (λ call _. record { effect = inl (refl, refl, refl); told = tt; answered = tt; cause = tt; asks = tt; steps = tt })
-    (λ action _. record { effect = inl (refl, refl, refl); told = tt; answered = tt; cause = tt; asks = tt; steps = tt })
-    (λ choice _. record { effect = inl (refl, refl, refl); told = tt; answered = tt; cause = tt; asks = tt; steps = tt })
+    (λ call _. record { effect = inl (refl, refl, refl); told = tt; answered = tt; cause = tt; steps = tt })
+    (λ action _. record { effect = inl (refl, refl, refl); told = tt; answered = tt; cause = tt; steps = tt })
+    (λ choice _. record { effect = inl (refl, refl, refl); told = tt; answered = tt; cause = tt; steps = tt })
     (λ c place _ called stage.
     step_law initial e.party past c place (hold_of (semaphore_table initial) e.party past) (word_in (semaphore_table initial) past) called
     (at_place z (semaphore_table initial) parties AtSemaphore (semaphore_kept initial) past run.1 e.party c place called stage) law)
@@ -354,6 +334,73 @@ semaphore_tallies z initial parties fits [] run = tallies_first initial fits
 semaphore_tallies z initial parties fits (e ∷ past) run =
     let before = semaphore_tallies z initial parties fits past run.1 in
     tallies_after _ _ _ _ _ (is_take words.State e.act) before (event_law z initial parties past e run before.0).effect
+
+-- each step is its call's next
+each_steps : {T : Type 0} (z : Arithmetic T) (initial parties : ℕ) → initial < 2 ^ 64 → (past : List (Event T)) → IsPast z (semaphore_table initial) parties past → StepsAs SemaphoreStep past
+each_steps z initial parties fits [] run = tt
+each_steps z initial parties fits (e ∷ past) run = (event_law z initial parties past e run (semaphore_tallies z initial parties fits past run.1).0).steps
+
+-- How a `Wait` waits, by its steps.
+
+left_empty : {T : Type 0} (own : List (Event T)) (look : Option ℕ) (outcome : Then T) → IsLeftBy calls.Wait own look outcome → is_zero look ≡ true → outcome ≡ refused_waiting own (spins_in is_empty_look own) 0
+left_empty own None outcome left empty = absurd cc
+left_empty own (Some v) outcome left empty = rw empty at left
+
+left_full : {T : Type 0} (own : List (Event T)) (look : Option ℕ) (outcome : Then T) → IsLeftBy calls.Wait own look outcome → is_zero look ≡ false → (stands_at_wait outcome ≡ false) × (is_refusal outcome ≡ false)
+left_full own None outcome left some = (ap stands_at_wait left, ap is_refusal left)
+left_full own (Some v) outcome left some = let goes : outcome ≡ thens.GoesOn = rw some at left in (ap stands_at_wait goes, ap is_refusal goes)
+
+neither : (b : Bool) → cond b false false ≡ true → ⊥
+neither true is = absurd cc
+neither false is = absurd cc
+
+sees_none : {T : Type 0} (v : ℕ) (act : Act T) → is_look_or_take v act ≡ true → is_empty_look act ≡ true → sight_of words.State act ≡ Some 0
+sees_none v (acts.Load words.State seen) looks empty = ap (λ n. Some n) (eqb-true seen 0 empty)
+sees_none v (acts.Exchange words.State from to found false) looks empty = ap (λ n. Some n) (eqb-true found 0 empty)
+sees_none v (acts.Exchange word from to found true) looks empty = absurd cc
+sees_none v other looks empty = absurd (neither (v == 0) looks)
+
+reads_never : {T : Type 0} (act : Act T) (outcome : Then T) → ReadsValue act outcome → stands_at_wait outcome ≡ false
+reads_never (acts.Load words.State v) outcome reads = ap stands_at_wait reads
+reads_never other outcome reads = absurd reads
+
+posts_never : {T : Type 0} (n : ℕ) (before : Option (Act T)) (act : Act T) (outcome : Then T) → IsPostStep n before act outcome → stands_at_wait outcome ≡ false
+posts_never n None (acts.Add words.State old put) outcome posts = ap stands_at_wait posts.1
+posts_never n (Some before) act outcome posts = ap stands_at_wait posts.1
+posts_never n None other outcome posts = absurd posts
+
+tries_never : {T : Type 0} (own : List (Event T)) (look : Option ℕ) (outcome : Then T) → IsLeftBy calls.TryWait own look outcome → stands_at_wait outcome ≡ false
+tries_never own None outcome left = ap stands_at_wait left
+tries_never {T} own (Some v) outcome left = by_look (v == 0) left
+  where
+    by_look : (b : Bool) → MatchBool b (◌≡◌ {A = Then T} outcome (thens.Answers answers.Interrupted)) (outcome ≡ thens.GoesOn) → stands_at_wait outcome ≡ false
+    by_look true is = ap stands_at_wait is
+    by_look false is = ap stands_at_wait is
+
+others_never : {T : Type 0} (call : Call T) (own : List (Event T)) (act : Act T) (outcome : Then T) → is_wait call ≡ false → SemaphoreStep call own act outcome → stands_at_wait outcome ≡ false
+others_never calls.Value own act outcome not_wait step = reads_never act outcome step.1
+others_never (calls.Post n) own act outcome not_wait step = posts_never n (last_of is_step own) act outcome step
+others_never calls.TryWait own act outcome not_wait step = tries_never own (look_of act) outcome step.1
+others_never calls.Wait own act outcome not_wait step = absurd cc
+others_never other own act outcome not_wait step = absurd step
+
+still_looks_none : {T : Type 0} (act : Act T) → is_step act ≡ false → is_empty_look act ≡ false
+still_looks_none (acts.Load word seen) still = absurd cc
+still_looks_none (acts.Exchange word from to found done) still = absurd cc
+still_looks_none other still = refl
+
+waiting : {T : Type 0} (call : Call T) (own : List (Event T)) (act : Act T) (outcome : Then T) → is_wait call ≡ true → SemaphoreStep call own act outcome → WantsPermit calls.Wait own act outcome
+waiting calls.Wait own act outcome is step = step
+waiting other own act outcome is step = absurd cc
+
+steps_wait : {T : Type 0} → StepsWait {T = T} SemaphoreStep is_wait is_empty_look (sight_at words.State)
+steps_wait =
+    record {
+      refused = λ call own act outcome is step vain. let wants = waiting call own act outcome is step in (0, sees_none (permits_seen own) act wants.0 vain, left_empty own (look_of act) outcome wants.1 vain);
+      others = λ call own act outcome is step vain. left_full own (look_of act) outcome (waiting call own act outcome is step).1 vain;
+      alone = λ call own act outcome not_wait step. others_never call own act outcome not_wait step;
+      still = still_looks_none;
+    }
 
 -- A call that waits for nobody has fewer steps left at each place.
 
@@ -390,7 +437,7 @@ semaphore_descends {T} initial = record { begins = semaphore_begun; goes = semap
 
 pub keeps_semaphore : {T : Type 0} (z : Arithmetic T) (initial parties : ℕ) (past : List (Event T)) → initial < 2 ^ 64 → IsPast z (semaphore_table initial) parties past → KeepsSemaphore initial past
 keeps_semaphore z initial parties [] fits run =
-    record { told = tt; exclusive = exclusive_unheld [] refl; cause = tt; law = record { unheld = refl; permits = record { at_most = omega arith; told = tt; lowers = tt }; asks = tt; spins = λ party. tt; tells = tt; stops = tt; steps = tt; within = λ party. tt } }
+    record { told = tt; exclusive = exclusive_unheld [] refl; cause = tt; law = record { unheld = refl; permits = record { at_most = omega arith; told = tt; lowers = tt }; waits = record { asks = tt; spins = λ party. tt; tells = tt; stops = tt; tries = tt }; steps = tt; within = λ party. tt } }
 keeps_semaphore z initial parties (e ∷ past) fits run =
     let before = semaphore_tallies z initial parties fits past run.1 in
     let after = semaphore_tallies z initial parties fits (e ∷ past) run in
@@ -407,10 +454,7 @@ keeps_semaphore z initial parties (e ∷ past) fits run =
           told = (rw before.0 at event.told, rw before.0 at event.answered);
           lowers = lowered _ _ _ _ _ (is_take words.State e.act) before event.effect;
         };
-        asks = asked_maps IsAskedSo (λ c act told. wait_spins c.call c.own ≡ 10000) (λ c act told so. so.0) (call_of e.party past) e.act e.then event.asks;
-        spins = spins_no_more z (semaphore_table initial) parties AtSemaphore wait_spins (semaphore_kept initial) spins_bounded (e ∷ past) run;
-        tells = asked_maps IsAskedSo (λ c act told. sight_at words.State c.call c.own act ≡ Some told) (λ c act told so. so.1) (call_of e.party past) e.act e.then event.asks;
-        stops = asked_maps IsAskedSo (λ c act told. keeps_asking (whole_call c.call c.own) ≡ true) (λ c act told so. so.2) (call_of e.party past) e.act e.then event.asks;
+        waits = waits_so SemaphoreStep is_wait is_empty_look (sight_at words.State) steps_wait z (semaphore_table initial) parties (each_steps z initial parties fits) (e ∷ past) run;
         steps = event.steps;
         within = ends_within (semaphore_table initial) semaphore_most semaphore_rest (semaphore_descends initial) z parties (e ∷ past) run;
       };

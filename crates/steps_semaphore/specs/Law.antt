@@ -14,7 +14,7 @@ use Rattle.steps_events.specs.Past.{PendingCall, holds_of}
 use Rattle.steps_events.specs.Moves.{is_step}
 use Rattle.steps_events.specs.Sights.{AtLastSight, HasAborted, spins_in, last_of}
 use Rattle.steps_events.specs.NextStep.{StepsAs, refused_waiting, EndsWithin}
-use Rattle.steps_events.specs.Asks.{SpinCount, AsksAfterSpinning, SpinsNoMore, sight_at, TellsRefusal, whole_call, AsksUntilAbort}
+use Rattle.steps_events.specs.Asks.{sight_at, Waits}
 use Rattle.steps_events.specs.Laws.{Keeps}
 use Rattle.steps_semaphore.specs.Table.{semaphore_table}
 use Rattle.steps_semaphore.specs.Permits.{permits, KeepsPermits}
@@ -51,10 +51,10 @@ is_zero (Some v) = v == 0
 abbrev pub is_empty_look : {T : Type 0} → Act T → Bool
 is_empty_look act = is_zero (look_of act)
 
--- the spins of a `Wait`; no other call spins, nor asks
-abbrev pub wait_spins : {T : Type 0} → SpinCount T
-wait_spins calls.Wait own = spins_in is_empty_look own
-wait_spins other own = 0
+-- a `Wait` asks a wait closure, and no other call
+abbrev pub is_wait : {T : Type 0} → Call T → Bool
+is_wait calls.Wait = true
+is_wait other = false
 
 -- What a call does next, by its own steps so far, and how it is left by what that tells.
 
@@ -130,14 +130,8 @@ pub record SemaphoreLaw {T : Type 0} (initial : ℕ) (past : List (Event T)) : T
   pub unheld : holds_of (semaphore_table initial) past ≡ []
   -- no more permits are taken than given, and each value that is told is what was given less what was taken
   pub permits : KeepsPermits words.State semaphore_gives initial past
-  -- a wait closure is asked after 10000 spins, which are looks of a `Wait` that saw no permit
-  pub asks : AsksAfterSpinning wait_spins past
-  -- no call spins more often
-  pub spins : SpinsNoMore wait_spins past
-  -- the closure is told the value that the latest look saw
-  pub tells : TellsRefusal (sight_at words.State) past
-  -- and asked no more once it has answered Abort
-  pub stops : AsksUntilAbort whole_call past
+  -- a `Wait` asks its closure after 10000 spins, which are looks that saw no permit, and tells it what the latest saw
+  pub waits : Waits is_wait is_empty_look (sight_at words.State) past
   -- each step is the one that follows what its call saw last, and leaves it by what it tells
   pub steps : StepsAs SemaphoreStep past
   -- a call that waits for nobody makes so many steps at most, and answers with the last
