@@ -1,7 +1,7 @@
-//! What one thread of a test tells another.
+//! What one thread of a test tells another, and what a wait closure notes.
 #![tactic(auto)]
 
-use std::sync::atomic::{AtomicBool, Ordering};
+use std::sync::atomic::{AtomicBool, AtomicU64, Ordering};
 use std::thread;
 
 /// A signal that is given once, or not at all.
@@ -37,5 +37,41 @@ impl Signal {
             thread::yield_now();
         }
         false
+    }
+}
+
+/// What a wait closure notes of its calls.
+#[derive(Drop)]
+pub struct Notes {
+    calls: AtomicU64,
+    held: AtomicU64,
+    told: AtomicU64,
+}
+
+impl Notes {
+    /// Notes of no call.
+    pub fn new() -> Notes {
+        Notes {
+            calls: AtomicU64::new(0),
+            held: AtomicU64::new(0),
+            told: AtomicU64::new(0),
+        }
+    }
+
+    /// Notes a call: what the word held that the closure was handed, and what it was told.
+    pub fn note(&self, held: u64, told: u64) {
+        if self.calls.fetch_add(1, Ordering::SeqCst) == 0 {
+            self.held.store(held, Ordering::SeqCst);
+            self.told.store(told, Ordering::SeqCst);
+        }
+    }
+
+    /// How many calls there were, and what the word held and the closure was told at the first.
+    pub fn noted(&self) -> (u64, u64, u64) {
+        (
+            self.calls.load(Ordering::SeqCst),
+            self.held.load(Ordering::SeqCst),
+            self.told.load(Ordering::SeqCst),
+        )
     }
 }

@@ -4,7 +4,7 @@ ghost use Rattle.running_guarded.specs.GuardedShown.{IsGuardedPass, IsSamePass};
 
 use passes::WaitResult;
 use running_guarded::{Guarded, GuardedPass};
-use signal::Signal;
+use signal::{Notes, Signal};
 use std::sync::Wait;
 use std::sync::atomic::{AtomicU64, Ordering};
 use std::test::Fail;
@@ -116,7 +116,7 @@ fn hold_until_asked(
     }
 }
 
-/// Locks with a closure that asks for the value, and answers `Abort` once it is free. What the guard lends.
+/// Locks with a closure that asks for the value, and answers `Abort` once it is free. What the guard lends, and what the closure noted.
 fn lock_after_abort<R: Wait>(
     rt: &R,
     guarded: &Guarded<u64>,
@@ -124,11 +124,13 @@ fn lock_after_abort<R: Wait>(
     locked: &Signal,
     asked: &Signal,
     free: &Signal,
-) -> Option<u64>
+) -> Option<(u64, (u64, u64, u64))>
     requires { IsGuardedPass guarded.now pass.old }
 {
+    let notes = Notes::new();
     locked.awaited();
-    let answer = Guarded::lock(pass, guarded, rt, |_, _| {
+    let answer = Guarded::lock(pass, guarded, rt, |word, seen| {
+        notes.note(word.load(), *seen);
         asked.give();
         free.awaited();
         WaitAction::Abort
@@ -137,7 +139,7 @@ fn lock_after_abort<R: Wait>(
         WaitResult::Success(guard) => {
             let found = *guard;
             Guarded::unlock(guard, |_| ());
-            Some(found)
+            Some((found, notes.noted()))
         }
         WaitResult::Interrupted => None,
     }
@@ -160,6 +162,6 @@ fn a_call_that_was_to_give_up_succeeds(rt: HostRuntime) -> Result<(), Fail> {
         || lock_after_abort(&rt, &guarded, &mut two, &locked, &asked, &free),
     );
     assert!(rt; was_asked);
-    assert_eq!(rt; found, Some(7));
+    assert_eq!(rt; found, Some((7, (1, 1, 1))));
     Ok(())
 }

@@ -2,7 +2,7 @@
 ghost use Rattle.job_queue.specs.QueueShown.{IsQueuePass};
 
 use job_queue::{JobQueue, QueuePass, Taken};
-use signal::Signal;
+use signal::{Notes, Signal};
 use std::sync::Wait;
 use std::sync::atomic::{AtomicU64, Ordering};
 use std::test::Fail;
@@ -23,6 +23,8 @@ struct Signals {
     wakes: AtomicU64,
     /// How often the taker had answered by the end of that call.
     in_time: AtomicU64,
+    /// What the taker's wait closure noted.
+    notes: Notes,
 }
 
 impl Signals {
@@ -33,6 +35,7 @@ impl Signals {
             taken: Signal::new(),
             wakes: AtomicU64::new(0),
             in_time: AtomicU64::new(0),
+            notes: Notes::new(),
         }
     }
 
@@ -68,7 +71,8 @@ fn take_and_give_up<R: Wait>(
     let taken = queue.take(
         rt,
         &mut pass,
-        |_, _| {
+        |word, seen| {
+            signals.notes.note(word.load(), *seen);
             signals.asked.give();
             signals.woken.awaited();
             WaitAction::Abort
@@ -160,6 +164,7 @@ fn a_job_that_is_put_is_there_before_its_wake(rt: HostRuntime) -> Result<(), Fai
     assert!(rt; put);
     assert_eq!(rt; taken, Taken::Job { ticket: 0, job: 7 });
     assert_eq!(rt; signals.wakes_in_time(), (2, 1));
+    assert_eq!(rt; signals.notes.noted(), (1, 0, 0));
     Ok(())
 }
 
@@ -172,5 +177,6 @@ fn a_queue_is_closed_before_its_wake(rt: HostRuntime) -> Result<(), Fail> {
     assert!(rt; asked);
     assert_eq!(rt; taken, Taken::Closed);
     assert_eq!(rt; signals.wakes_in_time(), (2, 1));
+    assert_eq!(rt; signals.notes.noted(), (1, 0, 0));
     Ok(())
 }

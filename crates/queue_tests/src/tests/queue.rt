@@ -1,5 +1,5 @@
 //! A queue, on one thread.
-ghost use Rattle.job_queue.specs.QueueShown.{IsQueuePass};
+ghost use Rattle.job_queue.specs.QueueShown.{IsQueuePass, IsWholePass};
 
 use job_queue::{JobQueue, PutFault, QueuePass, Taken};
 use std::alloc::Allocator;
@@ -104,5 +104,54 @@ fn a_queue_has_room_for_its_capacity(rt: HostRuntime) -> Result<(), Fail> {
         let (queue, mut pass) = JobQueue::new(rt.alloc(), capacity)?;
         assert_eq!(rt; room_in(&rt, &queue, &mut pass), Some(room));
     }
+    Ok(())
+}
+
+/// Puts two jobs by one half of a pass, takes one by the other, and joins them. What was taken.
+fn put_and_take_in_parts<R: Wait>(
+    rt: &R,
+    queue: &JobQueue<u64>,
+    pass: QueuePass,
+) -> (QueuePass, Taken<u64>)
+    requires own { IsQueuePass queue.now pass }
+    ensures own { IsQueuePass queue.now result.0 }
+{
+    let Ok((mut one, mut two)) = pass.split(queue) else {
+        unreachable!()
+    };
+    let _first = queue.put(rt, &mut one, 7, |_| ());
+    let _second = queue.put(rt, &mut one, 8, |_| ());
+    let taken = queue.take(rt, &mut two, |_, _| WaitAction::Abort, |_| ());
+    let Ok(pass) = QueuePass::join(one, two, queue) else {
+        unreachable!()
+    };
+    (pass, taken)
+}
+
+/// Parts the whole pass and joins it again.
+fn part_and_join(queue: &JobQueue<u64>, pass: QueuePass) -> QueuePass
+    requires own { IsQueuePass queue.now pass }
+    requires whole { IsWholePass pass }
+    ensures own { IsQueuePass queue.now result }
+    ensures whole { IsWholePass result }
+{
+    let Ok((one, two)) = pass.split(queue) else {
+        unreachable!()
+    };
+    let Ok(pass) = QueuePass::join(one, two, queue) else {
+        unreachable!()
+    };
+    pass
+}
+
+#[test]
+fn parts_are_the_whole_again(rt: HostRuntime) -> Result<(), Fail> {
+    let (queue, pass) = JobQueue::new(rt.alloc(), 2)?;
+    let (mut pass, taken) = put_and_take_in_parts(&rt, &queue, part_and_join(&queue, pass));
+    assert_eq!(rt; taken, Taken::Job { ticket: 0, job: 7 });
+    assert_eq!(rt;
+        queue.take(&rt, &mut pass, |_, _| WaitAction::Abort, |_| ()),
+        Taken::Job { ticket: 1, job: 8 }
+    );
     Ok(())
 }
