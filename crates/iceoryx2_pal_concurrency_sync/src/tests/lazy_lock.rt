@@ -2,11 +2,12 @@
 mod gives;
 
 ghost use Rattle.std.specs.Prelude.{◌≡◌};
+ghost use Rattle.passes.specs.Parts.{IsWhole};
 ghost use Rattle.passes.specs.Views.{first_view};
 ghost use Rattle.running_once.specs.OnceRule.{no_runs};
 ghost use Rattle.running_spin_lock.specs.ValueRule.{none_held};
 ghost use Rattle.running_spin_lock.specs.SpinShown.{grants_of};
-ghost use Rattle.running_lazy_lock.specs.LazyShown.{IsLazyPass, known_by, known_of_init, init_in, ended_of};
+ghost use Rattle.running_lazy_lock.specs.LazyShown.{IsLazyPass, IsComplete, known_by, known_of_init, init_in, ended_of, part_of};
 
 use crate::lazy_lock::{LazyLock, LazyPass};
 use linked_list_allocator::LocalHeap;
@@ -58,24 +59,66 @@ fn the_closure_is_taken_once(rt: HostRuntime) -> Result<(), Fail> {
     Ok(())
 }
 
-/// Waits until both threads are here, and forces.
+/// Forces by both halves of the whole pass, and joins them: that one knows of the end of the one closure.
+fn force_in_parts<F: FnOnce() -> u64 + Drop, R: Wait>(
+    rt: &R,
+    lazy: &LazyLock<u64, F>,
+    pass: LazyPass,
+) -> LazyPass
+    requires own { IsLazyPass lazy.now pass }
+    requires whole { IsWhole (part_of pass) }
+    requires may { (f : F) → F.IsAlwaysCallable f }
+    ensures own { IsLazyPass lazy.now result }
+    ensures complete { IsComplete result }
+    ensures ran { ended_of result ≡ 1 }
+{
+    let Ok((mut one, mut two)) = pass.split(lazy) else {
+        unreachable!()
+    };
+    LazyLock::force(lazy, rt, &mut one);
+    LazyLock::force(lazy, rt, &mut two);
+    let Ok(mut pass) = LazyPass::join(one, two, lazy) else {
+        unreachable!()
+    };
+    LazyLock::force(lazy, rt, &mut pass);
+    pass
+}
+
+#[test]
+fn parts_are_the_whole_again(rt: HostRuntime) -> Result<(), Fail> {
+    let Ok((lazy, pass)) = LazyLock::new(rt.alloc(), || -> u64 { 42 }) else {
+        return Err("no memory")?;
+    };
+    let mut pass = force_in_parts(&rt, &lazy, pass);
+    assert_eq!(rt; *LazyLock::force(&lazy, &rt, &mut pass), 42);
+    Ok(())
+}
+
+/// Whether both threads are here in time.
+fn are_here(here: &AtomicU64) -> bool {
+    here.fetch_add(1, Ordering::SeqCst);
+    for _ in 0..1_000_000u64 {
+        if here.load(Ordering::SeqCst) == 2 {
+            return true;
+        }
+        thread::yield_now();
+    }
+    false
+}
+
+/// Waits until both threads are here, and forces. The value, if both were.
 fn meet_and_force<F: FnOnce() -> u64 + Drop, R: Wait>(
     rt: &R,
     lazy: &LazyLock<u64, F>,
     pass: &mut LazyPass,
     here: &AtomicU64,
-) -> u64
+) -> Option<u64>
     requires own { IsLazyPass lazy.now pass.old }
     requires may { (f : F) → F.IsAlwaysCallable f }
 {
-    here.fetch_add(1, Ordering::SeqCst);
-    for _ in 0..1_000_000u64 {
-        if here.load(Ordering::SeqCst) == 2 {
-            break;
-        }
-        thread::yield_now();
-    }
-    *LazyLock::force(lazy, rt, pass)
+    let came = are_here(here);
+    let value = *LazyLock::force(lazy, rt, pass);
+    if came { Some(value) } else { None }
 }
 
 #[test]
@@ -100,7 +143,7 @@ fn two_threads_force_one_value(rt: HostRuntime) -> Result<(), Fail> {
         || meet_and_force(&rt, &lazy, &mut one, &here),
         || meet_and_force(&rt, &lazy, &mut two, &here),
     );
-    assert_eq!(rt; (first, second), (42, 42));
+    assert_eq!(rt; (first, second), (Some(42), Some(42)));
     assert_eq!(rt; calls.load(Ordering::SeqCst), 1);
     Ok(())
 }
