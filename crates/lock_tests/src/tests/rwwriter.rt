@@ -647,7 +647,7 @@ fn lock_after_unlock<R: Wait>(
 /// more after its closure answered `Abort`.
 #[test]
 fn two_calls_meet_and_success_after_abort(rt: HostRuntime) -> Result<(), Fail> {
-    for (kind, told) in [(Kind::Read, 1), (Kind::Write, 0)] {
+    for (kind, told) in [(Kind::Read, u64::MAX), (Kind::Write, 0)] {
         let (lock, pass) = RwLockWriterPreference::new(rt.alloc())?;
         let Ok((mut one, mut two)) = pass.split(&lock) else {
             unreachable!()
