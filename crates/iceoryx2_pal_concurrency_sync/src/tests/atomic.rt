@@ -2,6 +2,7 @@
 ghost use Rattle.running_atomic.specs.AtomicShown.{IsAtomicPass, HasStayed};
 
 use crate::atomic::{Atomic, AtomicPass, Ordering};
+use signal::Signal;
 use std::sync::Wait;
 use std::sync::atomic::AtomicU64;
 use std::test::Fail;
@@ -265,5 +266,71 @@ fn watch_strides<R: Threads + Wait + Sync>(
 fn no_value_is_torn(rt: HostRuntime) -> Result<(), Fail> {
     let (atomic, pass) = Atomic::<u128>::new(rt.alloc(), 0)?;
     assert_eq!(rt; watch_strides(&rt, atomic, pass), (0, 2000 * STRIDE));
+    Ok(())
+}
+
+/// A number in both words of a wide value.
+const BOTH: u128 = (1 << 64) + 1;
+
+/// Stores the first so many numbers, each in both words, once the other thread loads. Whether that came.
+fn store_numbers<R: Wait>(
+    rt: &R,
+    atomic: &Atomic<u128>,
+    pass: &mut AtomicPass<u128>,
+    loads: &Signal,
+    last: u64,
+) -> bool
+    requires own { IsAtomicPass atomic.now pass.old }
+{
+    let came = loads.awaited();
+    for number in 0..last {
+        let number = u128::from(number).wrapping_add(1);
+        atomic.store(rt, pass, number.wrapping_mul(BOTH), ORDER);
+    }
+    came
+}
+
+/// Loads until it sees the last number, a million times at most. Whether it saw that, only values that were stored, and none that was
+/// stored before one that it had seen.
+fn load_until_last<R: Wait>(
+    rt: &R,
+    atomic: &Atomic<u128>,
+    pass: &mut AtomicPass<u128>,
+    loads: &Signal,
+    last: u64,
+) -> bool
+    requires own { IsAtomicPass atomic.now pass.old }
+{
+    let mut before = 0u128;
+    for _ in 0..1_000_000u64 {
+        let value = atomic.load(rt, pass, ORDER);
+        loads.give();
+        if value < before || value % BOTH != 0 {
+            return false;
+        }
+        if value / BOTH == u128::from(last) {
+            return true;
+        }
+        before = value;
+        thread::yield_now();
+    }
+    false
+}
+
+/// A load beside stores tells the values in the order in which they were stored, none half written.
+#[test]
+fn loads_beside_stores(rt: HostRuntime) -> Result<(), Fail> {
+    let (atomic, pass) = Atomic::<u128>::new(rt.alloc(), 0)?;
+    let Ok((mut one, mut two)) = pass.split(&atomic) else {
+        unreachable!()
+    };
+    let loads = Signal::new();
+    let (came, saw) = thread::join(
+        &rt,
+        || store_numbers(&rt, &atomic, &mut one, &loads, 1000),
+        || load_until_last(&rt, &atomic, &mut two, &loads, 1000),
+    );
+    assert!(rt; came);
+    assert!(rt; saw);
     Ok(())
 }

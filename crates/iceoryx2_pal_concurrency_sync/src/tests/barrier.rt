@@ -4,7 +4,7 @@ ghost use Rattle.passes.specs.Passes.{IsSamePass};
 ghost use Rattle.running_barrier.specs.BarrierShown.{IsBarrierPass, HasWaited, arrivals_of, waiters_of};
 
 use crate::strategy::barrier::{Barrier, BarrierFull, BarrierPass};
-use signal::Signal;
+use signal::{Notes, Signal};
 use std::sync::Wait;
 use std::sync::atomic::{AtomicU64, Ordering};
 use std::test::Fail;
@@ -63,22 +63,22 @@ fn a_barrier_of_one_opens_at_each_call(rt: HostRuntime) -> Result<(), Fail> {
     Ok(())
 }
 
-/// Waits, and tells when its closure is asked. The value that the closure was told last.
+/// Waits, and tells when its closure is asked. What that was told first, and what its word held then.
 fn wait_first<R: Wait>(
     rt: &R,
     barrier: &Barrier,
     pass: &mut BarrierPass,
     asked: &Signal,
     wakes: &AtomicU64,
-) -> (Result<(), BarrierFull>, u64)
+) -> (Result<(), BarrierFull>, (u64, u64))
     requires { IsBarrierPass barrier.now pass.old }
 {
-    let told = AtomicU64::new(9);
+    let notes = Notes::new();
     let answer = barrier.wait(
         rt,
         pass,
-        |_, seen| {
-            told.store(*seen, Ordering::SeqCst);
+        |word, seen| {
+            notes.note(word.load(), *seen);
             asked.give();
             thread::yield_now();
         },
@@ -86,7 +86,8 @@ fn wait_first<R: Wait>(
             wakes.fetch_add(1, Ordering::SeqCst);
         },
     );
-    (answer, told.load(Ordering::SeqCst))
+    let (_calls, held, told) = notes.noted();
+    (answer, (told, held))
 }
 
 /// Waits once the other thread's closure was asked, and tells whether it was.
@@ -124,7 +125,7 @@ fn a_barrier_of_two(rt: HostRuntime) -> Result<(), Fail> {
         || wait_first(&rt, &barrier, &mut one, &asked, &wakes),
         || wait_second(&rt, &barrier, &mut two, &asked, &wakes),
     );
-    assert_eq!(rt; first, (Ok(()), 1));
+    assert_eq!(rt; first, (Ok(()), (1, 1)));
     assert_eq!(rt; second, (Ok(()), true));
     assert_eq!(rt; wakes.load(Ordering::SeqCst), 1);
     Ok(())

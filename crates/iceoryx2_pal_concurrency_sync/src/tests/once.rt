@@ -5,7 +5,6 @@ ghost use Rattle.passes.specs.Passes.{IsSamePass};
 ghost use Rattle.running_once.specs.OnceShown.{IsOncePass, IsComplete, ended_of, part_of_once, pass_in};
 
 use crate::once::{Once, OncePass};
-use signal::Signal;
 use std::sync::Wait;
 use std::sync::atomic::{AtomicU64, Ordering};
 use std::test::Fail;
@@ -81,18 +80,24 @@ struct Work {
     made: AtomicU64,
 }
 
+/// Whether all four threads are here in time.
+fn are_here(here: &AtomicU64) -> bool {
+    here.fetch_add(1, Ordering::SeqCst);
+    for _ in 0..1_000_000u64 {
+        if here.load(Ordering::SeqCst) == 4 {
+            return true;
+        }
+        thread::yield_now();
+    }
+    false
+}
+
 /// Waits until all four threads are here, calls with a closure that takes its time, and tells whether it sees all that the closure did.
 fn meet_and_call<R: Wait>(rt: &R, once: &Once, pass: &mut OncePass, work: &Work) -> bool
     requires { IsOncePass once.now pass.old }
     ensures { IsSamePass (pass_in pass.old) (pass_in pass.new) }
 {
-    work.here.fetch_add(1, Ordering::SeqCst);
-    for _ in 0..1_000_000u64 {
-        if work.here.load(Ordering::SeqCst) == 4 {
-            break;
-        }
-        thread::yield_now();
-    }
+    let came = are_here(&work.here);
     once.call_once(rt, pass, || {
         work.runs.fetch_add(1, Ordering::SeqCst);
         for _ in 0..100u64 {
@@ -100,7 +105,7 @@ fn meet_and_call<R: Wait>(rt: &R, once: &Once, pass: &mut OncePass, work: &Work)
         }
         work.made.store(7, Ordering::SeqCst);
     });
-    work.made.load(Ordering::SeqCst) == 7
+    came && work.made.load(Ordering::SeqCst) == 7
 }
 
 fn meet_in_two_threads<R: Threads + Wait + Sync>(

@@ -10,7 +10,7 @@ ghost use Rattle.running_semaphore.specs.SemaphoreShown.{IsSemPass, HasCounted, 
 
 use crate::strategy::semaphore::{SemPass, Semaphore};
 use crate::{WaitAction, WaitResult, WaitWord};
-use signal::Signal;
+use signal::{Notes, Signal};
 use std::sync::Wait;
 use std::sync::atomic::{AtomicU64, Ordering};
 use std::test::Fail;
@@ -184,24 +184,27 @@ fn post_when_asked(
     true
 }
 
-/// Waits with a closure that answers `Abort` only after the other thread has posted.
+/// Waits with a closure that answers `Abort` only after the other thread has posted. What that noted, too.
 fn wait_until_posted<R: Wait>(
     rt: &R,
     semaphore: &Semaphore,
     pass: &mut SemPass,
     asked: &Signal,
     posted: &Signal,
-) -> WaitResult<()>
+) -> (WaitResult<()>, (u64, u64, u64))
     requires { IsSemPass semaphore.now pass.old }
 {
-    semaphore.wait(rt, pass, |_, _| {
+    let notes = Notes::new();
+    let answer = semaphore.wait(rt, pass, |word, seen| {
+        notes.note(word.load(), *seen);
         asked.give();
         if posted.awaited() {
             WaitAction::Abort
         } else {
             WaitAction::Continue
         }
-    })
+    });
+    (answer, notes.noted())
 }
 
 #[test]
@@ -217,7 +220,7 @@ fn success_after_abort(rt: HostRuntime) -> Result<(), Fail> {
         || wait_until_posted(&rt, &semaphore, &mut two, &asked, &posted),
     );
     assert!(rt; did);
-    assert_eq!(rt; answer, WaitResult::Success(()));
+    assert_eq!(rt; answer, (WaitResult::Success(()), (1, 0, 0)));
     Ok(())
 }
 

@@ -6,7 +6,7 @@ mod threads;
 ghost use Rattle.std.specs.Prelude.{◌≡◌, ◌+◌, ◌*◌, ◌^◌, ◌<◌, IfSome, None, MatchBool};
 ghost use Rattle.steps_events.specs.declared.event.Call.TheVariants as calls;
 ghost use Rattle.steps_events.specs.declared.event.Answer.TheVariants as answers;
-ghost use Rattle.running_spin_lock.specs.SpinShown.{IsSpinPass, IsSamePass, IsAlone, HasStayed, grants_of, view, value_of};
+ghost use Rattle.running_spin_lock.specs.SpinShown.{IsSpinPass, IsAlone, HasStayed, grants_of, view, value_of};
 ghost use Rattle.running_spin_lock.specs.SpinSteps.{HasPlayed, HasPlayedBoth};
 
 use crate::spin_lock::{PoisonError, SpinLock, SpinLockGuard, SpinPass};
@@ -15,8 +15,8 @@ use std::test::Fail;
 
 /// Whether `try_lock` is refused now.
 fn is_refused(lock: &SpinLock<u64>, pass: &mut SpinPass) -> bool
-    requires { IsSpinPass lock.now pass.old }
-    ensures { IsSamePass pass.old pass.new }
+    requires own { IsSpinPass lock.now pass.old }
+    ensures stayed { HasStayed pass.old pass.new }
 {
     match SpinLock::try_lock(pass, lock) {
         Some(_guard) => false,

@@ -9,7 +9,7 @@ use iceoryx2_pal_concurrency_sync::strategy::condition_variable::{
 };
 use iceoryx2_pal_concurrency_sync::strategy::mutex::{Mutex, MutexHold, MutexPass};
 use iceoryx2_pal_concurrency_sync::{WaitAction, WaitResult, WaitWord};
-use signal::Signal;
+use signal::{Notes, Signal};
 use std::sync::Wait;
 use std::sync::atomic::{AtomicBool, AtomicU64, Ordering};
 use std::test::Fail;
@@ -556,5 +556,107 @@ fn gives_up_without_the_mutex(rt: HostRuntime) -> Result<(), Fail> {
     );
     assert!(rt; was_over);
     assert_eq!(rt; asked_again, Some((1, false)));
+    Ok(())
+}
+
+/// Locks the mutex once the other thread sleeps, notifies it, and unlocks once that one locks. Whether all of it came.
+fn free_the_mutex(
+    cond: &ConditionVariable,
+    pass: &mut CondPass,
+    mutex: &Mutex,
+    mtx_pass: &mut MutexPass,
+    steps: &LockOut,
+) -> bool
+    requires own { IsCondPass cond.now pass.old × IsMutexPass mutex.now mtx_pass.old }
+{
+    let was_asked = steps.asked.awaited();
+    match Mutex::try_lock(mtx_pass, mutex) {
+        WaitResult::Success(hold) => {
+            cond.notify_one(pass, |_| ());
+            steps.locked.give();
+            let was_locking = steps.locking.awaited();
+            mutex.unlock(hold, |_| ());
+            steps.freed.give();
+            was_asked && was_locking
+        }
+        WaitResult::Interrupted => false,
+    }
+}
+
+/// Waits with closures that answer `Abort`, that of the wait once the other thread has locked the mutex, that of the mutex once it is free.
+/// Where the wait took a permit and has the mutex: what its closure and that of the mutex noted.
+fn wait_for_the_mutex<R: Wait>(
+    rt: &R,
+    cond: &ConditionVariable,
+    pass: &mut CondPass,
+    mutex: &Mutex,
+    mtx_pass: &mut MutexPass,
+    steps: &LockOut,
+) -> Option<[(u64, u64, u64); 2]>
+    requires own { IsCondPass cond.now pass.old × IsMutexPass mutex.now mtx_pass.old }
+{
+    let (notes, mtx_notes) = (Notes::new(), Notes::new());
+    let WaitResult::Success(hold) = Mutex::try_lock(mtx_pass, mutex) else {
+        return None;
+    };
+    let answer = ConditionVariable::wait(
+        hold,
+        cond,
+        rt,
+        pass,
+        mutex,
+        |_| (),
+        |word, seen| {
+            notes.note(word.load(), *seen);
+            steps.asked.give();
+            let _ = steps.locked.awaited();
+            WaitAction::Abort
+        },
+        |word, seen| {
+            mtx_notes.note(word.load(), *seen);
+            steps.locking.give();
+            let _ = steps.freed.awaited();
+            WaitAction::Abort
+        },
+    );
+    match answer {
+        CondResult::Success(hold) => {
+            mutex.unlock(hold, |_| ());
+            Some([notes.noted(), mtx_notes.noted()])
+        }
+        CondResult::Interrupted(Some(hold)) => {
+            mutex.unlock(hold, |_| ());
+            None
+        }
+        CondResult::Interrupted(None) => None,
+    }
+}
+
+/// Both closures answer `Abort`, and after each the wait looks once more: it takes the permit, and then the mutex.
+#[test]
+fn success_after_both_aborts(rt: HostRuntime) -> Result<(), Fail> {
+    let (mutex, pass) = Mutex::new(rt.alloc())?;
+    let Ok((mut mtx_one, mut mtx_two)) = pass.split(&mutex) else {
+        unreachable!()
+    };
+    let (cond, pass) = ConditionVariable::new(rt.alloc())?;
+    let Ok((mut one, mut two)) = pass.split(&cond) else {
+        unreachable!()
+    };
+    let steps = LockOut {
+        asked: Signal::new(),
+        locked: Signal::new(),
+        locking: Signal::new(),
+        notified: Signal::new(),
+        over: Signal::new(),
+        freed: Signal::new(),
+    };
+    let (was_freed, noted) = thread::join(
+        &rt,
+        || free_the_mutex(&cond, &mut one, &mutex, &mut mtx_one, &steps),
+        || wait_for_the_mutex(&rt, &cond, &mut two, &mutex, &mut mtx_two, &steps),
+    );
+    assert!(rt; was_freed);
+    assert_eq!(rt; noted, Some([(1, 0, 0), (1, 1, 1)]));
     Ok(())
 }

@@ -6,7 +6,7 @@ ghost use Rattle.running_mutex.specs.MutexShown.{IsMutexPass, IsAlone, HasStayed
 
 use iceoryx2_pal_concurrency_sync::strategy::mutex::{Mutex, MutexPass};
 use iceoryx2_pal_concurrency_sync::{WaitAction, WaitResult, wake_nobody, yield_and_go_on};
-use signal::Signal;
+use signal::{Notes, Signal};
 use std::alloc::Global;
 use std::sync::Wait;
 use std::sync::atomic::{AtomicU64, Ordering};
@@ -352,7 +352,7 @@ fn unlock_when_asked(
     }
 }
 
-/// Locks with a closure that asks for the mutex, and answers `Abort` only once it was unlocked.
+/// Locks with a closure that asks for the mutex, and answers `Abort` only once it was unlocked. What that noted, if the call succeeded.
 fn lock_after_unlock<R: Wait>(
     rt: &R,
     mutex: &Mutex,
@@ -360,11 +360,13 @@ fn lock_after_unlock<R: Wait>(
     locked: &Signal,
     asked: &Signal,
     unlocked: &Signal,
-) -> bool
+) -> Option<(u64, u64, u64)>
     requires { IsMutexPass mutex.now pass.old }
 {
-    let was_locked = locked.awaited();
-    let answer = Mutex::lock(pass, mutex, rt, |_, _| {
+    let notes = Notes::new();
+    locked.awaited();
+    let answer = Mutex::lock(pass, mutex, rt, |word, seen| {
+        notes.note(word.load(), *seen);
         asked.give();
         if unlocked.awaited() {
             WaitAction::Abort
@@ -375,9 +377,9 @@ fn lock_after_unlock<R: Wait>(
     match answer {
         WaitResult::Success(hold) => {
             mutex.unlock(hold, |_| ());
-            was_locked
+            Some(notes.noted())
         }
-        WaitResult::Interrupted => false,
+        WaitResult::Interrupted => None,
     }
 }
 
@@ -390,13 +392,13 @@ fn two_calls_meet_and_success_after_abort(rt: HostRuntime) -> Result<(), Fail> {
         unreachable!()
     };
     let (locked, asked, unlocked) = (Signal::new(), Signal::new(), Signal::new());
-    let (was_asked, entered) = thread::join(
+    let (was_asked, noted) = thread::join(
         &rt,
         || unlock_when_asked(&mutex, &mut one, &locked, &asked, &unlocked),
         || lock_after_unlock(&rt, &mutex, &mut two, &locked, &asked, &unlocked),
     );
     assert!(rt; was_asked);
-    assert!(rt; entered);
+    assert_eq!(rt; noted, Some((1, 1, 1)));
     Ok(())
 }
 

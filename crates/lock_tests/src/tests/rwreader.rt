@@ -8,7 +8,7 @@ use iceoryx2_pal_concurrency_sync::strategy::rwlock::{
     ReadHold, RwHold, RwLockReaderPreference, RwReaderPass, WriteHold,
 };
 use iceoryx2_pal_concurrency_sync::{WaitAction, WaitResult, WaitWord};
-use signal::Signal;
+use signal::{Notes, Signal};
 use std::alloc::Global;
 use std::sync::Wait;
 use std::sync::atomic::{AtomicU64, Ordering};
@@ -304,6 +304,38 @@ fn gives_up_writing_after_10002_looks(rt: HostRuntime) -> Result<(), Fail> {
     Ok(())
 }
 
+/// What a `read_lock` of `two` did while `one` reads, and whether `two` is refused to write then.
+fn beside_a_reader<R: Wait>(
+    rt: &R,
+    lock: &RwLockReaderPreference,
+    one: &mut RwReaderPass,
+    two: &mut RwReaderPass,
+) -> Option<((bool, u64, u64, u64), bool)>
+    requires { IsRwReaderPass lock.now one.old × IsRwReaderPass lock.now two.old }
+{
+    match RwLockReaderPreference::try_read_lock(one, lock) {
+        WaitResult::Success(hold) => {
+            let read = read_and_abort(rt, lock, two);
+            let is_refused = is_refused_to_write(lock, two);
+            lock.unlock(hold, |_| ());
+            Some((read, is_refused))
+        }
+        WaitResult::Interrupted => None,
+    }
+}
+
+/// A second reader comes in while the first is in, and is not asked.
+#[test]
+fn readers_lock_together(rt: HostRuntime) -> Result<(), Fail> {
+    let (lock, pass) = RwLockReaderPreference::new(rt.alloc())?;
+    let Ok((mut one, mut two)) = pass.split(&lock) else {
+        unreachable!()
+    };
+    let answers = beside_a_reader(&rt, &lock, &mut one, &mut two);
+    assert_eq!(rt; answers, Some(((false, 0, 0, 0), true)));
+    Ok(())
+}
+
 /// Whether `two` is refused to read and to write while `one` writes, and what it is told that waits to read.
 fn refused_beside_a_writer<R: Wait>(
     rt: &R,
@@ -469,22 +501,21 @@ fn unlock_when_asked(
     }
 }
 
-/// Locks with a closure that asks for the lock, and answers `Abort` only once it was unlocked. How often it was asked, if the call
-/// succeeded.
+/// Locks with a closure that asks for the lock, and answers `Abort` only once it was unlocked. What that noted, if the call succeeded.
 fn lock_after_unlock<R: Wait>(
     rt: &R,
     lock: &RwLockReaderPreference,
     pass: &mut RwReaderPass,
     kind: Kind,
     signals: (&Signal, &Signal, &Signal),
-) -> Option<u64>
+) -> Option<(u64, u64, u64)>
     requires { IsRwReaderPass lock.now pass.old }
 {
     let (locked, asked, unlocked) = signals;
-    let calls = AtomicU64::new(0);
+    let notes = Notes::new();
     locked.awaited();
-    let wait = |_word: &WaitWord, _seen: &u64| {
-        calls.fetch_add(1, Ordering::SeqCst);
+    let wait = |word: &WaitWord, seen: &u64| {
+        notes.note(word.load(), *seen);
         asked.give();
         if unlocked.awaited() {
             WaitAction::Abort
@@ -499,7 +530,7 @@ fn lock_after_unlock<R: Wait>(
     match answer {
         WaitResult::Success(hold) => {
             lock.unlock(hold, |_| ());
-            Some(calls.load(Ordering::SeqCst))
+            Some(notes.noted())
         }
         WaitResult::Interrupted => None,
     }
@@ -515,13 +546,13 @@ fn two_calls_meet_and_success_after_abort(rt: HostRuntime) -> Result<(), Fail> {
             unreachable!()
         };
         let (locked, asked, unlocked) = (Signal::new(), Signal::new(), Signal::new());
-        let (was_asked, entered) = thread::join(
+        let (was_asked, noted) = thread::join(
             &rt,
             || unlock_when_asked(&lock, &mut one, &locked, &asked, &unlocked),
             || lock_after_unlock(&rt, &lock, &mut two, kind, (&locked, &asked, &unlocked)),
         );
         assert!(rt; was_asked);
-        assert_eq!(rt; entered, Some(1));
+        assert_eq!(rt; noted, Some((1, u64::MAX, u64::MAX)));
     }
     Ok(())
 }

@@ -6,7 +6,7 @@ ghost use Rattle.running_rwlock.specs.RwWriterShown.{IsRwWriterPass, IsAlone, Ha
 
 use iceoryx2_pal_concurrency_sync::strategy::rwlock::{RwLockWriterPreference, RwWriterPass};
 use iceoryx2_pal_concurrency_sync::{WaitAction, WaitResult, WaitWord};
-use signal::Signal;
+use signal::{Notes, Signal};
 use std::sync::Wait;
 use std::sync::atomic::{AtomicU64, Ordering};
 use std::test::Fail;
@@ -428,6 +428,60 @@ fn readers_enter_together(rt: HostRuntime) -> Result<(), Fail> {
     Ok(())
 }
 
+/// Locks for reading with a closure that answers `Abort`, and unlocks. Whether it was interrupted, and how often it was asked.
+fn read_and_abort<R: Wait>(
+    rt: &R,
+    lock: &RwLockWriterPreference,
+    pass: &mut RwWriterPass,
+) -> (bool, u64)
+    requires { IsRwWriterPass lock.now pass.old }
+{
+    let asked = AtomicU64::new(0);
+    let locked = RwLockWriterPreference::read_lock(pass, lock, rt, |_, _| {
+        asked.fetch_add(1, Ordering::SeqCst);
+        WaitAction::Abort
+    });
+    let is_interrupted = match locked {
+        WaitResult::Success(hold) => {
+            lock.unlock(hold, |_| (), |_| ());
+            false
+        }
+        WaitResult::Interrupted => true,
+    };
+    (is_interrupted, asked.load(Ordering::SeqCst))
+}
+
+/// What a `read_lock` of `two` did while `one` reads.
+fn lock_beside_a_reader<R: Wait>(
+    rt: &R,
+    lock: &RwLockWriterPreference,
+    one: &mut RwWriterPass,
+    two: &mut RwWriterPass,
+) -> Option<(bool, u64)>
+    requires { IsRwWriterPass lock.now one.old × IsRwWriterPass lock.now two.old }
+{
+    match RwLockWriterPreference::try_read_lock(one, lock) {
+        WaitResult::Success(hold) => {
+            let read = read_and_abort(rt, lock, two);
+            lock.unlock(hold, |_| (), |_| ());
+            Some(read)
+        }
+        WaitResult::Interrupted => None,
+    }
+}
+
+/// A second reader comes in while the first is in, and is not asked.
+#[test]
+fn readers_lock_together(rt: HostRuntime) -> Result<(), Fail> {
+    let (lock, pass) = RwLockWriterPreference::new(rt.alloc())?;
+    let Ok((mut one, mut two)) = pass.split(&lock) else {
+        unreachable!()
+    };
+    let answer = lock_beside_a_reader(&rt, &lock, &mut one, &mut two);
+    assert_eq!(rt; answer, Some((false, 0)));
+    Ok(())
+}
+
 #[test]
 fn a_free_lock_is_granted_unasked(rt: HostRuntime) -> Result<(), Fail> {
     let (lock, mut pass) = RwLockWriterPreference::new(rt.alloc())?;
@@ -554,22 +608,21 @@ fn unlock_when_asked(
     }
 }
 
-/// Locks with a closure that asks for the lock, and answers `Abort` only once it was unlocked. How often it was asked, if the call
-/// succeeded.
+/// Locks with a closure that asks for the lock, and answers `Abort` only once it was unlocked. What that noted, if the call succeeded.
 fn lock_after_unlock<R: Wait>(
     rt: &R,
     lock: &RwLockWriterPreference,
     pass: &mut RwWriterPass,
     kind: Kind,
     signals: (&Signal, &Signal, &Signal),
-) -> Option<u64>
+) -> Option<(u64, u64, u64)>
     requires { IsRwWriterPass lock.now pass.old }
 {
     let (locked, asked, unlocked) = signals;
-    let calls = AtomicU64::new(0);
+    let notes = Notes::new();
     locked.awaited();
-    let wait = |_word: &WaitWord, _seen: &u64| {
-        calls.fetch_add(1, Ordering::SeqCst);
+    let wait = |word: &WaitWord, seen: &u64| {
+        notes.note(word.load(), *seen);
         asked.give();
         if unlocked.awaited() {
             WaitAction::Abort
@@ -584,7 +637,7 @@ fn lock_after_unlock<R: Wait>(
     match answer {
         WaitResult::Success(hold) => {
             lock.unlock(hold, |_| (), |_| ());
-            Some(calls.load(Ordering::SeqCst))
+            Some(notes.noted())
         }
         WaitResult::Interrupted => None,
     }
@@ -594,19 +647,19 @@ fn lock_after_unlock<R: Wait>(
 /// more after its closure answered `Abort`.
 #[test]
 fn two_calls_meet_and_success_after_abort(rt: HostRuntime) -> Result<(), Fail> {
-    for kind in [Kind::Read, Kind::Write] {
+    for (kind, told) in [(Kind::Read, u64::MAX), (Kind::Write, 0)] {
         let (lock, pass) = RwLockWriterPreference::new(rt.alloc())?;
         let Ok((mut one, mut two)) = pass.split(&lock) else {
             unreachable!()
         };
         let (locked, asked, unlocked) = (Signal::new(), Signal::new(), Signal::new());
-        let (was_asked, entered) = thread::join(
+        let (was_asked, noted) = thread::join(
             &rt,
             || unlock_when_asked(&lock, &mut one, &locked, &asked, &unlocked),
             || lock_after_unlock(&rt, &lock, &mut two, kind, (&locked, &asked, &unlocked)),
         );
         assert!(rt; was_asked);
-        assert_eq!(rt; entered, Some(1));
+        assert_eq!(rt; noted, Some((1, told, told)));
     }
     Ok(())
 }
@@ -624,7 +677,7 @@ fn the_last_reader_wakes_the_writer(rt: HostRuntime) -> Result<(), Fail> {
     };
     let calls = Calls::new();
     let (locked, asked, unlocked) = (Signal::new(), Signal::new(), Signal::new());
-    let (left, entered) = thread::join(
+    let (left, noted) = thread::join(
         &rt,
         || read_until_asked(
             &lock,
@@ -642,7 +695,7 @@ fn the_last_reader_wakes_the_writer(rt: HostRuntime) -> Result<(), Fail> {
         ),
     );
     assert_eq!(rt; left, Some((true, true)));
-    assert_eq!(rt; entered, Some(1));
+    assert_eq!(rt; noted, Some((1, 0, 0)));
     assert_eq!(rt; calls.recorded(), (2, 9, 1, 9));
     Ok(())
 }

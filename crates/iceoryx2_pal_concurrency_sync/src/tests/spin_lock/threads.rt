@@ -1,7 +1,9 @@
 //! Threads that meet at the lock.
 ghost use Rattle.running_spin_lock.specs.SpinShown.{IsSpinPass, HasStayed};
 
+use super::is_refused;
 use crate::spin_lock::{SpinLock, SpinPass};
+use signal::Signal;
 use std::alloc::AllocError;
 use std::sync::Wait;
 use std::test::Fail;
@@ -87,6 +89,123 @@ fn no_addition_is_lost(rt: HostRuntime) -> Result<(), Fail> {
             assert_eq!(rt; *guard, 5000);
         }
         None => return Err("the lock is taken")?,
+    }
+    Ok(())
+}
+
+/// What a holder and a caller tell each other.
+#[derive(Drop)]
+struct Told {
+    /// The lock is held.
+    held: Signal,
+    /// The caller saw that it is, and waits for it next.
+    waits: Signal,
+    /// The holder is about to let go.
+    ending: Signal,
+}
+
+impl Told {
+    fn new() -> Told {
+        Told {
+            held: Signal::new(),
+            waits: Signal::new(),
+            ending: Signal::new(),
+        }
+    }
+}
+
+/// Holds the lock until the other thread waits for it, and a while longer. Leaves 7 in it, and tells whether the other came.
+fn hold_until_waited_for(lock: &SpinLock<u64>, pass: &mut SpinPass, told: &Told) -> bool
+    requires own { IsSpinPass lock.now pass.old }
+    ensures stayed { HasStayed pass.old pass.new }
+{
+    match SpinLock::try_lock(pass, lock) {
+        Some(mut guard) => {
+            told.held.give();
+            let came = told.waits.awaited();
+            for _ in 0..1000u64 {
+                thread::yield_now();
+            }
+            *guard = 7;
+            told.ending.give();
+            came
+        }
+        None => false,
+    }
+}
+
+/// Whether the other thread holds the lock: it is told so, and its `try_lock` is refused. Tells that it waits for the lock next.
+fn finds_it_held(lock: &SpinLock<u64>, pass: &mut SpinPass, told: &Told) -> bool
+    requires own { IsSpinPass lock.now pass.old }
+    ensures stayed { HasStayed pass.old pass.new }
+{
+    let was_held = told.held.awaited() && is_refused(lock, pass);
+    told.waits.give();
+    was_held
+}
+
+/// Waits for a lock that is held. What its guard lends, if the lock was held before and the holder was about to let go when it came in.
+fn wait_by_blocking_lock<R: Wait>(
+    rt: &R,
+    lock: &SpinLock<u64>,
+    pass: &mut SpinPass,
+    told: &Told,
+) -> Option<u64>
+    requires own { IsSpinPass lock.now pass.old }
+{
+    let was_held = finds_it_held(lock, pass, told);
+    let guard = SpinLock::blocking_lock(pass, lock, rt);
+    if was_held && told.ending.is_given() {
+        Some(*guard)
+    } else {
+        None
+    }
+}
+
+/// The same by `lock`.
+fn wait_by_lock<R: Wait>(
+    rt: &R,
+    lock: &SpinLock<u64>,
+    pass: &mut SpinPass,
+    told: &Told,
+) -> Option<u64>
+    requires own { IsSpinPass lock.now pass.old }
+{
+    let was_held = finds_it_held(lock, pass, told);
+    match SpinLock::lock(pass, lock, rt) {
+        Ok(guard) => {
+            if was_held && told.ending.is_given() {
+                Some(*guard)
+            } else {
+                None
+            }
+        }
+        Err(_) => unreachable!(),
+    }
+}
+
+/// A call comes in only once the holder has let go, and then finds what that has left.
+#[test]
+fn a_held_lock_is_waited_for_and_then_had(rt: HostRuntime) -> Result<(), Fail> {
+    for by_lock in [false, true] {
+        let (lock, pass) = SpinLock::new(rt.alloc(), 0u64)?;
+        let Ok((mut one, mut two)) = pass.split(&lock) else {
+            unreachable!()
+        };
+        let told = Told::new();
+        let (came, found) = thread::join(
+            &rt,
+            || hold_until_waited_for(&lock, &mut one, &told),
+            || {
+                if by_lock {
+                    wait_by_lock(&rt, &lock, &mut two, &told)
+                } else {
+                    wait_by_blocking_lock(&rt, &lock, &mut two, &told)
+                }
+            },
+        );
+        assert!(rt; came);
+        assert_eq!(rt; found, Some(7));
     }
     Ok(())
 }
