@@ -6,7 +6,7 @@
 #
 # A program that stands is run, and one whose sources are no longer those that it was built of is built again first. Where none has been
 # built, the sources are run as they are, unproved, by `rt try`: that takes a minute, and a build many.
-# Status: the program's own, or 3 where it could not be built or started, 4 where the arguments are none that are known.
+# Status: the program's own, or 3 where it could not be built or started, or the arguments are none that are known.
 set -euo pipefail
 shopt -s execfail lastpipe globstar nullglob
 

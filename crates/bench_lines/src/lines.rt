@@ -49,6 +49,7 @@ pub enum Line {
     StdOnceLockGet,
     OnceAfter,
     BareSwaps,
+    BareExchangeAddStore,
     StdMutexAddUnlock,
     SpinLockUnlock,
     GuardedAddUnlock,
@@ -70,7 +71,7 @@ pub enum Line {
 }
 
 /// Every line, in the order of the table.
-pub const LINES: [Line; 40] = [
+pub const LINES: [Line; 41] = [
     Line::BareExchangeStore,
     Line::StdMutexLockUnlock,
     Line::MutexLockUnlock,
@@ -93,6 +94,7 @@ pub const LINES: [Line; 40] = [
     Line::StdOnceLockGet,
     Line::OnceAfter,
     Line::BareSwaps,
+    Line::BareExchangeAddStore,
     Line::StdMutexAddUnlock,
     Line::SpinLockUnlock,
     Line::GuardedAddUnlock,
@@ -143,6 +145,7 @@ impl Line {
             Line::StdOnceLockGet => "std once_lock get",
             Line::OnceAfter => "once after",
             Line::BareSwaps => "bare swaps",
+            Line::BareExchangeAddStore => "bare exchange add store",
             Line::StdMutexAddUnlock => "std mutex add unlock",
             Line::SpinLockUnlock => "spin lock unlock",
             Line::GuardedAddUnlock => "guarded add unlock",
@@ -192,6 +195,7 @@ impl Line {
             Line::StdOnceLockGet => Ok(yardsticks::std_once_lock_get()),
             Line::OnceAfter => once::after(rt, alloc),
             Line::BareSwaps => Ok(yardsticks::bare_swaps()),
+            Line::BareExchangeAddStore => Ok(yardsticks::bare_exchange_add_store()),
             Line::StdMutexAddUnlock => Ok(yardsticks::std_mutex_add_unlock(rt)),
             Line::SpinLockUnlock => spin_lock::lock_unlock(rt, alloc),
             Line::GuardedAddUnlock => guarded::add_unlock(rt, alloc),

@@ -258,6 +258,33 @@ impl Operation for BareSwaps {
     }
 }
 
+/// Takes a bare word, adds 1 to a number in plain memory, and frees the word: the least that an addition under a lock can do.
+pub fn bare_exchange_add_store() -> u32 {
+    successes(&mut BareAdd {
+        word: AtomicU64::new(0),
+        number: 0,
+    })
+}
+
+#[derive(Drop)]
+struct BareAdd {
+    word: AtomicU64,
+    number: u64,
+}
+
+impl Operation for BareAdd {
+    #[inline(always)]
+    fn once(&mut self) -> bool {
+        let taken = self
+            .word
+            .compare_exchange(0, 1, Ordering::SeqCst, Ordering::SeqCst);
+        self.number = self.number.wrapping_add(1);
+        let more = self.number > 0;
+        self.word.store(0, Ordering::SeqCst);
+        taken.is_ok() && more
+    }
+}
+
 /// Locks a mutex of std, adds to the number that it guards, and drops the guard.
 pub fn std_mutex_add_unlock(rt: &impl Wait) -> u32 {
     successes(&mut StdAdd {

@@ -6,7 +6,7 @@ use std::test::Fail;
 use std::time::{Clock, Duration};
 
 /// The names of the lines, in the order of the table.
-const NAMES: [&str; 40] = [
+const NAMES: [&str; 41] = [
     "bare exchange store",
     "std mutex lock unlock",
     "mutex lock unlock",
@@ -29,6 +29,7 @@ const NAMES: [&str; 40] = [
     "std once_lock get",
     "once after",
     "bare swaps",
+    "bare exchange add store",
     "std mutex add unlock",
     "spin lock unlock",
     "guarded add unlock",
