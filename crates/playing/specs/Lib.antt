@@ -6,5 +6,6 @@ pub mod Plays
 pub mod Passes
 pub mod Stages
 pub mod Counts
+pub mod Answers
 pub mod Tries
 pub mod Holding

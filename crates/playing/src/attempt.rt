@@ -13,9 +13,10 @@ ghost use Rattle.playing.specs.Passes.{parties_of, counts_of};
 ghost use Rattle.playing.specs.Counts.{HasMoved, WasRefused, WasRefusedAt};
 ghost use Rattle.playing.specs.Slots.{Slot};
 ghost use Rattle.playing.specs.Words.{IsNamed};
+ghost use Rattle.playing.specs.Answers.{action_of};
 ghost use Rattle.playing.specs.Tries.{spun, MayTry, Tried, IsRefused, IsStanding, IsGranted, HasGivenUp, OnceRefused, OnceStanding, StandsToWait};
 
-use crate::entry::{Aborted, Continued, Entry, GoesOn};
+use crate::entry::{Aborted, Answered, Continued, Entry, GoesOn, hear};
 use crate::played::Played;
 use crate::script::Script;
 use crate::wait::Shown;
@@ -50,6 +51,7 @@ pub trait Attempt<K, M: Script<K, P, V>, P, V, C> {
     /// Tries once. `Err` with the value that refused it, which is the one seen last.
     fn attempt<E: Entry<V>, R: Wait>(
         &self,
+        entry: E,
         rt: &R,
         pass: &mut Pass<Played<M, P, V, C>>,
     ) -> Result<(), u64>
@@ -77,16 +79,16 @@ pub fn ask<
     B: Attempt<K, M, P, V, C>,
     X: Shown,
     W: Fn(&X, &u64) -> WaitAction,
->(by: &B, pass: &Pass<Played<M, P, V, C>>, word: &X, told: u64, wait: &W) -> WaitAction
+>(by: &B, pass: &Pass<Played<M, P, V, C>>, word: &X, told: u64, wait: &W) -> Answered
     requires own { object_of pass.now ≡ B.object by.now }
     requires word { X.object word.now ≡ B.object by.now }
     requires stands { StandsToWait (M.model (B.key by.now)) M.names M.handed (X.index word.now) told (parties_of pass.now) }
     requires may { W.IsAlwaysCallable wait.now }
-    ensures answered { MayAnswer W.Fn wait.now (λ n. n ≡ told) result }
+    ensures answered { MayAnswer W.Fn wait.now (λ n. n ≡ told) (action_of result) }
 {
     let _by = by;
     let _pass = pass;
-    wait(word, &told)
+    hear(word, told, wait)
 }
 
 /// Further tries, as many as a call makes by itself, until one is not refused. `seen` is the value that refused the first.
@@ -110,7 +112,7 @@ fn spin<K, M: Script<K, P, V>, P, V, C, B: Attempt<K, M, P, V, C>, R: Wait>(
     let mut last = seen;
     for _ in 0..SPIN_REPETITIONS {
         spin_loop();
-        match by.attempt::<GoesOn, R>(rt, pass) {
+        match by.attempt::<GoesOn, R>(GoesOn, rt, pass) {
             Ok(()) => return Ok(()),
             Err(found) => last = found,
         }
@@ -146,11 +148,11 @@ fn ask_and_try<
     let mut last = told;
     for _ in rt.forever() {
         match ask(by, pass, word, last, wait) {
-            WaitAction::Continue => match by.attempt::<Continued, R>(rt, pass) {
+            Answered::Continue(continued) => match by.attempt::<Continued, R>(continued, rt, pass) {
                 Ok(()) => return true,
                 Err(found) => last = found,
             },
-            WaitAction::Abort => match by.attempt::<Aborted, R>(rt, pass) {
+            Answered::Abort(aborted) => match by.attempt::<Aborted, R>(aborted, rt, pass) {
                 Ok(()) => return true,
                 Err(_) => return false,
             },

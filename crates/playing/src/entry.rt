@@ -1,13 +1,19 @@
 //! How a pass comes to a step.
-ghost use Rattle.std.specs.Prelude.{ℕ};
+ghost use Rattle.std.specs.Prelude.{◌≡◌, ℕ};
+ghost use Rattle.passes.specs.Answers.{MayAnswer};
+ghost use Rattle.playing.specs.Answers.{action_of};
 
 use std::marker::Brand;
+use steps_events::WaitAction;
 
-/// How a pass comes to a step.
+/// How a pass comes to a step. The step spends it.
 pub trait Entry<V> {
     ghost use Rattle.playing.specs.Plays.{Coming};
 
     ghost coming: { Coming V };
+
+    /// Lets it go.
+    fn spend(self);
 }
 
 /// How a pass comes to an add, by how much that adds: a call may begin with it that names the number.
@@ -18,12 +24,16 @@ pub trait AddEntry<V> {
 }
 
 /// A call goes on by itself.
+#[derive(Clone, Copy)]
 pub struct GoesOn;
 
 impl<V> Entry<V> for GoesOn {
     ghost use Rattle.playing.specs.Plays.{Going};
 
     ghost coming = { Going };
+
+    #[inline(always)]
+    fn spend(self) {}
 }
 
 impl<V> AddEntry<V> for GoesOn {
@@ -32,33 +42,76 @@ impl<V> AddEntry<V> for GoesOn {
     ghost coming = { λ _. Going };
 }
 
-/// A wait closure has answered `Continue`.
-pub struct Continued;
+/// A wait closure has answered `Continue`, or, where it answers nothing, come back. The call of one gives this, and nothing else does; the
+/// next step has to take it.
+pub struct Continued {
+    given: (),
+}
+
+impl Continued {
+    #[inline(always)]
+    pub(crate) fn new() -> Continued {
+        Continued { given: () }
+    }
+}
 
 impl<V> Entry<V> for Continued {
     ghost use Rattle.steps_events.specs.declared.WaitAction.TheVariants as actions;
     ghost use Rattle.playing.specs.Plays.{Answered};
 
     ghost coming = { Answered actions.Continue };
+
+    #[inline(always)]
+    fn spend(self) {
+        let Continued { given: _ } = self;
+    }
 }
 
-/// A wait closure has answered `Abort`.
-pub struct Aborted;
+/// A wait closure has answered `Abort`. The call of one gives this, and nothing else does; the next step has to take it.
+pub struct Aborted {
+    given: (),
+}
+
+impl Aborted {
+    #[inline(always)]
+    pub(crate) fn new() -> Aborted {
+        Aborted { given: () }
+    }
+}
 
 impl<V> Entry<V> for Aborted {
     ghost use Rattle.steps_events.specs.declared.WaitAction.TheVariants as actions;
     ghost use Rattle.playing.specs.Plays.{Answered};
 
     ghost coming = { Answered actions.Abort };
+
+    #[inline(always)]
+    fn spend(self) {
+        let Aborted { given: _ } = self;
+    }
 }
 
-/// A call has made a step on no word, as its closure's end.
-pub struct AfterAside;
+/// A call has made a step on no word: its closure has ended. The call of one gives this, and nothing else does; the next step has to take it.
+pub struct AfterAside {
+    given: (),
+}
+
+impl AfterAside {
+    #[inline(always)]
+    pub(crate) fn new() -> AfterAside {
+        AfterAside { given: () }
+    }
+}
 
 impl<V> Entry<V> for AfterAside {
     ghost use Rattle.playing.specs.Plays.{Aside};
 
     ghost coming = { Aside };
+
+    #[inline(always)]
+    fn spend(self) {
+        let AfterAside { given: _ } = self;
+    }
 }
 
 // How a pass comes to a step that speaks of what is handed in; each caller picks it.
@@ -66,4 +119,33 @@ impl<V> Entry<V> for Brand {
     ghost use Rattle.playing.specs.Plays.{Going};
 
     ghost coming = { Going };
+
+    #[inline(always)]
+    fn spend(self) {}
+}
+
+/// What a wait closure has answered, as the way by which the pass comes to its next step.
+pub enum Answered {
+    Continue(Continued),
+    Abort(Aborted),
+}
+
+/// Calls a wait closure. Where it is called, and with which word, is its caller's affair: `ask` says it of a pass.
+#[inline(always)]
+pub fn hear<X, W: Fn(&X, &u64) -> WaitAction>(word: &X, told: u64, wait: &W) -> Answered
+    requires may { W.IsAlwaysCallable wait.now }
+    ensures answered { MayAnswer W.Fn wait.now (λ n. n ≡ told) (action_of result) }
+{
+    match answer(word, told, wait) {
+        WaitAction::Continue => Answered::Continue(Continued::new()),
+        WaitAction::Abort => Answered::Abort(Aborted::new()),
+    }
+}
+
+#[inline(always)]
+fn answer<X, W: Fn(&X, &u64) -> WaitAction>(word: &X, told: u64, wait: &W) -> WaitAction
+    requires may { W.IsAlwaysCallable wait.now }
+    ensures answered { MayAnswer W.Fn wait.now (λ n. n ≡ told) result }
+{
+    wait(word, &told)
 }

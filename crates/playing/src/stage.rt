@@ -124,6 +124,7 @@ impl<K, M: Script<K, P, V>, P, V, C: Rule<(), K>, A: Allocator> Stage<K, M, P, V
     #[inline(always)]
     pub fn load<E: Entry<V>, D: Deed<K, C>>(
         &self,
+        entry: E,
         pass: &mut Pass<Played<M, P, V, C>>,
         word: usize,
     ) -> u64
@@ -136,6 +137,7 @@ impl<K, M: Script<K, P, V>, P, V, C: Rule<(), K>, A: Allocator> Stage<K, M, P, V
         ensures alone { IsWhole (part_of pass.old) → WentAlone (M.model (key_of self.now)) E.coming (parties_of pass.old) result }
         ensures told { D.tells (key_of self.now) 0 0 (counted pass.old) result (counted pass.new) }
     {
+        entry.spend();
         self.words.load::<Step<M, P, V, E, D>>(pass, word)
     }
 
@@ -143,6 +145,7 @@ impl<K, M: Script<K, P, V>, P, V, C: Rule<(), K>, A: Allocator> Stage<K, M, P, V
     #[inline(always)]
     pub fn store<E: Entry<V>, D: Deed<K, C>>(
         &self,
+        entry: E,
         pass: &mut Pass<Played<M, P, V, C>>,
         word: usize,
         put: u64,
@@ -156,6 +159,7 @@ impl<K, M: Script<K, P, V>, P, V, C: Rule<(), K>, A: Allocator> Stage<K, M, P, V
         ensures alone { IsWhole (part_of pass.old) → WentAlone (M.model (key_of self.now)) E.coming (parties_of pass.old) put }
         ensures told { D.tells (key_of self.now) put 0 (counted pass.old) put (counted pass.new) }
     {
+        entry.spend();
         self.words.store::<Step<M, P, V, E, D>>(pass, word, put);
     }
 
@@ -163,6 +167,7 @@ impl<K, M: Script<K, P, V>, P, V, C: Rule<(), K>, A: Allocator> Stage<K, M, P, V
     #[inline(always)]
     pub fn load_of<E: Entry<V>, D: Deed<K, C>, H>(
         &self,
+        entry: E,
         pass: &mut Pass<Played<M, P, V, C>>,
         word: usize,
         _of: &H,
@@ -176,13 +181,14 @@ impl<K, M: Script<K, P, V>, P, V, C: Rule<(), K>, A: Allocator> Stage<K, M, P, V
         ensures alone { IsWhole (part_of pass.old) → WentAlone (M.model (key_of self.now)) E.coming (parties_of pass.old) result }
         ensures told { D.tells (key_of self.now) 0 0 (counted pass.old) result (counted pass.new) }
     {
-        self.load::<E, D>(pass, word)
+        self.load::<E, D>(entry, pass, word)
     }
 
     /// The store that the table has. How the pass comes to it, and what it tells, may speak of what is handed in; its caller picks them.
     #[inline(always)]
     pub fn store_of<E: Entry<V>, D: Deed<K, C>, H>(
         &self,
+        entry: E,
         pass: &mut Pass<Played<M, P, V, C>>,
         word: usize,
         put: u64,
@@ -197,7 +203,7 @@ impl<K, M: Script<K, P, V>, P, V, C: Rule<(), K>, A: Allocator> Stage<K, M, P, V
         ensures alone { IsWhole (part_of pass.old) → WentAlone (M.model (key_of self.now)) E.coming (parties_of pass.old) put }
         ensures told { D.tells (key_of self.now) put 0 (counted pass.old) put (counted pass.new) }
     {
-        self.store::<E, D>(pass, word, put);
+        self.store::<E, D>(entry, pass, word, put);
     }
 
     /// A load that is no step of the model: it tells of what the pass counts alone, and the parties stay as they are.
@@ -217,6 +223,7 @@ impl<K, M: Script<K, P, V>, P, V, C: Rule<(), K>, A: Allocator> Stage<K, M, P, V
     #[inline(always)]
     pub fn exchange<E: Entry<V>, D: Deed<K, C>>(
         &self,
+        entry: E,
         pass: &mut Pass<Played<M, P, V, C>>,
         word: usize,
         from: u64,
@@ -231,6 +238,7 @@ impl<K, M: Script<K, P, V>, P, V, C: Rule<(), K>, A: Allocator> Stage<K, M, P, V
         ensures alone { IsWhole (part_of pass.old) → WentAlone (M.model (key_of self.now)) E.coming (parties_of pass.old) result }
         ensures told { D.tells (key_of self.now) from to (counted pass.old) result (counted pass.new) }
     {
+        entry.spend();
         self.words
             .compare_exchange::<Step<M, P, V, E, D>>(pass, word, from, to)
     }
@@ -260,6 +268,7 @@ impl<K, M: Script<K, P, V>, P, V, C: Rule<(), K>, A: Allocator> Stage<K, M, P, V
     #[inline(always)]
     pub fn subtract<E: Entry<V>, D: Deed<K, C>>(
         &self,
+        entry: E,
         pass: &mut Pass<Played<M, P, V, C>>,
         word: usize,
         less: u64,
@@ -273,6 +282,7 @@ impl<K, M: Script<K, P, V>, P, V, C: Rule<(), K>, A: Allocator> Stage<K, M, P, V
         ensures alone { IsWhole (part_of pass.old) → WentAlone (M.model (key_of self.now)) E.coming (parties_of pass.old) result }
         ensures told { D.tells (key_of self.now) less 0 (counted pass.old) result (counted pass.new) }
     {
+        entry.spend();
         self.words
             .fetch_sub::<Step<M, P, V, E, D>>(pass, word, less)
     }

@@ -2,9 +2,11 @@
 ghost use Rattle.std.specs.Prelude.{◌≡◌, ℕ};
 ghost use Rattle.atomic_table.specs.Seated.{TableId};
 ghost use Rattle.passes.specs.Answers.{MayAnswer, HasWoken};
+ghost use Rattle.playing.specs.Answers.{action_of};
 ghost use Rattle.playing.specs.Passes.{parties_of};
 ghost use Rattle.playing.specs.Tries.{IsToWake, IsToWakeTwice, StandsToWait, HasTold};
 
+use crate::entry::{Answered, Continued, hear};
 use crate::played::Played;
 use crate::script::Script;
 use crate::stage::Stage;
@@ -33,7 +35,7 @@ impl<K, M: Script<K, P, V>, P, V, C: Rule<(), K>, A: Allocator> Stage<K, M, P, V
         word: &X,
         told: u64,
         wait: &W,
-    )
+    ) -> Continued
         requires own { IsPassOf self.now pass.now }
         requires word { X.object word.now ≡ id_of self.now }
         requires stands { StandsToWait (M.model (key_of self.now)) M.names M.handed (X.index word.now) told (parties_of pass.now) }
@@ -42,6 +44,7 @@ impl<K, M: Script<K, P, V>, P, V, C: Rule<(), K>, A: Allocator> Stage<K, M, P, V
     {
         let _pass = pass;
         wait(word, &told);
+        Continued::new()
     }
 
     /// Calls a wait closure that answers whether the call may give up, at which a call of the pass stands. It is handed the word that
@@ -53,15 +56,15 @@ impl<K, M: Script<K, P, V>, P, V, C: Rule<(), K>, A: Allocator> Stage<K, M, P, V
         word: &X,
         told: u64,
         wait: &W,
-    ) -> WaitAction
+    ) -> Answered
         requires own { IsPassOf self.now pass.now }
         requires word { X.object word.now ≡ id_of self.now }
         requires stands { StandsToWait (M.model (key_of self.now)) M.names M.handed (X.index word.now) told (parties_of pass.now) }
         requires may { W.IsAlwaysCallable wait.now }
-        ensures answered { MayAnswer W.Fn wait.now (λ n. n ≡ told) result }
+        ensures answered { MayAnswer W.Fn wait.now (λ n. n ≡ told) (action_of result) }
     {
         let _pass = pass;
-        wait(word, &told)
+        hear(word, told, wait)
     }
 
     /// Calls the wake closure that a call of the pass is to call next, of the word that the model names for that place.
