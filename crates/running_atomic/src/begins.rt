@@ -3,6 +3,7 @@
 use playing::Entry;
 
 /// A `Load` begins.
+#[derive(Drop)]
 pub(crate) struct LoadBegins;
 
 impl<T> Entry<T> for LoadBegins {
@@ -10,9 +11,13 @@ impl<T> Entry<T> for LoadBegins {
     ghost use Rattle.playing.specs.Plays.{Beginning};
 
     ghost coming = { Beginning calls.Load };
+
+    #[inline(always)]
+    fn spend(self) {}
 }
 
 /// The closure of a `FetchUpdate` has chosen nothing.
+#[derive(Drop)]
 pub(crate) struct NothingChosen;
 
 impl<T> Entry<T> for NothingChosen {
@@ -20,4 +25,7 @@ impl<T> Entry<T> for NothingChosen {
     ghost use Rattle.playing.specs.Plays.{Choosing};
 
     ghost coming = { Choosing None };
+
+    #[inline(always)]
+    fn spend(self) {}
 }

@@ -114,7 +114,7 @@ impl<T: AtomicInteger, A: Allocator> Atomic<T, A> {
         let new = content(value);
         self.write_lock(rt, &mut pass.pass, &Call::Store(value));
         let act = AtomicAct::Store(new);
-        self.put::<GoesOn>(&mut pass.pass, value, &act);
+        self.put(GoesOn, &mut pass.pass, value, &act);
     }
 
     /// Writes the value, and answers the old one.
@@ -389,7 +389,7 @@ impl<T: AtomicInteger, A: Allocator> Atomic<T, A> {
             Some(new) => {
                 let words = content(new);
                 let act = AtomicAct::FetchUpdate(Some(words));
-                self.put::<Brand>(&mut pass.pass, new, &act);
+                self.put(Brand, &mut pass.pass, new, &act);
                 Ok(old)
             }
             None => Err(self.keep(&mut pass.pass, old)),
@@ -430,7 +430,7 @@ impl<T: AtomicInteger, A: Allocator> Atomic<T, A> {
         ensures on { HasGot IsReading pass.old pass.new }
         ensures next { IsNext T.arithmetic (key_of self.now.stage) calls.Load (places.Low calls.Load) (Some kinds.Read) (all_of (parties_of pass.old)) (parties_of pass.new) }
     {
-        let mut seen = self.look::<LoadBegins>(pass);
+        let mut seen = self.look(LoadBegins, pass);
         let mut tries = 0;
         for _ in rt.forever() {
             match reader_enters(seen) {
@@ -443,7 +443,7 @@ impl<T: AtomicInteger, A: Allocator> Atomic<T, A> {
                 }
                 None => {
                     tries = pause(tries);
-                    seen = self.look::<GoesOn>(pass);
+                    seen = self.look(GoesOn, pass);
                 }
             }
         }
@@ -458,13 +458,13 @@ impl<T: AtomicInteger, A: Allocator> Atomic<T, A> {
         ensures on { HasGot IsSettled pass.old pass.new }
         ensures next { IsNext T.arithmetic (key_of self.now.stage) call.now (inside T.arithmetic call.now) (Some kinds.Write) (all_of (parties_of pass.old)) (parties_of pass.new) }
     {
-        if self.enter_write::<Brand>(pass, call) == 0 {
+        if self.enter_write(Brand, pass, call) == 0 {
             return;
         }
         let mut tries = 0;
         for _ in rt.forever() {
             tries = pause(tries);
-            if self.enter_write::<GoesOn>(pass, call) == 0 {
+            if self.enter_write(GoesOn, pass, call) == 0 {
                 return;
             }
         }
@@ -511,7 +511,7 @@ impl<T: AtomicInteger, A: Allocator> Atomic<T, A> {
 
     /// Writes a value by this act, and leaves the lock.
     #[inline(always)]
-    fn put<E: Entry<T>>(&self, pass: &mut Pass<PlayedAtomic<T>>, new: T, act: &AtomicAct)
+    fn put<E: Entry<T>>(&self, entry: E, pass: &mut Pass<PlayedAtomic<T>>, new: T, act: &AtomicAct)
         requires own { IsPassOf self.now.stage pass.old }
         requires on { IsSettled (counts_of pass.old).hold }
         requires right { IfWriting (counts_of pass.old).hold (λ _ found. value_after T.arithmetic (act_in T.arithmetic act.now) (value_of T.arithmetic found) ≡ new) }
@@ -522,7 +522,7 @@ impl<T: AtomicInteger, A: Allocator> Atomic<T, A> {
         ensures put { HasPut T.arithmetic (key_of self.now.stage) E.coming new (parties_of pass.old) (parties_of pass.new) }
     {
         let (low, high) = new.to_words();
-        self.store_low::<E>(pass, low);
+        self.store_low(entry, pass, low);
         self.end_store(pass, high, act);
         self.leave_write(pass);
     }
@@ -548,7 +548,7 @@ impl<T: AtomicInteger, A: Allocator> Atomic<T, A> {
         ensures played { HasReplaced T.arithmetic (key_of self.now.stage) call.now old (answer_to T.arithmetic (act_in T.arithmetic act.now) old) (parties_of pass.old) (parties_of pass.new) }
     {
         let _call = call;
-        self.put::<GoesOn>(pass, new, act);
+        self.put(GoesOn, pass, new, act);
         old
     }
 
@@ -563,7 +563,7 @@ impl<T: AtomicInteger, A: Allocator> Atomic<T, A> {
         ensures rest { (counts_of pass.new).hold ≡ Free }
         ensures played { HasReplaced T.arithmetic (key_of self.now.stage) calls.FetchUpdate old (answers.ErrOld old) (parties_of pass.old) (parties_of pass.new) }
     {
-        self.end_unchanged::<NothingChosen>(pass, &AtomicAct::FetchUpdate(None));
+        self.end_unchanged(NothingChosen, pass, &AtomicAct::FetchUpdate(None));
         self.leave_write(pass);
         old
     }

@@ -46,14 +46,14 @@ impl<T: AtomicInteger, A: Allocator> Atomic<T, A> {
 
     /// A load of the lock's word.
     #[inline(always)]
-    pub(crate) fn look<E: Entry<T>>(&self, pass: &mut Pass<PlayedAtomic<T>>) -> u64
+    pub(crate) fn look<E: Entry<T>>(&self, entry: E, pass: &mut Pass<PlayedAtomic<T>>) -> u64
         requires own { IsPassOf self.now.stage pass.old }
         requires may { MayStep (atomic_model T.arithmetic (key_of self.now.stage)) atomic_names E.coming 0 (λ w. intents.Load w) (parties_of pass.old) }
         ensures same { IsSamePass pass.old pass.new }
         ensures went { Went (atomic_model T.arithmetic (key_of self.now.stage)) E.coming (parties_of pass.old) result (parties_of pass.new) }
         ensures saw { counted pass.new ≡ looked (counted pass.old) result }
     {
-        self.stage.load::<E, Look>(pass, STATE)
+        self.stage.load::<_, Look>(entry, pass, STATE)
     }
 
     /// An exchange of the lock's word for one more.
@@ -69,13 +69,14 @@ impl<T: AtomicInteger, A: Allocator> Atomic<T, A> {
         ensures tried { EntersRead from (counted pass.old) result (counted pass.new) }
     {
         self.stage
-            .exchange::<GoesOn, EnterRead>(pass, STATE, from, to)
+            .exchange::<_, EnterRead>(GoesOn, pass, STATE, from, to)
     }
 
     /// An exchange of the lock's word, from 0, for the writer's. How the pass comes to it may speak of its call; its caller picks it.
     #[inline(always)]
     pub(crate) fn enter_write<E: Entry<T>>(
         &self,
+        entry: E,
         pass: &mut Pass<PlayedAtomic<T>>,
         _call: &Call<T>,
     ) -> u64
@@ -87,7 +88,7 @@ impl<T: AtomicInteger, A: Allocator> Atomic<T, A> {
         ensures tried { EntersWrite (counted pass.old) result (counted pass.new) }
     {
         self.stage
-            .exchange::<E, EnterWrite>(pass, STATE, 0, WRITTEN)
+            .exchange::<_, EnterWrite>(entry, pass, STATE, 0, WRITTEN)
     }
 
     /// The end of a read hold.
@@ -100,7 +101,7 @@ impl<T: AtomicInteger, A: Allocator> Atomic<T, A> {
         ensures went { Went (atomic_model T.arithmetic (key_of self.now.stage)) Going (parties_of pass.old) result (parties_of pass.new) }
         ensures left { Leaves (counted pass.old) (counted pass.new) }
     {
-        self.stage.subtract::<GoesOn, Leave>(pass, STATE, 1)
+        self.stage.subtract::<_, Leave>(GoesOn, pass, STATE, 1)
     }
 
     /// The end of a write hold.
@@ -113,7 +114,7 @@ impl<T: AtomicInteger, A: Allocator> Atomic<T, A> {
         ensures went { Went (atomic_model T.arithmetic (key_of self.now.stage)) Going (parties_of pass.old) 0 (parties_of pass.new) }
         ensures left { Leaves (counted pass.old) (counted pass.new) }
     {
-        self.stage.store::<GoesOn, Leave>(pass, STATE, 0);
+        self.stage.store::<_, Leave>(GoesOn, pass, STATE, 0);
     }
 
     /// A load of the low word.
@@ -126,7 +127,7 @@ impl<T: AtomicInteger, A: Allocator> Atomic<T, A> {
         ensures went { Went (atomic_model T.arithmetic (key_of self.now.stage)) Going (parties_of pass.old) result (parties_of pass.new) }
         ensures read { ReadsLow (counted pass.old) result (counted pass.new) }
     {
-        self.stage.load::<GoesOn, ReadLow>(pass, LOW)
+        self.stage.load::<_, ReadLow>(GoesOn, pass, LOW)
     }
 
     /// A load of the high word, after which the call goes on.
@@ -139,7 +140,7 @@ impl<T: AtomicInteger, A: Allocator> Atomic<T, A> {
         ensures went { Went (atomic_model T.arithmetic (key_of self.now.stage)) Going (parties_of pass.old) result (parties_of pass.new) }
         ensures read { ReadsHigh (counted pass.old) result (counted pass.new) }
     {
-        self.stage.load::<GoesOn, ReadHigh>(pass, HIGH)
+        self.stage.load::<_, ReadHigh>(GoesOn, pass, HIGH)
     }
 
     /// The load of the high word by which a `load` acts.
@@ -152,12 +153,17 @@ impl<T: AtomicInteger, A: Allocator> Atomic<T, A> {
         ensures went { Went (atomic_model T.arithmetic (key_of self.now.stage)) Going (parties_of pass.old) result (parties_of pass.new) }
         ensures ended { EndsLoad T.arithmetic (key_of self.now.stage) (counted pass.old) result (counted pass.new) }
     {
-        self.stage.load::<GoesOn, EndLoad>(pass, HIGH)
+        self.stage.load::<_, EndLoad>(GoesOn, pass, HIGH)
     }
 
     /// The store of the low word.
     #[inline(always)]
-    pub(crate) fn store_low<E: Entry<T>>(&self, pass: &mut Pass<PlayedAtomic<T>>, new: u64)
+    pub(crate) fn store_low<E: Entry<T>>(
+        &self,
+        entry: E,
+        pass: &mut Pass<PlayedAtomic<T>>,
+        new: u64,
+    )
         requires own { IsPassOf self.now.stage pass.old }
         requires on { IsWriting (counts_of pass.old).hold }
         requires may { MayStep (atomic_model T.arithmetic (key_of self.now.stage)) atomic_names E.coming 1 (λ w. intents.Store w new) (parties_of pass.old) }
@@ -165,7 +171,7 @@ impl<T: AtomicInteger, A: Allocator> Atomic<T, A> {
         ensures went { Went (atomic_model T.arithmetic (key_of self.now.stage)) E.coming (parties_of pass.old) new (parties_of pass.new) }
         ensures stored { StoresLow (counted pass.old) new (counted pass.new) }
     {
-        self.stage.store::<E, StoreLow>(pass, LOW, new);
+        self.stage.store::<_, StoreLow>(entry, pass, LOW, new);
     }
 
     /// The store of the high word, by which a call acts that stores.
@@ -180,13 +186,14 @@ impl<T: AtomicInteger, A: Allocator> Atomic<T, A> {
         ensures ended { EndsStore T.arithmetic (key_of self.now.stage) act.now (counted pass.old) new (counted pass.new) }
     {
         self.stage
-            .store_of::<GoesOn, Brand, AtomicAct>(pass, HIGH, new, act);
+            .store_of::<_, Brand, AtomicAct>(GoesOn, pass, HIGH, new, act);
     }
 
     /// The load of the high word by which a call acts that took the lock for writing and stores nothing.
     #[inline(always)]
     pub(crate) fn end_unchanged<E: Entry<T>>(
         &self,
+        entry: E,
         pass: &mut Pass<PlayedAtomic<T>>,
         act: &AtomicAct,
     ) -> u64
@@ -198,7 +205,8 @@ impl<T: AtomicInteger, A: Allocator> Atomic<T, A> {
         ensures went { Went (atomic_model T.arithmetic (key_of self.now.stage)) E.coming (parties_of pass.old) result (parties_of pass.new) }
         ensures ended { EndsUnchanged T.arithmetic (key_of self.now.stage) act.now (counted pass.old) (counted pass.new) }
     {
-        self.stage.load_of::<E, Brand, AtomicAct>(pass, HIGH, act)
+        self.stage
+            .load_of::<_, Brand, AtomicAct>(entry, pass, HIGH, act)
     }
 
     /// The load of the high word of a call that compares. Where the value is another than the one compared with, the call acts by it.
@@ -213,7 +221,7 @@ impl<T: AtomicInteger, A: Allocator> Atomic<T, A> {
         ensures compared { ComparesHigh T.arithmetic (key_of self.now.stage) by.now.act by.now.current (counted pass.old) result (counted pass.new) }
     {
         self.stage
-            .load_of::<GoesOn, Brand, Comparison<T>>(pass, HIGH, by)
+            .load_of::<_, Brand, Comparison<T>>(GoesOn, pass, HIGH, by)
     }
 
     /// A load by which a pass sees all of the history.

@@ -12,7 +12,7 @@ ghost use Rattle.running_barrier.specs.BarrierSteps.{OpenRoundsAreFull};
 ghost use Rattle.steps_barrier.specs.Rounds.{epoch_of, count_of};
 
 use passes::{Deed, Origin, Pass};
-use playing::{Continued, Entry, GoesOn, Stage};
+use playing::{Entry, GoesOn, Stage};
 use std::alloc::{AllocError, Allocator, Global};
 use std::hint::spin_loop;
 use std::ops::Deref;
@@ -72,6 +72,7 @@ impl Deed<u32, Rounds> for Arrive {
 }
 
 /// A `Wait` begins.
+#[derive(Drop)]
 struct WaitBegins;
 
 impl Entry<u64> for WaitBegins {
@@ -79,6 +80,9 @@ impl Entry<u64> for WaitBegins {
     ghost use Rattle.playing.specs.Plays.{Beginning};
 
     ghost coming = { Beginning calls.Wait };
+
+    #[inline(always)]
+    fn spend(self) {}
 }
 
 impl<A: Allocator> Barrier<A> {
@@ -146,7 +150,7 @@ impl<A: Allocator> Barrier<A> {
     {
         // Read once: it would be loaded again after the exchange.
         let number_of_waiters = self.number_of_waiters;
-        let seen = self.look::<WaitBegins>(pass);
+        let seen = self.look(WaitBegins, pass);
         let Some(next) = arrived(seen, number_of_waiters) else {
             return Err(BarrierFull);
         };
@@ -235,13 +239,13 @@ impl<A: Allocator> Barrier<A> {
         ensures all { HasAll (waiters_of self.now) (counted pass.new) }
         ensures looks { OnceToStay (waiters_of self.now) own_epoch (parties_of pass.old) (λ done. Looks (waiters_of self.now) own_epoch 10000 result done (parties_of pass.new)) }
     {
-        let mut seen = self.look::<GoesOn>(pass);
+        let mut seen = self.look(GoesOn, pass);
         for _ in 0..SPIN_REPETITIONS {
             if epoch_of(seen) != own_epoch {
                 return seen;
             }
             spin_loop();
-            seen = self.look::<GoesOn>(pass);
+            seen = self.look(GoesOn, pass);
         }
         seen
     }
@@ -271,22 +275,22 @@ impl<A: Allocator> Barrier<A> {
             if epoch_of(seen) != own_epoch {
                 return;
             }
-            self.stage.tell(pass, &word, seen, wait);
-            seen = self.look::<Continued>(pass);
+            let continued = self.stage.tell(pass, &word, seen, wait);
+            seen = self.look(continued, pass);
         }
         unreachable!()
     }
 
     /// A load.
     #[inline(always)]
-    fn look<E: Entry<u64>>(&self, pass: &mut BarrierPass) -> u64
+    fn look<E: Entry<u64>>(&self, entry: E, pass: &mut BarrierPass) -> u64
         requires own { IsBarrierPass self.now pass.old }
         requires may { MayStep (barrier_model (waiters_of self.now)) (words.State ∷ []) E.coming 0 (λ w. intents.Load w) (parties_of pass.old) }
         ensures same { IsSamePass pass.old pass.new }
         ensures told { Loaded (waiters_of self.now) (counted pass.old) result (counted pass.new) }
         ensures went { Went (barrier_model (waiters_of self.now)) E.coming (parties_of pass.old) result (parties_of pass.new) }
     {
-        self.stage.load::<E, Look>(pass, 0)
+        self.stage.load::<_, Look>(entry, pass, 0)
     }
 
     /// An exchange of the value seen for the one after an arrival, and the value that it found.
@@ -300,7 +304,8 @@ impl<A: Allocator> Barrier<A> {
         ensures joined { result ≡ seen → OnceLooked (waiters_of self.now) seen (parties_of pass.old) (λ done. HasJoined (waiters_of self.now) seen done (parties_of pass.new)) }
         ensures again { result ≢ seen → OnceLooked (waiters_of self.now) seen (parties_of pass.old) (λ done. HasLooked (waiters_of self.now) result done (parties_of pass.new)) }
     {
-        self.stage.exchange::<GoesOn, Arrive>(pass, 0, seen, next)
+        self.stage
+            .exchange::<_, Arrive>(GoesOn, pass, 0, seen, next)
     }
 
     /// The barrier's word, as closures see it.

@@ -13,6 +13,7 @@ ghost use Rattle.steps_events.specs.declared.WaitAction.TheVariants as actions;
 ghost use Rattle.steps_mutex.specs.declared.MutexPlace.{MutexPlace};
 ghost use Rattle.steps_mutex.specs.declared.MutexPlace.TheVariants as places;
 ghost use Rattle.tallies.specs.MutexScript.{mutex_model};
+ghost use Rattle.playing.specs.Answers.{action_of};
 ghost use Rattle.playing.specs.Slots.{Slot};
 ghost use Rattle.playing.specs.Plays.{MayStep};
 ghost use Rattle.playing.specs.Tries.{spun, IsRefused, IsStanding, IsGranted, HasGivenUp as HasEndedRefused, OnceRefused, OnceStanding, StandsToWait, IsToWake};
@@ -29,7 +30,7 @@ use crate::rule::GuardedRule;
 use crate::word::GuardedWord;
 use atomic_table::{Play, Refused, Seat, Table};
 use passes::{View, WaitResult};
-use playing::{Aborted, Continued, Entry, GoesOn};
+use playing::{Answered, Entry, GoesOn, hear};
 use std::alloc::{AllocError, Allocator, Global};
 use std::hint::spin_loop;
 use std::marker::PhantomData;
@@ -63,21 +64,29 @@ impl<T> Play<Option<T>, View<PlayedMutex>> for Release {
 }
 
 /// A `TryLock` begins.
+#[derive(Drop)]
 struct TryLockBegins;
 
 impl Entry<u64> for TryLockBegins {
     ghost use Rattle.playing.specs.Plays.{Beginning};
 
     ghost coming = { Beginning calls.TryLock };
+
+    #[inline(always)]
+    fn spend(self) {}
 }
 
 /// A `Lock` begins.
+#[derive(Drop)]
 struct LockBegins;
 
 impl Entry<u64> for LockBegins {
     ghost use Rattle.playing.specs.Plays.{Beginning};
 
     ghost coming = { Beginning calls.Lock };
+
+    #[inline(always)]
+    fn spend(self) {}
 }
 
 /// The word where it is locked, and where it is free.
@@ -90,7 +99,11 @@ impl<T, A: Allocator> Guarded<T, A> {
 
     /// One exchange of 0 for 1, and whether it was done. Then the value is out with the seat.
     #[inline(always)]
-    fn exchange<E: Entry<u64>>(&self, seat: &mut Seat<Option<T>, View<PlayedMutex>>) -> bool
+    fn exchange<E: Entry<u64>>(
+        &self,
+        entry: E,
+        seat: &mut Seat<Option<T>, View<PlayedMutex>>,
+    ) -> bool
         requires own { seat.old.table_id ≡ id_of self.now }
         requires no_slot { seat.old.me.1 ≡ [] }
         requires alive { 0 < seat.old.me.0.part.share }
@@ -101,6 +114,7 @@ impl<T, A: Allocator> Guarded<T, A> {
         ensures tried { Tries E.coming result seat.old.me.0 seat.new.me.0 }
         ensures exact { IsWhole seat.old.me.0.part → seat.old.me.0.tally.counts.holds ≡ 0 → result ≡ true }
     {
+        entry.spend();
         let shared = &self.table.shared;
         shared.compare_exchange::<Exchange<E>>(seat, 0, FREE, LOCKED) == FREE
     }
@@ -119,7 +133,7 @@ impl<T, A: Allocator> Guarded<T, A> {
     {
         for _ in 0..SPIN_REPETITIONS {
             spin_loop();
-            if self.exchange::<GoesOn>(seat) {
+            if self.exchange(GoesOn, seat) {
                 return true;
             }
         }
@@ -132,14 +146,14 @@ impl<T, A: Allocator> Guarded<T, A> {
         &self,
         seat: &Seat<Option<T>, View<PlayedMutex>>,
         wait: &W,
-    ) -> WaitAction
+    ) -> Answered
         requires own { seat.now.table_id ≡ id_of self.now }
         requires stands { StandsToWait mutex_model (words.State ∷ []) (λ (_ : MutexPlace). words.State) 0 1 seat.now.me.0.tally.parties }
         requires may { W.IsAlwaysCallable wait.now }
-        ensures answered { MayAnswer W.Fn wait.now IsLocked result }
+        ensures answered { MayAnswer W.Fn wait.now IsLocked (action_of result) }
     {
         let _seat = seat;
-        wait(&self.word(), &LOCKED)
+        hear(&self.word(), LOCKED, wait)
     }
 
     /// The wait closure before each further exchange, until one is done, or fails after the closure answered `Abort`.
@@ -163,12 +177,12 @@ impl<T, A: Allocator> Guarded<T, A> {
     {
         for _ in rt.forever() {
             match self.ask(seat, wait) {
-                WaitAction::Continue => {
-                    if self.exchange::<Continued>(seat) {
+                Answered::Continue(continued) => {
+                    if self.exchange(continued, seat) {
                         return true;
                     }
                 }
-                WaitAction::Abort => return self.exchange::<Aborted>(seat),
+                Answered::Abort(aborted) => return self.exchange(aborted, seat),
             }
         }
         unreachable!()
@@ -194,7 +208,7 @@ impl<T, A: Allocator> Guarded<T, A> {
         ensures exact { IsWhole seat.old.me.0.part → seat.old.me.0.tally.counts.holds ≡ 0 → result ≡ true }
         ensures aborted { result ≡ false → MayAnswerAbort W.Fn wait.now IsLocked }
     {
-        if self.exchange::<LockBegins>(seat) {
+        if self.exchange(LockBegins, seat) {
             return true;
         }
         if self.spin(seat) {
@@ -216,7 +230,7 @@ impl<T, A: Allocator> Guarded<T, A> {
         ensures has { result ≡ true → HasMutex seat.new.me.0.tally.parties }
         ensures exact { IsWhole seat.old.me.0.part → seat.old.me.0.tally.counts.holds ≡ 0 → result ≡ true }
     {
-        self.exchange::<TryLockBegins>(seat)
+        self.exchange(TryLockBegins, seat)
     }
 
     /// The value, out of the slot that the exchange took.

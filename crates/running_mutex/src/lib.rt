@@ -73,6 +73,7 @@ impl Deed<(), Holds> for Release {
 }
 
 /// A `TryLock` begins.
+#[derive(Drop)]
 struct TryLockBegins;
 
 impl Entry<u64> for TryLockBegins {
@@ -80,9 +81,13 @@ impl Entry<u64> for TryLockBegins {
     ghost use Rattle.playing.specs.Plays.{Beginning};
 
     ghost coming = { Beginning calls.TryLock };
+
+    #[inline(always)]
+    fn spend(self) {}
 }
 
 /// A `Lock` begins.
+#[derive(Drop)]
 struct LockBegins;
 
 impl Entry<u64> for LockBegins {
@@ -90,9 +95,13 @@ impl Entry<u64> for LockBegins {
     ghost use Rattle.playing.specs.Plays.{Beginning};
 
     ghost coming = { Beginning calls.Lock };
+
+    #[inline(always)]
+    fn spend(self) {}
 }
 
 /// An `Unlock` begins, by the party that has the hold.
+#[derive(Drop)]
 struct UnlockBegins;
 
 impl Entry<u64> for UnlockBegins {
@@ -100,6 +109,9 @@ impl Entry<u64> for UnlockBegins {
     ghost use Rattle.playing.specs.Plays.{Continuing};
 
     ghost coming = { Continuing calls.Unlock };
+
+    #[inline(always)]
+    fn spend(self) {}
 }
 
 impl<A: Allocator> Mutex<A> {
@@ -245,7 +257,7 @@ impl<A: Allocator> Mutex<A> {
         ensures exact { IsAlone pass.old → result ≡ true }
         ensures aborted { result ≡ false → MayAnswerAbort W.Fn wait.now IsLocked }
     {
-        self.exchange::<LockBegins>(pass) || try_again(rt, self, pass, &self.word(), locked(), wait)
+        self.exchange(LockBegins, pass) || try_again(rt, self, pass, &self.word(), locked(), wait)
     }
 
     /// What `try_lock` does, and whether the hold is on.
@@ -257,7 +269,7 @@ impl<A: Allocator> Mutex<A> {
         ensures has { result ≡ true → HasMutex (parties_of pass.new) }
         ensures exact { IsAlone pass.old → result ≡ true }
     {
-        self.exchange::<TryLockBegins>(pass)
+        self.exchange(TryLockBegins, pass)
     }
 
     /// What `unlock` does, by the pass that has the hold.
@@ -277,14 +289,16 @@ impl<A: Allocator> Mutex<A> {
 
     /// One exchange of 0 for 1, and whether it was done.
     #[inline(always)]
-    fn exchange<E: Entry<u64>>(&self, pass: &mut MutexPass) -> bool
+    fn exchange<E: Entry<u64>>(&self, entry: E, pass: &mut MutexPass) -> bool
         requires own { IsMutexPass self.now pass.old }
         requires may { (put : ℕ) → put ≡ 1 → MayStep mutex_model (words.State ∷ []) E.coming 0 (λ w. intents.Exchange w 0 put) (parties_of pass.old) }
         ensures locked { MatchBool result (HasLocked pass.old pass.new) (HasSeenLocked pass.old pass.new) }
         ensures tried { HasTried E.coming result pass.old pass.new }
         ensures exact { IsAlone pass.old → result ≡ true }
     {
-        self.stage.exchange::<E, Exchange>(pass, 0, 0, locked()) == 0
+        self.stage
+            .exchange::<_, Exchange>(entry, pass, 0, 0, locked())
+            == 0
     }
 
     /// A store of 0, by the pass that has the hold.
@@ -296,7 +310,7 @@ impl<A: Allocator> Mutex<A> {
         ensures released { HasUnlocked pass.old pass.new }
         ensures played { HasPlayedUnlock pass.old pass.new }
     {
-        self.stage.store::<UnlockBegins, Release>(pass, 0, 0);
+        self.stage.store::<_, Release>(UnlockBegins, pass, 0, 0);
     }
 
     /// The mutex's word, as closures see it.
@@ -338,9 +352,14 @@ impl<A: Allocator> Attempt<(), MutexScript, MutexPlace, u64, Holds> for Mutex<A>
     ghost answers = { λ _ _ _. refl };
 
     #[inline(always)]
-    fn attempt<E: Entry<u64>, R: Wait>(&self, rt: &R, pass: &mut MutexPass) -> Result<(), u64> {
+    fn attempt<E: Entry<u64>, R: Wait>(
+        &self,
+        entry: E,
+        rt: &R,
+        pass: &mut MutexPass,
+    ) -> Result<(), u64> {
         let _rt = rt;
-        if self.exchange::<E>(pass) {
+        if self.exchange(entry, pass) {
             Ok(())
         } else {
             Err(locked())

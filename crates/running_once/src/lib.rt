@@ -113,6 +113,7 @@ impl Deed<(), Runs> for End {
 }
 
 /// A `CallOnce` begins.
+#[derive(Drop)]
 struct CallBegins;
 
 impl Entry<u64> for CallBegins {
@@ -120,9 +121,13 @@ impl Entry<u64> for CallBegins {
     ghost use Rattle.playing.specs.Plays.{Beginning};
 
     ghost coming = { Beginning calls.CallOnce };
+
+    #[inline(always)]
+    fn spend(self) {}
 }
 
 /// An `IsCompleted` begins.
+#[derive(Drop)]
 struct AskingBegins;
 
 impl Entry<u64> for AskingBegins {
@@ -130,6 +135,9 @@ impl Entry<u64> for AskingBegins {
     ghost use Rattle.playing.specs.Plays.{Beginning};
 
     ghost coming = { Beginning calls.IsCompleted };
+
+    #[inline(always)]
+    fn spend(self) {}
 }
 
 impl OncePass {
@@ -258,12 +266,12 @@ impl<A: Allocator> Once<A> {
         ensures exact { IsWhole (part_of_once pass.old) → ended_of pass.new ≡ 1 }
         ensures played { HasPlayed calls.CallOnce answers.Done pass.old pass.new }
     {
-        if self.look::<CallBegins>(&mut pass.pass) == COMPLETE {
+        if self.look(CallBegins, &mut pass.pass) == COMPLETE {
             return None;
         }
         if self.begin(&mut pass.pass) {
-            let given = self.stage.run(&pass.pass, on, f);
-            self.end(&mut pass.pass);
+            let (given, ended) = self.stage.run(&pass.pass, on, f);
+            self.end(ended, &mut pass.pass);
             return Some(given);
         }
         self.stay(rt, &mut pass.pass);
@@ -281,7 +289,7 @@ impl<A: Allocator> Once<A> {
         ensures exact { IsWhole (part_of_once pass.old) → MatchBool result (ended_of pass.old ≡ 1) (ended_of pass.old ≡ 0) }
         ensures played { HasPlayed calls.IsCompleted (answers.Flag result) pass.old pass.new }
     {
-        self.look::<AskingBegins>(&mut pass.pass) == COMPLETE
+        self.look(AskingBegins, &mut pass.pass) == COMPLETE
     }
 
     /// Looks until the word says that a closure has ended.
@@ -294,7 +302,7 @@ impl<A: Allocator> Once<A> {
         ensures left { WhereStays (parties_of pass.old) (λ done. HasLeft done (parties_of pass.new)) }
     {
         for _ in rt.forever() {
-            if self.look::<GoesOn>(pass) == COMPLETE {
+            if self.look(GoesOn, pass) == COMPLETE {
                 return;
             }
             spin_loop();
@@ -305,14 +313,14 @@ impl<A: Allocator> Once<A> {
     /// A load.
     #[tactic(auto, using(crate::proofs::OnceKeeps::loads))]
     #[inline(always)]
-    fn look<E: Entry<u64>>(&self, pass: &mut Pass<PlayedOnce>) -> u64
+    fn look<E: Entry<u64>>(&self, entry: E, pass: &mut Pass<PlayedOnce>) -> u64
         requires own { IsPassOf self.now.stage pass.old }
         requires may { MayStep once_model (words.State ∷ []) E.coming 0 (λ w. intents.Load w) (parties_of pass.old) }
         ensures same { IsSamePass pass.old pass.new }
         ensures told { Loaded (counted pass.old) result (counted pass.new) }
         ensures went { Went once_model E.coming (parties_of pass.old) result (parties_of pass.new) }
     {
-        self.stage.load::<E, Look>(pass, 0)
+        self.stage.load::<_, Look>(entry, pass, 0)
     }
 
     /// An exchange of 0 for 1, and whether it was done.
@@ -325,20 +333,22 @@ impl<A: Allocator> Once<A> {
         ensures runs { result ≡ true → WhereBegins (parties_of pass.old) (λ done. IsRunning done (parties_of pass.new)) }
         ensures stays { result ≡ false → WhereBegins (parties_of pass.old) (λ done. ComesToStay done (parties_of pass.new)) }
     {
-        self.stage.exchange::<GoesOn, Begin>(pass, 0, 0, running()) == 0
+        self.stage
+            .exchange::<_, Begin>(GoesOn, pass, 0, 0, running())
+            == 0
     }
 
     /// A store of 2, by the pass whose closure has ended.
     #[tactic(auto, using(crate::proofs::OnceKeeps::stores))]
     #[inline(always)]
-    fn end(&self, pass: &mut Pass<PlayedOnce>)
+    fn end(&self, after: AfterAside, pass: &mut Pass<PlayedOnce>)
         requires own { IsPassOf self.now.stage pass.old }
         requires on { (counts_of pass.old).running ≡ 1 }
         requires runs { (done : List (Slot ℕ)) × IsRunning done (parties_of pass.old) }
         ensures ended { HasDone ended pass.old pass.new }
         ensures left { WhereRuns (parties_of pass.old) (λ done. HasLeft done (parties_of pass.new)) }
     {
-        self.stage.store::<AfterAside, End>(pass, 0, COMPLETE);
+        self.stage.store::<_, End>(after, pass, 0, COMPLETE);
     }
 }
 

@@ -3,6 +3,7 @@
 use playing::Entry;
 
 /// A `TryReadLock` begins.
+#[derive(Drop)]
 pub(crate) struct TryReadBegins;
 
 impl Entry<u64> for TryReadBegins {
@@ -10,9 +11,13 @@ impl Entry<u64> for TryReadBegins {
     ghost use Rattle.playing.specs.Plays.{Beginning};
 
     ghost coming = { Beginning calls.TryReadLock };
+
+    #[inline(always)]
+    fn spend(self) {}
 }
 
 /// A `ReadLock` begins.
+#[derive(Drop)]
 pub(crate) struct ReadBegins;
 
 impl Entry<u64> for ReadBegins {
@@ -20,9 +25,13 @@ impl Entry<u64> for ReadBegins {
     ghost use Rattle.playing.specs.Plays.{Beginning};
 
     ghost coming = { Beginning calls.ReadLock };
+
+    #[inline(always)]
+    fn spend(self) {}
 }
 
 /// A `TryWriteLock` begins.
+#[derive(Drop)]
 pub(crate) struct TryWriteBegins;
 
 impl Entry<u64> for TryWriteBegins {
@@ -30,9 +39,13 @@ impl Entry<u64> for TryWriteBegins {
     ghost use Rattle.playing.specs.Plays.{Beginning};
 
     ghost coming = { Beginning calls.TryWriteLock };
+
+    #[inline(always)]
+    fn spend(self) {}
 }
 
 /// A `WriteLock` begins.
+#[derive(Drop)]
 pub(crate) struct WriteBegins;
 
 impl Entry<u64> for WriteBegins {
@@ -40,9 +53,13 @@ impl Entry<u64> for WriteBegins {
     ghost use Rattle.playing.specs.Plays.{Beginning};
 
     ghost coming = { Beginning calls.WriteLock };
+
+    #[inline(always)]
+    fn spend(self) {}
 }
 
 /// An `Unlock` begins, by the party that has the hold.
+#[derive(Drop)]
 pub(crate) struct UnlockBegins;
 
 impl Entry<u64> for UnlockBegins {
@@ -50,4 +67,7 @@ impl Entry<u64> for UnlockBegins {
     ghost use Rattle.playing.specs.Plays.{Continuing};
 
     ghost coming = { Continuing calls.Unlock };
+
+    #[inline(always)]
+    fn spend(self) {}
 }

@@ -266,7 +266,7 @@ impl<A: Allocator> RwLockReaderPreference<A> {
         ensures at_once { result ≡ true → HasReadAtOnce pass.old pass.new }
         ensures exact { IsAlone pass.old → result ≡ true }
     {
-        let seen = self.look::<TryReadBegins>(pass);
+        let seen = self.look(TryReadBegins, pass);
         match reader_enters(seen) {
             Some(more) => self.come_to_read(pass, seen, more) == seen,
             None => false,
@@ -277,6 +277,7 @@ impl<A: Allocator> RwLockReaderPreference<A> {
     #[inline(always)]
     fn read_unless_shut<E: Entry<u64>, R: Wait>(
         &self,
+        entry: E,
         rt: &R,
         pass: &mut RwReaderPass,
     ) -> Result<(), u64>
@@ -289,7 +290,7 @@ impl<A: Allocator> RwLockReaderPreference<A> {
         ensures failed { IfErr result (λ seen. Tried rw_reader_model calls.ReadLock places.ReadLook E.coming (parties_of pass.old) (λ patience done. IsRefused rw_reader_model calls.ReadLock places.ReadLook patience seen done (parties_of pass.new))) }
         ensures exact { IsAlone pass.old → is_ok result ≡ true }
     {
-        let mut seen = self.look::<E>(pass);
+        let mut seen = self.look(entry, pass);
         for _ in rt.forever() {
             let Some(more) = reader_enters(seen) else {
                 return Err(seen);
@@ -320,7 +321,7 @@ impl<A: Allocator> RwLockReaderPreference<A> {
         ensures aborted { result ≡ false → MayAnswerAbort W.Fn wait.now IsShut }
         ensures asked { IsWhole (part_of pass.old) → result ≡ false → HasAsked W.Fn wait.now IsShut 10001 pass.old pass.new }
     {
-        match self.read_unless_shut::<ReadBegins, R>(rt, pass) {
+        match self.read_unless_shut(ReadBegins, rt, pass) {
             Ok(()) => true,
             Err(seen) => {
                 let reader = Reader { lock: self };
@@ -381,7 +382,7 @@ impl<A: Allocator> RwLockReaderPreference<A> {
         ensures at_once { result ≡ true → HasWrittenAtOnce pass.old pass.new }
         ensures exact { IsAlone pass.old → result ≡ true }
     {
-        match self.try_to_write::<TryWriteBegins>(pass) {
+        match self.try_to_write(TryWriteBegins, pass) {
             Ok(()) => true,
             Err(_) => false,
         }
@@ -389,7 +390,7 @@ impl<A: Allocator> RwLockReaderPreference<A> {
 
     /// Turns the write hold on by one exchange. `Err` with the value that it found, where that was not 0.
     #[inline(always)]
-    fn try_to_write<E: Entry<u64>>(&self, pass: &mut RwReaderPass) -> Result<(), u64>
+    fn try_to_write<E: Entry<u64>>(&self, entry: E, pass: &mut RwReaderPass) -> Result<(), u64>
         requires own { IsRwReaderPass self.now pass.old }
         requires may { (put : ℕ) → put ≡ 2 ^ 64 - 1 → MayStep rw_reader_model (words.State ∷ []) E.coming 0 (λ w. intents.Exchange w 0 put) (parties_of pass.old) }
         ensures entered { IfOk result (λ _. HasEnteredToWrite pass.old pass.new) }
@@ -399,7 +400,7 @@ impl<A: Allocator> RwLockReaderPreference<A> {
         ensures missed { IfErr result (λ seen. (seen ≢ 0) × Went rw_reader_model E.coming (parties_of pass.old) seen (parties_of pass.new)) }
         ensures exact { IsAlone pass.old → is_ok result ≡ true }
     {
-        match self.come_to_write::<E>(pass) {
+        match self.come_to_write(entry, pass) {
             0 => Ok(()),
             found => Err(found),
         }
@@ -421,7 +422,7 @@ impl<A: Allocator> RwLockReaderPreference<A> {
         ensures exact { IsAlone pass.old → result ≡ true }
         ensures aborted { result ≡ false → MayAnswerAbort W.Fn wait.now IsTaken }
     {
-        match self.try_to_write::<WriteBegins>(pass) {
+        match self.try_to_write(WriteBegins, pass) {
             Ok(()) => true,
             Err(seen) => {
                 let writer = Writer { lock: self };
@@ -432,14 +433,14 @@ impl<A: Allocator> RwLockReaderPreference<A> {
 
     /// A load.
     #[inline(always)]
-    fn look<E: Entry<u64>>(&self, pass: &mut RwReaderPass) -> u64
+    fn look<E: Entry<u64>>(&self, entry: E, pass: &mut RwReaderPass) -> u64
         requires own { IsRwReaderPass self.now pass.old }
         requires may { MayStep rw_reader_model (words.State ∷ []) E.coming 0 (λ w. intents.Load w) (parties_of pass.old) }
         ensures saw { HasSeen result pass.old pass.new }
         ensures went { Went rw_reader_model E.coming (parties_of pass.old) result (parties_of pass.new) }
         ensures exact { IsWhole (part_of pass.old) → result ≡ word_of (tally_of pass.old) }
     {
-        self.stage.load::<E, Look>(pass, 0)
+        self.stage.load::<_, Look>(entry, pass, 0)
     }
 
     /// An exchange of the value seen for one more, and the value that it found.
@@ -457,7 +458,7 @@ impl<A: Allocator> RwLockReaderPreference<A> {
         ensures exact { IsWhole (part_of pass.old) → result ≡ word_of (tally_of pass.old) }
     {
         self.stage
-            .exchange::<GoesOn, ComeToRead>(pass, 0, seen, more)
+            .exchange::<_, ComeToRead>(GoesOn, pass, 0, seen, more)
     }
 
     /// A subtraction of 1, by a pass that has a read hold.
@@ -470,12 +471,12 @@ impl<A: Allocator> RwLockReaderPreference<A> {
         ensures played { Unlocks kinds.Read (parties_of pass.old) (parties_of pass.new) }
     {
         self.stage
-            .subtract::<UnlockBegins, LeaveReading>(pass, 0, 1);
+            .subtract::<_, LeaveReading>(UnlockBegins, pass, 0, 1);
     }
 
     /// An exchange of 0 for 2^64 - 1, and the value that it found.
     #[inline(always)]
-    fn come_to_write<E: Entry<u64>>(&self, pass: &mut RwReaderPass) -> u64
+    fn come_to_write<E: Entry<u64>>(&self, entry: E, pass: &mut RwReaderPass) -> u64
         requires own { IsRwReaderPass self.now pass.old }
         requires may { (put : ℕ) → put ≡ 2 ^ 64 - 1 → MayStep rw_reader_model (words.State ∷ []) E.coming 0 (λ w. intents.Exchange w 0 put) (parties_of pass.old) }
         ensures done { result ≡ 0 → HasDone (λ _. written) pass.old pass.new }
@@ -486,7 +487,7 @@ impl<A: Allocator> RwLockReaderPreference<A> {
         ensures exact { IsWhole (part_of pass.old) → result ≡ word_of (tally_of pass.old) }
     {
         self.stage
-            .exchange::<E, ComeToWrite>(pass, 0, 0, write_locked())
+            .exchange::<_, ComeToWrite>(entry, pass, 0, 0, write_locked())
     }
 
     /// A store of 0, by the pass that has the write hold.
@@ -498,7 +499,8 @@ impl<A: Allocator> RwLockReaderPreference<A> {
         ensures released { HasLeftWriting pass.old pass.new }
         ensures played { Unlocks kinds.Write (parties_of pass.old) (parties_of pass.new) }
     {
-        self.stage.store::<UnlockBegins, LeaveWriting>(pass, 0, 0);
+        self.stage
+            .store::<_, LeaveWriting>(UnlockBegins, pass, 0, 0);
     }
 
     /// The lock's word, as closures see it.
@@ -547,8 +549,13 @@ impl<A: Allocator> Attempt<(), RwReaderScript, RwReaderPlace, u64, Held<()>> for
     ghost answers = { λ _ _ _. refl };
 
     #[inline(always)]
-    fn attempt<E: Entry<u64>, R: Wait>(&self, rt: &R, pass: &mut RwReaderPass) -> Result<(), u64> {
-        self.lock.read_unless_shut::<E, R>(rt, pass)
+    fn attempt<E: Entry<u64>, R: Wait>(
+        &self,
+        entry: E,
+        rt: &R,
+        pass: &mut RwReaderPass,
+    ) -> Result<(), u64> {
+        self.lock.read_unless_shut(entry, rt, pass)
     }
 }
 
@@ -587,9 +594,14 @@ impl<A: Allocator> Attempt<(), RwReaderScript, RwReaderPlace, u64, Held<()>> for
     ghost answers = { λ _ _ _. refl };
 
     #[inline(always)]
-    fn attempt<E: Entry<u64>, R: Wait>(&self, rt: &R, pass: &mut RwReaderPass) -> Result<(), u64> {
+    fn attempt<E: Entry<u64>, R: Wait>(
+        &self,
+        entry: E,
+        rt: &R,
+        pass: &mut RwReaderPass,
+    ) -> Result<(), u64> {
         let _rt = rt;
-        self.lock.try_to_write::<E>(pass)
+        self.lock.try_to_write(entry, pass)
     }
 }
 

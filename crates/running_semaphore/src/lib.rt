@@ -68,6 +68,7 @@ impl Deed<u64, Permits> for Give {
 }
 
 /// A `Value` begins.
+#[derive(Drop)]
 struct ValueBegins;
 
 impl Entry<u64> for ValueBegins {
@@ -75,6 +76,9 @@ impl Entry<u64> for ValueBegins {
     ghost use Rattle.playing.specs.Plays.{Beginning};
 
     ghost coming = { Beginning calls.Value };
+
+    #[inline(always)]
+    fn spend(self) {}
 }
 
 /// A `Post` begins, of as many as it adds.
@@ -88,6 +92,7 @@ impl AddEntry<u64> for PostBegins {
 }
 
 /// A `TryWait` begins.
+#[derive(Drop)]
 struct TryWaitBegins;
 
 impl Entry<u64> for TryWaitBegins {
@@ -95,9 +100,13 @@ impl Entry<u64> for TryWaitBegins {
     ghost use Rattle.playing.specs.Plays.{Beginning};
 
     ghost coming = { Beginning calls.TryWait };
+
+    #[inline(always)]
+    fn spend(self) {}
 }
 
 /// A `Wait` begins.
+#[derive(Drop)]
 struct WaitBegins;
 
 impl Entry<u64> for WaitBegins {
@@ -105,6 +114,9 @@ impl Entry<u64> for WaitBegins {
     ghost use Rattle.playing.specs.Plays.{Beginning};
 
     ghost coming = { Beginning calls.Wait };
+
+    #[inline(always)]
+    fn spend(self) {}
 }
 
 impl<A: Allocator> Semaphore<A> {
@@ -149,7 +161,7 @@ impl<A: Allocator> Semaphore<A> {
         ensures exact { IsWhole (part_of pass.old) → result ≡ worth_of pass.old }
         ensures enough { IsWhole (part_of pass.old) → taken_of pass.old ≤ given_of pass.old }
     {
-        self.look::<ValueBegins>(pass)
+        self.look(ValueBegins, pass)
     }
 
     /// Adds so many permits, wrapping at 2^64, and then calls the wake closure once, also for 0.
@@ -201,7 +213,7 @@ impl<A: Allocator> Semaphore<A> {
         ensures some { IsWhole (part_of pass.old) → 0 < worth_of pass.old → IsSuccess result }
         ensures none { IsWhole (part_of pass.old) → IfSuccess result (λ _. 0 < worth_of pass.old) }
     {
-        success_if(self.take::<TryWaitBegins, R>(rt, pass))
+        success_if(self.take(TryWaitBegins, rt, pass))
     }
 
     /// Takes a permit as `wait` does, calls `act`, and posts the permit again. `Interrupted` where `wait` is; then `act` was not called.
@@ -263,12 +275,12 @@ impl<A: Allocator> Semaphore<A> {
         ensures aborted { result ≡ false → MayAnswerAbort W.Fn wait.now IsEmpty }
         ensures asked { IsWhole (part_of pass.old) → result ≡ false → HasAsked W.Fn wait.now IsEmpty 10001 pass.old pass.new }
     {
-        self.take::<WaitBegins, R>(rt, pass) || try_again(rt, self, pass, &self.word(), 0, wait)
+        self.take(WaitBegins, rt, pass) || try_again(rt, self, pass, &self.word(), 0, wait)
     }
 
     /// A load of the value.
     #[inline(always)]
-    fn look<E: Entry<u64>>(&self, pass: &mut SemPass) -> u64
+    fn look<E: Entry<u64>>(&self, entry: E, pass: &mut SemPass) -> u64
         requires own { IsSemPass self.now pass.old }
         requires may { MayStep (semaphore_model (initial_of self.now)) (words.State ∷ []) E.coming 0 (λ w. intents.Load w) (parties_of pass.old) }
         ensures saw { HasSeen result pass.old pass.new }
@@ -276,7 +288,7 @@ impl<A: Allocator> Semaphore<A> {
         ensures exact { IsWhole (part_of pass.old) → result ≡ worth_of pass.old }
         ensures enough { IsWhole (part_of pass.old) → taken_of pass.old ≤ given_of pass.old }
     {
-        self.stage.load::<E, Look>(pass, 0)
+        self.stage.load::<_, Look>(entry, pass, 0)
     }
 
     /// An exchange of the value seen for one less, and the value that it found.
@@ -290,7 +302,7 @@ impl<A: Allocator> Semaphore<A> {
         ensures went { Went (semaphore_model (initial_of self.now)) Going (parties_of pass.old) result (parties_of pass.new) }
         ensures exact { IsWhole (part_of pass.old) → result ≡ worth_of pass.old }
     {
-        self.stage.exchange::<GoesOn, Take>(pass, 0, seen, rest)
+        self.stage.exchange::<_, Take>(GoesOn, pass, 0, seen, rest)
     }
 
     /// An add of so many permits.
@@ -305,7 +317,7 @@ impl<A: Allocator> Semaphore<A> {
 
     /// Looks, and takes a permit while there is one. False at a look that gave 0.
     #[inline(always)]
-    fn take<E: Entry<u64>, R: Wait>(&self, rt: &R, pass: &mut SemPass) -> bool
+    fn take<E: Entry<u64>, R: Wait>(&self, entry: E, rt: &R, pass: &mut SemPass) -> bool
         requires own { IsSemPass self.now pass.old }
         requires comes { MayWant (initial_of self.now) E.coming (parties_of pass.old) }
         ensures takes { MatchBool result (HasTaken pass.old pass.new) (WasRefused IsEmpty 1 pass.old pass.new) }
@@ -314,7 +326,7 @@ impl<A: Allocator> Semaphore<A> {
         ensures once { IsWhole (part_of pass.old) → MatchBool result (HasTakenAtOnce pass.old pass.new) (HasSeen 0 pass.old pass.new) }
         ensures exact { IsWhole (part_of pass.old) → MatchBool result (0 < worth_of pass.old) (worth_of pass.old ≡ 0) }
     {
-        let mut seen = self.look::<E>(pass);
+        let mut seen = self.look(entry, pass);
         for _ in rt.forever() {
             let Some(rest) = taken(seen) else {
                 return false;
@@ -367,8 +379,13 @@ impl<A: Allocator> Attempt<u64, SemaphoreScript, SemaphorePlace, u64, Permits> f
     ghost answers = { λ _ _ _. refl };
 
     #[inline(always)]
-    fn attempt<E: Entry<u64>, R: Wait>(&self, rt: &R, pass: &mut SemPass) -> Result<(), u64> {
-        if self.take::<E, R>(rt, pass) {
+    fn attempt<E: Entry<u64>, R: Wait>(
+        &self,
+        entry: E,
+        rt: &R,
+        pass: &mut SemPass,
+    ) -> Result<(), u64> {
+        if self.take(entry, rt, pass) {
             Ok(())
         } else {
             Err(0)

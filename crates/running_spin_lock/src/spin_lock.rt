@@ -57,10 +57,14 @@ impl<T> Play<Option<T>, View<PlayedSpin>> for Release {
 }
 
 /// A `TryLock` begins.
+#[derive(Drop)]
 struct TryLockBegins;
 
 impl Entry<u64> for TryLockBegins {
     ghost coming = { Beginning calls.TryLock };
+
+    #[inline(always)]
+    fn spend(self) {}
 }
 
 /// A call that swaps until it has the lock.
@@ -99,6 +103,11 @@ struct Begins<C> {
 
 impl<C: Waiting> Entry<u64> for Begins<C> {
     ghost coming = { Beginning C.call };
+
+    #[inline(always)]
+    fn spend(self) {
+        let Begins { of: _ } = self;
+    }
 }
 
 /// The word of a locked spin lock, and of a free one.
@@ -195,7 +204,7 @@ impl<T, A: Allocator> SpinLock<T, A> {
 
     /// A swap of 1, and whether it found 0. Then the value is out with the seat.
     #[inline(always)]
-    fn swap<E: Entry<u64>>(&self, seat: &mut Seat<Option<T>, View<PlayedSpin>>) -> bool
+    fn swap<E: Entry<u64>>(&self, entry: E, seat: &mut Seat<Option<T>, View<PlayedSpin>>) -> bool
         requires own { seat.old.table_id ≡ id_of self.now }
         requires no_slot { seat.old.me.1 ≡ [] }
         requires alive { 0 < seat.old.me.0.part.share }
@@ -206,6 +215,7 @@ impl<T, A: Allocator> SpinLock<T, A> {
         ensures tried { Tries spin_model E.coming result seat.old.me.0 seat.new.me.0 }
         ensures exact { IsWhole seat.old.me.0.part → seat.old.me.0.tally.counts.holds ≡ 0 → result ≡ true }
     {
+        entry.spend();
         let shared = &self.table.shared;
         shared.swap::<Swap<E>>(seat, 0, LOCKED) == FREE
     }
@@ -223,7 +233,7 @@ impl<T, A: Allocator> SpinLock<T, A> {
         ensures has { result ≡ true → HasLock seat.new.me.0.tally.parties }
         ensures exact { IsWhole seat.old.me.0.part → seat.old.me.0.tally.counts.holds ≡ 0 → result ≡ true }
     {
-        self.swap::<TryLockBegins>(seat)
+        self.swap(TryLockBegins, seat)
     }
 
     /// What a waiting call does, after which the value is out with the seat.
@@ -239,7 +249,8 @@ impl<T, A: Allocator> SpinLock<T, A> {
         ensures has { HasLock seat.new.me.0.tally.parties }
         ensures exact { IsWhole seat.old.me.0.part → seat.old.me.0.tally.counts.holds ≡ 0 → Locks seat.old.me.0 seat.new.me.0 }
     {
-        if self.swap::<Begins<C>>(seat) {
+        let begins: Begins<C> = Begins { of: PhantomData };
+        if self.swap(begins, seat) {
             return;
         }
         self.spin::<C, R>(rt, seat);
@@ -258,7 +269,7 @@ impl<T, A: Allocator> SpinLock<T, A> {
     {
         for _ in rt.forever() {
             spin_loop();
-            if self.swap::<GoesOn>(seat) {
+            if self.swap(GoesOn, seat) {
                 return;
             }
         }

@@ -72,6 +72,7 @@ impl Deed<(), Nothing> for Untold {
     ghost tells = { λ _ _ _ _ _ _. Unit {0} };
 }
 
+#[derive(Drop)]
 struct Looks;
 
 impl Entry<u64> for Looks {
@@ -79,6 +80,8 @@ impl Entry<u64> for Looks {
     ghost use Rattle.playing.specs.Plays.{Beginning};
 
     ghost coming = { Beginning calls.Value };
+
+    fn spend(self) {}
 }
 
 struct Adds;
@@ -90,6 +93,7 @@ impl AddEntry<u64> for Adds {
     ghost coming = { λ more. Beginning (calls.Post more) };
 }
 
+#[derive(Drop)]
 struct Subtracts;
 
 impl Entry<u64> for Subtracts {
@@ -97,8 +101,11 @@ impl Entry<u64> for Subtracts {
     ghost use Rattle.playing.specs.Plays.{Beginning};
 
     ghost coming = { Beginning calls.TryWait };
+
+    fn spend(self) {}
 }
 
+#[derive(Drop)]
 struct Clears;
 
 impl Entry<u64> for Clears {
@@ -106,8 +113,11 @@ impl Entry<u64> for Clears {
     ghost use Rattle.playing.specs.Plays.{Beginning};
 
     ghost coming = { Beginning calls.NotifyAll };
+
+    fn spend(self) {}
 }
 
+#[derive(Drop)]
 struct Tries;
 
 impl Entry<u64> for Tries {
@@ -115,6 +125,8 @@ impl Entry<u64> for Tries {
     ghost use Rattle.playing.specs.Plays.{Beginning};
 
     ghost coming = { Beginning calls.TryLock };
+
+    fn spend(self) {}
 }
 
 type Counter = Stage<(), CounterScript, Intent<u64>, u64, Nothing>;
@@ -129,8 +141,8 @@ fn count(counter: &Counter, pass: &mut CounterPass) -> u64
     ensures looked { (before : Parties ℕ) × HasCalled counter_model calls.Value (answers.Number result) None before (parties_of pass.new) }
 {
     counter.add::<Adds, Untold>(pass, 0, 7);
-    counter.subtract::<Subtracts, Untold>(pass, 0, 1);
-    counter.load::<Looks, Untold>(pass, 0)
+    counter.subtract::<Subtracts, Untold>(Subtracts, pass, 0, 1);
+    counter.load::<Looks, Untold>(Looks, pass, 0)
 }
 
 /// Stores 0, and puts 1 where it finds 0.
@@ -139,8 +151,8 @@ fn clear_and_try(counter: &Counter, pass: &mut CounterPass) -> u64
     requires one_word { count_of counter.now ≡ 1 }
     ensures same { IsSamePass pass.old pass.new }
 {
-    counter.store::<Clears, Untold>(pass, 0, 0);
-    counter.exchange::<Tries, Untold>(pass, 0, 0, 1)
+    counter.store::<Clears, Untold>(Clears, pass, 0, 0);
+    counter.exchange::<Tries, Untold>(Tries, pass, 0, 0, 1)
 }
 
 /// A load that is no step: what the word is, while the pass has made nothing more.
@@ -183,6 +195,7 @@ impl Script<(), Intent<u64>, u64> for EndingScript {
     ghost handed = { λ _. words.State };
 }
 
+#[derive(Drop)]
 struct Calls;
 
 impl Entry<u64> for Calls {
@@ -190,6 +203,8 @@ impl Entry<u64> for Calls {
     ghost use Rattle.playing.specs.Plays.{Beginning};
 
     ghost coming = { Beginning calls.CallOnce };
+
+    fn spend(self) {}
 }
 
 type Ending = Stage<(), EndingScript, Intent<u64>, u64, Nothing>;
@@ -204,15 +219,15 @@ fn run_and_store(ending: &Ending, pass: &mut EndingPass) -> u64
     ensures gave { result ≡ 5 }
     ensures played { HasCalled ending_model calls.CallOnce answers.Done None (parties_of pass.old) (parties_of pass.new) }
 {
-    ending.load_of::<Calls, Untold, ()>(pass, 0, &());
-    let given = ending.run(
+    ending.load_of::<Calls, Untold, ()>(Calls, pass, 0, &());
+    let (given, ended) = ending.run(
         pass,
         &mut (),
         |_: &mut ()| -> u64
             ensures { result ≡ 5 }
         { 5 },
     );
-    ending.store_of::<AfterAside, Untold, ()>(pass, 0, 7, &());
+    ending.store_of::<AfterAside, Untold, ()>(ended, pass, 0, 7, &());
     given
 }
 

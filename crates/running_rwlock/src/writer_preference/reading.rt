@@ -36,7 +36,7 @@ impl<A: Allocator> RwLockWriterPreference<A> {
         ensures at_once { result ≡ true → HasReadAtOnce pass.old pass.new }
         ensures exact { IsAloneWithin pass.old → result ≡ true }
     {
-        let seen = self.look::<TryReadBegins>(pass);
+        let seen = self.look(TryReadBegins, pass);
         match reader_enters(seen) {
             Some(more) => self.come_to_read(pass, seen, more) == seen,
             None => false,
@@ -47,6 +47,7 @@ impl<A: Allocator> RwLockWriterPreference<A> {
     #[inline(always)]
     fn read_unless_shut<E: Entry<u64>, R: Wait>(
         &self,
+        entry: E,
         rt: &R,
         pass: &mut Pass<PlayedRwWriter>,
     ) -> Result<(), u64>
@@ -59,7 +60,7 @@ impl<A: Allocator> RwLockWriterPreference<A> {
         ensures failed { IfErr result (λ seen. Tried rw_writer_model calls.ReadLock places.ReadLook E.coming (parties_of pass.old) (λ patience done. IsRefused rw_writer_model calls.ReadLock places.ReadLook patience seen done (parties_of pass.new))) }
         ensures exact { IsAloneWithin pass.old → is_ok result ≡ true }
     {
-        let mut seen = self.look::<E>(pass);
+        let mut seen = self.look(entry, pass);
         for _ in rt.forever() {
             let Some(more) = reader_enters(seen) else {
                 return Err(seen);
@@ -90,7 +91,7 @@ impl<A: Allocator> RwLockWriterPreference<A> {
         ensures aborted { result ≡ false → MayAnswerAbort W.Fn wait.now IsShut }
         ensures asked { IsOnly (part_of pass.old) (tally_of pass.old) → result ≡ false → HasAsked W.Fn wait.now IsShut 10001 pass.old pass.new }
     {
-        match self.read_unless_shut::<ReadBegins, R>(rt, pass) {
+        match self.read_unless_shut(ReadBegins, rt, pass) {
             Ok(()) => true,
             Err(seen) => {
                 let reader = Reader { lock: self };
@@ -165,9 +166,10 @@ impl<A: Allocator> Attempt<(), RwWriterScript, RwWriterPlace, u64, MarkedHolds> 
     #[inline(always)]
     fn attempt<E: Entry<u64>, R: Wait>(
         &self,
+        entry: E,
         rt: &R,
         pass: &mut Pass<PlayedRwWriter>,
     ) -> Result<(), u64> {
-        self.lock.read_unless_shut::<E, R>(rt, pass)
+        self.lock.read_unless_shut(entry, rt, pass)
     }
 }

@@ -39,14 +39,14 @@ impl<A: Allocator> RwLockWriterPreference<A> {
 
     /// A load by a reader.
     #[inline(always)]
-    pub(super) fn look<E: Entry<u64>>(&self, pass: &mut Pass<PlayedRwWriter>) -> u64
+    pub(super) fn look<E: Entry<u64>>(&self, entry: E, pass: &mut Pass<PlayedRwWriter>) -> u64
         requires own { IsPassOf self.now.stage pass.old }
         requires may { TableHas E.coming 0 (λ w. intents.Load w) (parties_of pass.old) }
         ensures saw { HasSeen result pass.old pass.new }
         ensures went { TableLed E.coming (parties_of pass.old) result (parties_of pass.new) }
         ensures alone { SaysAlone (counted pass.old) result }
     {
-        self.stage.load::<E, Look>(pass, LOCK)
+        self.stage.load::<_, Look>(entry, pass, LOCK)
     }
 
     /// An exchange of the value seen for two more, and the value that it found.
@@ -65,7 +65,7 @@ impl<A: Allocator> RwLockWriterPreference<A> {
         ensures alone { SaysAlone (counted pass.old) result }
     {
         self.stage
-            .exchange::<GoesOn, ComeToRead>(pass, LOCK, seen, more)
+            .exchange::<_, ComeToRead>(GoesOn, pass, LOCK, seen, more)
     }
 
     /// A subtraction of 2, by a pass that has a read hold, and the value that it found.
@@ -79,12 +79,16 @@ impl<A: Allocator> RwLockWriterPreference<A> {
         ensures saw { (sights_of pass.new).last ≡ result }
     {
         self.stage
-            .subtract::<UnlockBegins, LeaveReading>(pass, LOCK, 2)
+            .subtract::<_, LeaveReading>(UnlockBegins, pass, LOCK, 2)
     }
 
     /// A load by a writer.
     #[inline(always)]
-    pub(super) fn look_to_write<E: Entry<u64>>(&self, pass: &mut Pass<PlayedRwWriter>) -> u64
+    pub(super) fn look_to_write<E: Entry<u64>>(
+        &self,
+        entry: E,
+        pass: &mut Pass<PlayedRwWriter>,
+    ) -> u64
         requires own { IsPassOf self.now.stage pass.old }
         requires comes { (patience : Patience) × (done : List (Slot ℕ)) × ComesToWrite E.coming patience done (parties_of pass.old) }
         ensures tried { HasTried 1 pass.old pass.new }
@@ -92,7 +96,7 @@ impl<A: Allocator> RwLockWriterPreference<A> {
         ensures alone { SaysAlone (counted pass.old) result }
         ensures looked { (patience : Patience) (done : List (Slot ℕ)) → ComesToWrite E.coming patience done (parties_of pass.old) → WriteGoes (write_look patience result) done (parties_of pass.new) }
     {
-        self.stage.load::<E, LookToWrite>(pass, LOCK)
+        self.stage.load::<_, LookToWrite>(entry, pass, LOCK)
     }
 
     /// The last load by a writer before it stands: it has loaded the counter just before, and found this.
@@ -106,13 +110,14 @@ impl<A: Allocator> RwLockWriterPreference<A> {
         ensures looked { (patience : Patience) → GoesFromTo calls.WriteLock (afters.At (places.LastLook count patience)) (last_look count patience result) (parties_of pass.old) (parties_of pass.new) }
     {
         let _count = count;
-        self.stage.load::<GoesOn, LookToWrite>(pass, LOCK)
+        self.stage.load::<_, LookToWrite>(GoesOn, pass, LOCK)
     }
 
     /// An exchange of a value at which nobody holds the lock for 2^64 - 1, and the value that it found.
     #[inline(always)]
     pub(super) fn come_to_write<E: Entry<u64>>(
         &self,
+        entry: E,
         pass: &mut Pass<PlayedRwWriter>,
         seen: u64,
     ) -> u64
@@ -124,7 +129,7 @@ impl<A: Allocator> RwLockWriterPreference<A> {
         ensures went { TableLed E.coming (parties_of pass.old) result (parties_of pass.new) }
     {
         self.stage
-            .exchange::<E, ComeToWrite>(pass, LOCK, seen, write_locked())
+            .exchange::<_, ComeToWrite>(entry, pass, LOCK, seen, write_locked())
     }
 
     /// A store of 0, by the pass that has the write hold.
@@ -137,7 +142,7 @@ impl<A: Allocator> RwLockWriterPreference<A> {
         ensures played { Unlocks kinds.Write (afters.At (places.Count leavers.Writer)) (parties_of pass.old) (parties_of pass.new) }
     {
         self.stage
-            .store::<UnlockBegins, LeaveWriting>(pass, LOCK, 0);
+            .store::<_, LeaveWriting>(UnlockBegins, pass, LOCK, 0);
     }
 
     /// An exchange of the value just seen for one more. `Err` with another value that it found.
@@ -161,7 +166,7 @@ impl<A: Allocator> RwLockWriterPreference<A> {
     {
         let found = self
             .stage
-            .exchange::<GoesOn, SetMark>(pass, LOCK, seen, marked);
+            .exchange::<_, SetMark>(GoesOn, pass, LOCK, seen, marked);
         if found == seen { Ok(()) } else { Err(found) }
     }
 
@@ -186,7 +191,7 @@ impl<A: Allocator> RwLockWriterPreference<A> {
     {
         let found = self
             .stage
-            .exchange::<GoesOn, TakeMark>(pass, LOCK, seen, unmarked);
+            .exchange::<_, TakeMark>(GoesOn, pass, LOCK, seen, unmarked);
         if found == seen { Ok(()) } else { Err(found) }
     }
 
@@ -199,7 +204,7 @@ impl<A: Allocator> RwLockWriterPreference<A> {
         ensures same { IsSamePass pass.old pass.new }
         ensures unchanged { Unchanged (counted pass.old) (counted pass.new) }
     {
-        self.stage.load::<GoesOn, Count>(pass, COUNTER)
+        self.stage.load::<_, Count>(GoesOn, pass, COUNTER)
     }
 
     /// An add of 1 to the counter.

@@ -5,7 +5,7 @@ ghost use Rattle.steps_rw_writer.specs.Table.{is_blocked as blocked};
 use crate::begins::{TryWriteBegins, WriteBegins};
 use crate::writer_preference::{RwLockWriterPreference, RwWriterPass};
 use passes::Pass;
-use playing::{Aborted, Continued, Entry, GoesOn};
+use playing::{Aborted, Answered, Entry, GoesOn};
 use std::alloc::Allocator;
 use std::hint::spin_loop;
 use std::sync::Wait;
@@ -44,7 +44,7 @@ impl<A: Allocator> RwLockWriterPreference<A> {
         ensures at_once { result ≡ true → HasWrittenAtOnce pass.old pass.new }
         ensures exact { IsAloneWithin pass.old → result ≡ true }
     {
-        self.come_to_write::<TryWriteBegins>(pass, 0) == 0
+        self.come_to_write(TryWriteBegins, pass, 0) == 0
     }
 
     /// What `write_lock` does, and whether the hold is on.
@@ -66,7 +66,7 @@ impl<A: Allocator> RwLockWriterPreference<A> {
         ensures aborted { result ≡ false → MayAnswerAbort W.Fn wait.now (λ n. n < 2 ^ 64) }
         ensures woke { result ≡ false → IsMarked (sights_of pass.new).last → HasWoken K.Fn wake_one.now × HasWoken V.Fn wake_all.now }
     {
-        if self.enter_or_mark::<WriteBegins, R>(rt, pass) {
+        if self.enter_or_mark(WriteBegins, rt, pass) {
             return true;
         }
         if self.spin_to_write(rt, pass) {
@@ -77,14 +77,19 @@ impl<A: Allocator> RwLockWriterPreference<A> {
 
     /// Looks, and enters where nobody holds the lock; else sees to it that no reader enters. Whether it entered.
     #[inline(always)]
-    fn enter_or_mark<E: Entry<u64>, R: Wait>(&self, rt: &R, pass: &mut Pass<PlayedRwWriter>) -> bool
+    fn enter_or_mark<E: Entry<u64>, R: Wait>(
+        &self,
+        entry: E,
+        rt: &R,
+        pass: &mut Pass<PlayedRwWriter>,
+    ) -> bool
         requires own { IsPassOf self.now.stage pass.old }
         requires at { (n : ℕ) × (done : List (Slot ℕ)) × ComesToWrite E.coming (spun n) done (parties_of pass.old) }
         ensures entered { MatchBool result (HasEnteredSeenFree pass.old pass.new) (HasTried 1 pass.old pass.new) }
         ensures played { (n : ℕ) (done : List (Slot ℕ)) → ComesToWrite E.coming (spun n) done (parties_of pass.old) → MatchBool result (WriteIsGranted done (parties_of pass.new)) (WriteGoes (spins (spun n)) done (parties_of pass.new)) }
         ensures exact { IsAloneWithin pass.old → result ≡ true }
     {
-        let seen = self.look_to_write::<E>(pass);
+        let seen = self.look_to_write(entry, pass);
         self.enter_or_mark_from(rt, pass, seen)
     }
 
@@ -135,7 +140,7 @@ impl<A: Allocator> RwLockWriterPreference<A> {
         if writer_enters(seen).is_none() {
             return Err(seen);
         }
-        let found = self.come_to_write::<GoesOn>(pass, seen);
+        let found = self.come_to_write(GoesOn, pass, seen);
         if found == seen { Ok(()) } else { Err(found) }
     }
 
@@ -148,7 +153,7 @@ impl<A: Allocator> RwLockWriterPreference<A> {
     {
         for _ in 0..SPIN_REPETITIONS {
             spin_loop();
-            if self.enter_or_mark::<GoesOn, R>(rt, pass) {
+            if self.enter_or_mark(GoesOn, rt, pass) {
                 return true;
             }
         }
@@ -178,9 +183,9 @@ impl<A: Allocator> RwLockWriterPreference<A> {
             let seen = self.look_last(pass, count);
             let entered = if is_blocked(seen) {
                 match self.stage.ask(pass, &self.counter(), count, wait) {
-                    WaitAction::Continue => self.enter_or_mark::<Continued, R>(rt, pass),
-                    WaitAction::Abort => {
-                        return self.enter_or_give_up(pass, rt, wake_one, wake_all);
+                    Answered::Continue(continued) => self.enter_or_mark(continued, rt, pass),
+                    Answered::Abort(aborted) => {
+                        return self.enter_or_give_up(aborted, pass, rt, wake_one, wake_all);
                     }
                 }
             } else {
@@ -196,6 +201,7 @@ impl<A: Allocator> RwLockWriterPreference<A> {
     /// Looks, and enters where nobody holds the lock; else gives up. Whether it entered.
     fn enter_or_give_up<R: Wait, K: Fn(&WaitWord), V: Fn(&WaitWord)>(
         &self,
+        aborted: Aborted,
         pass: &mut Pass<PlayedRwWriter>,
         rt: &R,
         wake_one: &K,
@@ -209,7 +215,7 @@ impl<A: Allocator> RwLockWriterPreference<A> {
         ensures played { (done : List (Slot ℕ)) → ComesToGiveUp done (parties_of pass.old) → MatchBool result (WriteIsGranted done (parties_of pass.new)) (WriteGivesUp done (parties_of pass.new)) }
         ensures woke { result ≡ false → IsMarked (sights_of pass.new).last → HasWoken K.Fn wake_one.now × HasWoken V.Fn wake_all.now }
     {
-        let seen = self.look_to_write::<Aborted>(pass);
+        let seen = self.look_to_write(aborted, pass);
         let Err(last) = self.enter_if_free(pass, seen) else {
             return true;
         };

@@ -5,8 +5,8 @@ use Rattle.running_barrier.proofs.Barrier.ask.Goals as goal
 pub returns-then-epoch_of-own_epoch-clause-left : goal.returns-then-epoch_of-own_epoch-clause-left
 returns-then-epoch_of-own_epoch-clause-left g c = λ done at. leaves _ _ 10000 _ done _ (search rules) (c.loop.invariant.looks done at)
 
-pub tell-requires-clause-stands : goal.tell-requires-clause-stands
-tell-requires-clause-stands g c = let looks = c.requires.looks in stands_to_wait _ _ _ _ looks.0 _ (search rules) (search rules) (c.loop.invariant.looks looks.0 looks.1)
+pub tell-continued-requires-clause-stands : goal.tell-continued-requires-clause-stands
+tell-continued-requires-clause-stands g c = let looks = c.requires.looks in stands_to_wait _ _ _ _ looks.0 _ (search rules) (search rules) (c.loop.invariant.looks looks.0 looks.1)
 
 pub look-seen-requires-clause-may : goal.look-seen-requires-clause-may
 look-seen-requires-clause-may g c = let looks = c.requires.looks in may_look_on _ _ _ looks.0 _ (search rules) (c.loop.invariant.looks looks.0 looks.1)
