@@ -3,7 +3,7 @@ ghost use Rattle.std.specs.Prelude.{◌≡◌, ℕ};
 ghost use Rattle.passes.specs.Answers.{MayAnswer};
 ghost use Rattle.playing.specs.Answers.{action_of};
 
-use std::marker::Brand;
+use std::marker::{Brand, PhantomData};
 use steps_events::WaitAction;
 
 /// How a pass comes to a step. The step spends it.
@@ -114,14 +114,44 @@ impl<V> Entry<V> for AfterAside {
     }
 }
 
-// How a pass comes to a step that speaks of what is handed in; each caller picks it.
-impl<V> Entry<V> for Brand {
+/// How a pass comes to a step, where that speaks of what is handed in: with `Brand` each caller picks it.
+pub trait Way<V> {
+    ghost use Rattle.playing.specs.Plays.{Coming};
+
+    ghost coming: { Coming V };
+}
+
+impl<V> Way<V> for Brand {
     ghost use Rattle.playing.specs.Plays.{Going};
 
     ghost coming = { Going };
+}
+
+impl<V> Way<V> for GoesOn {
+    ghost use Rattle.playing.specs.Plays.{Going};
+
+    ghost coming = { Going };
+}
+
+/// A pass comes to a step by this way.
+pub struct By<W> {
+    way: PhantomData<W>,
+}
+
+impl<W> By<W> {
+    #[inline(always)]
+    pub fn new() -> By<W> {
+        By { way: PhantomData }
+    }
+}
+
+impl<V, W: Way<V>> Entry<V> for By<W> {
+    ghost coming = { W.coming };
 
     #[inline(always)]
-    fn spend(self) {}
+    fn spend(self) {
+        let By { way: _ } = self;
+    }
 }
 
 /// What a wait closure has answered, as the way by which the pass comes to its next step.

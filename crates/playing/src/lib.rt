@@ -11,7 +11,7 @@ mod stage;
 mod wait;
 
 pub use attempt::{Attempt, ask, try_again};
-pub use entry::{Aborted, AddEntry, AfterAside, Answered, Continued, Entry, GoesOn, hear};
+pub use entry::{Aborted, AddEntry, AfterAside, Answered, By, Continued, Entry, GoesOn, Way, hear};
 pub use played::{Parties, Played};
 pub use script::Script;
 pub use stage::Stage;

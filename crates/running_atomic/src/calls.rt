@@ -26,7 +26,7 @@ use crate::script::{AtomicScript, PlayedAtomic};
 use crate::shown::AtomicShown;
 use crate::steps::Comparison;
 use passes::Pass;
-use playing::{Entry, GoesOn, Stage};
+use playing::{GoesOn, Stage, Way};
 use std::alloc::{AllocError, Allocator, Global};
 use std::hint::spin_loop;
 use std::marker::Brand;
@@ -114,7 +114,7 @@ impl<T: AtomicInteger, A: Allocator> Atomic<T, A> {
         let new = content(value);
         self.write_lock(rt, &mut pass.pass, &Call::Store(value));
         let act = AtomicAct::Store(new);
-        self.put(GoesOn, &mut pass.pass, value, &act);
+        self.put::<GoesOn>(&mut pass.pass, value, &act);
     }
 
     /// Writes the value, and answers the old one.
@@ -389,7 +389,7 @@ impl<T: AtomicInteger, A: Allocator> Atomic<T, A> {
             Some(new) => {
                 let words = content(new);
                 let act = AtomicAct::FetchUpdate(Some(words));
-                self.put(Brand, &mut pass.pass, new, &act);
+                self.put::<Brand>(&mut pass.pass, new, &act);
                 Ok(old)
             }
             None => Err(self.keep(&mut pass.pass, old)),
@@ -458,13 +458,13 @@ impl<T: AtomicInteger, A: Allocator> Atomic<T, A> {
         ensures on { HasGot IsSettled pass.old pass.new }
         ensures next { IsNext T.arithmetic (key_of self.now.stage) call.now (inside T.arithmetic call.now) (Some kinds.Write) (all_of (parties_of pass.old)) (parties_of pass.new) }
     {
-        if self.enter_write(Brand, pass, call) == 0 {
+        if self.enter_write::<Brand>(pass, call) == 0 {
             return;
         }
         let mut tries = 0;
         for _ in rt.forever() {
             tries = pause(tries);
-            if self.enter_write(GoesOn, pass, call) == 0 {
+            if self.enter_write::<GoesOn>(pass, call) == 0 {
                 return;
             }
         }
@@ -511,18 +511,18 @@ impl<T: AtomicInteger, A: Allocator> Atomic<T, A> {
 
     /// Writes a value by this act, and leaves the lock.
     #[inline(always)]
-    fn put<E: Entry<T>>(&self, entry: E, pass: &mut Pass<PlayedAtomic<T>>, new: T, act: &AtomicAct)
+    fn put<W: Way<T>>(&self, pass: &mut Pass<PlayedAtomic<T>>, new: T, act: &AtomicAct)
         requires own { IsPassOf self.now.stage pass.old }
         requires on { IsSettled (counts_of pass.old).hold }
         requires right { IfWriting (counts_of pass.old).hold (λ _ found. value_after T.arithmetic (act_in T.arithmetic act.now) (value_of T.arithmetic found) ≡ new) }
-        requires may { MayPut T.arithmetic (key_of self.now.stage) E.coming new (parties_of pass.old) }
+        requires may { MayPut T.arithmetic (key_of self.now.stage) W.coming new (parties_of pass.old) }
         ensures same { IsSamePass pass.old pass.new }
         ensures acted { IfWriting (counts_of pass.old).hold (λ _ found. ActsAt T.arithmetic (key_of self.now.stage) act.now found (counted pass.old) (counted pass.new)) }
         ensures rest { (counts_of pass.new).hold ≡ Free }
-        ensures put { HasPut T.arithmetic (key_of self.now.stage) E.coming new (parties_of pass.old) (parties_of pass.new) }
+        ensures put { HasPut T.arithmetic (key_of self.now.stage) W.coming new (parties_of pass.old) (parties_of pass.new) }
     {
         let (low, high) = new.to_words();
-        self.store_low(entry, pass, low);
+        self.store_low::<W>(pass, low);
         self.end_store(pass, high, act);
         self.leave_write(pass);
     }
@@ -548,7 +548,7 @@ impl<T: AtomicInteger, A: Allocator> Atomic<T, A> {
         ensures played { HasReplaced T.arithmetic (key_of self.now.stage) call.now old (answer_to T.arithmetic (act_in T.arithmetic act.now) old) (parties_of pass.old) (parties_of pass.new) }
     {
         let _call = call;
-        self.put(GoesOn, pass, new, act);
+        self.put::<GoesOn>(pass, new, act);
         old
     }
 

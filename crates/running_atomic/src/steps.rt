@@ -16,7 +16,7 @@ use crate::deeds::{
 use crate::history::AtomicAct;
 use crate::script::PlayedAtomic;
 use passes::Pass;
-use playing::{Entry, GoesOn};
+use playing::{By, Entry, GoesOn, Way};
 use std::alloc::Allocator;
 use std::marker::Brand;
 use steps_events::atomic::internal::AtomicInteger;
@@ -74,21 +74,20 @@ impl<T: AtomicInteger, A: Allocator> Atomic<T, A> {
 
     /// An exchange of the lock's word, from 0, for the writer's. How the pass comes to it may speak of its call; its caller picks it.
     #[inline(always)]
-    pub(crate) fn enter_write<E: Entry<T>>(
+    pub(crate) fn enter_write<W: Way<T>>(
         &self,
-        entry: E,
         pass: &mut Pass<PlayedAtomic<T>>,
         _call: &Call<T>,
     ) -> u64
         requires own { IsPassOf self.now.stage pass.old }
         requires free { (counts_of pass.old).hold ≡ Free }
-        requires may { MayStep (atomic_model T.arithmetic (key_of self.now.stage)) atomic_names E.coming 0 (λ w. intents.Exchange w 0 (2 ^ 64 - 1)) (parties_of pass.old) }
+        requires may { MayStep (atomic_model T.arithmetic (key_of self.now.stage)) atomic_names W.coming 0 (λ w. intents.Exchange w 0 (2 ^ 64 - 1)) (parties_of pass.old) }
         ensures same { IsSamePass pass.old pass.new }
-        ensures went { Went (atomic_model T.arithmetic (key_of self.now.stage)) E.coming (parties_of pass.old) result (parties_of pass.new) }
+        ensures went { Went (atomic_model T.arithmetic (key_of self.now.stage)) W.coming (parties_of pass.old) result (parties_of pass.new) }
         ensures tried { EntersWrite (counted pass.old) result (counted pass.new) }
     {
         self.stage
-            .exchange::<_, EnterWrite>(entry, pass, STATE, 0, WRITTEN)
+            .exchange::<_, EnterWrite>(By::<W>::new(), pass, STATE, 0, WRITTEN)
     }
 
     /// The end of a read hold.
@@ -158,20 +157,16 @@ impl<T: AtomicInteger, A: Allocator> Atomic<T, A> {
 
     /// The store of the low word.
     #[inline(always)]
-    pub(crate) fn store_low<E: Entry<T>>(
-        &self,
-        entry: E,
-        pass: &mut Pass<PlayedAtomic<T>>,
-        new: u64,
-    )
+    pub(crate) fn store_low<W: Way<T>>(&self, pass: &mut Pass<PlayedAtomic<T>>, new: u64)
         requires own { IsPassOf self.now.stage pass.old }
         requires on { IsWriting (counts_of pass.old).hold }
-        requires may { MayStep (atomic_model T.arithmetic (key_of self.now.stage)) atomic_names E.coming 1 (λ w. intents.Store w new) (parties_of pass.old) }
+        requires may { MayStep (atomic_model T.arithmetic (key_of self.now.stage)) atomic_names W.coming 1 (λ w. intents.Store w new) (parties_of pass.old) }
         ensures same { IsSamePass pass.old pass.new }
-        ensures went { Went (atomic_model T.arithmetic (key_of self.now.stage)) E.coming (parties_of pass.old) new (parties_of pass.new) }
+        ensures went { Went (atomic_model T.arithmetic (key_of self.now.stage)) W.coming (parties_of pass.old) new (parties_of pass.new) }
         ensures stored { StoresLow (counted pass.old) new (counted pass.new) }
     {
-        self.stage.store::<_, StoreLow>(entry, pass, LOW, new);
+        self.stage
+            .store::<_, StoreLow>(By::<W>::new(), pass, LOW, new);
     }
 
     /// The store of the high word, by which a call acts that stores.
