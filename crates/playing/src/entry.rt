@@ -6,13 +6,13 @@ ghost use Rattle.playing.specs.Answers.{action_of};
 use std::marker::{Brand, PhantomData};
 use steps_events::WaitAction;
 
-/// How a pass comes to a step. The step spends it.
+/// How a pass comes to a step, which takes it.
 pub trait Entry<V> {
     ghost use Rattle.playing.specs.Plays.{Coming};
 
     ghost coming: { Coming V };
 
-    /// Lets it go.
+    /// Lets it go: the step has been made.
     fn spend(self);
 }
 
@@ -42,8 +42,8 @@ impl<V> AddEntry<V> for GoesOn {
     ghost coming = { λ _. Going };
 }
 
-/// A wait closure has answered `Continue`, or, where it answers nothing, come back. The call of one gives this, and nothing else does; the
-/// next step has to take it.
+/// A wait closure has answered `Continue`, or, where it answers nothing, come back. The call of one gives this, and nothing else does;
+/// the next step has to take it.
 pub struct Continued {
     given: (),
 }
@@ -91,7 +91,8 @@ impl<V> Entry<V> for Aborted {
     }
 }
 
-/// A call has made a step on no word: its closure has ended. The call of one gives this, and nothing else does; the next step has to take it.
+/// A call has made a step on no word: its closure has ended. The call of one gives this, and nothing else does; the next step has to
+/// take it.
 pub struct AfterAside {
     given: (),
 }
