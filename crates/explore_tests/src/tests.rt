@@ -4,12 +4,13 @@ use std::alloc::{AllocError, Global};
 use std::test::Fail;
 use sync_explore::report::Verdict;
 use sync_explore::run::run;
+use sync_search::watch::Unwatched;
 
 /// What is written of a question, and then its fault, if it has one, and the exit status, if it is not 0.
 fn answered(alloc: Global, question: &[u8]) -> Result<String, AllocError> {
     let mut reader = question;
     let mut written: Vec<u8> = Vec::new(alloc);
-    let ended = run(alloc, &mut reader, &mut written);
+    let ended = run(alloc, &mut reader, &mut written, &mut Unwatched);
     let mut shown = String::new(alloc);
     for byte in &written {
         shown.push(char::from(*byte))?;
