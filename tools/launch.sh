@@ -1,8 +1,8 @@
 # Runs a program of this repository, or proves and builds it.
 #
 # Sourced, with the call's arguments, by a script at the top that bears the program's name and sets `top`, the repository's folder,
-# `crate`, the program's, and `does`, what it does, in a few words; and `reads` and `usage`, where it reads no schedule text: what it
-# reads, and the file that says how that is written.
+# `crate`, the program's, and `does`, what it does, in a few words; `reads` and `usage`, where it reads no schedule text: what it
+# reads, and the file that says how that is written; and `arguments`, where it is called with some.
 #
 # A program that stands is run, and one whose sources are no longer those that it was built of is built again first. Where none has been
 # built, the sources are run as they are, unproved, by `rt try`: that takes a minute, and a build many.
@@ -13,6 +13,7 @@ shopt -s execfail lastpipe globstar nullglob
 name=$(basename -- "$0")
 reads=${reads-a schedule text}
 usage=${usage-tools/texts.txt}
+[[ -v arguments ]] || arguments=()
 folder=$top/crates/$crate
 program=$folder/out/$crate
 # The sums of the sources and of the program that was built of them. `rt ci` removes it with all that `out` has.
@@ -216,5 +217,5 @@ if [[ ! -x $program ]]; then
 elif ! is_current; then
     build
 fi
-exec "$program"
+exec "$program" "${arguments[@]}"
 fail "$program cannot be started"

@@ -237,7 +237,7 @@ def wrong_outcomes(question, answer):
 
 def wrong_terms(question, answer, terms):
     """What is wrong with a text that is to show a condition."""
-    if answer.startswith("never "):
+    if answer.startswith(("never ", "never:")):
         return []
     if answer.splitlines()[0] != question.splitlines()[0]:
         return [f"{answer.splitlines()[0]} is not the question's first line"]

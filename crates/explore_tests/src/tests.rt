@@ -4,12 +4,13 @@ use std::alloc::{AllocError, Global};
 use std::test::Fail;
 use sync_explore::report::Verdict;
 use sync_explore::run::run;
+use sync_search::watch::Unwatched;
 
 /// What is written of a question, and then its fault, if it has one, and the exit status, if it is not 0.
 fn answered(alloc: Global, question: &[u8]) -> Result<String, AllocError> {
     let mut reader = question;
     let mut written: Vec<u8> = Vec::new(alloc);
-    let ended = run(alloc, &mut reader, &mut written);
+    let ended = run(alloc, &mut reader, &mut written, &mut Unwatched);
     let mut shown = String::new(alloc);
     for byte in &written {
         shown.push(char::from(*byte))?;
@@ -35,7 +36,7 @@ const ANSWERS: [(&str, &str); 37] = [
         "\
 1 success | 2 interrupted | word 1 : 1 try_lock / 1 run / 2 try_lock / 2 run
 1 interrupted | 2 success | word 1 : 1 try_lock / 2 try_lock / 2 run / 1 run
-2 outcomes of the schedules explored: 10 states, 12 moves
+2 outcomes: 10 states, 12 moves
 ",
     ),
     ("", "line 1: no object, status 2"),
@@ -57,11 +58,11 @@ const ANSWERS: [(&str, &str); 37] = [
     ),
     (
         "spin 2\n1 try_lock\n2 try_lock\nfind 1 success and 2 success\n",
-        "never in the schedules explored: 10 states, 12 moves\nstatus 4",
+        "never: 10 states, 12 moves\nstatus 4",
     ),
     (
         "spin 2\n1 try_lock\n2 try_lock\nnever 1 success and 2 success\n",
-        "never in the schedules explored: 10 states, 12 moves\n",
+        "never: 10 states, 12 moves\n",
     ),
     (
         "spin 2\n1 try_lock\n2 try_lock\nnever 2 interrupted and ends\n",
@@ -73,7 +74,7 @@ const ANSWERS: [(&str, &str); 37] = [
     ),
     (
         "mutex 2\n1 lock\n2 lock, unlock\n2 aborts\nfind 2 aborted and 2 success and 1 holds write\n",
-        "never in the schedules explored: 27 states, 41 moves\nstatus 4",
+        "never: 27 states, 41 moves\nstatus 4",
     ),
     (
         "rwreader 2\n1 read_lock\n2 try_read_lock\nfind 1 holds read and 2 holds read and word 2\n",
@@ -165,7 +166,7 @@ fn a_question_is_longer_than_what_is_read_at_once(rt: HostRuntime) -> Result<(),
     let told = answered(rt.alloc(), &question)?;
     assert_eq!(rt;
         told.as_str(),
-        "1 success | word 1 : 1 try_lock / 1 run\n1 outcome of the schedules explored: 3 states, 2 moves\n"
+        "1 success | word 1 : 1 try_lock / 1 run\n1 outcome: 3 states, 2 moves\n"
     );
     Ok(())
 }

@@ -4,6 +4,7 @@ use std::alloc::Global;
 use std::io::{Read, Write};
 use sync_explore::fault::ExploreFault;
 use sync_play::fault::RunFault;
+use sync_search::watch::Unwatched;
 
 /// How a run ended.
 #[derive(Clone, Copy, Debug, PartialEq, Eq)]
@@ -74,7 +75,7 @@ pub struct Explores;
 
 impl Program for Explores {
     fn run<R: Read, W: Write>(alloc: Global, reader: &mut R, writer: &mut W) -> Ended {
-        match sync_explore::run::run(alloc, reader, writer) {
+        match sync_explore::run::run(alloc, reader, writer, &mut Unwatched) {
             Ok(_) => Ended::Whole,
             Err(ExploreFault::Read) => Ended::Reading,
             Err(ExploreFault::Write) => Ended::Writing,
