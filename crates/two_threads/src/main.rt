@@ -1,8 +1,7 @@
 //! Two threads and a mutex: both add to one number, each by a load and a store of its own, which only a lock keeps together.
 #![tactic(auto)]
 
-ghost use Rattle.std.specs.Prelude.{◌≡◌};
-ghost use Rattle.running_mutex.specs.MutexShown.{IsMutexPass, IsAlone, HasStayed, holds_of};
+ghost use Rattle.running_mutex.specs.MutexShown.{IsMutexPass, IsAlone, HasStayed};
 
 use iceoryx2_pal_concurrency_sync::strategy::mutex::{Mutex, MutexPass};
 use iceoryx2_pal_concurrency_sync::{WaitResult, wake_nobody, yield_and_go_on};
@@ -41,14 +40,8 @@ fn add_in_two_threads<R: Threads + Wait + Sync>(
     };
     let (one, two) = thread::join(
         rt,
-        || -> MutexPass
-            requires { IsMutexPass mutex.now one × (holds_of one ≡ 0) }
-            ensures { HasStayed one result }
-        { add_often(rt, mutex, one, number) },
-        || -> MutexPass
-            requires { IsMutexPass mutex.now two × (holds_of two ≡ 0) }
-            ensures { HasStayed two result }
-        { add_often(rt, mutex, two, number) },
+        || add_often(rt, mutex, one, number),
+        || add_often(rt, mutex, two, number),
     );
     let Ok(pass) = MutexPass::join(one, two, mutex) else {
         unreachable!()
@@ -59,7 +52,6 @@ fn add_in_two_threads<R: Threads + Wait + Sync>(
 /// Adds 1 to the number, a thousand times.
 fn add_often<R: Wait>(rt: &R, mutex: &Mutex, mut pass: MutexPass, number: &AtomicU64) -> MutexPass
     requires own { IsMutexPass mutex.now pass }
-    requires off { holds_of pass ≡ 0 }
     ensures stayed { HasStayed pass result }
 {
     for _ in 0..1000u64 {
@@ -71,7 +63,6 @@ fn add_often<R: Wait>(rt: &R, mutex: &Mutex, mut pass: MutexPass, number: &Atomi
 /// Locks, adds 1, and unlocks. A call whose wait closure always goes on is never interrupted: by proof.
 fn add_once<R: Wait>(rt: &R, mutex: &Mutex, pass: &mut MutexPass, number: &AtomicU64)
     requires own { IsMutexPass mutex.now pass.old }
-    requires off { holds_of pass.old ≡ 0 }
     ensures stayed { HasStayed pass.old pass.new }
 {
     match Mutex::lock(pass, mutex, rt, yield_and_go_on) {

@@ -2,7 +2,7 @@
 ghost use Rattle.std.specs.Prelude.{◌≡◌, ◌+◌, false};
 ghost use Rattle.steps_events.specs.declared.WaitAction.TheVariants.{Abort};
 ghost use Rattle.passes.specs.Passes.{IsSamePass, sights_of};
-ghost use Rattle.running_mutex.specs.MutexShown.{IsMutexPass, IsAlone, HasStayed, holds_of, grants_of};
+ghost use Rattle.running_mutex.specs.MutexShown.{IsMutexPass, IsAlone, HasStayed, grants_of};
 
 use iceoryx2_pal_concurrency_sync::strategy::mutex::{Mutex, MutexPass};
 use iceoryx2_pal_concurrency_sync::{WaitAction, WaitResult, wake_nobody, yield_and_go_on};
@@ -17,7 +17,6 @@ use std::thread::Threads;
 /// Locks and unlocks, with a wait closure that always goes on: that is never interrupted.
 fn lock_and_unlock<R: Wait>(rt: &R, mutex: &Mutex, pass: &mut MutexPass)
     requires own { IsMutexPass mutex.now pass.old }
-    requires off { holds_of pass.old ≡ 0 }
     ensures stayed { HasStayed pass.old pass.new }
 {
     match Mutex::lock(pass, mutex, rt, yield_and_go_on) {
@@ -30,7 +29,6 @@ fn lock_and_unlock<R: Wait>(rt: &R, mutex: &Mutex, pass: &mut MutexPass)
 
 fn lock_and_unlock_often<R: Wait>(rt: &R, mutex: &Mutex, mut pass: MutexPass) -> MutexPass
     requires own { IsMutexPass mutex.now pass }
-    requires off { holds_of pass ≡ 0 }
     ensures stayed { HasStayed pass result }
 {
     for _ in 0..100u64 {
@@ -56,11 +54,11 @@ fn lock_in_two_threads<R: Threads + Wait + Sync>(
     let (one, two) = thread::join(
         rt,
         || -> MutexPass
-            requires { IsMutexPass mutex.now one × (holds_of one ≡ 0) }
+            requires { IsMutexPass mutex.now one }
             ensures { HasStayed one result }
         { lock_and_unlock_often(rt, mutex, one) },
         || -> MutexPass
-            requires { IsMutexPass mutex.now two × (holds_of two ≡ 0) }
+            requires { IsMutexPass mutex.now two }
             ensures { HasStayed two result }
         { lock_and_unlock_often(rt, mutex, two) },
     );
