@@ -1,7 +1,7 @@
 //! The running condition variable.
 ghost use Rattle.std.specs.Prelude.{◌≡◌};
 ghost use Rattle.passes.specs.Passes.{IsSamePass};
-ghost use Rattle.running_mutex.specs.MutexShown.{IsMutexPass, HasStayed as HasLockedAtMost, holds_of, pass_of, borrow_of};
+ghost use Rattle.running_mutex.specs.MutexShown.{IsMutexPass, HasStayed as HasLockedAtMost, pass_of, borrow_of};
 ghost use Rattle.running_mutex.specs.CondShown.{IsCondPass, HasStayed};
 
 use iceoryx2_pal_concurrency_sync::strategy::condition_variable::{
@@ -167,7 +167,6 @@ fn hand_on<R: Wait>(
     own: bool,
 )
     requires own { IsCondPass mine.now my_pass.old × IsCondPass theirs.now their_pass.old × IsMutexPass mutex.now mtx_pass.old }
-    requires off { holds_of mtx_pass.old ≡ 0 }
     ensures held { HasLockedAtMost mtx_pass.old mtx_pass.new }
     ensures stayed { HasStayed my_pass.old my_pass.new × HasStayed their_pass.old their_pass.new }
 {
@@ -205,7 +204,6 @@ fn hand_on_often<R: Wait>(
     own: bool,
 )
     requires own { IsCondPass mine.now side.waiting × IsCondPass theirs.now side.notifying × IsMutexPass mutex.now side.locking }
-    requires off { holds_of side.locking ≡ 0 }
 {
     for _ in 0..200u64 {
         hand_on(
@@ -250,10 +248,10 @@ fn two_threads_hand_a_turn_to_each_other(rt: HostRuntime) -> Result<(), Fail> {
     thread::join(
         &rt,
         ||
-            requires { IsCondPass first one.waiting × IsCondPass second one.notifying × IsMutexPass mutex one.locking × (holds_of one.locking ≡ 0) }
+            requires { IsCondPass first one.waiting × IsCondPass second one.notifying × IsMutexPass mutex one.locking }
         { hand_on_often(&rt, &first, &second, &mutex, one, &turn, false) },
         ||
-            requires { IsCondPass second two.waiting × IsCondPass first two.notifying × IsMutexPass mutex two.locking × (holds_of two.locking ≡ 0) }
+            requires { IsCondPass second two.waiting × IsCondPass first two.notifying × IsMutexPass mutex two.locking }
         { hand_on_often(&rt, &second, &first, &mutex, two, &turn, true) },
     );
     assert!(rt; !turn.load(Ordering::SeqCst));
