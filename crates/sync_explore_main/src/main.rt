@@ -14,12 +14,7 @@ fn main(rt: HostRuntime) -> ExitCode {
         Err(_) => false,
     };
     let mut progress = Progress::new(&rt, shows);
-    match run(
-        rt.alloc(),
-        &mut rt.stdin(),
-        &mut rt.stdout(),
-        &mut progress,
-    ) {
+    match run(rt.alloc(), &mut rt.stdin(), &mut rt.stdout(), &mut progress) {
         Ok(verdict) => ExitCode::from(verdict.status()),
         Err(fault) => {
             let _ = eprintln!(rt; "{fault}");

@@ -1,12 +1,13 @@
 //! How far a search has come, told each second.
 
-use std::time::{Clock, Duration, Instant};
+use std::time::{Clock, Instant};
 use sync_search::watch::Watch;
 
-/// After which time a line is written.
-const PERIOD: Duration = Duration::from_secs(1);
+/// After how many seconds a line is written.
+const PERIOD: u64 = 1;
 
 /// Writes lines to standard error, if it is to do so.
+#[derive(Drop)]
 pub struct Progress<'a, R> {
     rt: &'a R,
     shows: bool,
@@ -27,7 +28,7 @@ impl<'a, R: Clock + Eprint> Progress<'a, R> {
     fn is_due(&self) -> bool {
         match &self.last {
             Some(last) => match last.elapsed(self.rt) {
-                Ok(spent) => spent >= PERIOD,
+                Ok(spent) => spent.as_secs() >= PERIOD,
                 Err(_) => false,
             },
             None => false,
