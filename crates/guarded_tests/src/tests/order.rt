@@ -21,6 +21,7 @@ fn add_gathered<R: Wait>(
     gathering: &Gathering,
 ) -> WaitResult<bool>
     requires own { IsGuardedPass guarded.now pass.old × IsGuardedPass guarded.now other.old }
+    ensures own { IsGuardedPass guarded.now pass.new }
 {
     guarded.with(
         rt,
@@ -51,7 +52,7 @@ fn acts_before_it_unlocks(rt: HostRuntime) -> Result<(), Fail> {
     let refused = add_gathered(&rt, &guarded, &mut one, &mut two, &gathering);
     assert_eq!(rt; refused, WaitResult::Success(true));
     assert_eq!(rt; gathering.gathered(), (42, 70));
-    assert!(rt; !is_refused(&guarded, &mut two));
+    assert!(rt; !is_refused(&guarded, &mut one));
     Ok(())
 }
 
@@ -117,6 +118,7 @@ fn wait_gathered<R: Wait>(
     gathering: &Gathering,
 ) -> WaitResult<u64>
     requires own { IsGuardedPass guarded.now pass.old × IsCondPass changed.now changed_pass.old }
+    ensures own { IsGuardedPass guarded.now pass.new × IsCondPass changed.now changed_pass.new }
 {
     guarded.when(
         rt,
