@@ -39,17 +39,17 @@ def faulty(many):
 FAULTY = "a fault at the end"
 # Each text by its name: n, and what gives it.
 TEXTS = {
-    "calls at a mutex": (100_000, repeated("mutex 1\n", ["1 lock", "1 run", "1 unlock", "1 run"])),
-    "refusals at a semaphore": (100_000, repeated("semaphore 1 0\n", ["1 try_wait", "1 run"])),
-    "additions at an atomic": (100_000, repeated("atomic_u64 1 0\n", ["1 fetch_add 1", "1 run"])),
+    "calls at a mutex": (50_000, repeated("mutex 1\n", ["1 lock", "1 run", "1 unlock", "1 run"])),
+    "refusals at a semaphore": (50_000, repeated("semaphore 1 0\n", ["1 try_wait", "1 run"])),
+    "additions at an atomic": (50_000, repeated("atomic_u64 1 0\n", ["1 fetch_add 1", "1 run"])),
     "blank lines": (1_000_000, repeated("mutex 1\n", [""])),
-    FAULTY: (100_000, faulty),
+    FAULTY: (50_000, faulty),
     "steps": (5, repeated("spin 2\n1 lock\n1 run\n2 lock\n", ["2 go 100000"])),
 }
 
 
 def memory_of(pid):
-    """The most bytes that a running process has had. What `wait4` says of it counts from its parent's on, which is too much for a short text."""
+    """The most bytes that a running process has had. What `wait4` says of it counts from what its parent has."""
     try:
         with open(f"/proc/{pid}/status") as lines:
             return sum(int(line.split()[1]) << 10 for line in lines if line.startswith("VmHWM:"))
