@@ -1,5 +1,6 @@
 mod drops;
 mod holding;
+mod order;
 mod refusals;
 mod threads;
 mod when;

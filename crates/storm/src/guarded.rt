@@ -9,6 +9,7 @@ use iceoryx2_pal_concurrency_sync::strategy::condition_variable::{CondPass, Cond
 use running_guarded::{Guarded, GuardedPass};
 use std::alloc::{AllocError, Global};
 use std::sync::Wait;
+use std::sync::atomic::{AtomicU64, Ordering};
 use std::thread::Threads;
 
 #[derive(Drop)]
@@ -92,15 +93,14 @@ impl Object for Crowded {
         (Passes { value, more }, other)
     }
 
-    /// Passes of a condition variable are not joined: the second is let go.
     fn whole(&self, one: Passes, two: Passes) -> Passes {
         let Ok(value) = GuardedPass::join(one.value, two.value, &self.value) else {
             unreachable!()
         };
-        Passes {
-            value,
-            more: one.more,
-        }
+        let Ok(more) = CondPass::join(one.more, two.more, &self.more) else {
+            unreachable!()
+        };
+        Passes { value, more }
     }
 
     fn turns(&self) -> u64 {
@@ -121,7 +121,26 @@ impl Object for Crowded {
     }
 }
 
-/// What the storm came to. What was put in and not taken out has to be there.
+/// How many the condition variable counts as waiting. A notify gives a permit for each of them, so the second of two tells by how much the
+/// permits have grown.
+fn still_counted(more: &ConditionVariable, pass: &mut CondPass) -> u64
+    requires own { IsCondPass more.now pass.old }
+{
+    let before = permits_after_a_notify(more, pass);
+    permits_after_a_notify(more, pass).wrapping_sub(before)
+}
+
+/// How many permits there are once a notify has given its own.
+fn permits_after_a_notify(more: &ConditionVariable, pass: &mut CondPass) -> u64
+    requires own { IsCondPass more.now pass.old }
+    ensures own { IsCondPass more.now pass.new }
+{
+    let permits = AtomicU64::new(0);
+    more.notify_all(pass, |word| permits.store(word.load(), Ordering::SeqCst));
+    permits.load(Ordering::SeqCst)
+}
+
+/// What the storm came to. What was put in and not taken out has to be there, and nobody is counted as waiting any more.
 pub fn storm<R: Threads + Wait + Sync>(
     rt: &R,
     alloc: Global,
@@ -141,7 +160,10 @@ pub fn storm<R: Threads + Wait + Sync>(
         value: value_pass,
         more: more_pass,
     };
-    let Passes { mut value, more: _ } = eight(rt, &crowded, passes);
+    let Passes {
+        mut value,
+        mut more,
+    } = eight(rt, &crowded, passes);
     let tally = &crowded.tally;
     let seen = crowded.value.with(
         rt,
@@ -154,5 +176,6 @@ pub fn storm<R: Threads + Wait + Sync>(
         WaitResult::Success(left) => left.abs_diff(tally.rest()),
         WaitResult::Interrupted => u64::MAX,
     };
-    Ok(tally.outcome("guarded value and condition variable", 8, lost, None))
+    let faults = lost.saturating_add(still_counted(&crowded.more, &mut more));
+    Ok(tally.outcome("guarded value and condition variable", 8, faults, None))
 }

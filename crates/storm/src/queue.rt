@@ -3,7 +3,7 @@ ghost use Rattle.job_queue.specs.QueueShown.{IsQueuePass};
 
 use crate::crowd::{Object, eight};
 use crate::tally::{Outcome, Tally};
-use job_queue::{JobQueue, QueuePass, Taken};
+use job_queue::{JobQueue, PutFault, QueuePass, Taken};
 use std::alloc::{AllocError, Global};
 use std::sync::Wait;
 use std::thread::Threads;
@@ -29,9 +29,11 @@ impl Object for Crowded {
         parts
     }
 
-    /// Passes of a queue are not joined: the second is let go.
-    fn whole(&self, one: QueuePass, _two: QueuePass) -> QueuePass {
-        one
+    fn whole(&self, one: QueuePass, two: QueuePass) -> QueuePass {
+        let Ok(pass) = QueuePass::join(one, two, &self.queue) else {
+            unreachable!()
+        };
+        pass
     }
 
     fn turns(&self) -> u64 {
@@ -68,13 +70,15 @@ pub fn storm<R: Threads + Wait + Sync>(
         tally: Tally::new(turns),
     };
     let pass = eight(rt, &crowded, pass);
-    let left = empty(rt, &crowded.queue, pass);
-    let lost = crowded.tally.rest().abs_diff(left);
+    let lost = match empty(rt, &crowded.queue, pass) {
+        Some(left) => left.abs_diff(crowded.tally.rest()),
+        None => u64::MAX,
+    };
     Ok(crowded.tally.outcome("queue for 8", 8, lost, None))
 }
 
-/// Closes the queue and takes out what is there: the sum of it.
-fn empty<R: Wait>(rt: &R, queue: &JobQueue<u64>, mut pass: QueuePass) -> u64
+/// Closes the queue and takes out what is there: the sum of it. `None` where a take or a put does not say then that the queue is closed.
+fn empty<R: Wait>(rt: &R, queue: &JobQueue<u64>, mut pass: QueuePass) -> Option<u64>
     requires own { IsQueuePass queue.now pass }
 {
     queue.close(rt, &mut pass, |_| ());
@@ -85,5 +89,10 @@ fn empty<R: Wait>(rt: &R, queue: &JobQueue<u64>, mut pass: QueuePass) -> u64
             sum = job.wrapping_add(sum);
         }
     }
-    sum
+    let taken = queue.take(rt, &mut pass, |_, _| WaitAction::Abort, |_| ());
+    let put = queue.put(rt, &mut pass, 0, |_| ());
+    match (taken, put) {
+        (Taken::Closed, Err(PutFault::Closed(_))) => Some(sum),
+        _ => None,
+    }
 }

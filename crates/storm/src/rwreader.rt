@@ -1,57 +1,39 @@
 //! A storm at the reader-preferring lock: four writers and four readers.
-ghost use Rattle.running_rwlock.specs.RwReaderShown.{IsRwReaderPass};
+ghost use Rattle.std.specs.Prelude.{◌≡◌};
+ghost use Rattle.running_rwlock.specs.RwReaderShown.{IsRwReaderPass, IsAlone, HasStayed, reads_of, writes_of};
 
-use crate::crowd::{Object, eight};
 use crate::tally::{Outcome, Tally};
-use iceoryx2_pal_concurrency_sync::WaitResult;
 use iceoryx2_pal_concurrency_sync::strategy::rwlock::{RwLockReaderPreference, RwReaderPass};
+use iceoryx2_pal_concurrency_sync::{WaitResult, in_threads};
 use std::alloc::{AllocError, Global};
 use std::sync::Wait;
 use std::thread::Threads;
 
-#[derive(Drop)]
-struct Crowded {
-    lock: RwLockReaderPreference,
-    tally: Tally,
-}
-
-impl Object for Crowded {
-    type Pass = RwReaderPass;
-
-    ghost fits = { λ this pass. IsRwReaderPass this.lock pass };
-
-    fn part(&self, pass: RwReaderPass) -> (RwReaderPass, RwReaderPass) {
-        let Ok(parts) = pass.split(&self.lock) else {
-            unreachable!()
-        };
-        parts
-    }
-
-    fn whole(&self, one: RwReaderPass, two: RwReaderPass) -> RwReaderPass {
-        let Ok(pass) = RwReaderPass::join(one, two, &self.lock) else {
-            unreachable!()
-        };
-        pass
-    }
-
-    fn turns(&self) -> u64 {
-        self.tally.turns
-    }
-
-    fn turn<R: Wait>(&self, rt: &R, pass: RwReaderPass, number: u64, _turn: u64) -> RwReaderPass {
-        let mut pass = pass;
-        if number < 4 {
-            write(rt, &self.lock, &mut pass, &self.tally);
+/// One of the crowd takes its turns: the first four write, and the others read.
+fn take_turns<R: Wait>(
+    rt: &R,
+    lock: &RwLockReaderPreference,
+    mut pass: RwReaderPass,
+    tally: &Tally,
+) -> RwReaderPass
+    requires own { IsRwReaderPass lock.now pass }
+    requires off { (reads_of pass ≡ 0) × (writes_of pass ≡ 0) }
+    ensures stayed { HasStayed pass result }
+{
+    let writes = tally.number() < 4;
+    for _ in 0..tally.turns {
+        if writes {
+            write(rt, lock, &mut pass, tally);
         } else {
-            read(rt, &self.lock, &mut pass, &self.tally);
+            read(rt, lock, &mut pass, tally);
         }
-        pass
     }
+    pass
 }
 
 fn write<R: Wait>(rt: &R, lock: &RwLockReaderPreference, pass: &mut RwReaderPass, tally: &Tally)
     requires own { IsRwReaderPass lock.now pass.old }
-    ensures own { IsRwReaderPass lock.now pass.new }
+    ensures stayed { HasStayed pass.old pass.new }
 {
     match RwLockReaderPreference::write_lock(pass, lock, rt, |_, _| tally.answer()) {
         WaitResult::Success(hold) => {
@@ -64,7 +46,7 @@ fn write<R: Wait>(rt: &R, lock: &RwLockReaderPreference, pass: &mut RwReaderPass
 
 fn read<R: Wait>(rt: &R, lock: &RwLockReaderPreference, pass: &mut RwReaderPass, tally: &Tally)
     requires own { IsRwReaderPass lock.now pass.old }
-    ensures own { IsRwReaderPass lock.now pass.new }
+    ensures stayed { HasStayed pass.old pass.new }
 {
     match RwLockReaderPreference::read_lock(pass, lock, rt, |_, _| tally.answer()) {
         WaitResult::Success(hold) => {
@@ -75,6 +57,15 @@ fn read<R: Wait>(rt: &R, lock: &RwLockReaderPreference, pass: &mut RwReaderPass,
     }
 }
 
+/// Ends the lock, with the whole pass: its word is 0 then.
+fn close(lock: RwLockReaderPreference, pass: RwReaderPass) -> u64
+    requires own { IsRwReaderPass lock pass }
+    requires alone { IsAlone pass }
+    ensures free { result ≡ 0 }
+{
+    lock.close(pass)
+}
+
 /// What the storm came to.
 pub fn storm<R: Threads + Wait + Sync>(
     rt: &R,
@@ -83,13 +74,13 @@ pub fn storm<R: Threads + Wait + Sync>(
 ) -> Result<Outcome, AllocError> {
     let (lock, pass) = RwLockReaderPreference::new(alloc)?;
     let tally = Tally::new(turns);
-    let crowded = Crowded { lock, tally };
-    let pass = eight(rt, &crowded, pass);
-    let Crowded { lock, tally } = crowded;
-    Ok(tally.outcome(
-        "reader-preferring lock",
+    let pass = in_threads(
+        rt,
+        &lock,
+        pass,
         8,
-        tally.lost(),
-        Some(lock.close(pass)),
-    ))
+        &|pass| { take_turns(rt, &lock, pass, &tally) },
+    );
+    let word = close(lock, pass);
+    Ok(tally.outcome("reader-preferring lock", 8, tally.lost(), Some(word)))
 }

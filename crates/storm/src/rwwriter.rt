@@ -1,57 +1,39 @@
 //! A storm at the writer-preferring lock: four writers and four readers.
-ghost use Rattle.running_rwlock.specs.RwWriterShown.{IsRwWriterPass};
+ghost use Rattle.std.specs.Prelude.{◌≡◌};
+ghost use Rattle.running_rwlock.specs.RwWriterShown.{IsRwWriterPass, IsAlone, HasStayed, pass_in, reads_of, writes_of};
 
-use crate::crowd::{Object, eight};
 use crate::tally::{Outcome, Tally};
-use iceoryx2_pal_concurrency_sync::WaitResult;
 use iceoryx2_pal_concurrency_sync::strategy::rwlock::{RwLockWriterPreference, RwWriterPass};
+use iceoryx2_pal_concurrency_sync::{WaitResult, in_threads};
 use std::alloc::{AllocError, Global};
 use std::sync::Wait;
 use std::thread::Threads;
 
-#[derive(Drop)]
-struct Crowded {
-    lock: RwLockWriterPreference,
-    tally: Tally,
-}
-
-impl Object for Crowded {
-    type Pass = RwWriterPass;
-
-    ghost fits = { λ this pass. IsRwWriterPass this.lock pass };
-
-    fn part(&self, pass: RwWriterPass) -> (RwWriterPass, RwWriterPass) {
-        let Ok(parts) = pass.split(&self.lock) else {
-            unreachable!()
-        };
-        parts
-    }
-
-    fn whole(&self, one: RwWriterPass, two: RwWriterPass) -> RwWriterPass {
-        let Ok(pass) = RwWriterPass::join(one, two, &self.lock) else {
-            unreachable!()
-        };
-        pass
-    }
-
-    fn turns(&self) -> u64 {
-        self.tally.turns
-    }
-
-    fn turn<R: Wait>(&self, rt: &R, pass: RwWriterPass, number: u64, _turn: u64) -> RwWriterPass {
-        let mut pass = pass;
-        if number < 4 {
-            write(rt, &self.lock, &mut pass, &self.tally);
+/// One of the crowd takes its turns: the first four write, and the others read.
+fn take_turns<R: Wait>(
+    rt: &R,
+    lock: &RwLockWriterPreference,
+    mut pass: RwWriterPass,
+    tally: &Tally,
+) -> RwWriterPass
+    requires own { IsRwWriterPass lock.now pass }
+    requires off { (reads_of (pass_in pass) ≡ 0) × (writes_of (pass_in pass) ≡ 0) }
+    ensures stayed { HasStayed pass result }
+{
+    let writes = tally.number() < 4;
+    for _ in 0..tally.turns {
+        if writes {
+            write(rt, lock, &mut pass, tally);
         } else {
-            read(rt, &self.lock, &mut pass, &self.tally);
+            read(rt, lock, &mut pass, tally);
         }
-        pass
     }
+    pass
 }
 
 fn write<R: Wait>(rt: &R, lock: &RwLockWriterPreference, pass: &mut RwWriterPass, tally: &Tally)
     requires own { IsRwWriterPass lock.now pass.old }
-    ensures own { IsRwWriterPass lock.now pass.new }
+    ensures stayed { HasStayed pass.old pass.new }
 {
     let locked = RwLockWriterPreference::write_lock(
         pass,
@@ -72,7 +54,7 @@ fn write<R: Wait>(rt: &R, lock: &RwLockWriterPreference, pass: &mut RwWriterPass
 
 fn read<R: Wait>(rt: &R, lock: &RwLockWriterPreference, pass: &mut RwWriterPass, tally: &Tally)
     requires own { IsRwWriterPass lock.now pass.old }
-    ensures own { IsRwWriterPass lock.now pass.new }
+    ensures stayed { HasStayed pass.old pass.new }
 {
     match RwLockWriterPreference::read_lock(pass, lock, rt, |_, _| tally.answer()) {
         WaitResult::Success(hold) => {
@@ -83,6 +65,15 @@ fn read<R: Wait>(rt: &R, lock: &RwLockWriterPreference, pass: &mut RwWriterPass,
     }
 }
 
+/// Ends the lock, with the whole pass: its word is 0 then.
+fn close(lock: RwLockWriterPreference, pass: RwWriterPass) -> u64
+    requires own { IsRwWriterPass lock pass }
+    requires alone { IsAlone pass }
+    ensures free { result ≡ 0 }
+{
+    lock.close(pass)
+}
+
 /// What the storm came to.
 pub fn storm<R: Threads + Wait + Sync>(
     rt: &R,
@@ -91,13 +82,13 @@ pub fn storm<R: Threads + Wait + Sync>(
 ) -> Result<Outcome, AllocError> {
     let (lock, pass) = RwLockWriterPreference::new(alloc)?;
     let tally = Tally::new(turns);
-    let crowded = Crowded { lock, tally };
-    let pass = eight(rt, &crowded, pass);
-    let Crowded { lock, tally } = crowded;
-    Ok(tally.outcome(
-        "writer-preferring lock",
+    let pass = in_threads(
+        rt,
+        &lock,
+        pass,
         8,
-        tally.lost(),
-        Some(lock.close(pass)),
-    ))
+        &|pass| { take_turns(rt, &lock, pass, &tally) },
+    );
+    let word = close(lock, pass);
+    Ok(tally.outcome("writer-preferring lock", 8, tally.lost(), Some(word)))
 }

@@ -41,6 +41,8 @@ impl fmt::Display for Outcome {
 #[derive(Drop)]
 pub struct Tally {
     pub turns: u64,
+    /// How many of the crowd have come.
+    came: AtomicU64,
     /// How often a wait closure was asked.
     asked: AtomicU64,
     /// Two numbers that one who holds a lock changes together, each by a load and a store.
@@ -58,6 +60,7 @@ impl Tally {
     pub fn new(turns: u64) -> Tally {
         Tally {
             turns,
+            came: AtomicU64::new(0),
             asked: AtomicU64::new(0),
             one: AtomicU64::new(0),
             other: AtomicU64::new(0),
@@ -65,6 +68,11 @@ impl Tally {
             inside: AtomicU64::new(0),
             torn: AtomicU64::new(0),
         }
+    }
+
+    /// The number of one of the crowd, who asks once: 0, 1, and so on.
+    pub fn number(&self) -> u64 {
+        self.came.fetch_add(1, ORDER)
     }
 
     /// The answer of a wait closure: every third is `Abort`. So no call waits for ever, even where a wake is lost.

@@ -4,15 +4,15 @@ ghost use Rattle.running_guarded.specs.GuardedShown.{IsGuardedPass, IsSamePass};
 
 use passes::WaitResult;
 use running_guarded::{Guarded, GuardedPass};
-use signal::{Notes, Signal};
+use signal::{Meeting, Notes};
 use std::sync::Wait;
-use std::sync::atomic::{AtomicU64, Ordering};
+use std::sync::atomic::{AtomicBool, Ordering};
 use std::test::Fail;
 use std::thread;
 use steps_events::WaitAction;
 
 /// Whether `try_lock` is refused now.
-fn is_refused(guarded: &Guarded<u64>, pass: &mut GuardedPass) -> bool
+pub(super) fn is_refused(guarded: &Guarded<u64>, pass: &mut GuardedPass) -> bool
     requires { IsGuardedPass guarded.now pass.old }
     ensures { IsSamePass pass.old pass.new }
 {
@@ -25,23 +25,18 @@ fn is_refused(guarded: &Guarded<u64>, pass: &mut GuardedPass) -> bool
     }
 }
 
-/// What a `lock` did whose wait closure answers `Abort` at once: whether it was interrupted, how often it asked, with what, and what
-/// the closure saw of the word.
+/// A `lock` whose wait closure answers `Abort` at once: whether it was interrupted, and what the closure noted.
 fn lock_and_abort<R: Wait>(
     rt: &R,
     guarded: &Guarded<u64>,
     pass: &mut GuardedPass,
-) -> (bool, u64, u64, u64)
+) -> (bool, (u64, u64, u64))
     requires { IsGuardedPass guarded.now pass.old }
     ensures { IsSamePass pass.old pass.new }
 {
-    let calls = AtomicU64::new(0);
-    let told = AtomicU64::new(0);
-    let saw = AtomicU64::new(0);
+    let notes = Notes::new();
     let locked = Guarded::lock(pass, guarded, rt, |word, seen| {
-        calls.fetch_add(1, Ordering::SeqCst);
-        told.store(*seen, Ordering::SeqCst);
-        saw.store(word.load(), Ordering::SeqCst);
+        notes.note(word.load(), *seen);
         WaitAction::Abort
     });
     let interrupted = match locked {
@@ -51,9 +46,7 @@ fn lock_and_abort<R: Wait>(
         }
         WaitResult::Interrupted => true,
     };
-    let calls = calls.load(Ordering::SeqCst);
-    let told = told.load(Ordering::SeqCst);
-    (interrupted, calls, told, saw.load(Ordering::SeqCst))
+    (interrupted, notes.noted())
 }
 
 /// Whether `two` is refused while `one` has the guard, and what its `lock` does then.
@@ -62,7 +55,7 @@ fn while_held<R: Wait>(
     guarded: &Guarded<u64>,
     one: &mut GuardedPass,
     two: &mut GuardedPass,
-) -> Option<(bool, (bool, u64, u64, u64))>
+) -> Option<(bool, (bool, (u64, u64, u64)))>
     requires { IsGuardedPass guarded.now one.old × IsGuardedPass guarded.now two.old }
     ensures { IsSamePass one.old one.new × IsSamePass two.old two.new }
 {
@@ -87,81 +80,83 @@ fn one_holder_at_a_time(rt: HostRuntime) -> Result<(), Fail> {
     };
     assert_eq!(rt;
         while_held(&rt, &guarded, &mut one, &mut two),
-        Some((true, (true, 1, 1, 1)))
+        Some((true, (true, (1, 1, 1))))
     );
     assert!(rt; !is_refused(&guarded, &mut two));
-    assert_eq!(rt; lock_and_abort(&rt, &guarded, &mut one), (false, 0, 0, 0));
+    assert_eq!(rt; lock_and_abort(&rt, &guarded, &mut one), (false, (0, 0, 0)));
     Ok(())
 }
 
-/// Holds the value until it is asked for, and tells that it is free. Whether it was asked.
-fn hold_until_asked(
-    guarded: &Guarded<u64>,
-    pass: &mut GuardedPass,
-    locked: &Signal,
-    asked: &Signal,
-    free: &Signal,
-) -> bool
+/// Holds the value until the other thread asks, and leaves 7 in it. Whether that came, and answered before the end of the wake.
+fn hold_until_asked(guarded: &Guarded<u64>, pass: &mut GuardedPass, meeting: &Meeting) -> bool
     requires { IsGuardedPass guarded.now pass.old }
 {
+    let wake = AtomicBool::new(false);
     match Guarded::try_lock(pass, guarded) {
         WaitResult::Success(mut guard) => {
-            locked.give();
-            let was_asked = asked.awaited();
+            let was_asked = meeting.meet() && meeting.meet();
             *guard = 7;
-            Guarded::unlock(guard, |_| free.give());
-            was_asked
+            Guarded::unlock(
+                guard,
+                |_| wake.store(meeting.meet() && meeting.meet(), Ordering::SeqCst),
+            );
+            was_asked && wake.load(Ordering::SeqCst)
         }
         WaitResult::Interrupted => false,
     }
 }
 
-/// Locks with a closure that asks for the value, and answers `Abort` once it is free. What the guard lends, and what the closure noted.
-fn lock_after_abort<R: Wait>(
+/// Locks once the other thread has the value, with a closure that answers so once it is free. What the guard lends, and what the closure
+/// noted.
+fn lock_after_unlock<R: Wait>(
     rt: &R,
     guarded: &Guarded<u64>,
     pass: &mut GuardedPass,
-    locked: &Signal,
-    asked: &Signal,
-    free: &Signal,
+    meeting: &Meeting,
+    action: WaitAction,
 ) -> Option<(u64, (u64, u64, u64))>
     requires { IsGuardedPass guarded.now pass.old }
 {
     let notes = Notes::new();
-    locked.awaited();
+    let is_held = meeting.meet();
     let answer = Guarded::lock(pass, guarded, rt, |word, seen| {
         notes.note(word.load(), *seen);
-        asked.give();
-        free.awaited();
-        WaitAction::Abort
+        if meeting.meet() && meeting.meet() {
+            action
+        } else {
+            WaitAction::Abort
+        }
     });
-    match answer {
+    let found = match answer {
         WaitResult::Success(guard) => {
             let found = *guard;
             Guarded::unlock(guard, |_| ());
-            Some((found, notes.noted()))
+            found
         }
-        WaitResult::Interrupted => None,
-    }
+        WaitResult::Interrupted => return None,
+    };
+    (is_held && meeting.meet()).then_some((found, notes.noted()))
 }
 
+/// The holder is held up in its wake until the other has had the value, so the value is free before the wake; and the other looks once more,
+/// whatever its closure answers then.
 #[test]
 fn a_call_that_was_to_give_up_succeeds(rt: HostRuntime) -> Result<(), Fail> {
-    let Ok((guarded, pass)) = Guarded::new(rt.alloc(), 0u64) else {
-        return Err("no memory")?;
-    };
-    let Ok((mut one, mut two)) = pass.split(&guarded) else {
-        unreachable!()
-    };
-    let locked = Signal::new();
-    let asked = Signal::new();
-    let free = Signal::new();
-    let (was_asked, found) = thread::join(
-        &rt,
-        || hold_until_asked(&guarded, &mut one, &locked, &asked, &free),
-        || lock_after_abort(&rt, &guarded, &mut two, &locked, &asked, &free),
-    );
-    assert!(rt; was_asked);
-    assert_eq!(rt; found, Some((7, (1, 1, 1))));
+    for action in [WaitAction::Abort, WaitAction::Continue] {
+        let Ok((guarded, pass)) = Guarded::new(rt.alloc(), 0u64) else {
+            return Err("no memory")?;
+        };
+        let Ok((mut one, mut two)) = pass.split(&guarded) else {
+            unreachable!()
+        };
+        let meeting = Meeting::of(2);
+        let (met, found) = thread::join(
+            &rt,
+            || hold_until_asked(&guarded, &mut one, &meeting),
+            || lock_after_unlock(&rt, &guarded, &mut two, &meeting, action),
+        );
+        assert!(rt; met);
+        assert_eq!(rt; found, Some((7, (1, 1, 1))));
+    }
     Ok(())
 }

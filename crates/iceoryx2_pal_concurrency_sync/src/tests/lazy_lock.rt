@@ -2,14 +2,16 @@
 mod gives;
 
 ghost use Rattle.std.specs.Prelude.{◌≡◌};
+ghost use Rattle.passes.specs.Parts.{IsWhole};
 ghost use Rattle.passes.specs.Views.{first_view};
 ghost use Rattle.running_once.specs.OnceRule.{no_runs};
 ghost use Rattle.running_spin_lock.specs.ValueRule.{none_held};
 ghost use Rattle.running_spin_lock.specs.SpinShown.{grants_of};
-ghost use Rattle.running_lazy_lock.specs.LazyShown.{IsLazyPass, known_by, known_of_init, init_in, ended_of};
+ghost use Rattle.running_lazy_lock.specs.LazyShown.{IsLazyPass, IsComplete, HasForced, known_by, known_of_init, init_in, ended_of, part_of};
 
 use crate::lazy_lock::{LazyLock, LazyPass};
 use linked_list_allocator::LocalHeap;
+use signal::Meeting;
 use std::sync::Wait;
 use std::sync::atomic::{AtomicU64, Ordering};
 use std::test::Fail;
@@ -58,35 +60,79 @@ fn the_closure_is_taken_once(rt: HostRuntime) -> Result<(), Fail> {
     Ok(())
 }
 
-/// Waits until both threads are here, and forces.
+/// Forces once.
+fn force_once<F: FnOnce() -> u64 + Drop, R: Wait>(
+    rt: &R,
+    lazy: &LazyLock<u64, F>,
+    pass: &mut LazyPass,
+) -> u64
+    requires own { IsLazyPass lazy.now pass.old }
+    requires may { (f : F) → F.IsAlwaysCallable f }
+    ensures forced { HasForced pass.old pass.new }
+    ensures exact { IsWhole (part_of pass.old) → ended_of pass.new ≡ 1 }
+{
+    *LazyLock::force(lazy, rt, pass)
+}
+
+/// Forces by both halves of the whole pass, and joins them: that one knows of the end, and has run the one closure.
+fn force_in_parts<F: FnOnce() -> u64 + Drop, R: Wait>(
+    rt: &R,
+    lazy: &LazyLock<u64, F>,
+    pass: LazyPass,
+) -> (LazyPass, [u64; 3])
+    requires own { IsLazyPass lazy.now pass }
+    requires whole { IsWhole (part_of pass) }
+    requires may { (f : F) → F.IsAlwaysCallable f }
+    ensures own { IsLazyPass lazy.now result.0 }
+    ensures complete { IsComplete result.0 }
+    ensures ran { ended_of result.0 ≡ 1 }
+{
+    let Ok((mut one, mut two)) = pass.split(lazy) else {
+        unreachable!()
+    };
+    let first = force_once(rt, lazy, &mut one);
+    let second = force_once(rt, lazy, &mut two);
+    let Ok(mut pass) = LazyPass::join(one, two, lazy) else {
+        unreachable!()
+    };
+    let third = force_once(rt, lazy, &mut pass);
+    (pass, [first, second, third])
+}
+
+#[test]
+fn parts_are_the_whole_again(rt: HostRuntime) -> Result<(), Fail> {
+    let Ok((lazy, pass)) = LazyLock::new(rt.alloc(), || -> u64 { 42 }) else {
+        return Err("no memory")?;
+    };
+    let (_pass, forced) = force_in_parts(&rt, &lazy, pass);
+    assert_eq!(rt; forced, [42, 42, 42]);
+    Ok(())
+}
+
+/// Waits until both threads are here, and forces. The value, if both were.
 fn meet_and_force<F: FnOnce() -> u64 + Drop, R: Wait>(
     rt: &R,
     lazy: &LazyLock<u64, F>,
     pass: &mut LazyPass,
-    here: &AtomicU64,
-) -> u64
+    meeting: &Meeting,
+) -> Option<u64>
     requires own { IsLazyPass lazy.now pass.old }
     requires may { (f : F) → F.IsAlwaysCallable f }
 {
-    here.fetch_add(1, Ordering::SeqCst);
-    for _ in 0..1_000_000u64 {
-        if here.load(Ordering::SeqCst) == 2 {
-            break;
-        }
-        thread::yield_now();
-    }
-    *LazyLock::force(lazy, rt, pass)
+    let came = meeting.meet();
+    let value = *LazyLock::force(lazy, rt, pass);
+    came.then_some(value)
 }
 
 #[test]
 fn two_threads_force_one_value(rt: HostRuntime) -> Result<(), Fail> {
     let calls = AtomicU64::new(0);
-    let here = AtomicU64::new(0);
+    let meeting = Meeting::of(2);
     let made = LazyLock::new(rt.alloc(), || -> u64 {
-        calls.fetch_add(1, Ordering::SeqCst);
         for _ in 0..100u64 {
             thread::yield_now();
         }
+        calls.fetch_add(1, Ordering::SeqCst);
         42
     });
     let Ok((lazy, pass)) = made else {
@@ -95,12 +141,12 @@ fn two_threads_force_one_value(rt: HostRuntime) -> Result<(), Fail> {
     let Ok((mut one, mut two)) = pass.split(&lazy) else {
         unreachable!()
     };
-    let (first, second) = thread::join(
+    let forced = thread::join(
         &rt,
-        || meet_and_force(&rt, &lazy, &mut one, &here),
-        || meet_and_force(&rt, &lazy, &mut two, &here),
+        || meet_and_force(&rt, &lazy, &mut one, &meeting),
+        || meet_and_force(&rt, &lazy, &mut two, &meeting),
     );
-    assert_eq!(rt; (first, second), (42, 42));
+    assert_eq!(rt; forced, (Some(42), Some(42)));
     assert_eq!(rt; calls.load(Ordering::SeqCst), 1);
     Ok(())
 }

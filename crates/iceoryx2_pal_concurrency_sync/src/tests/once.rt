@@ -5,6 +5,7 @@ ghost use Rattle.passes.specs.Passes.{IsSamePass};
 ghost use Rattle.running_once.specs.OnceShown.{IsOncePass, IsComplete, ended_of, part_of_once, pass_in};
 
 use crate::once::{Once, OncePass};
+use signal::{Meeting, Signal};
 use std::sync::Wait;
 use std::sync::atomic::{AtomicU64, Ordering};
 use std::test::Fail;
@@ -72,24 +73,12 @@ fn it_is_complete_only_after_the_end(rt: HostRuntime) -> Result<(), Fail> {
 /// What the threads of the next test do together.
 #[derive(Drop)]
 struct Work {
-    /// The threads that are about to call.
-    here: AtomicU64,
+    /// Of the threads that are about to call.
+    meeting: Meeting,
     /// How many closures ran.
     runs: AtomicU64,
     /// What the closure made.
     made: AtomicU64,
-}
-
-/// Whether all four threads are here in time.
-fn are_here(here: &AtomicU64) -> bool {
-    here.fetch_add(1, Ordering::SeqCst);
-    for _ in 0..1_000_000u64 {
-        if here.load(Ordering::SeqCst) == 4 {
-            return true;
-        }
-        thread::yield_now();
-    }
-    false
 }
 
 /// Waits until all four threads are here, calls with a closure that takes its time, and tells whether it sees all that the closure did.
@@ -97,7 +86,7 @@ fn meet_and_call<R: Wait>(rt: &R, once: &Once, pass: &mut OncePass, work: &Work)
     requires { IsOncePass once.now pass.old }
     ensures { IsSamePass (pass_in pass.old) (pass_in pass.new) }
 {
-    let came = are_here(&work.here);
+    let came = work.meeting.meet();
     once.call_once(rt, pass, || {
         work.runs.fetch_add(1, Ordering::SeqCst);
         for _ in 0..100u64 {
@@ -154,12 +143,72 @@ fn meet_in_four_threads<R: Threads + Wait + Sync>(
 fn of_four_threads_one_runs_its_closure(rt: HostRuntime) -> Result<(), Fail> {
     let (once, pass) = Once::new(rt.alloc())?;
     let work = Work {
-        here: AtomicU64::new(0),
+        meeting: Meeting::of(4),
         runs: AtomicU64::new(0),
         made: AtomicU64::new(0),
     };
     assert!(rt; meet_in_four_threads(&rt, &once, pass, &work));
     assert_eq!(rt; work.runs.load(Ordering::SeqCst), 1);
+    Ok(())
+}
+
+/// What two threads tell each other, of which one calls while the closure of the other runs.
+#[derive(Drop)]
+struct Told {
+    /// The closure runs; then, the other is about to call.
+    meeting: Meeting,
+    /// The closure is about to end.
+    ending: Signal,
+}
+
+/// Calls with a closure that ends a while after the other thread has begun to call. Whether that came.
+fn call_first<R: Wait>(rt: &R, once: &Once, pass: &mut OncePass, told: &Told) -> bool
+    requires { IsOncePass once.now pass.old }
+{
+    let came = Signal::new();
+    once.call_once(rt, pass, || {
+        if told.meeting.meet() && told.meeting.meet() {
+            came.give();
+        }
+        for _ in 0..1000u64 {
+            thread::yield_now();
+        }
+        told.ending.give();
+    });
+    came.is_given()
+}
+
+/// Calls while the closure of the other thread runs. Whether the once was not complete before, that closure was about to end when the call
+/// returned, and its own did not run.
+fn call_second<R: Wait>(rt: &R, once: &Once, pass: &mut OncePass, told: &Told) -> bool
+    requires { IsOncePass once.now pass.old }
+{
+    let runs = told.meeting.meet();
+    let was_complete = once.is_completed(pass);
+    let ran = Signal::new();
+    let came = told.meeting.meet();
+    once.call_once(rt, pass, || ran.give());
+    runs && came && !was_complete && told.ending.is_given() && !ran.is_given()
+}
+
+/// A call that comes while the closure of another runs returns only once that has ended.
+#[test]
+fn a_second_caller_waits_for_the_closure(rt: HostRuntime) -> Result<(), Fail> {
+    let (once, pass) = Once::new(rt.alloc())?;
+    let Ok((mut one, mut two)) = pass.split(&once) else {
+        unreachable!()
+    };
+    let told = Told {
+        meeting: Meeting::of(2),
+        ending: Signal::new(),
+    };
+    let (first, second) = thread::join(
+        &rt,
+        || call_first(&rt, &once, &mut one, &told),
+        || call_second(&rt, &once, &mut two, &told),
+    );
+    assert!(rt; first);
+    assert!(rt; second);
     Ok(())
 }
 

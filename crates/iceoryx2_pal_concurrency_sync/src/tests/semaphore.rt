@@ -9,8 +9,8 @@ ghost use Rattle.tallies.specs.SemaphoreRule.{first_permits};
 ghost use Rattle.running_semaphore.specs.SemaphoreShown.{IsSemPass, HasCounted, given_of, taken_of};
 
 use crate::strategy::semaphore::{SemPass, Semaphore};
-use crate::{WaitAction, WaitResult, WaitWord};
-use signal::{Notes, Signal};
+use crate::{WaitAction, WaitResult};
+use signal::{Gathering, Meeting, Notes, Signal};
 use std::sync::Wait;
 use std::sync::atomic::{AtomicU64, Ordering};
 use std::test::Fail;
@@ -62,47 +62,38 @@ fn two_of_three_take(rt: HostRuntime) -> Result<(), Fail> {
     Ok(())
 }
 
-/// How often `post` calls its wake closure, and the value that the closure sees.
-fn post_counted(semaphore: &Semaphore, pass: &mut SemPass, value: u64) -> (u64, u64)
+/// Posts none and then one. What the wake closures saw.
+fn post_gathered(semaphore: &Semaphore, pass: &mut SemPass) -> (u64, u64)
     requires { IsSemPass semaphore.now pass.old }
-    ensures { IsSamePass pass.old pass.new }
 {
-    let calls = AtomicU64::new(0);
-    let word = AtomicU64::new(9);
-    let wakes = |now: &WaitWord| {
-        calls.fetch_add(1, Ordering::SeqCst);
-        word.store(now.load(), Ordering::SeqCst);
-    };
-    semaphore.post(pass, wakes, value);
-    (calls.load(Ordering::SeqCst), word.load(Ordering::SeqCst))
+    let gathering = Gathering::new();
+    semaphore.post(pass, |word| gathering.wake_one(word.load()), 0);
+    semaphore.post(pass, |word| gathering.wake_one(word.load()), 1);
+    gathering.gathered()
 }
 
 #[test]
 fn post_wakes_once_after_its_add(rt: HostRuntime) -> Result<(), Fail> {
     let (semaphore, mut pass) = Semaphore::new(rt.alloc(), 2)?;
-    assert_eq!(rt; post_counted(&semaphore, &mut pass, 0), (1, 2));
-    assert_eq!(rt; post_counted(&semaphore, &mut pass, 1), (1, 3));
+    assert_eq!(rt; post_gathered(&semaphore, &mut pass), (22, 23));
     Ok(())
 }
 
-/// What a `wait` did whose wait closure answers `Abort` at once: its answer, how often it asked, and with what.
+/// A `wait` whose wait closure answers `Abort` at once: its answer, and what the closure noted.
 fn wait_and_abort<R: Wait>(
     rt: &R,
     semaphore: &Semaphore,
     pass: &mut SemPass,
-) -> (WaitResult<()>, u64, u64)
+) -> (WaitResult<()>, (u64, u64, u64))
     requires { IsSemPass semaphore.now pass.old }
     ensures { IsSamePass pass.old pass.new }
 {
-    let calls = AtomicU64::new(0);
-    let got = AtomicU64::new(9);
-    let answer = semaphore.wait(rt, pass, |_, seen| {
-        calls.fetch_add(1, Ordering::SeqCst);
-        got.store(*seen, Ordering::SeqCst);
+    let notes = Notes::new();
+    let answer = semaphore.wait(rt, pass, |word, seen| {
+        notes.note(word.load(), *seen);
         WaitAction::Abort
     });
-    let calls = calls.load(Ordering::SeqCst);
-    (answer, calls, got.load(Ordering::SeqCst))
+    (answer, notes.noted())
 }
 
 #[test]
@@ -110,11 +101,11 @@ fn a_waiter_aborts(rt: HostRuntime) -> Result<(), Fail> {
     let (semaphore, mut pass) = Semaphore::new(rt.alloc(), 1)?;
     assert_eq!(rt;
         wait_and_abort(&rt, &semaphore, &mut pass),
-        (WaitResult::Success(()), 0, 9)
+        (WaitResult::Success(()), (0, 0, 0))
     );
     assert_eq!(rt;
         wait_and_abort(&rt, &semaphore, &mut pass),
-        (WaitResult::Interrupted, 1, 0)
+        (WaitResult::Interrupted, (1, 0, 0))
     );
     assert_eq!(rt; semaphore.close(pass), 0);
     Ok(())
@@ -167,60 +158,54 @@ fn an_abort_is_obeyed(rt: HostRuntime) -> Result<(), Fail> {
     Ok(())
 }
 
-/// Posts 1 once the other thread asks for it, and tells it.
-fn post_when_asked(
-    semaphore: &Semaphore,
-    pass: &mut SemPass,
-    asked: &Signal,
-    posted: &Signal,
-) -> bool
+/// Posts 1 once the other thread asks. Whether that came.
+fn post_when_asked(semaphore: &Semaphore, pass: &mut SemPass, meeting: &Meeting) -> bool
     requires { IsSemPass semaphore.now pass.old }
 {
-    if !asked.awaited() {
-        return false;
-    }
+    let was_asked = meeting.meet();
     semaphore.post(pass, |_| (), 1);
-    posted.give();
-    true
+    was_asked && meeting.meet()
 }
 
-/// Waits with a closure that answers `Abort` only after the other thread has posted. What that noted, too.
+/// Waits with a closure that answers so once the other thread has posted. What the closure noted, too.
 fn wait_until_posted<R: Wait>(
     rt: &R,
     semaphore: &Semaphore,
     pass: &mut SemPass,
-    asked: &Signal,
-    posted: &Signal,
+    meeting: &Meeting,
+    action: WaitAction,
 ) -> (WaitResult<()>, (u64, u64, u64))
     requires { IsSemPass semaphore.now pass.old }
 {
     let notes = Notes::new();
     let answer = semaphore.wait(rt, pass, |word, seen| {
         notes.note(word.load(), *seen);
-        asked.give();
-        if posted.awaited() {
-            WaitAction::Abort
+        if meeting.meet() && meeting.meet() {
+            action
         } else {
-            WaitAction::Continue
+            WaitAction::Abort
         }
     });
     (answer, notes.noted())
 }
 
+/// The call looks once more, whatever its closure answers.
 #[test]
 fn success_after_abort(rt: HostRuntime) -> Result<(), Fail> {
-    let (semaphore, pass) = Semaphore::new(rt.alloc(), 0)?;
-    let Ok((mut one, mut two)) = pass.split(&semaphore) else {
-        unreachable!()
-    };
-    let (asked, posted) = (Signal::new(), Signal::new());
-    let (did, answer) = thread::join(
-        &rt,
-        || post_when_asked(&semaphore, &mut one, &asked, &posted),
-        || wait_until_posted(&rt, &semaphore, &mut two, &asked, &posted),
-    );
-    assert!(rt; did);
-    assert_eq!(rt; answer, (WaitResult::Success(()), (1, 0, 0)));
+    for action in [WaitAction::Abort, WaitAction::Continue] {
+        let (semaphore, pass) = Semaphore::new(rt.alloc(), 0)?;
+        let Ok((mut one, mut two)) = pass.split(&semaphore) else {
+            unreachable!()
+        };
+        let meeting = Meeting::of(2);
+        let (met, answer) = thread::join(
+            &rt,
+            || post_when_asked(&semaphore, &mut one, &meeting),
+            || wait_until_posted(&rt, &semaphore, &mut two, &meeting, action),
+        );
+        assert!(rt; met);
+        assert_eq!(rt; answer, (WaitResult::Success(()), (1, 0, 0)));
+    }
     Ok(())
 }
 

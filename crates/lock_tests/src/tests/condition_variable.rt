@@ -9,42 +9,34 @@ use iceoryx2_pal_concurrency_sync::strategy::condition_variable::{
 };
 use iceoryx2_pal_concurrency_sync::strategy::mutex::{Mutex, MutexHold, MutexPass};
 use iceoryx2_pal_concurrency_sync::{WaitAction, WaitResult, WaitWord};
-use signal::{Notes, Signal};
+use signal::{Gathering, Meeting, Notes};
 use std::sync::Wait;
 use std::sync::atomic::{AtomicBool, AtomicU64, Ordering};
 use std::test::Fail;
 use std::thread;
 
-/// How often `notify_one` and `notify_all` call their closures where nobody waits.
-fn notify_counted(cond: &ConditionVariable, pass: &mut CondPass) -> (u64, u64)
+/// Notifies one and then all. What their closures saw of the permits.
+fn notify_gathered(cond: &ConditionVariable, pass: &mut CondPass) -> (u64, u64)
     requires own { IsCondPass cond.now pass.old }
     ensures stayed { HasStayed pass.old pass.new }
 {
-    let ones = AtomicU64::new(0);
-    let alls = AtomicU64::new(0);
-    cond.notify_one(pass, |_| {
-        ones.fetch_add(1, Ordering::SeqCst);
-    });
-    cond.notify_all(pass, |_| {
-        alls.fetch_add(1, Ordering::SeqCst);
-    });
-    (ones.load(Ordering::SeqCst), alls.load(Ordering::SeqCst))
+    let gathering = Gathering::new();
+    cond.notify_one(pass, |word| gathering.wake_one(word.load()));
+    cond.notify_all(pass, |word| gathering.wake_all(word.load()));
+    gathering.gathered()
 }
 
-/// Whether a wait whose closures answer `Abort` gave up with the mutex, how often it called each of them, and the word of the mutex that
-/// its wake closure saw.
+/// What the closures of a wait were told that all answer `Abort`, that of the mutex as one that acts, if it gave up with the mutex.
 fn wait_and_abort<R: Wait>(
     rt: &R,
     cond: &ConditionVariable,
     pass: &mut CondPass,
     mutex: &Mutex,
     mtx_pass: &mut MutexPass,
-) -> Option<(u64, u64, u64)>
+) -> Option<(u64, u64)>
     requires own { IsCondPass cond.now pass.old × IsMutexPass mutex.now mtx_pass.old }
 {
-    let asked = AtomicU64::new(0);
-    let mtx_asked = AtomicU64::new(0);
-    let word = AtomicU64::new(9);
+    let gathering = Gathering::new();
     let WaitResult::Success(hold) = Mutex::try_lock(mtx_pass, mutex) else {
         return None;
     };
@@ -54,22 +46,20 @@ fn wait_and_abort<R: Wait>(
         rt,
         pass,
         mutex,
-        |now| word.store(now.load(), Ordering::SeqCst),
-        |_, _| {
-            asked.fetch_add(1, Ordering::SeqCst);
+        |word| gathering.wake_one(word.load()),
+        |_, seen| {
+            gathering.wait(*seen);
             WaitAction::Abort
         },
-        |_, _| {
-            mtx_asked.fetch_add(1, Ordering::SeqCst);
+        |_, seen| {
+            gathering.act(*seen);
             WaitAction::Abort
         },
     );
     match answer {
         CondResult::Interrupted(Some(hold)) => {
             mutex.unlock(hold, |_| ());
-            let asked = asked.load(Ordering::SeqCst);
-            let mtx_asked = mtx_asked.load(Ordering::SeqCst);
-            Some((asked, mtx_asked, word.load(Ordering::SeqCst)))
+            Some(gathering.gathered())
         }
         CondResult::Success(hold) => {
             mutex.unlock(hold, |_| ());
@@ -92,6 +82,7 @@ fn is_free(mutex: &Mutex, pass: &mut MutexPass) -> bool
     }
 }
 
+/// It wakes after its unlock, and then asks, told that there is no permit.
 #[test]
 fn a_notify_before_the_wait_is_lost(rt: HostRuntime) -> Result<(), Fail> {
     let (mutex, mutex_pass) = Mutex::new(rt.alloc())?;
@@ -99,10 +90,10 @@ fn a_notify_before_the_wait_is_lost(rt: HostRuntime) -> Result<(), Fail> {
         unreachable!()
     };
     let (cond, mut pass) = ConditionVariable::new(rt.alloc())?;
-    assert_eq!(rt; notify_counted(&cond, &mut pass), (1, 1));
+    assert_eq!(rt; notify_gathered(&cond, &mut pass), (23, 0));
     assert_eq!(rt;
         wait_and_abort(&rt, &cond, &mut pass, &mutex, &mut one),
-        Some((1, 0, 0))
+        Some((21, 0))
     );
     assert!(rt; is_free(&mutex, &mut other));
     Ok(())
@@ -258,16 +249,16 @@ fn two_threads_hand_a_turn_to_each_other(rt: HostRuntime) -> Result<(), Fail> {
     Ok(())
 }
 
-/// Waits with a closure that says that it is asked, and answers `Abort` once the other thread has done its part. Then waits again, with
-/// closures that answer `Abort` at once. What each answered, where it has the mutex: whether it took a permit.
+/// Waits with a closure that answers so once the other thread has notified. Then waits again, with closures that answer `Abort` at once. What
+/// each answered, where it has the mutex: whether it took a permit.
 fn wait_twice<R: Wait>(
     rt: &R,
     cond: &ConditionVariable,
     pass: &mut CondPass,
     mutex: &Mutex,
     mtx_pass: &mut MutexPass,
-    asked: &Signal,
-    done: &Signal,
+    meeting: &Meeting,
+    action: WaitAction,
 ) -> Option<(bool, bool)>
     requires own { IsCondPass cond.now pass.old × IsMutexPass mutex.now mtx_pass.old }
 {
@@ -279,11 +270,10 @@ fn wait_twice<R: Wait>(
         mtx_pass,
         |_| (),
         |_, _| {
-            asked.give();
-            if done.awaited() {
-                WaitAction::Abort
+            if meeting.meet() && meeting.meet() {
+                action
             } else {
-                WaitAction::Continue
+                WaitAction::Abort
             }
         },
     )?;
@@ -340,61 +330,54 @@ pub(super) fn wait_once<R: Wait, K: Fn(&WaitWord), W: Fn(&WaitWord, &u64) -> Wai
     }
 }
 
-/// Notifies twice once the other thread sleeps, and tells it. Whether the mutex was free meanwhile.
+/// Notifies all and one once the other thread sleeps. What the closures saw of the permits, if that came and the mutex was free.
 fn notify_the_sleeper(
     cond: &ConditionVariable,
     pass: &mut CondPass,
     mutex: &Mutex,
     mtx_pass: &mut MutexPass,
-    asked: &Signal,
-    done: &Signal,
-) -> bool
+    meeting: &Meeting,
+) -> Option<(u64, u64)>
     requires own { IsCondPass cond.now pass.old × IsMutexPass mutex.now mtx_pass.old }
 {
-    let was_asked = asked.awaited();
+    let was_asked = meeting.meet();
     let was_free = is_free(mutex, mtx_pass);
-    cond.notify_one(pass, |_| ());
-    cond.notify_one(pass, |_| ());
-    done.give();
-    was_asked && was_free
+    let gathered = notify_gathered(cond, pass);
+    (was_asked && was_free && meeting.meet()).then_some(gathered)
 }
 
-/// The waiter is counted while it sleeps, so both notifies give a permit: it takes one although its closure answers `Abort`, and the other
-/// stays for its next wait.
+/// The waiter is counted while it sleeps, so both notifies give a permit, and wake then: it takes one whatever its closure answers, and the
+/// other stays for its next wait.
 #[test]
 fn a_sleeper_is_counted_and_the_mutex_is_free(rt: HostRuntime) -> Result<(), Fail> {
-    let (mutex, pass) = Mutex::new(rt.alloc())?;
-    let Ok((mut mtx_one, mut mtx_two)) = pass.split(&mutex) else {
-        unreachable!()
-    };
-    let (cond, pass) = ConditionVariable::new(rt.alloc())?;
-    let Ok((mut one, mut two)) = pass.split(&cond) else {
-        unreachable!()
-    };
-    let (asked, done) = (Signal::new(), Signal::new());
-    let (was_free, took) = thread::join(
-        &rt,
-        || notify_the_sleeper(&cond, &mut one, &mutex, &mut mtx_one, &asked, &done),
-        || wait_twice(&rt, &cond, &mut two, &mutex, &mut mtx_two, &asked, &done),
-    );
-    assert!(rt; was_free);
-    assert_eq!(rt; took, Some((true, true)));
+    for action in [WaitAction::Abort, WaitAction::Continue] {
+        let (mutex, pass) = Mutex::new(rt.alloc())?;
+        let Ok((mut mtx_one, mut mtx_two)) = pass.split(&mutex) else {
+            unreachable!()
+        };
+        let (cond, pass) = ConditionVariable::new(rt.alloc())?;
+        let Ok((mut one, mut two)) = pass.split(&cond) else {
+            unreachable!()
+        };
+        let meeting = Meeting::of(2);
+        let (gathered, took) = thread::join(
+            &rt,
+            || notify_the_sleeper(&cond, &mut one, &mutex, &mut mtx_one, &meeting),
+            || wait_twice(&rt, &cond, &mut two, &mutex, &mut mtx_two, &meeting, action),
+        );
+        assert_eq!(rt; gathered, Some((23, 12)));
+        assert_eq!(rt; took, Some((true, true)));
+    }
     Ok(())
 }
 
-/// Notifies as soon as the other thread has unlocked, and tells it.
-fn notify_the_unlocker(
-    cond: &ConditionVariable,
-    pass: &mut CondPass,
-    unlocked: &Signal,
-    notified: &Signal,
-) -> bool
+/// Notifies as soon as the other thread has unlocked. Whether that came.
+fn notify_the_unlocker(cond: &ConditionVariable, pass: &mut CondPass, meeting: &Meeting) -> bool
     requires own { IsCondPass cond.now pass.old }
 {
-    let was_unlocked = unlocked.awaited();
+    let was_unlocked = meeting.meet();
     cond.notify_one(pass, |_| ());
-    notified.give();
-    was_unlocked
+    was_unlocked && meeting.meet()
 }
 
 /// A notify by whoever has the mutex next is not lost: the waiter was counted before it unlocked. So it takes a permit, although its
@@ -406,10 +389,10 @@ fn a_waiter_is_counted_before_it_unlocks(rt: HostRuntime) -> Result<(), Fail> {
     let Ok((mut one, mut two)) = pass.split(&cond) else {
         unreachable!()
     };
-    let (unlocked, notified) = (Signal::new(), Signal::new());
+    let meeting = Meeting::of(2);
     let (was_unlocked, took) = thread::join(
         &rt,
-        || notify_the_unlocker(&cond, &mut one, &unlocked, &notified),
+        || notify_the_unlocker(&cond, &mut one, &meeting),
         || {
             wait_once(
                 &rt,
@@ -418,8 +401,7 @@ fn a_waiter_is_counted_before_it_unlocks(rt: HostRuntime) -> Result<(), Fail> {
                 &mutex,
                 &mut mtx_pass,
                 |_| {
-                    unlocked.give();
-                    let _ = notified.awaited();
+                    let _ = meeting.meet() && meeting.meet();
                 },
                 |_, _| WaitAction::Abort,
             )
@@ -430,38 +412,25 @@ fn a_waiter_is_counted_before_it_unlocks(rt: HostRuntime) -> Result<(), Fail> {
     Ok(())
 }
 
-/// How far a sleeper and the thread that locks it out have come.
-#[derive(Drop)]
-struct LockOut {
-    asked: Signal,
-    locked: Signal,
-    locking: Signal,
-    notified: Signal,
-    over: Signal,
-    freed: Signal,
-}
-
-/// Locks the mutex once the other thread sleeps, notifies once that one locks, and holds the mutex until its wait is over.
+/// Locks the mutex once the other thread sleeps, notifies once that one locks, and holds the mutex until its wait is over. Whether all of it
+/// came.
 fn lock_out_the_sleeper(
     cond: &ConditionVariable,
     pass: &mut CondPass,
     mutex: &Mutex,
     mtx_pass: &mut MutexPass,
-    steps: &LockOut,
+    meeting: &Meeting,
 ) -> bool
     requires own { IsCondPass cond.now pass.old × IsMutexPass mutex.now mtx_pass.old }
 {
-    let was_asked = steps.asked.awaited();
+    let was_asked = meeting.meet();
     match Mutex::try_lock(mtx_pass, mutex) {
         WaitResult::Success(hold) => {
-            steps.locked.give();
-            let was_locking = steps.locking.awaited();
+            let was_locking = was_asked && meeting.meet() && meeting.meet();
             cond.notify_one(pass, |_| ());
-            steps.notified.give();
-            let was_over = steps.over.awaited();
+            let was_over = was_locking && meeting.meet() && meeting.meet();
             mutex.unlock(hold, |_| ());
-            steps.freed.give();
-            was_asked && was_locking && was_over
+            was_over && meeting.meet()
         }
         WaitResult::Interrupted => false,
     }
@@ -476,7 +445,7 @@ fn wait_locked_out<R: Wait>(
     pass: &mut CondPass,
     mutex: &Mutex,
     mtx_pass: &mut MutexPass,
-    steps: &LockOut,
+    meeting: &Meeting,
 ) -> Option<(u64, bool)>
     requires own { IsCondPass cond.now pass.old × IsMutexPass mutex.now mtx_pass.old }
 {
@@ -492,28 +461,22 @@ fn wait_locked_out<R: Wait>(
         mutex,
         |_| (),
         |_, _| {
-            steps.asked.give();
-            if steps.locked.awaited() {
-                WaitAction::Abort
-            } else {
-                WaitAction::Continue
-            }
+            let _ = meeting.meet() && meeting.meet();
+            WaitAction::Abort
         },
         |_, _| {
             calls.fetch_add(1, Ordering::SeqCst);
-            steps.locking.give();
-            let _ = steps.notified.awaited();
+            let _ = meeting.meet() && meeting.meet();
             WaitAction::Abort
         },
     );
-    steps.over.give();
     match answer {
         WaitResult::Success(Woken::Signalled(hold) | Woken::Unsignalled(hold)) => {
             mutex.unlock(hold, |_| ());
             None
         }
         WaitResult::Interrupted => {
-            let _ = steps.freed.awaited();
+            let _ = meeting.meet() && meeting.meet();
             let took = wait_once(
                 rt,
                 cond,
@@ -539,18 +502,11 @@ fn gives_up_without_the_mutex(rt: HostRuntime) -> Result<(), Fail> {
     let Ok((mut one, mut two)) = pass.split(&cond) else {
         unreachable!()
     };
-    let steps = LockOut {
-        asked: Signal::new(),
-        locked: Signal::new(),
-        locking: Signal::new(),
-        notified: Signal::new(),
-        over: Signal::new(),
-        freed: Signal::new(),
-    };
+    let meeting = Meeting::of(2);
     let (was_over, asked_again) = thread::join(
         &rt,
-        || lock_out_the_sleeper(&cond, &mut one, &mutex, &mut mtx_one, &steps),
-        || wait_locked_out(&rt, &cond, &mut two, &mutex, &mut mtx_two, &steps),
+        || lock_out_the_sleeper(&cond, &mut one, &mutex, &mut mtx_one, &meeting),
+        || wait_locked_out(&rt, &cond, &mut two, &mutex, &mut mtx_two, &meeting),
     );
     assert!(rt; was_over);
     assert_eq!(rt; asked_again, Some((1, false)));
@@ -563,19 +519,17 @@ fn free_the_mutex(
     pass: &mut CondPass,
     mutex: &Mutex,
     mtx_pass: &mut MutexPass,
-    steps: &LockOut,
+    meeting: &Meeting,
 ) -> bool
     requires own { IsCondPass cond.now pass.old × IsMutexPass mutex.now mtx_pass.old }
 {
-    let was_asked = steps.asked.awaited();
+    let was_asked = meeting.meet();
     match Mutex::try_lock(mtx_pass, mutex) {
         WaitResult::Success(hold) => {
             cond.notify_one(pass, |_| ());
-            steps.locked.give();
-            let was_locking = steps.locking.awaited();
+            let was_locking = was_asked && meeting.meet() && meeting.meet();
             mutex.unlock(hold, |_| ());
-            steps.freed.give();
-            was_asked && was_locking
+            was_locking && meeting.meet()
         }
         WaitResult::Interrupted => false,
     }
@@ -589,7 +543,7 @@ fn wait_for_the_mutex<R: Wait>(
     pass: &mut CondPass,
     mutex: &Mutex,
     mtx_pass: &mut MutexPass,
-    steps: &LockOut,
+    meeting: &Meeting,
 ) -> Option<[(u64, u64, u64); 2]>
     requires own { IsCondPass cond.now pass.old × IsMutexPass mutex.now mtx_pass.old }
 {
@@ -606,14 +560,12 @@ fn wait_for_the_mutex<R: Wait>(
         |_| (),
         |word, seen| {
             notes.note(word.load(), *seen);
-            steps.asked.give();
-            let _ = steps.locked.awaited();
+            let _ = meeting.meet() && meeting.meet();
             WaitAction::Abort
         },
         |word, seen| {
             mtx_notes.note(word.load(), *seen);
-            steps.locking.give();
-            let _ = steps.freed.awaited();
+            let _ = meeting.meet() && meeting.meet();
             WaitAction::Abort
         },
     );
@@ -641,18 +593,11 @@ fn success_after_both_aborts(rt: HostRuntime) -> Result<(), Fail> {
     let Ok((mut one, mut two)) = pass.split(&cond) else {
         unreachable!()
     };
-    let steps = LockOut {
-        asked: Signal::new(),
-        locked: Signal::new(),
-        locking: Signal::new(),
-        notified: Signal::new(),
-        over: Signal::new(),
-        freed: Signal::new(),
-    };
+    let meeting = Meeting::of(2);
     let (was_freed, noted) = thread::join(
         &rt,
-        || free_the_mutex(&cond, &mut one, &mutex, &mut mtx_one, &steps),
-        || wait_for_the_mutex(&rt, &cond, &mut two, &mutex, &mut mtx_two, &steps),
+        || free_the_mutex(&cond, &mut one, &mutex, &mut mtx_one, &meeting),
+        || wait_for_the_mutex(&rt, &cond, &mut two, &mutex, &mut mtx_two, &meeting),
     );
     assert!(rt; was_freed);
     assert_eq!(rt; noted, Some([(1, 0, 0), (1, 1, 1)]));

@@ -6,7 +6,7 @@ ghost use Rattle.running_mutex.specs.MutexShown.{IsMutexPass, IsAlone, HasStayed
 
 use iceoryx2_pal_concurrency_sync::strategy::mutex::{Mutex, MutexPass};
 use iceoryx2_pal_concurrency_sync::{WaitAction, WaitResult, wake_nobody, yield_and_go_on};
-use signal::{Notes, Signal};
+use signal::{Gathering, Meeting, Notes, Signal};
 use std::alloc::Global;
 use std::sync::Wait;
 use std::sync::atomic::{AtomicU64, Ordering};
@@ -126,19 +126,14 @@ fn one_holder_at_a_time(rt: HostRuntime) -> Result<(), Fail> {
     Ok(())
 }
 
-/// What a `lock` did whose wait closure answers `Abort` at once: whether it was interrupted, how often it asked, with what, and what
-/// the closure saw of the word.
-fn lock_and_abort<R: Wait>(rt: &R, mutex: &Mutex, pass: &mut MutexPass) -> (bool, u64, u64, u64)
+/// A `lock` whose wait closure answers `Abort` at once: whether it was interrupted, and what the closure noted.
+fn lock_and_abort<R: Wait>(rt: &R, mutex: &Mutex, pass: &mut MutexPass) -> (bool, (u64, u64, u64))
     requires { IsMutexPass mutex.now pass.old }
     ensures { IsSamePass pass.old pass.new }
 {
-    let calls = AtomicU64::new(0);
-    let got = AtomicU64::new(0);
-    let saw = AtomicU64::new(0);
+    let notes = Notes::new();
     let locked = Mutex::lock(pass, mutex, rt, |word, seen| {
-        calls.fetch_add(1, Ordering::SeqCst);
-        got.store(*seen, Ordering::SeqCst);
-        saw.store(word.load(), Ordering::SeqCst);
+        notes.note(word.load(), *seen);
         WaitAction::Abort
     });
     let interrupted = match locked {
@@ -148,9 +143,7 @@ fn lock_and_abort<R: Wait>(rt: &R, mutex: &Mutex, pass: &mut MutexPass) -> (bool
         }
         WaitResult::Interrupted => true,
     };
-    let calls = calls.load(Ordering::SeqCst);
-    let got = got.load(Ordering::SeqCst);
-    (interrupted, calls, got, saw.load(Ordering::SeqCst))
+    (interrupted, notes.noted())
 }
 
 /// The same while `one` has the hold.
@@ -159,7 +152,7 @@ fn abort_while_held<R: Wait>(
     mutex: &Mutex,
     one: &mut MutexPass,
     two: &mut MutexPass,
-) -> Option<(bool, u64, u64, u64)>
+) -> Option<(bool, (u64, u64, u64))>
     requires { IsMutexPass mutex.now one.old × IsMutexPass mutex.now two.old }
     ensures { IsSamePass one.old one.new × IsSamePass two.old two.new }
 {
@@ -181,9 +174,9 @@ fn a_waiter_aborts(rt: HostRuntime) -> Result<(), Fail> {
     };
     assert_eq!(rt;
         abort_while_held(&rt, &mutex, &mut one, &mut two),
-        Some((true, 1, 1, 1))
+        Some((true, (1, 1, 1)))
     );
-    assert_eq!(rt; lock_and_abort(&rt, &mutex, &mut two), (false, 0, 0, 0));
+    assert_eq!(rt; lock_and_abort(&rt, &mutex, &mut two), (false, (0, 0, 0)));
     Ok(())
 }
 
@@ -303,19 +296,15 @@ fn an_abort_is_obeyed(rt: HostRuntime) -> Result<(), Fail> {
     Ok(())
 }
 
-/// How often `unlock` calls its wake closure, and the word that the closure sees.
-fn unlock_counted(mutex: &Mutex, pass: &mut MutexPass) -> Option<(u64, u64)>
+/// What the wake closure of an `unlock` was told.
+fn unlock_gathered(mutex: &Mutex, pass: &mut MutexPass) -> Option<(u64, u64)>
     requires { IsMutexPass mutex.now pass.old }
 {
-    let calls = AtomicU64::new(0);
-    let word = AtomicU64::new(9);
+    let gathering = Gathering::new();
     match Mutex::try_lock(pass, mutex) {
         WaitResult::Success(hold) => {
-            mutex.unlock(hold, |now| {
-                calls.fetch_add(1, Ordering::SeqCst);
-                word.store(now.load(), Ordering::SeqCst);
-            });
-            Some((calls.load(Ordering::SeqCst), word.load(Ordering::SeqCst)))
+            mutex.unlock(hold, |word| gathering.wake_one(word.load()));
+            Some(gathering.gathered())
         }
         WaitResult::Interrupted => None,
     }
@@ -324,79 +313,72 @@ fn unlock_counted(mutex: &Mutex, pass: &mut MutexPass) -> Option<(u64, u64)>
 #[test]
 fn unlock_wakes_once_after_its_store(rt: HostRuntime) -> Result<(), Fail> {
     let (mutex, mut pass) = Mutex::new(rt.alloc())?;
-    assert_eq!(rt; unlock_counted(&mutex, &mut pass), Some((1, 0)));
+    assert_eq!(rt; unlock_gathered(&mutex, &mut pass), Some((2, 0)));
     Ok(())
 }
 
-/// Locks, and unlocks only once the other thread asks for it. Tells of both.
-fn unlock_when_asked(
-    mutex: &Mutex,
-    pass: &mut MutexPass,
-    locked: &Signal,
-    asked: &Signal,
-    unlocked: &Signal,
-) -> bool
+/// Locks, and unlocks only once the other thread asks. Whether that came.
+fn unlock_when_asked(mutex: &Mutex, pass: &mut MutexPass, meeting: &Meeting) -> bool
     requires { IsMutexPass mutex.now pass.old }
 {
     match Mutex::try_lock(pass, mutex) {
         WaitResult::Success(hold) => {
-            locked.give();
-            let was_asked = asked.awaited();
+            let was_asked = meeting.meet() && meeting.meet();
             mutex.unlock(hold, |_| ());
-            unlocked.give();
-            was_asked
+            was_asked && meeting.meet()
         }
         WaitResult::Interrupted => false,
     }
 }
 
-/// Locks with a closure that asks for the mutex, and answers `Abort` only once it was unlocked. What that noted, if the call succeeded.
+/// Locks once the other thread has the mutex, with a closure that answers so once that has unlocked it. What the closure noted, if the call
+/// succeeded.
 fn lock_after_unlock<R: Wait>(
     rt: &R,
     mutex: &Mutex,
     pass: &mut MutexPass,
-    locked: &Signal,
-    asked: &Signal,
-    unlocked: &Signal,
+    meeting: &Meeting,
+    action: WaitAction,
 ) -> Option<(u64, u64, u64)>
     requires { IsMutexPass mutex.now pass.old }
 {
     let notes = Notes::new();
-    locked.awaited();
+    let is_locked = meeting.meet();
     let answer = Mutex::lock(pass, mutex, rt, |word, seen| {
         notes.note(word.load(), *seen);
-        asked.give();
-        if unlocked.awaited() {
-            WaitAction::Abort
+        if meeting.meet() && meeting.meet() {
+            action
         } else {
-            WaitAction::Continue
+            WaitAction::Abort
         }
     });
     match answer {
         WaitResult::Success(hold) => {
             mutex.unlock(hold, |_| ());
-            Some(notes.noted())
+            is_locked.then_some(notes.noted())
         }
         WaitResult::Interrupted => None,
     }
 }
 
 /// The holder lets go only after the other call has asked its closure, so both calls are under way at once; and that call looks
-/// once more after its closure answered `Abort`.
+/// once more, whatever its closure answers then.
 #[test]
 fn two_calls_meet_and_success_after_abort(rt: HostRuntime) -> Result<(), Fail> {
-    let (mutex, pass) = Mutex::new(rt.alloc())?;
-    let Ok((mut one, mut two)) = pass.split(&mutex) else {
-        unreachable!()
-    };
-    let (locked, asked, unlocked) = (Signal::new(), Signal::new(), Signal::new());
-    let (was_asked, noted) = thread::join(
-        &rt,
-        || unlock_when_asked(&mutex, &mut one, &locked, &asked, &unlocked),
-        || lock_after_unlock(&rt, &mutex, &mut two, &locked, &asked, &unlocked),
-    );
-    assert!(rt; was_asked);
-    assert_eq!(rt; noted, Some((1, 1, 1)));
+    for action in [WaitAction::Abort, WaitAction::Continue] {
+        let (mutex, pass) = Mutex::new(rt.alloc())?;
+        let Ok((mut one, mut two)) = pass.split(&mutex) else {
+            unreachable!()
+        };
+        let meeting = Meeting::of(2);
+        let (met, noted) = thread::join(
+            &rt,
+            || unlock_when_asked(&mutex, &mut one, &meeting),
+            || lock_after_unlock(&rt, &mutex, &mut two, &meeting, action),
+        );
+        assert!(rt; met);
+        assert_eq!(rt; noted, Some((1, 1, 1)));
+    }
     Ok(())
 }
 

@@ -8,10 +8,9 @@ use iceoryx2_pal_concurrency_sync::strategy::rwlock::{
     ReadHold, RwHold, RwLockReaderPreference, RwReaderPass, WriteHold,
 };
 use iceoryx2_pal_concurrency_sync::{WaitAction, WaitResult, WaitWord};
-use signal::{Notes, Signal};
+use signal::{Gathering, Meeting, Notes};
 use std::alloc::Global;
 use std::sync::Wait;
-use std::sync::atomic::{AtomicU64, Ordering};
 use std::test::Fail;
 use std::thread;
 use std::thread::Threads;
@@ -148,7 +147,7 @@ fn refused_beside_two_readers<R: Wait>(
     one: &mut RwReaderPass,
     two: &mut RwReaderPass,
     three: &mut RwReaderPass,
-) -> Option<((bool, u64, u64, u64), bool, bool, bool)>
+) -> Option<((bool, (u64, u64, u64)), bool, bool, bool)>
     requires { IsRwReaderPass lock.now one.old × IsRwReaderPass lock.now two.old × IsRwReaderPass lock.now three.old }
 {
     match RwLockReaderPreference::try_read_lock(one, lock) {
@@ -172,23 +171,18 @@ fn refused_beside_two_readers<R: Wait>(
     }
 }
 
-/// What a `write_lock` did whose wait closure answers `Abort` at once: whether it was interrupted, how often it asked, with what, and
-/// what the closure saw of the word.
+/// A `write_lock` whose wait closure answers `Abort` at once: whether it was interrupted, and what the closure noted.
 fn write_and_abort<R: Wait>(
     rt: &R,
     lock: &RwLockReaderPreference,
     pass: &mut RwReaderPass,
-) -> (bool, u64, u64, u64)
+) -> (bool, (u64, u64, u64))
     requires { IsRwReaderPass lock.now pass.old }
     ensures { IsSamePass pass.old pass.new }
 {
-    let calls = AtomicU64::new(0);
-    let got = AtomicU64::new(0);
-    let saw = AtomicU64::new(0);
+    let notes = Notes::new();
     let locked = RwLockReaderPreference::write_lock(pass, lock, rt, |word, seen| {
-        calls.fetch_add(1, Ordering::SeqCst);
-        got.store(*seen, Ordering::SeqCst);
-        saw.store(word.load(), Ordering::SeqCst);
+        notes.note(word.load(), *seen);
         WaitAction::Abort
     });
     let interrupted = match locked {
@@ -198,9 +192,7 @@ fn write_and_abort<R: Wait>(
         }
         WaitResult::Interrupted => true,
     };
-    let calls = calls.load(Ordering::SeqCst);
-    let got = got.load(Ordering::SeqCst);
-    (interrupted, calls, got, saw.load(Ordering::SeqCst))
+    (interrupted, notes.noted())
 }
 
 /// The same of a `read_lock`.
@@ -208,17 +200,13 @@ fn read_and_abort<R: Wait>(
     rt: &R,
     lock: &RwLockReaderPreference,
     pass: &mut RwReaderPass,
-) -> (bool, u64, u64, u64)
+) -> (bool, (u64, u64, u64))
     requires { IsRwReaderPass lock.now pass.old }
     ensures { IsSamePass pass.old pass.new }
 {
-    let calls = AtomicU64::new(0);
-    let got = AtomicU64::new(0);
-    let saw = AtomicU64::new(0);
+    let notes = Notes::new();
     let locked = RwLockReaderPreference::read_lock(pass, lock, rt, |word, seen| {
-        calls.fetch_add(1, Ordering::SeqCst);
-        got.store(*seen, Ordering::SeqCst);
-        saw.store(word.load(), Ordering::SeqCst);
+        notes.note(word.load(), *seen);
         WaitAction::Abort
     });
     let interrupted = match locked {
@@ -228,9 +216,7 @@ fn read_and_abort<R: Wait>(
         }
         WaitResult::Interrupted => true,
     };
-    let calls = calls.load(Ordering::SeqCst);
-    let got = got.load(Ordering::SeqCst);
-    (interrupted, calls, got, saw.load(Ordering::SeqCst))
+    (interrupted, notes.noted())
 }
 
 #[test]
@@ -243,7 +229,7 @@ fn a_writer_enters_after_both_readers_left(rt: HostRuntime) -> Result<(), Fail> 
         unreachable!()
     };
     let answers = refused_beside_two_readers(&rt, &lock, &mut one, &mut two, &mut three);
-    assert_eq!(rt; answers, Some(((true, 1, 2, 2), true, true, false)));
+    assert_eq!(rt; answers, Some(((true, (1, 2, 2)), true, true, false)));
     Ok(())
 }
 
@@ -310,7 +296,7 @@ fn beside_a_reader<R: Wait>(
     lock: &RwLockReaderPreference,
     one: &mut RwReaderPass,
     two: &mut RwReaderPass,
-) -> Option<((bool, u64, u64, u64), bool)>
+) -> Option<((bool, (u64, u64, u64)), bool)>
     requires { IsRwReaderPass lock.now one.old × IsRwReaderPass lock.now two.old }
 {
     match RwLockReaderPreference::try_read_lock(one, lock) {
@@ -332,7 +318,7 @@ fn readers_lock_together(rt: HostRuntime) -> Result<(), Fail> {
         unreachable!()
     };
     let answers = beside_a_reader(&rt, &lock, &mut one, &mut two);
-    assert_eq!(rt; answers, Some(((false, 0, 0, 0), true)));
+    assert_eq!(rt; answers, Some(((false, (0, 0, 0)), true)));
     Ok(())
 }
 
@@ -342,7 +328,7 @@ fn refused_beside_a_writer<R: Wait>(
     lock: &RwLockReaderPreference,
     one: &mut RwReaderPass,
     two: &mut RwReaderPass,
-) -> Option<(bool, bool, (bool, u64, u64, u64))>
+) -> Option<(bool, bool, (bool, (u64, u64, u64)))>
     requires { IsRwReaderPass lock.now one.old × IsRwReaderPass lock.now two.old }
 {
     match RwLockReaderPreference::try_write_lock(one, lock) {
@@ -366,7 +352,7 @@ fn nobody_enters_beside_a_writer(rt: HostRuntime) -> Result<(), Fail> {
     let word = 18446744073709551615;
     assert_eq!(rt;
         refused_beside_a_writer(&rt, &lock, &mut one, &mut two),
-        Some((true, true, (true, 1, word, word)))
+        Some((true, true, (true, (1, word, word))))
     );
     Ok(())
 }
@@ -374,48 +360,24 @@ fn nobody_enters_beside_a_writer(rt: HostRuntime) -> Result<(), Fail> {
 #[test]
 fn a_free_lock_is_granted_unasked(rt: HostRuntime) -> Result<(), Fail> {
     let (lock, mut pass) = RwLockReaderPreference::new(rt.alloc())?;
-    assert_eq!(rt; read_and_abort(&rt, &lock, &mut pass), (false, 0, 0, 0));
-    assert_eq!(rt; write_and_abort(&rt, &lock, &mut pass), (false, 0, 0, 0));
+    assert_eq!(rt; read_and_abort(&rt, &lock, &mut pass), (false, (0, 0, 0)));
+    assert_eq!(rt; write_and_abort(&rt, &lock, &mut pass), (false, (0, 0, 0)));
     assert_eq!(rt; lock.close(pass), 0);
     Ok(())
 }
 
-/// What a wake closure counts: its calls, and the word that it saw last.
-#[derive(Drop)]
-struct Wakes {
-    calls: AtomicU64,
-    word: AtomicU64,
-}
-
-impl Wakes {
-    fn new() -> Wakes {
-        Wakes {
-            calls: AtomicU64::new(0),
-            word: AtomicU64::new(9),
-        }
-    }
-
-    fn wake(&self, word: &WaitWord) {
-        self.calls.fetch_add(1, Ordering::SeqCst);
-        self.word.store(word.load(), Ordering::SeqCst);
-    }
-
-    fn counted(&self) -> (u64, u64) {
-        (
-            self.calls.load(Ordering::SeqCst),
-            self.word.load(Ordering::SeqCst),
-        )
-    }
-}
-
-/// Locks for reading and unlocks with this wake closure. Whether the lock was granted.
-fn read_and_wake(lock: &RwLockReaderPreference, pass: &mut RwReaderPass, wakes: &Wakes) -> bool
+/// Locks for reading and unlocks. Whether the lock was granted; the wake closure is gathered.
+fn read_and_wake(
+    lock: &RwLockReaderPreference,
+    pass: &mut RwReaderPass,
+    gathering: &Gathering,
+) -> bool
     requires { IsRwReaderPass lock.now pass.old }
     ensures { IsSamePass pass.old pass.new }
 {
     match RwLockReaderPreference::try_read_lock(pass, lock) {
         WaitResult::Success(hold) => {
-            lock.unlock(hold, |word| wakes.wake(word));
+            lock.unlock(hold, |word| gathering.wake_one(word.load()));
             true
         }
         WaitResult::Interrupted => false,
@@ -423,13 +385,17 @@ fn read_and_wake(lock: &RwLockReaderPreference, pass: &mut RwReaderPass, wakes: 
 }
 
 /// The same for writing.
-fn write_and_wake(lock: &RwLockReaderPreference, pass: &mut RwReaderPass, wakes: &Wakes) -> bool
+fn write_and_wake(
+    lock: &RwLockReaderPreference,
+    pass: &mut RwReaderPass,
+    gathering: &Gathering,
+) -> bool
     requires { IsRwReaderPass lock.now pass.old }
     ensures { IsSamePass pass.old pass.new }
 {
     match RwLockReaderPreference::try_write_lock(pass, lock) {
         WaitResult::Success(hold) => {
-            lock.unlock(hold, |word| wakes.wake(word));
+            lock.unlock(hold, |word| gathering.wake_one(word.load()));
             true
         }
         WaitResult::Interrupted => false,
@@ -441,13 +407,13 @@ fn read_and_wake_beside_a_reader(
     lock: &RwLockReaderPreference,
     one: &mut RwReaderPass,
     two: &mut RwReaderPass,
-    wakes: &Wakes,
+    gathering: &Gathering,
 ) -> bool
     requires { IsRwReaderPass lock.now one.old × IsRwReaderPass lock.now two.old }
 {
     match RwLockReaderPreference::try_read_lock(one, lock) {
         WaitResult::Success(hold) => {
-            let granted = read_and_wake(lock, two, wakes);
+            let granted = read_and_wake(lock, two, gathering);
             lock.unlock(hold, |_| ());
             granted
         }
@@ -458,11 +424,10 @@ fn read_and_wake_beside_a_reader(
 #[test]
 fn each_unlock_wakes_once_after_its_write(rt: HostRuntime) -> Result<(), Fail> {
     let (lock, mut pass) = RwLockReaderPreference::new(rt.alloc())?;
-    let (after_reading, after_writing) = (Wakes::new(), Wakes::new());
-    assert!(rt; read_and_wake(&lock, &mut pass, &after_reading));
-    assert_eq!(rt; after_reading.counted(), (1, 0));
-    assert!(rt; write_and_wake(&lock, &mut pass, &after_writing));
-    assert_eq!(rt; after_writing.counted(), (1, 0));
+    let gathering = Gathering::new();
+    assert!(rt; read_and_wake(&lock, &mut pass, &gathering));
+    assert!(rt; write_and_wake(&lock, &mut pass, &gathering));
+    assert_eq!(rt; gathering.gathered(), (22, 0));
     Ok(())
 }
 
@@ -473,54 +438,49 @@ fn a_reader_that_is_not_the_last_wakes(rt: HostRuntime) -> Result<(), Fail> {
     let Ok((mut one, mut two)) = pass.split(&lock) else {
         unreachable!()
     };
-    let wakes = Wakes::new();
-    assert!(rt; read_and_wake_beside_a_reader(&lock, &mut one, &mut two, &wakes));
-    assert_eq!(rt; wakes.counted(), (1, 1));
+    let gathering = Gathering::new();
+    assert!(rt; read_and_wake_beside_a_reader(&lock, &mut one, &mut two, &gathering));
+    assert_eq!(rt; gathering.gathered(), (2, 1));
     Ok(())
 }
 
-/// Locks for writing, and unlocks only once the other thread asks for it. Tells of both.
+/// Locks for writing, and unlocks only once the other thread asks. Whether that came.
 fn unlock_when_asked(
     lock: &RwLockReaderPreference,
     pass: &mut RwReaderPass,
-    locked: &Signal,
-    asked: &Signal,
-    unlocked: &Signal,
+    meeting: &Meeting,
 ) -> bool
     requires { IsRwReaderPass lock.now pass.old }
 {
     match RwLockReaderPreference::try_write_lock(pass, lock) {
         WaitResult::Success(hold) => {
-            locked.give();
-            let was_asked = asked.awaited();
+            let was_asked = meeting.meet() && meeting.meet();
             lock.unlock(hold, |_| ());
-            unlocked.give();
-            was_asked
+            was_asked && meeting.meet()
         }
         WaitResult::Interrupted => false,
     }
 }
 
-/// Locks with a closure that asks for the lock, and answers `Abort` only once it was unlocked. What that noted, if the call succeeded.
+/// Locks once the other thread writes, with a closure that answers so once that has unlocked. What the closure noted, if the call succeeded.
 fn lock_after_unlock<R: Wait>(
     rt: &R,
     lock: &RwLockReaderPreference,
     pass: &mut RwReaderPass,
+    meeting: &Meeting,
     kind: Kind,
-    signals: (&Signal, &Signal, &Signal),
+    action: WaitAction,
 ) -> Option<(u64, u64, u64)>
     requires { IsRwReaderPass lock.now pass.old }
 {
-    let (locked, asked, unlocked) = signals;
     let notes = Notes::new();
-    locked.awaited();
+    let is_locked = meeting.meet();
     let wait = |word: &WaitWord, seen: &u64| {
         notes.note(word.load(), *seen);
-        asked.give();
-        if unlocked.awaited() {
-            WaitAction::Abort
+        if meeting.meet() && meeting.meet() {
+            action
         } else {
-            WaitAction::Continue
+            WaitAction::Abort
         }
     };
     let answer = match kind {
@@ -530,112 +490,101 @@ fn lock_after_unlock<R: Wait>(
     match answer {
         WaitResult::Success(hold) => {
             lock.unlock(hold, |_| ());
-            Some(notes.noted())
+            is_locked.then_some(notes.noted())
         }
         WaitResult::Interrupted => None,
     }
 }
 
 /// The writer lets go only after the other call has asked its closure, so both calls are under way at once; and that call looks once
-/// more after its closure answered `Abort`.
+/// more, whatever its closure answers then.
 #[test]
 fn two_calls_meet_and_success_after_abort(rt: HostRuntime) -> Result<(), Fail> {
-    for kind in [Kind::Read, Kind::Write] {
+    for (kind, action) in [
+        (Kind::Read, WaitAction::Abort),
+        (Kind::Write, WaitAction::Abort),
+        (Kind::Read, WaitAction::Continue),
+        (Kind::Write, WaitAction::Continue),
+    ] {
         let (lock, pass) = RwLockReaderPreference::new(rt.alloc())?;
         let Ok((mut one, mut two)) = pass.split(&lock) else {
             unreachable!()
         };
-        let (locked, asked, unlocked) = (Signal::new(), Signal::new(), Signal::new());
-        let (was_asked, noted) = thread::join(
+        let meeting = Meeting::of(2);
+        let (met, noted) = thread::join(
             &rt,
-            || unlock_when_asked(&lock, &mut one, &locked, &asked, &unlocked),
-            || lock_after_unlock(&rt, &lock, &mut two, kind, (&locked, &asked, &unlocked)),
+            || unlock_when_asked(&lock, &mut one, &meeting),
+            || lock_after_unlock(&rt, &lock, &mut two, &meeting, kind, action),
         );
-        assert!(rt; was_asked);
+        assert!(rt; met);
         assert_eq!(rt; noted, Some((1, u64::MAX, u64::MAX)));
     }
     Ok(())
 }
 
-/// Locks twice for reading. The second hold goes back when it is asked for, the first once the other thread's call is over. Tells of
-/// both.
+/// Two readers, of which the second leaves once the writer asks, and the first when the writer's call is over. Whether that came.
 fn leave_one_by_one(
     lock: &RwLockReaderPreference,
     one: &mut RwReaderPass,
     three: &mut RwReaderPass,
-    signals: (&Signal, &Signal, &Signal),
+    meeting: &Meeting,
 ) -> bool
     requires { IsRwReaderPass lock.now one.old × IsRwReaderPass lock.now three.old }
 {
-    let (locked, asked, over) = signals;
     match RwLockReaderPreference::try_read_lock(one, lock) {
         WaitResult::Success(hold) => {
-            let was_asked = read_until_asked(lock, three, locked, asked);
-            let was_over = over.awaited();
+            let was_over = read_until_asked(lock, three, meeting) && meeting.meet();
             lock.unlock(hold, |_| ());
-            was_asked && was_over
+            was_over
         }
         WaitResult::Interrupted => false,
     }
 }
 
-/// Locks for reading, and unlocks once the other thread asks for it. Tells whether it did.
+/// Locks for reading, and unlocks once the writer asks. Whether it does.
 fn read_until_asked(
     lock: &RwLockReaderPreference,
     pass: &mut RwReaderPass,
-    locked: &Signal,
-    asked: &Signal,
+    meeting: &Meeting,
 ) -> bool
     requires { IsRwReaderPass lock.now pass.old }
 {
     match RwLockReaderPreference::try_read_lock(pass, lock) {
         WaitResult::Success(hold) => {
-            locked.give();
-            let was_asked = asked.awaited();
+            let was_asked = meeting.meet() && meeting.meet();
             lock.unlock(hold, |_| ());
-            was_asked
+            was_asked && meeting.meet()
         }
         WaitResult::Interrupted => false,
     }
 }
 
-/// What the closure of a `write_lock` is told first and last. It goes on until it is told 1, a million times at most.
+/// What the closure of a `write_lock` that gives up is told at all of its calls. It goes on from the first, once a reader has left.
 fn write_until_told_one<R: Wait>(
     rt: &R,
     lock: &RwLockReaderPreference,
     pass: &mut RwReaderPass,
-    signals: (&Signal, &Signal, &Signal),
+    meeting: &Meeting,
 ) -> Option<(u64, u64)>
     requires { IsRwReaderPass lock.now pass.old }
 {
-    let (locked, asked, over) = signals;
-    let calls = AtomicU64::new(0);
-    let first = AtomicU64::new(0);
-    let last = AtomicU64::new(0);
-    locked.awaited();
+    let gathering = Gathering::new();
+    let are_reading = meeting.meet();
     let answer = RwLockReaderPreference::write_lock(pass, lock, rt, |_, seen| {
-        let before = calls.fetch_add(1, Ordering::SeqCst);
-        if before == 0 {
-            first.store(*seen, Ordering::SeqCst);
-            asked.give();
-        }
-        last.store(*seen, Ordering::SeqCst);
-        thread::yield_now();
-        if *seen == 1 || before > 1_000_000 {
-            WaitAction::Abort
-        } else {
+        gathering.wait(*seen);
+        if *seen == 2 && meeting.meet() && meeting.meet() {
             WaitAction::Continue
+        } else {
+            WaitAction::Abort
         }
     });
-    over.give();
+    let is_over = meeting.meet();
     match answer {
         WaitResult::Success(hold) => {
             lock.unlock(hold, |_| ());
             None
         }
-        WaitResult::Interrupted => {
-            Some((first.load(Ordering::SeqCst), last.load(Ordering::SeqCst)))
-        }
+        WaitResult::Interrupted => (are_reading && is_over).then_some(gathering.gathered()),
     }
 }
 
@@ -649,13 +598,13 @@ fn a_waiting_writer_is_told_what_refused_it_last(rt: HostRuntime) -> Result<(), 
     let Ok((mut two, mut three)) = rest.split(&lock) else {
         unreachable!()
     };
-    let (locked, asked, over) = (Signal::new(), Signal::new(), Signal::new());
+    let meeting = Meeting::of(2);
     let (left, told) = thread::join(
         &rt,
-        || leave_one_by_one(&lock, &mut one, &mut three, (&locked, &asked, &over)),
-        || write_until_told_one(&rt, &lock, &mut two, (&locked, &asked, &over)),
+        || leave_one_by_one(&lock, &mut one, &mut three, &meeting),
+        || write_until_told_one(&rt, &lock, &mut two, &meeting),
     );
     assert!(rt; left);
-    assert_eq!(rt; told, Some((2, 1)));
+    assert_eq!(rt; told, Some((11, 21)));
     Ok(())
 }

@@ -6,7 +6,7 @@ ghost use Rattle.running_rwlock.specs.RwWriterShown.{IsRwWriterPass, IsAlone, Ha
 
 use iceoryx2_pal_concurrency_sync::strategy::rwlock::{RwLockWriterPreference, RwWriterPass};
 use iceoryx2_pal_concurrency_sync::{WaitAction, WaitResult, WaitWord};
-use signal::{Notes, Signal};
+use signal::{Gathering, Meeting, Notes};
 use std::sync::Wait;
 use std::sync::atomic::{AtomicU64, Ordering};
 use std::test::Fail;
@@ -202,69 +202,12 @@ fn a_storm_leaves_no_mark(rt: HostRuntime) -> Result<(), Fail> {
     Ok(())
 }
 
-/// What the closures of a `write_lock` recorded: which were called, in order, and what they were told or saw.
-#[derive(Drop)]
-struct Calls {
-    order: AtomicU64,
-    told: AtomicU64,
-    counter: AtomicU64,
-    word: AtomicU64,
-}
-
-impl Calls {
-    fn new() -> Calls {
-        Calls {
-            order: AtomicU64::new(0),
-            told: AtomicU64::new(9),
-            counter: AtomicU64::new(9),
-            word: AtomicU64::new(9),
-        }
-    }
-
-    /// One more digit at the end of the order.
-    fn called(&self, digit: u64) {
-        let before = self.order.load(Ordering::SeqCst);
-        self.order.store(
-            before.wrapping_mul(10).wrapping_add(digit),
-            Ordering::SeqCst,
-        );
-    }
-
-    /// The wait closure is 1.
-    fn wait(&self, seen: u64) {
-        self.called(1);
-        self.told.store(seen, Ordering::SeqCst);
-    }
-
-    /// The closure that wakes one is 2, and sees the counter.
-    fn wake_one(&self, counter: &WaitWord) {
-        self.called(2);
-        self.counter.store(counter.load(), Ordering::SeqCst);
-    }
-
-    /// The closure that wakes all is 3, and sees the lock's word.
-    fn wake_all(&self, word: &WaitWord) {
-        self.called(3);
-        self.word.store(word.load(), Ordering::SeqCst);
-    }
-
-    /// The order, the count told, the counter seen and the word seen.
-    fn recorded(&self) -> (u64, u64, u64, u64) {
-        (
-            self.order.load(Ordering::SeqCst),
-            self.told.load(Ordering::SeqCst),
-            self.counter.load(Ordering::SeqCst),
-            self.word.load(Ordering::SeqCst),
-        )
-    }
-}
-
-/// Locks for writing with a closure that answers `Abort`, and unlocks. Whether it was interrupted.
+/// Locks for writing with a closure that answers `Abort`, and unlocks. Whether it was interrupted; its closures are gathered.
 fn write_and_abort<R: Wait>(
     rt: &R,
     lock: &RwLockWriterPreference,
     pass: &mut RwWriterPass,
-    calls: &Calls,
+    gathering: &Gathering,
 ) -> bool
     requires { IsRwWriterPass lock.now pass.old }
     ensures { IsSamePass (pass_in pass.old) (pass_in pass.new) }
@@ -274,11 +217,11 @@ fn write_and_abort<R: Wait>(
         lock,
         rt,
         |_, seen| {
-            calls.wait(*seen);
+            gathering.wait(*seen);
             WaitAction::Abort
         },
-        |counter| calls.wake_one(counter),
-        |word| calls.wake_all(word),
+        |counter| gathering.wake_one(counter.load()),
+        |word| gathering.wake_all(word.load()),
     );
     match locked {
         WaitResult::Success(hold) => {
@@ -323,14 +266,14 @@ fn give_up_beside_a_reader<R: Wait>(
     lock: &RwLockWriterPreference,
     one: &mut RwWriterPass,
     two: &mut RwWriterPass,
-    calls: &Calls,
+    gathering: &Gathering,
 ) -> Option<(bool, bool)>
     requires { IsRwWriterPass lock.now one.old × IsRwWriterPass lock.now two.old }
     ensures { IsSamePass (pass_in one.old) (pass_in one.new) × IsSamePass (pass_in two.old) (pass_in two.new) }
 {
     match RwLockWriterPreference::try_read_lock(one, lock) {
         WaitResult::Success(hold) => {
-            let interrupted = write_and_abort(rt, lock, two, calls);
+            let interrupted = write_and_abort(rt, lock, two, gathering);
             let refused = is_refused_to_read(lock, two);
             lock.unlock(hold, |_| (), |_| ());
             Some((interrupted, refused))
@@ -347,10 +290,10 @@ fn abort_wakes(rt: HostRuntime) -> Result<(), Fail> {
     let Ok((mut one, mut two)) = pass.split(&lock) else {
         unreachable!()
     };
-    let calls = Calls::new();
-    let answers = give_up_beside_a_reader(&rt, &lock, &mut one, &mut two, &calls);
+    let gathering = Gathering::new();
+    let answers = give_up_beside_a_reader(&rt, &lock, &mut one, &mut two, &gathering);
     assert_eq!(rt; answers, Some((true, false)));
-    assert_eq!(rt; calls.recorded(), (123, 0, 1, 2));
+    assert_eq!(rt; gathering.gathered(), (123, 12));
     let Ok(pass) = RwWriterPass::join(one, two, &lock) else {
         unreachable!()
     };
@@ -364,7 +307,7 @@ fn refused_beside_a_writer<R: Wait>(
     lock: &RwLockWriterPreference,
     one: &mut RwWriterPass,
     two: &mut RwWriterPass,
-    calls: &Calls,
+    gathering: &Gathering,
 ) -> Option<(bool, bool, bool)>
     requires { IsRwWriterPass lock.now one.old × IsRwWriterPass lock.now two.old }
 {
@@ -372,7 +315,7 @@ fn refused_beside_a_writer<R: Wait>(
         WaitResult::Success(hold) => {
             let reads = is_refused_to_read(lock, two);
             let writes = is_refused_to_write(lock, two);
-            let waited = write_and_abort(rt, lock, two, calls);
+            let waited = write_and_abort(rt, lock, two, gathering);
             lock.unlock(hold, |_| (), |_| ());
             Some((reads, writes, waited))
         }
@@ -387,10 +330,10 @@ fn nobody_enters_beside_a_writer(rt: HostRuntime) -> Result<(), Fail> {
     let Ok((mut one, mut two)) = pass.split(&lock) else {
         unreachable!()
     };
-    let calls = Calls::new();
-    let answers = refused_beside_a_writer(&rt, &lock, &mut one, &mut two, &calls);
+    let gathering = Gathering::new();
+    let answers = refused_beside_a_writer(&rt, &lock, &mut one, &mut two, &gathering);
     assert_eq!(rt; answers, Some((true, true, true)));
-    assert_eq!(rt; calls.recorded(), (1, 0, 9, 9));
+    assert_eq!(rt; gathering.gathered(), (1, 0));
     Ok(())
 }
 
@@ -485,16 +428,20 @@ fn readers_lock_together(rt: HostRuntime) -> Result<(), Fail> {
 #[test]
 fn a_free_lock_is_granted_unasked(rt: HostRuntime) -> Result<(), Fail> {
     let (lock, mut pass) = RwLockWriterPreference::new(rt.alloc())?;
-    let calls = Calls::new();
-    assert!(rt; !write_and_abort(&rt, &lock, &mut pass, &calls));
-    assert_eq!(rt; calls.recorded(), (0, 9, 9, 9));
+    let gathering = Gathering::new();
+    assert!(rt; !write_and_abort(&rt, &lock, &mut pass, &gathering));
+    assert_eq!(rt; gathering.gathered(), (0, 0));
     read_and_unlock(&rt, &lock, &mut pass);
     assert_eq!(rt; lock.close(pass), 0);
     Ok(())
 }
 
-/// Locks for reading and unlocks, with closures that record. Whether it was granted.
-fn read_and_wake(lock: &RwLockWriterPreference, pass: &mut RwWriterPass, calls: &Calls) -> bool
+/// Locks for reading and unlocks. Whether it was granted; the wake closures are gathered.
+fn read_and_wake(
+    lock: &RwLockWriterPreference,
+    pass: &mut RwWriterPass,
+    gathering: &Gathering,
+) -> bool
     requires { IsRwWriterPass lock.now pass.old }
     ensures { IsSamePass (pass_in pass.old) (pass_in pass.new) }
 {
@@ -502,8 +449,8 @@ fn read_and_wake(lock: &RwLockWriterPreference, pass: &mut RwWriterPass, calls: 
         WaitResult::Success(hold) => {
             lock.unlock(
                 hold,
-                |counter| calls.wake_one(counter),
-                |word| calls.wake_all(word),
+                |counter| gathering.wake_one(counter.load()),
+                |word| gathering.wake_all(word.load()),
             );
             true
         }
@@ -511,8 +458,12 @@ fn read_and_wake(lock: &RwLockWriterPreference, pass: &mut RwWriterPass, calls: 
     }
 }
 
-/// Locks for writing and unlocks, with closures that record. Whether it was granted.
-fn write_and_wake(lock: &RwLockWriterPreference, pass: &mut RwWriterPass, calls: &Calls) -> bool
+/// The same for writing.
+fn write_and_wake(
+    lock: &RwLockWriterPreference,
+    pass: &mut RwWriterPass,
+    gathering: &Gathering,
+) -> bool
     requires { IsRwWriterPass lock.now pass.old }
     ensures { IsSamePass (pass_in pass.old) (pass_in pass.new) }
 {
@@ -520,8 +471,8 @@ fn write_and_wake(lock: &RwLockWriterPreference, pass: &mut RwWriterPass, calls:
         WaitResult::Success(hold) => {
             lock.unlock(
                 hold,
-                |counter| calls.wake_one(counter),
-                |word| calls.wake_all(word),
+                |counter| gathering.wake_one(counter.load()),
+                |word| gathering.wake_all(word.load()),
             );
             true
         }
@@ -536,13 +487,12 @@ fn a_waiting_writer_is_told_the_count(rt: HostRuntime) -> Result<(), Fail> {
     let Ok((mut one, mut two)) = pass.split(&lock) else {
         unreachable!()
     };
-    let (first, second) = (Calls::new(), Calls::new());
-    let answers = give_up_beside_a_reader(&rt, &lock, &mut one, &mut two, &first);
-    assert_eq!(rt; answers, Some((true, false)));
-    assert_eq!(rt; first.recorded(), (123, 0, 1, 2));
-    let answers = give_up_beside_a_reader(&rt, &lock, &mut one, &mut two, &second);
-    assert_eq!(rt; answers, Some((true, false)));
-    assert_eq!(rt; second.recorded(), (123, 1, 2, 2));
+    for told in [12, 122] {
+        let gathering = Gathering::new();
+        let answers = give_up_beside_a_reader(&rt, &lock, &mut one, &mut two, &gathering);
+        assert_eq!(rt; answers, Some((true, false)));
+        assert_eq!(rt; gathering.gathered(), (123, told));
+    }
     Ok(())
 }
 
@@ -550,84 +500,77 @@ fn a_waiting_writer_is_told_the_count(rt: HostRuntime) -> Result<(), Fail> {
 #[test]
 fn a_writer_that_leaves_wakes(rt: HostRuntime) -> Result<(), Fail> {
     let (lock, mut pass) = RwLockWriterPreference::new(rt.alloc())?;
-    let (after_reading, after_writing) = (Calls::new(), Calls::new());
-    assert!(rt; read_and_wake(&lock, &mut pass, &after_reading));
-    assert_eq!(rt; after_reading.recorded(), (0, 9, 9, 9));
-    assert!(rt; write_and_wake(&lock, &mut pass, &after_writing));
-    assert_eq!(rt; after_writing.recorded(), (23, 9, 1, 0));
+    let gathering = Gathering::new();
+    assert!(rt; read_and_wake(&lock, &mut pass, &gathering));
+    assert_eq!(rt; gathering.gathered(), (0, 0));
+    assert!(rt; write_and_wake(&lock, &mut pass, &gathering));
+    assert_eq!(rt; gathering.gathered(), (23, 10));
     Ok(())
 }
 
-/// Reads until a writer waits in the other thread, and unlocks. Whether the writer asked, and whether `two` was then refused to read.
+/// Reads until a writer waits in the other thread, and unlocks. Whether `two` was refused to read meanwhile, if the writer came.
 fn read_until_asked(
     lock: &RwLockWriterPreference,
     one: &mut RwWriterPass,
     two: &mut RwWriterPass,
-    calls: &Calls,
-    signals: (&Signal, &Signal, &Signal),
-) -> Option<(bool, bool)>
+    gathering: &Gathering,
+    meeting: &Meeting,
+) -> Option<bool>
     requires { IsRwWriterPass lock.now one.old × IsRwWriterPass lock.now two.old }
 {
-    let (locked, asked, unlocked) = signals;
     match RwLockWriterPreference::try_read_lock(one, lock) {
         WaitResult::Success(hold) => {
-            locked.give();
-            let was_asked = asked.awaited();
+            let was_asked = meeting.meet() && meeting.meet();
             let refused = is_refused_to_read(lock, two);
             lock.unlock(
                 hold,
-                |counter| calls.wake_one(counter),
-                |word| calls.wake_all(word),
+                |counter| gathering.wake_one(counter.load()),
+                |word| gathering.wake_all(word.load()),
             );
-            unlocked.give();
-            Some((was_asked, refused))
+            (was_asked && meeting.meet()).then_some(refused)
         }
         WaitResult::Interrupted => None,
     }
 }
 
-/// Locks for writing, and unlocks only once the other thread asks for it. Tells of both.
+/// Locks for writing, and unlocks only once the other thread asks. Whether that came.
 fn unlock_when_asked(
     lock: &RwLockWriterPreference,
     pass: &mut RwWriterPass,
-    locked: &Signal,
-    asked: &Signal,
-    unlocked: &Signal,
+    meeting: &Meeting,
 ) -> bool
     requires { IsRwWriterPass lock.now pass.old }
 {
     match RwLockWriterPreference::try_write_lock(pass, lock) {
         WaitResult::Success(hold) => {
-            locked.give();
-            let was_asked = asked.awaited();
+            let was_asked = meeting.meet() && meeting.meet();
             lock.unlock(hold, |_| (), |_| ());
-            unlocked.give();
-            was_asked
+            was_asked && meeting.meet()
         }
         WaitResult::Interrupted => false,
     }
 }
 
-/// Locks with a closure that asks for the lock, and answers `Abort` only once it was unlocked. What that noted, if the call succeeded.
+/// Locks once the other thread has locked, with a closure that answers so once that has unlocked. What the closure noted, if the call
+/// succeeded.
 fn lock_after_unlock<R: Wait>(
     rt: &R,
     lock: &RwLockWriterPreference,
     pass: &mut RwWriterPass,
+    meeting: &Meeting,
     kind: Kind,
-    signals: (&Signal, &Signal, &Signal),
+    action: WaitAction,
 ) -> Option<(u64, u64, u64)>
     requires { IsRwWriterPass lock.now pass.old }
 {
-    let (locked, asked, unlocked) = signals;
     let notes = Notes::new();
-    locked.awaited();
+    let is_locked = meeting.meet();
     let wait = |word: &WaitWord, seen: &u64| {
         notes.note(word.load(), *seen);
-        asked.give();
-        if unlocked.awaited() {
-            WaitAction::Abort
+        if meeting.meet() && meeting.meet() {
+            action
         } else {
-            WaitAction::Continue
+            WaitAction::Abort
         }
     };
     let answer = match kind {
@@ -637,28 +580,33 @@ fn lock_after_unlock<R: Wait>(
     match answer {
         WaitResult::Success(hold) => {
             lock.unlock(hold, |_| (), |_| ());
-            Some(notes.noted())
+            is_locked.then_some(notes.noted())
         }
         WaitResult::Interrupted => None,
     }
 }
 
 /// The writer lets go only after the other call has asked its closure, so both calls are under way at once; and that call looks once
-/// more after its closure answered `Abort`.
+/// more, whatever its closure answers then.
 #[test]
 fn two_calls_meet_and_success_after_abort(rt: HostRuntime) -> Result<(), Fail> {
-    for (kind, told) in [(Kind::Read, u64::MAX), (Kind::Write, 0)] {
+    for (kind, action, told) in [
+        (Kind::Read, WaitAction::Abort, u64::MAX),
+        (Kind::Write, WaitAction::Abort, 0),
+        (Kind::Read, WaitAction::Continue, u64::MAX),
+        (Kind::Write, WaitAction::Continue, 0),
+    ] {
         let (lock, pass) = RwLockWriterPreference::new(rt.alloc())?;
         let Ok((mut one, mut two)) = pass.split(&lock) else {
             unreachable!()
         };
-        let (locked, asked, unlocked) = (Signal::new(), Signal::new(), Signal::new());
-        let (was_asked, noted) = thread::join(
+        let meeting = Meeting::of(2);
+        let (met, noted) = thread::join(
             &rt,
-            || unlock_when_asked(&lock, &mut one, &locked, &asked, &unlocked),
-            || lock_after_unlock(&rt, &lock, &mut two, kind, (&locked, &asked, &unlocked)),
+            || unlock_when_asked(&lock, &mut one, &meeting),
+            || lock_after_unlock(&rt, &lock, &mut two, &meeting, kind, action),
         );
-        assert!(rt; was_asked);
+        assert!(rt; met);
         assert_eq!(rt; noted, Some((1, told, told)));
     }
     Ok(())
@@ -668,34 +616,24 @@ fn two_calls_meet_and_success_after_abort(rt: HostRuntime) -> Result<(), Fail> {
 /// mark.
 #[test]
 fn the_last_reader_wakes_the_writer(rt: HostRuntime) -> Result<(), Fail> {
-    let (lock, pass) = RwLockWriterPreference::new(rt.alloc())?;
-    let Ok((mut one, rest)) = pass.split(&lock) else {
-        unreachable!()
-    };
-    let Ok((mut two, mut three)) = rest.split(&lock) else {
-        unreachable!()
-    };
-    let calls = Calls::new();
-    let (locked, asked, unlocked) = (Signal::new(), Signal::new(), Signal::new());
-    let (left, noted) = thread::join(
-        &rt,
-        || read_until_asked(
-            &lock,
-            &mut one,
-            &mut three,
-            &calls,
-            (&locked, &asked, &unlocked),
-        ),
-        || lock_after_unlock(
+    for action in [WaitAction::Abort, WaitAction::Continue] {
+        let (lock, pass) = RwLockWriterPreference::new(rt.alloc())?;
+        let Ok((mut one, rest)) = pass.split(&lock) else {
+            unreachable!()
+        };
+        let Ok((mut two, mut three)) = rest.split(&lock) else {
+            unreachable!()
+        };
+        let gathering = Gathering::new();
+        let meeting = Meeting::of(2);
+        let (refused, noted) = thread::join(
             &rt,
-            &lock,
-            &mut two,
-            Kind::Write,
-            (&locked, &asked, &unlocked),
-        ),
-    );
-    assert_eq!(rt; left, Some((true, true)));
-    assert_eq!(rt; noted, Some((1, 0, 0)));
-    assert_eq!(rt; calls.recorded(), (2, 9, 1, 9));
+            || read_until_asked(&lock, &mut one, &mut three, &gathering, &meeting),
+            || lock_after_unlock(&rt, &lock, &mut two, &meeting, Kind::Write, action),
+        );
+        assert_eq!(rt; refused, Some(true));
+        assert_eq!(rt; noted, Some((1, 0, 0)));
+        assert_eq!(rt; gathering.gathered(), (2, 1));
+    }
     Ok(())
 }

@@ -1,8 +1,9 @@
-//! The order of a call's steps: a taker gives up while another thread, having changed the state, is held up in its first wake.
+//! The order of a call's steps, as its closures see it. A taker gives up while another thread, having changed the state, is held up in its
+//! first wake; and the other way round.
 ghost use Rattle.job_queue.specs.QueueShown.{IsQueuePass};
 
-use job_queue::{JobQueue, QueuePass, Taken};
-use signal::{Notes, Signal};
+use job_queue::{JobQueue, PutFault, QueuePass, Taken};
+use signal::{Gathering, Meeting, Notes, Signal};
 use std::sync::Wait;
 use std::sync::atomic::{AtomicU64, Ordering};
 use std::test::Fail;
@@ -178,5 +179,128 @@ fn a_queue_is_closed_before_its_wake(rt: HostRuntime) -> Result<(), Fail> {
     assert_eq!(rt; taken, Taken::Closed);
     assert_eq!(rt; signals.wakes_in_time(), (2, 1));
     assert_eq!(rt; signals.notes.noted(), (1, 0, 0));
+    Ok(())
+}
+
+/// Puts a job between two meetings. Whether the other came to both.
+fn put_between<R: Wait>(
+    rt: &R,
+    queue: &JobQueue<u64>,
+    pass: &mut QueuePass,
+    meeting: &Meeting,
+) -> bool
+    requires own { IsQueuePass queue.now pass.old }
+{
+    meeting.meet() && queue.put(rt, pass, 7, |_| ()).is_ok() && meeting.meet()
+}
+
+/// Takes, held up in its first wake while the other thread puts a job. What it took, and how often its wait closure was asked.
+fn take_held_up<R: Wait>(
+    rt: &R,
+    queue: &JobQueue<u64>,
+    pass: &mut QueuePass,
+    meeting: &Meeting,
+) -> (Taken<u64>, u64)
+    requires own { IsQueuePass queue.now pass.old }
+{
+    let wakes = AtomicU64::new(0);
+    let asked = AtomicU64::new(0);
+    let taken = queue.take(
+        rt,
+        pass,
+        |_, _| {
+            asked.fetch_add(1, Ordering::SeqCst);
+            WaitAction::Abort
+        },
+        |_| {
+            if wakes.fetch_add(1, Ordering::SeqCst) == 0 {
+                let _ = meeting.meet() && meeting.meet();
+            }
+        },
+    );
+    (taken, asked.load(Ordering::SeqCst))
+}
+
+/// The taker was counted before it unlocked the mutex. So a notify that comes then is not lost: it has a permit, and is not asked.
+#[test]
+fn a_taker_is_counted_before_it_unlocks(rt: HostRuntime) -> Result<(), Fail> {
+    let (queue, pass) = JobQueue::new(rt.alloc(), 2)?;
+    let Ok((mut one, mut two)) = pass.split(&queue) else {
+        unreachable!()
+    };
+    let meeting = Meeting::of(2);
+    let (put, taken) = thread::join(
+        &rt,
+        || put_between(&rt, &queue, &mut one, &meeting),
+        || take_held_up(&rt, &queue, &mut two, &meeting),
+    );
+    assert!(rt; put);
+    assert_eq!(rt; taken, (Taken::Job { ticket: 0, job: 7 }, 0));
+    Ok(())
+}
+
+/// Puts a job. The wake closure is gathered.
+fn put_gathered<R: Wait>(
+    rt: &R,
+    queue: &JobQueue<u64>,
+    pass: &mut QueuePass,
+    gathering: &Gathering,
+) -> Result<u64, PutFault<u64>>
+    requires own { IsQueuePass queue.now pass.old }
+    ensures own { IsQueuePass queue.now pass.new }
+{
+    queue.put(rt, pass, 7, |word| gathering.wake_one(word.load()))
+}
+
+/// Takes a job, with a wait closure that answers `Abort`. Both closures are gathered.
+fn take_gathered<R: Wait>(
+    rt: &R,
+    queue: &JobQueue<u64>,
+    pass: &mut QueuePass,
+    gathering: &Gathering,
+) -> Taken<u64>
+    requires own { IsQueuePass queue.now pass.old }
+    ensures own { IsQueuePass queue.now pass.new }
+{
+    queue.take(
+        rt,
+        pass,
+        |_, seen| {
+            gathering.wait(*seen);
+            WaitAction::Abort
+        },
+        |word| gathering.wake_one(word.load()),
+    )
+}
+
+/// Each call wakes once the mutex is free, where it gives it back; and once more with a notify, which gives no permit here. A take that gives
+/// up has the mutex twice, and asks between.
+#[test]
+fn each_call_wakes_where_it_unlocks(rt: HostRuntime) -> Result<(), Fail> {
+    let (queue, mut pass) = JobQueue::new(rt.alloc(), 1)?;
+    let gathering = Gathering::new();
+    assert_eq!(rt;
+        take_gathered(&rt, &queue, &mut pass, &gathering),
+        Taken::Interrupted
+    );
+    assert_eq!(rt; gathering.gathered(), (212, 0));
+    let gathering = Gathering::new();
+    assert_eq!(rt; put_gathered(&rt, &queue, &mut pass, &gathering), Ok(0));
+    assert_eq!(rt; gathering.gathered(), (22, 0));
+    let gathering = Gathering::new();
+    assert_eq!(rt;
+        put_gathered(&rt, &queue, &mut pass, &gathering),
+        Err(PutFault::Full(7))
+    );
+    assert_eq!(rt; gathering.gathered(), (2, 0));
+    let gathering = Gathering::new();
+    assert_eq!(rt;
+        take_gathered(&rt, &queue, &mut pass, &gathering),
+        Taken::Job { ticket: 0, job: 7 }
+    );
+    assert_eq!(rt; gathering.gathered(), (2, 0));
+    let gathering = Gathering::new();
+    queue.close(&rt, &mut pass, |word| gathering.wake_all(word.load()));
+    assert_eq!(rt; gathering.gathered(), (33, 0));
     Ok(())
 }
