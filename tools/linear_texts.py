@@ -13,7 +13,8 @@ import subprocess
 import sys
 import tempfile
 
-PROGRAMS = ["sync-play", "sync-trace", "sync-draw"]
+# Each program, and how many times n it is given: the first is the quickest by far.
+PROGRAMS = {"sync-play": 20, "sync-trace": 1, "sync-draw": 1}
 MOST_GROWTH = 9
 RUNS = 3
 # What is too little to be measured: seconds of a processor, and bytes.
@@ -82,10 +83,13 @@ def cost(program, text, wanted):
 
 def wrong_with(program, name, figures):
     """What is wrong with the growth of one text's cost, if anything is."""
+    crate = program.replace("-", "_") + "_main"
+    path = f"crates/{crate}/out/{crate}"
     many, text = TEXTS[name]
+    many *= PROGRAMS[program]
     wanted = 2 if name == FAULTY else 0
-    none = cost(program, text(0), wanted)
-    times, bytes_had = zip(*(cost(program, text(part * many), wanted) for part in (1, 2, 4)))
+    none = cost(path, text(0), wanted)
+    times, bytes_had = zip(*(cost(path, text(part * many), wanted) for part in (1, 2, 4)))
     times = [max(LEAST_TIME, time - none[0]) for time in times]
     bytes_had = [max(LEAST_MEMORY, had - none[1]) for had in bytes_had]
     if figures:
@@ -97,12 +101,11 @@ def wrong_with(program, name, figures):
 
 def main():
     figures = "--figures" in sys.argv
-    programs = [word for word in sys.argv[1:] if word != "--figures"] or PROGRAMS
+    programs = [word for word in sys.argv[1:] if word != "--figures"] or list(PROGRAMS)
     wrong = 0
     for program in programs:
-        crate = program.replace("-", "_") + "_main"
         for name in TEXTS:
-            found = wrong_with(f"crates/{crate}/out/{crate}", name, figures)
+            found = wrong_with(program, name, figures)
             if found:
                 print(f"{program}, {found}")
                 wrong += 1
