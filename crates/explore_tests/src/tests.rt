@@ -74,7 +74,7 @@ const ANSWERS: [(&str, &str); 44] = [
     ),
     (
         "mutex 2\n1 lock\n2 lock, unlock\n2 aborts\nfind 2 aborted and 2 success and 1 holds write\n",
-        "never: 27 states, 41 moves\nstatus 4",
+        "never in the schedules explored: 27 states, 41 moves\nstatus 4",
     ),
     (
         "rwreader 2\n1 read_lock\n2 try_read_lock\nfind 1 holds read and 2 holds read and word 2\n",
@@ -204,6 +204,7 @@ fn a_question_is_longer_than_what_is_read_at_once(rt: HostRuntime) -> Result<(),
 }
 
 /// What it was told last, and how often it was told.
+#[derive(Drop)]
 struct Heard {
     times: u64,
     states: usize,
