@@ -4,7 +4,7 @@ use std::alloc::{AllocError, Global};
 use std::test::Fail;
 use sync_explore::report::Verdict;
 use sync_explore::run::run;
-use sync_search::watch::Unwatched;
+use sync_search::watch::{Unwatched, Watch};
 
 /// What is written of a question, and then its fault, if it has one, and the exit status, if it is not 0.
 fn answered(alloc: Global, question: &[u8]) -> Result<String, AllocError> {
@@ -30,7 +30,7 @@ fn answered(alloc: Global, question: &[u8]) -> Result<String, AllocError> {
 }
 
 /// Questions, with what is told of each: a happy one, each kind of term, asked for and not, and each fault.
-const ANSWERS: [(&str, &str); 37] = [
+const ANSWERS: [(&str, &str); 44] = [
     (
         "spin 2\n1 try_lock\n2 try_lock\n",
         "\
@@ -74,7 +74,7 @@ const ANSWERS: [(&str, &str); 37] = [
     ),
     (
         "mutex 2\n1 lock\n2 lock, unlock\n2 aborts\nfind 2 aborted and 2 success and 1 holds write\n",
-        "never: 27 states, 41 moves\nstatus 4",
+        "never in the schedules explored: 27 states, 41 moves\nstatus 4",
     ),
     (
         "rwreader 2\n1 read_lock\n2 try_read_lock\nfind 1 holds read and 2 holds read and word 2\n",
@@ -141,6 +141,38 @@ const ANSWERS: [(&str, &str); 37] = [
         "condvar 2\n1 lock\n1 run\n1 start_wait\n2 notify_one\n2 go 1\n1 run\n2 run\n",
     ),
     (
+        "semaphore 2 1\n1 try_wait\n2 start_wait\n2 sleeps\n",
+        "\
+1 interrupted | 2 success | word 0 : 1 try_wait / 2 start_wait / 2 run / 1 run
+1 success | 2 sleeps for ever | word 0 : 1 try_wait / 1 run / 2 start_wait / 2 run
+2 outcomes of the schedules explored: 18 states, 25 moves
+",
+    ),
+    (
+        "semaphore 2 1\n1 try_wait\n2 sleeps\nnever 1 interrupted\n",
+        "never in the schedules explored: 4 states, 3 moves\n",
+    ),
+    (
+        "mutex 2\n1 lock\n2 lock\n2 aborts\nnever 1 aborted\n",
+        "never: 13 states, 16 moves\n",
+    ),
+    (
+        "mutex 2\n1 lock\n2 lock\n2 aborts\nnever 2 aborted and 2 success\n",
+        "never in the schedules explored: 13 states, 16 moves\n",
+    ),
+    (
+        "mutex 2\n1 lock, unlock\n2 try_lock\nnever 2 waits\n",
+        "never: 22 states, 30 moves\n",
+    ),
+    (
+        "mutex 1\n1 lock\nnever stuck\n",
+        "never in the schedules explored: 3 states, 2 moves\n",
+    ),
+    (
+        "rwwriter 2\n1 write_lock, unlock\n2 write_lock, unlock\nnever 1 holds write and 2 holds write\n",
+        "never: 139 states, 248 moves\n",
+    ),
+    (
         "barrier 3 2\n1 start_wait\n2 start_wait\n3 start_wait\n3 sleeps\nfind stuck and 1 ok\n",
         "barrier 3 2\n1 start_wait\n1 go 2\n2 start_wait\n2 go 2\n1 run\n2 run\n3 start_wait\n3 run\n",
     ),
@@ -168,5 +200,38 @@ fn a_question_is_longer_than_what_is_read_at_once(rt: HostRuntime) -> Result<(),
         told.as_str(),
         "1 success | word 1 : 1 try_lock / 1 run\n1 outcome: 3 states, 2 moves\n"
     );
+    Ok(())
+}
+
+/// What it was told last, and how often it was told.
+#[derive(Drop)]
+struct Heard {
+    times: u64,
+    states: usize,
+    waiting: usize,
+}
+
+impl Watch for Heard {
+    fn looked(&mut self, states: usize, waiting: usize) {
+        self.times = self.times.saturating_add(1);
+        self.states = states;
+        self.waiting = waiting;
+    }
+}
+
+#[test]
+fn a_watch_is_told_every_4096_states(rt: HostRuntime) -> Result<(), Fail> {
+    let question = "barrier 4 2\n1 start_wait\n2 start_wait\n3 start_wait\n4 start_wait\n";
+    let mut reader = question.as_bytes();
+    let mut written: Vec<u8> = Vec::new(rt.alloc());
+    let mut heard = Heard {
+        times: 0,
+        states: 0,
+        waiting: 0,
+    };
+    let ended = run(rt.alloc(), &mut reader, &mut written, &mut heard);
+    assert!(rt; matches!(ended, Ok(Verdict::AsWanted)));
+    assert_eq!(rt; heard.times, 2);
+    assert_eq!(rt; heard.states, heard.waiting.saturating_add(4096));
     Ok(())
 }
