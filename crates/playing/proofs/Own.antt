@@ -11,7 +11,7 @@ use Rattle.steps_events.specs.declared.hold.HoldKind.{HoldKind}
 use Rattle.steps_events.specs.Past.{PendingCall, call_of, call_after, hold_of, hold_after, event}
 use Rattle.steps_events.specs.Moves.{fault_at}
 use Rattle.steps_events.specs.Runs.{IsPast}
-use Rattle.steps_events.proofs.Holds.{eqb_same, eqb_other, hold_of_same, hold_of_other}
+use Rattle.steps_events.proofs.Holds.{eqb_other, hold_of_same, hold_of_other}
 use Rattle.steps_events.specs.Tables.{Table}
 use Rattle.playing.specs.Models.{Model}
 use Rattle.playing.specs.Plays.{events_of}

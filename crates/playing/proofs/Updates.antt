@@ -1,5 +1,5 @@
 -- A step that the table has may be made.
-use Rattle.std.proofs.Common.{◌≡◌, ℕ, zero, suc, ◌==◌, eqb, refl, sym, ap, subst, ◌∙◌, Bool, true, false, cond, List, [], ◌∷◌, Some, set, get_or}
+use Rattle.std.proofs.Common.{◌≡◌, ℕ, zero, suc, refl, sym, ap, subst, ◌∙◌, Bool, true, false, cond, List, [], ◌∷◌, Some, set, get_or}
 use mathlib.Core.Option as maybe
 use prog.Atomic.{either}
 use Rattle.steps_events.specs.declared.event.Word.{Word}

@@ -1,5 +1,5 @@
 -- The steps of a mutex are those of its table.
-use Rattle.std.proofs.Common.{◌≡◌, ◌≢◌, ℕ, ◌==◌, Bool, true, false, refl, sym, ap, subst, ◌∙◌, List, [], ◌∷◌, Option, Some, None}
+use Rattle.std.proofs.Common.{◌≡◌, ◌≢◌, ℕ, ◌==◌, Bool, true, false, refl, sym, ap, subst, ◌∙◌, List, [], ◌∷◌, Some, None}
 use Rattle.std.specs.Prelude.{MatchBool}
 use Rattle.std.proofs.lemmas.Bool.{ne_eqb}
 use Rattle.steps_events.specs.declared.event.Word.TheVariants as words
@@ -7,7 +7,6 @@ use Rattle.steps_events.specs.declared.event.Wake.TheVariants as wakes
 use Rattle.steps_events.specs.declared.event.Call.{Call}
 use Rattle.steps_events.specs.declared.event.Call.TheVariants as calls
 use Rattle.steps_events.specs.declared.event.Answer.TheVariants as answers
-use Rattle.steps_events.specs.declared.event.Then.TheVariants as thens
 use Rattle.steps_events.specs.declared.hold.HoldKind.TheVariants as kinds
 use Rattle.steps_events.specs.declared.patience.Patience.{Patience}
 use Rattle.steps_events.specs.declared.row.Intent.{Intent}
@@ -18,7 +17,7 @@ use Rattle.steps_mutex.specs.Table.{mutex_intent}
 use Rattle.tallies.specs.MutexScript.{mutex_model}
 use Rattle.playing.specs.Slots.{Slot, Parties, all_of}
 use Rattle.playing.specs.Words.{IsNamed}
-use Rattle.playing.specs.Plays.{Coming, Beginning, Continuing, ComesBy, IsAt, IsHolding, Led, HasCalled, MayStep, Went}
+use Rattle.playing.specs.Plays.{Coming, Beginning, Continuing, ComesBy, IsHolding, Led, HasCalled, MayStep, Went}
 use Rattle.playing.specs.Tries.{spun, IsRefused, IsGranted, MayTry, IsToWake}
 use Rattle.playing.proofs.Holding.{holding_told, holding_is}
 use Rattle.running_mutex.specs.MutexParties.{HasMutex, Unlocks}

@@ -1,5 +1,5 @@
 -- The parties of the model that a pass of a semaphore is, and how their calls go.
-use Rattle.std.specs.Prelude.{◌≡◌, ℕ, ◌-◌, Bool, List, None, MatchBool}
+use Rattle.std.specs.Prelude.{ℕ, ◌-◌, Bool, List, None, MatchBool}
 use Rattle.steps_events.specs.declared.event.Call.{Call}
 use Rattle.steps_events.specs.declared.event.Call.TheVariants as calls
 use Rattle.steps_events.specs.declared.event.Answer.TheVariants as answers

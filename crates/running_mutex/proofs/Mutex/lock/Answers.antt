@@ -1,6 +1,5 @@
 use Rattle.std.proofs.Common.{refl}
-use Rattle.std.proofs.lemmas.Bool.{MatchBool-at_true, MatchBool-at_false}
-use Rattle.running_mutex.proofs.MutexPlays.{granted_has}
+use Rattle.std.proofs.lemmas.Bool.{MatchBool-at_false}
 use Rattle.running_mutex.proofs.Mutex.lock.Goals as goal
 
 pub returns : goal.returns
