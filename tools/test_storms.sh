@@ -1,7 +1,7 @@
 # The storms in full: ten times as many turns as `rt ci` runs. Not part of the whole test; a minute or a few.
 test_storms() {
     local line
-    if ! (cd crates/storm && rt run) </dev/null >/dev/null 2>"$room/err"; then
+    if ! (cd crates/storm && rt run) <crates/storm/stdin >/dev/null 2>"$room/err"; then
         fail storms "$(tail -n 3 -- "$room/err")"
         return
     fi
