@@ -173,6 +173,7 @@ pub fn hear<X, W: Fn(&X, &u64) -> WaitAction>(word: &X, told: u64, wait: &W) -> 
     }
 }
 
+/// Calls it, and says what it has answered.
 #[inline(always)]
 fn answer<X, W: Fn(&X, &u64) -> WaitAction>(word: &X, told: u64, wait: &W) -> WaitAction
     requires may { W.IsAlwaysCallable wait.now }
