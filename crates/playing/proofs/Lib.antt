@@ -9,3 +9,4 @@ pub mod Opening
 pub mod Attempts
 pub mod Patience
 pub mod Holding
+pub mod OfARun

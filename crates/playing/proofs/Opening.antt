@@ -1,14 +1,20 @@
 -- The words stand at a run in which nobody has made anything.
 use Rattle.std.proofs.Common.{ℕ, refl, List, []}
+use mathlib.Core.Option as maybe
 use Rattle.steps_events.specs.declared.event.Word.{Word}
 use Rattle.steps_events.specs.declared.event.Event.{Event}
 use Rattle.steps_events.specs.Runs.{IsPast}
 use Rattle.playing.specs.Models.{Model}
 use Rattle.playing.specs.Slots.{no_parties}
 use Rattle.playing.specs.Words.{AllHold}
-use Rattle.playing.specs.Plays.{IsPlayed}
+use Rattle.playing.specs.Passes.{played, PlaysAndCounts}
 
 pub opens :
-    {V P : Type 0} (m : Model V P) (names : List Word) (found : List ℕ) → ((n : ℕ) (past : List (Event V)) → IsPast m.arithmetic m.table n past → m.law past) →
-    AllHold names found m.table.opening → IsPlayed m names found no_parties
-opens m names found lawful opening = record { parties = 0; past = []; run = tt; law = lawful 0 [] tt; hold = opening; each = λ q. refl }
+    {M Q V C P S : Type 0} (m : Model V P) (names : List Word) (agree : List ℕ → List (maybe.Option S) → C → Type 0) (follow : List (Event V) → C → Type 0) (found : List ℕ) (homes : List (maybe.Option S)) (counts : C) →
+    ((n : ℕ) (past : List (Event V)) → IsPast m.arithmetic m.table n past → m.law past) → AllHold names found m.table.opening → agree found homes counts → follow [] counts →
+    PlaysAndCounts {M = M} {Q = Q} m names agree follow found homes (played no_parties counts)
+opens m names agree follow found homes counts lawful opening agrees follows = record {
+  played = record { parties = 0; past = []; run = tt; law = lawful 0 [] tt; hold = opening; each = λ q. refl };
+  agrees = agrees;
+  follows = follows;
+}

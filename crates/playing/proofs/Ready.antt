@@ -16,6 +16,8 @@ use Rattle.steps_events.specs.declared.event.Then.{Then}
 use Rattle.steps_events.specs.declared.event.Then.TheVariants as thens
 use Rattle.steps_events.specs.declared.event.Input.TheVariants as inputs
 use Rattle.steps_events.specs.declared.hold.HoldKind.{HoldKind}
+use Rattle.steps_events.specs.declared.row.Intent.{Intent}
+use Rattle.steps_events.specs.declared.row.Intent.TheVariants as intents
 use Rattle.steps_events.specs.declared.row.After.{After}
 use Rattle.steps_events.specs.declared.row.After.TheVariants as afters
 use Rattle.steps_events.specs.Rows.{carried_out, value_told, outcome_of, place_after}
@@ -27,7 +29,7 @@ use Rattle.steps_events.proofs.Steps.{carried_goes_on, carried_stage}
 use Rattle.playing.specs.Models.{Model}
 use Rattle.playing.specs.Slots.{Slot, Free, Mine, Torn, both, all, slot_at, only, Parties, parties, all_of, both_parties}
 use Rattle.playing.specs.SlotLaws.{free_adds, group_all, all_of_both, slot_of_all, slot_of_only, slot_of_other, slot_past_end}
-use Rattle.playing.specs.Words.{AllHold, AreApart, IsNamed, IsStepOn, IsAside, effect}
+use Rattle.playing.specs.Words.{AllHold, AreApart, IsNamed, IsStepOn, IsAside, IsQuiet, effect}
 use Rattle.playing.specs.Plays.{events_of, Matches, fresh_call, Coming, Going, Beginning, Continuing, Answered, Choosing, Aside, IsPlayed, IsAt, WasAnswered, HasEnded, MayBegin, Begins, BeginsHolding, GoesOnAfter, GoesOnChoosing, ComesBy, act_at, hold_then, Leads, Led}
 use Rattle.playing.proofs.Own.{events_of_other, own_call, own_hold, absent}
 use Rattle.playing.proofs.Next.{run_of_more, begins_next, answers_next, chooses_next, goes_next}
@@ -286,6 +288,30 @@ module _ {V P : Type 0} (m : Model V P) (names : List Word) where
   ready Aside found p rest call place hold done r comes =
       step_aside found (all done (all_of rest)) call comes.from place hold (ready_at found p rest call comes.from hold done r comes.at) comes.aside comes.leads
 
+  -- What acts on no word leave as it is, is right before the step as it was.
+
+  quiet_aside : (intent : Intent V) (memory : Word → ℕ) → IsAside intent → IsQuiet (carried_out intent memory)
+  quiet_aside (intents.Load v) memory aside = absurd aside
+  quiet_aside (intents.Store v put) memory aside = absurd aside
+  quiet_aside (intents.Swap v put) memory aside = absurd aside
+  quiet_aside (intents.Add v more) memory aside = absurd aside
+  quiet_aside (intents.Subtract v less) memory aside = absurd aside
+  quiet_aside (intents.Exchange v from to) memory aside = absurd aside
+  quiet_aside (intents.Wake who) memory aside = tt
+  quiet_aside intents.End memory aside = tt
+  quiet_aside (intents.ReadCell value) memory aside = tt
+
+  pub still : (Says : List (Event V) → Type 0) → ((past : List (Event V)) (e : Event V) → IsQuiet e.act → Says past → Says (e ∷ past)) →
+      (coming : Coming V) (found : List ℕ) (p rest : Parties V) (call : Call V) (place : P) (hold : Option HoldKind) (done : List (Slot V)) →
+      (r : IsPlayed m names found (both_parties p rest)) (comes : ComesBy m coming call place hold done p) → Says r.past → Says (ready coming found p rest call place hold done r comes).past
+  unfolding ready ready_at ready_begins begin_of ready_continues ready_answered ready_chooses step_aside
+  still Says quiet Going found p rest call place hold done r comes is = is
+  still Says quiet (Beginning begun) found p rest call place hold done r comes is = quiet r.past _ tt is
+  still Says quiet (Continuing begun) found p rest call place hold done r comes is = quiet r.past _ tt is
+  still Says quiet (Answered action) found p rest call place hold done r comes is = quiet r.past _ tt is
+  still Says quiet (Choosing choice) found p rest call place hold done r comes is = quiet r.past _ tt is
+  still Says quiet Aside found p rest call place hold done r comes is = quiet r.past _ (quiet_aside (m.table.intent comes.from hold) (word_in m.table r.past) comes.aside) is
+
   -- The step is made.
 
   -- the hold that an act takes depends on the call alone
@@ -297,15 +323,25 @@ module _ {V P : Type 0} (m : Model V P) (names : List Word) where
   then_by_call : (act : Act V) (c : PendingCall V) (hold : Option HoldKind) → hold_after m.table act (Some c) hold ≡ hold_after m.table act (Some (fresh_call c.call)) hold
   then_by_call act c hold = ap (λ (k : Option HoldKind). cond (is_release act) None (hold_or k hold)) (taken_by_call act c)
 
-  -- what the pass is after the step, and the words
-  abbrev pub Stepped : (found : List ℕ) (rest : Parties V) (i y : ℕ) (leads : Parties V → Type 0) → Type 0
-  Stepped found rest i y leads = (p : Parties V) × IsPlayed m names (set found i y) (both_parties p rest) × leads p
+  -- What the pass is after the step, and the words: they stand at a run that is this event longer.
+  pub record Stepped (found : List ℕ) (rest : Parties V) (i y : ℕ) (past : List (Event V)) (e : Event V) (leads : Parties V → Type 0) : Type 0 where
+    pub after : Parties V
+    pub parties : ℕ
+    pub run : IsPast m.arithmetic m.table parties (e ∷ past)
+    pub law : m.law (e ∷ past)
+    pub hold : AllHold names (set found i y) (word_in m.table (e ∷ past))
+    pub each : AllMatch (all_of (both_parties after rest)) (e ∷ past)
+    pub led : leads after
+
+  -- the event of the step, which found this
+  abbrev pub step_event : ℕ → P → Option HoldKind → ℕ → Event V
+  step_event q place hold x = event q (act_at m place hold x) (outcome_of (m.table.after place (value_told (act_at m place hold x))))
 
   pub steps :
-      ((n : ℕ) (past : List (Event V)) → IsPast m.arithmetic m.table n past → m.law past) → AreApart names → (found : List ℕ) (done : List (Slot V)) (rest : Parties V) (call : Call V) (place : P) (hold : Option HoldKind) (i : ℕ) (w : Word) →
-      Ready found (all done (all_of rest)) call place hold → IsNamed names i w → IsStepOn w (m.table.intent place hold) →
-      Stepped found rest i (effect (m.table.intent place hold) (get_or found i 0)) (Led m call place hold (get_or found i 0) done)
-  steps lawful apart found done rest call place hold i w r named on = by_after (m.table.after place (value_told (act_at m place hold x))) refl
+      ((n : ℕ) (past : List (Event V)) → IsPast m.arithmetic m.table n past → m.law past) → AreApart names → (found : List ℕ) (done : List (Slot V)) (rest : Parties V) (call : Call V) (place : P) (hold : Option HoldKind) (i y : ℕ) (w : Word) →
+      (r : Ready found (all done (all_of rest)) call place hold) → IsNamed names i w → IsStepOn w (m.table.intent place hold) → effect (m.table.intent place hold) (get_or found i 0) ≡ y →
+      Stepped found rest i y r.past (step_event r.party place hold (get_or found i 0)) (Led m call place hold (get_or found i 0) done)
+  steps lawful apart found done rest call place hold i y w r named on leaves = by_after (m.table.after place (value_told (act_at m place hold x))) refl
     where
       x : ℕ
       x = get_or found i 0
@@ -326,7 +362,7 @@ module _ {V P : Type 0} (m : Model V P) (names : List Word) where
       outcome = outcome_of (m.table.after place (value_told act))
 
       e : Event V
-      e = event q act outcome
+      e = step_event q place hold x
 
       new : List (Event V)
       new = e ∷ r.past
@@ -358,52 +394,43 @@ module _ {V P : Type 0} (m : Model V P) (names : List Word) where
       hold_now = own_hold m.table q new ∙ hold_of_same m.table q act outcome r.past ∙ ap (λ (k : Option (PendingCall V)). hold_after m.table act k (hold_of m.table q r.past)) r.under_way
           ∙ ap (hold_after m.table act (Some r.pending)) r.has ∙ then_by_call act r.pending hold ∙ ap (λ (k : Call V). hold_after m.table act (Some (fresh_call k)) hold) r.called
 
-      words_now : AllHold names (set found i (effect (m.table.intent place hold) x)) (word_in m.table new)
-      words_now = set_holds names found i w (word_in m.table r.past) (word_in m.table new) (effect (m.table.intent place hold) x) apart r.words named
-          (ap (word_after w act) (sym seen) ∙ effect_here w (m.table.intent place hold) (λ _. x) on)
+      words_now : AllHold names (set found i y) (word_in m.table new)
+      words_now = set_holds names found i w (word_in m.table r.past) (word_in m.table new) y apart r.words named
+          (ap (word_after w act) (sym seen) ∙ effect_here w (m.table.intent place hold) (λ _. x) on ∙ leaves)
           (λ n other. effect_there w n (m.table.intent place hold) (λ _. x) (word_in m.table r.past n) on other)
 
       all_match : AllMatch (all (only q (Mine own)) others) new
       all_match = joined others new q (others_on others r.past q act outcome r.apart)
 
-      played : (p : Parties V) → all_of (both_parties p rest) ≡ all (only q (Mine own)) others → IsPlayed m names (set found i (effect (m.table.intent place hold) x)) (both_parties p rest)
-      played p is = record { parties = r.parties; past = new; run = run; law = law; hold = words_now; each = moved new _ _ (sym is) all_match }
+      stands : (leads : Parties V → Type 0) (p : Parties V) → all_of (both_parties p rest) ≡ all (only q (Mine own)) others → leads p → Stepped found rest i y r.past e leads
+      stands leads p is led = record { after = p; parties = r.parties; run = run; law = law; hold = words_now; each = moved new _ _ (sym is) all_match; led = led }
 
       -- the party acts on
-      acting : Parties V
-      acting = parties (only q (Mine own)) done
-
-      played_acting : IsPlayed m names (set found i (effect (m.table.intent place hold) x)) (both_parties acting rest)
-      played_acting = played acting (with_acting acting rest done (only q (Mine own)) refl refl)
+      acting : (leads : Parties V → Type 0) → leads (parties (only q (Mine own)) done) → Stepped found rest i y r.past e leads
+      acting leads = stands leads (parties (only q (Mine own)) done) (with_acting (parties (only q (Mine own)) done) rest done (only q (Mine own)) refl refl)
 
       -- or rests
-      resting : Parties V
-      resting = parties [] (all (only q (Mine own)) done)
-
-      played_resting : IsPlayed m names (set found i (effect (m.table.intent place hold) x)) (both_parties resting rest)
-      played_resting = played resting (with_all resting rest (all (only q (Mine own)) done) refl ∙ group_all (only q (Mine own)) done (all_of rest))
+      resting : (leads : Parties V → Type 0) → leads (parties [] (all (only q (Mine own)) done)) → Stepped found rest i y r.past e leads
+      resting leads = stands leads (parties [] (all (only q (Mine own)) done)) (with_all (parties [] (all (only q (Mine own)) done)) rest (all (only q (Mine own)) done) refl ∙ group_all (only q (Mine own)) done (all_of rest))
 
       on_from : (a : After V P) (next : P) → m.table.after place (value_told act) ≡ a → place_after a ≡ Some next →
           ((k : Option (PendingCall V)) → call_after (outcome_of a) e k ≡ call_going_on act e k) →
-          Stepped found rest i (effect (m.table.intent place hold) x) (IsAt m call next (outcome_of a) (hold_then m call place hold x) done)
+          Stepped found rest i y r.past e (IsAt m call next (outcome_of a) (hold_then m call place hold x) done)
       on_from a next is to goes =
-          let c : PendingCall V = record { call = r.pending.call; own = e ∷ r.pending.own } in (
-            acting,
-            played_acting,
-            record {
-              party = q;
-              own = own;
-              acting = refl;
-              resting = refl;
-              made = record { parties = r.parties; past = new; run = run; law = law; own_is = refl };
-              pending = c;
-              under_way = call_now ∙ ap (λ (o : Then V). call_after o e (Some r.pending)) (ap outcome_of is) ∙ goes (Some r.pending) ∙ carried_goes_on (m.table.intent place hold) (λ _. x) e r.pending;
-              called = r.called;
-              stage = ap (next_stage m.table act) r.stage ∙ carried_stage m.table place (m.table.intent place hold) (λ _. x) ∙ ap place_after is ∙ to;
-              left = ap outcome_of is;
-              has = hold_now;
-            },
-          )
+          let c : PendingCall V = record { call = r.pending.call; own = e ∷ r.pending.own } in
+          acting (IsAt m call next (outcome_of a) (hold_then m call place hold x) done) (record {
+            party = q;
+            own = own;
+            acting = refl;
+            resting = refl;
+            made = record { parties = r.parties; past = new; run = run; law = law; own_is = refl };
+            pending = c;
+            under_way = call_now ∙ ap (λ (o : Then V). call_after o e (Some r.pending)) (ap outcome_of is) ∙ goes (Some r.pending) ∙ carried_goes_on (m.table.intent place hold) (λ _. x) e r.pending;
+            called = r.called;
+            stage = ap (next_stage m.table act) r.stage ∙ carried_stage m.table place (m.table.intent place hold) (λ _. x) ∙ ap place_after is ∙ to;
+            left = ap outcome_of is;
+            has = hold_now;
+          })
 
       answered : (answer : Answer V) → m.table.after place (value_told act) ≡ afters.Ends answer → WasAnswered m call answer q own
       answered answer is = record {
@@ -421,32 +448,24 @@ module _ {V P : Type 0} (m : Model V P) (names : List Word) where
       }
 
       ended : (answer : Answer V) → m.table.after place (value_told act) ≡ afters.Ends answer → (h : Option HoldKind) → hold_of m.table q own ≡ h →
-          Stepped found rest i (effect (m.table.intent place hold) x) (HasEnded m call answer h done)
-      ended answer is None none = (
-        resting,
-        played_resting,
-        record { party = q; own = own; all_is = refl; answered = answered answer is; rests = refl },
-      )
-      ended answer is (Some kind) has = (
-        acting,
-        played_acting,
-        record {
+          Stepped found rest i y r.past e (HasEnded m call answer h done)
+      ended answer is None none = resting (HasEnded m call answer None done) (record { party = q; own = own; all_is = refl; answered = answered answer is; rests = refl })
+      ended answer is (Some kind) has = acting (HasEnded m call answer (Some kind) done) (record {
+        party = q;
+        own = own;
+        all_is = refl;
+        answered = answered answer is;
+        rests = record {
           party = q;
           own = own;
-          all_is = refl;
-          answered = answered answer is;
-          rests = record {
-            party = q;
-            own = own;
-            acting = refl;
-            resting = refl;
-            idle = call_now ∙ ap (λ (o : Then V). call_after o e (Some r.pending)) (ap outcome_of is);
-            has = has;
-          };
-        },
-      )
+          acting = refl;
+          resting = refl;
+          idle = call_now ∙ ap (λ (o : Then V). call_after o e (Some r.pending)) (ap outcome_of is);
+          has = has;
+        };
+      })
 
-      by_after : (a : After V P) → m.table.after place (value_told (act_at m place hold x)) ≡ a → Stepped found rest i (effect (m.table.intent place hold) x) (Leads m call a (hold_then m call place hold x) done)
+      by_after : (a : After V P) → m.table.after place (value_told (act_at m place hold x)) ≡ a → Stepped found rest i y r.past e (Leads m call a (hold_then m call place hold x) done)
       by_after (afters.At next) is = on_from (afters.At next) next is refl (λ k. refl)
       by_after (afters.Waits next told) is = on_from (afters.Waits next told) next is refl (λ k. refl)
       by_after (afters.Chooses next old) is = on_from (afters.Chooses next old) next is refl (λ k. refl)

@@ -9,3 +9,4 @@ pub mod Counts
 pub mod Answers
 pub mod Tries
 pub mod Holding
+pub mod Sums

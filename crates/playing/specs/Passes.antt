@@ -1,5 +1,5 @@
 -- What a pass of an object that plays a model is there, and what it counts beside.
-use Rattle.std.specs.Prelude.{◌≡◌, ℕ, List}
+use Rattle.std.specs.Prelude.{◌≡◌, ℕ, List, ◌∷◌, Option}
 use mathlib.Core.Option as maybe
 use Rattle.passes.specs.declared.pass.Pass.{Pass}
 use Rattle.passes.specs.declared.view.View.{View}
@@ -8,11 +8,19 @@ use Rattle.passes.specs.Views.{view_of}
 use Rattle.passes.specs.Passes.{view, tally_of}
 use Rattle.playing.specs.Models.{Model}
 use Rattle.playing.specs.declared.played.Played.{Played}
-use Rattle.playing.specs.Slots.{Parties, no_parties, both_parties}
+use Rattle.playing.specs.Slots.{Slot, slot_at, all_of, Parties, no_parties, both_parties}
 use Rattle.playing.specs.SlotLaws.{parties_add_up}
 use Rattle.steps_events.specs.declared.event.Word.{Word}
+use Rattle.steps_events.specs.declared.event.Call.{Call}
+use Rattle.steps_events.specs.declared.event.Event.{Event}
+use Rattle.steps_events.specs.declared.hold.HoldKind.{HoldKind}
 use Rattle.passes.specs.Parts.{IsWhole}
-use Rattle.playing.specs.Plays.{IsPlayed, Coming, Went, WentAlone}
+use Rattle.steps_events.specs.declared.row.Intent.{Intent}
+use Rattle.steps_events.specs.Rows.{carried_out}
+use Rattle.steps_events.specs.Past.{word_in}
+use Rattle.steps_events.specs.Runs.{IsPast}
+use Rattle.playing.specs.Words.{AllHold, IsNamed, IsQuiet}
+use Rattle.playing.specs.Plays.{events_of, Matches, IsPlayed, Coming, ComesBy, IsStepAt, Went, WentAlone}
 
 module _ {M Q V C : Type 0} where
   abbrev pub played : Parties V → C → Played M Q V C
@@ -54,9 +62,21 @@ module _ {M Q V C : Type 0} where
   abbrev pub counted : Pass (Played M Q V C) → View C
   counted p = counted_in (view p)
 
-  -- the words agree with what all passes are and count together
-  abbrev pub PlaysAndCounts : {P S : Type 0} → Model V P → List Word → (List ℕ → List (maybe.Option S) → C → Type 0) → List ℕ → List (maybe.Option S) → Played M Q V C → Type 0
-  PlaysAndCounts m names agrees words homes p = IsPlayed m names words p.parties × agrees words homes p.counts
+  -- The words are those of a run in which the passes are parties. What these count together agrees with the words, and is what the run says.
+  pub record PlaysAndCounts {P S : Type 0} (m : Model V P) (names : List Word) (agree : List ℕ → List (maybe.Option S) → C → Type 0) (follow : List (Event V) → C → Type 0) (words : List ℕ) (homes : List (maybe.Option S)) (p : Played M Q V C) : Type 0 where
+    pub played : IsPlayed m names words p.parties
+    pub agrees : agree words homes p.counts
+    pub follows : follow played.past p.counts
+
+  -- There is a run of the model in which no other parties are than these passes', each with all events that it has made; and what they count
+  -- together is what this run says.
+  pub record IsOfARun {P : Type 0} (m : Model V P) (follow : List (Event V) → C → Type 0) (p : Played M Q V C) : Type 0 where
+    pub parties : ℕ
+    pub past : List (Event V)
+    pub run : IsPast m.arithmetic m.table parties past
+    pub law : m.law past
+    pub each : (q : ℕ) → Matches (slot_at q (all_of p.parties)) (events_of q past)
+    pub follows : follow past p.counts
 
   -- what a load that is no step of the model tells
   pub record Looked (tells : View C → ℕ → View C → Type 0) (v : View (Played M Q V C)) (found : ℕ) (w : View (Played M Q V C)) : Type 0 where
@@ -64,7 +84,33 @@ module _ {M Q V C : Type 0} where
     pub told : tells (counted_in v) found (counted_in w)
 
   -- what a step by a pass with this view tells: where it led; where no other pass was left, of which run; and what it changed in what the pass counts
-  pub record Stepped {P : Type 0} (m : Model V P) (coming : Coming V) (tells : View C → ℕ → View C → Type 0) (v : View (Played M Q V C)) (found : ℕ) (w : View (Played M Q V C)) : Type 0 where
+  pub record Stepped {P : Type 0} (m : Model V P) (follow : List (Event V) → C → Type 0) (coming : Coming V) (tells : View C → ℕ → View C → Type 0) (v : View (Played M Q V C)) (found : ℕ) (w : View (Played M Q V C)) : Type 0 where
     pub went : Went m coming v.tally.parties found w.tally.parties
-    pub alone : IsWhole v.part → WentAlone m coming v.tally.parties found
+    pub alone : IsWhole v.part → WentAlone m (λ past. follow past v.tally.counts) coming v.tally.parties found
     pub told : tells (counted_in v) found (counted_in w)
+
+-- What all passes counted agreed with the words of this run; and what they count after a step agrees with words again, those that it has made.
+pub record StillAgrees {V P S C : Type 0} (m : Model V P) (names : List Word) (agree : List ℕ → List (maybe.Option S) → C → Type 0) (past : List (Event V)) (before after : C) : Type 0 where
+  pub words : List ℕ
+  pub homes : List (maybe.Option S)
+  pub hold : AllHold names words (word_in m.table past)
+  pub agreed : agree words homes before
+  pub made : List ℕ
+  pub agrees : agree made homes after
+
+-- Where the step on the word at this index tells this of what its pass counts, and what all passes count was what the run says, and agreed with
+-- the words and agrees with them again, then it is what the run says after the step.
+abbrev pub GoesOnCounting : {V P S C : Type 0} → Model V P → List Word → (C → C → C) → (List ℕ → List (maybe.Option S) → C → Type 0) → (List (Event V) → C → Type 0) → Coming V → ℕ → (Word → Intent V) → Parties V → C → (ℕ → View C → Type 0) → Type 0
+GoesOnCounting {V} {P} {S} {C} m names add agree follow coming i intent p counts tells =
+    (call : Call V) (place : P) (hold : Option HoldKind) (done : List (Slot V)) → ComesBy m coming call place hold done p →
+    (past : List (Event V)) (e : Event V) (found : ℕ) → IsStepAt m call place hold found past e → (name : Word) → IsNamed names i name → e.act ≡ carried_out (intent name) (λ _. found) →
+    (rest : C) (w : View C) → tells found w → StillAgrees m names agree past (add counts rest) (add w.tally rest) → follow past (add counts rest) → follow (e ∷ past) (add w.tally rest)
+
+-- and so it is where a pass looks at a word without a step
+abbrev pub StaysCounting : {V P S C : Type 0} → Model V P → List Word → (C → C → C) → (List ℕ → List (maybe.Option S) → C → Type 0) → (List (Event V) → C → Type 0) → C → (ℕ → View C → Type 0) → Type 0
+StaysCounting {V} {P} {S} {C} m names add agree follow counts tells =
+    (past : List (Event V)) (found : ℕ) (rest : C) (w : View C) → tells found w → StillAgrees m names agree past (add counts rest) (add w.tally rest) → follow past (add counts rest) → follow past (add w.tally rest)
+
+-- acts on no word change nothing of it
+abbrev pub StaysQuiet : {V C : Type 0} → (List (Event V) → C → Type 0) → Type 0
+StaysQuiet {V} {C} follow = (past : List (Event V)) (e : Event V) (counts : C) → IsQuiet e.act → follow past counts → follow (e ∷ past) counts

@@ -210,13 +210,28 @@ module _ {V P : Type 0} (m : Model V P) where
     pub intends : m.table.intent place hold ≡ intent name
     pub on : IsStepOn name (intent name)
 
-  -- Before the step there was a run in which no other parties are than these, and the step did what it does at the words of that run.
-  pub record StoodAlone (place : P) (hold : Option HoldKind) (found : ℕ) (p : Parties V) : Type 0 where
+  -- Before the step there was a run in which no other parties are than these, of which this is known, and the step did what it does at the
+  -- words of that run.
+  pub record StoodAlone (Says : List (Event V) → Type 0) (place : P) (hold : Option HoldKind) (found : ℕ) (p : Parties V) : Type 0 where
     pub parties : ℕ
     pub past : List (Event V)
     pub run : IsPast m.arithmetic m.table parties past
     pub law : m.law past
+    pub says : Says past
     pub each : (q : ℕ) → Matches (slot_at q (all_of p)) (events_of q past)
+    pub found_is : act_at place hold found ≡ carried_out (m.table.intent place hold) (word_in m.table past)
+
+  -- Right after these events a party made the step of this call at this place, which found this; and this is its event.
+  pub record IsStepAt (call : Call V) (place : P) (hold : Option HoldKind) (found : ℕ) (past : List (Event V)) (e : Event V) : Type 0 where
+    pub parties : ℕ
+    pub run : IsPast m.arithmetic m.table parties (e ∷ past)
+    pub law : m.law past
+    pub pending : PendingCall V
+    pub under_way : call_of e.party past ≡ Some pending
+    pub called : pending.call ≡ call
+    pub stage : stage_of m.table pending ≡ Some place
+    pub has : hold_of m.table e.party past ≡ hold
+    pub act : e.act ≡ act_at place hold found
     pub found_is : act_at place hold found ≡ carried_out (m.table.intent place hold) (word_in m.table past)
 
   -- it has made its step, which found this
@@ -224,5 +239,5 @@ module _ {V P : Type 0} (m : Model V P) where
   Went coming p found q = (call : Call V) (place : P) (hold : Option HoldKind) (done : List (Slot V)) → ComesBy coming call place hold done p → Led call place hold found done q
 
   -- and no other pass was left
-  abbrev pub WentAlone : Coming V → Parties V → ℕ → Type 0
-  WentAlone coming p found = (call : Call V) (place : P) (hold : Option HoldKind) (done : List (Slot V)) → ComesBy coming call place hold done p → StoodAlone place hold found p
+  abbrev pub WentAlone : (List (Event V) → Type 0) → Coming V → Parties V → ℕ → Type 0
+  WentAlone Says coming p found = (call : Call V) (place : P) (hold : Option HoldKind) (done : List (Slot V)) → ComesBy coming call place hold done p → StoodAlone Says place hold found p

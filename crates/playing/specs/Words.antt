@@ -3,6 +3,8 @@ use Rattle.std.specs.Prelude.{◌≡◌, ℕ, zero, suc, ◌+◌, ◌-◌, ◌%�
 use Rattle.steps_events.specs.declared.event.Word.{Word}
 use Rattle.steps_events.specs.declared.row.Intent.{Intent}
 use Rattle.steps_events.specs.declared.row.Intent.TheVariants as intents
+use Rattle.steps_events.specs.declared.event.Act.{Act}
+use Rattle.steps_events.specs.declared.event.Act.TheVariants as acts
 use Rattle.steps_events.specs.Past.{same_word}
 
 -- each word holds what the memory tells of its name
@@ -43,6 +45,16 @@ IsAside (intents.Wake who) = Unit {0}
 IsAside intents.End = Unit {0}
 IsAside (intents.ReadCell value) = Unit {0}
 IsAside other = ⊥
+
+-- the act is on no word: a call begins, its closure has answered or chosen, or it wakes, ends its closure or reads a cell
+abbrev pub IsQuiet : {V : Type 0} → Act V → Type 0
+IsQuiet (acts.Begun call) = Unit {0}
+IsQuiet (acts.Answered action) = Unit {0}
+IsQuiet (acts.Chosen choice) = Unit {0}
+IsQuiet (acts.Woke wake) = Unit {0}
+IsQuiet acts.Ended = Unit {0}
+IsQuiet (acts.ReadCell value) = Unit {0}
+IsQuiet other = ⊥
 
 -- what it leaves in the word
 abbrev pub effect : {V : Type 0} → Intent V → ℕ → ℕ

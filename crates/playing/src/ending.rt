@@ -3,14 +3,15 @@ ghost use Rattle.std.specs.Fn.{FnOnceTakesAtMut, FnOnceReturnsAtMut};
 ghost use Rattle.playing.specs.Passes.{parties_of};
 ghost use Rattle.playing.specs.Tries.{IsToEnd};
 
+use crate::counts::Counts;
 use crate::entry::AfterAside;
 use crate::played::Played;
 use crate::script::Script;
 use crate::stage::Stage;
-use passes::{Pass, Rule};
+use passes::Pass;
 use std::alloc::Allocator;
 
-impl<K, M: Script<K, P, V>, P, V, C: Rule<(), K>, A: Allocator> Stage<K, M, P, V, C, A> {
+impl<K, M: Script<K, P, V>, P, V, C: Counts<K, V>, A: Allocator> Stage<K, M, P, V, C, A> {
     ghost use Rattle.playing.specs.Stages.{IsPassOf, key_of};
 
     /// Calls the closure that a call of the pass is to end next, which is lent `on`. It answers what that gave, and how the pass comes to its

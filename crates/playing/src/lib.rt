@@ -3,6 +3,7 @@
 #![tactic(auto)]
 
 mod attempt;
+mod counts;
 mod ending;
 mod entry;
 mod played;
@@ -11,6 +12,7 @@ mod stage;
 mod wait;
 
 pub use attempt::{Attempt, ask, try_again};
+pub use counts::Counts;
 pub use entry::{Aborted, AddEntry, AfterAside, Answered, By, Continued, Entry, GoesOn, Way, hear};
 pub use played::{Parties, Played};
 pub use script::Script;

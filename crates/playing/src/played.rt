@@ -1,4 +1,5 @@
 //! What a pass is in the model, and counts beside.
+use crate::counts::Counts;
 use crate::script::Script;
 use passes::{Rule, Tally};
 use std::marker::{Model, PhantomData};
@@ -36,12 +37,12 @@ impl<M, P, V, C: Tally> Tally for Played<M, P, V, C> {
     ghost adds_up = { played_add_up C.none C.add C.core C.adds_up };
 }
 
-/// The words of an object are those of a run of its model, and agree with what all passes count beside.
-impl<K, P, V, M: Script<K, P, V>, C: Rule<(), K>> Rule<(), K> for Played<M, P, V, C> {
+/// The words of an object are those of a run of its model, and what all passes count beside is what they and the run say.
+impl<K, P, V, M: Script<K, P, V>, C: Counts<K, V>> Rule<(), K> for Played<M, P, V, C> {
     ghost use Rattle.playing.specs.Slots.{no_parties};
     ghost use Rattle.playing.specs.Passes.{played, PlaysAndCounts};
 
     ghost first = { λ key. played no_parties (C.first key) };
 
-    ghost agrees = { λ key. PlaysAndCounts (M.model key) M.names (C.agrees key) };
+    ghost agrees = { λ key. PlaysAndCounts (M.model key) M.names (C.agrees key) (C.follow key) };
 }

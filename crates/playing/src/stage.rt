@@ -2,10 +2,11 @@
 ghost use Rattle.std.specs.Prelude.{◌≡◌, ◌<◌, ◌+◌, ◌-◌, ◌%◌, ◌^◌, ◌==◌, [], length, IfOk};
 ghost use prog.Atomic.{either};
 
+use crate::counts::Counts;
 use crate::entry::{AddEntry, Entry};
 use crate::played::Played;
 use crate::script::Script;
-use passes::{Deed, Origin, Pass, Rule, Word, Words};
+use passes::{Deed, Origin, Pass, Word, Words};
 use std::alloc::{AllocError, Allocator, Global};
 use std::marker::PhantomData;
 use std::ops::Deref;
@@ -19,13 +20,13 @@ struct Step<M, P, V, E, D> {
     tells: PhantomData<D>,
 }
 
-impl<K, P, V, M: Script<K, P, V>, C: Rule<(), K>, E: Entry<V>, D: Deed<K, C>> Deed<
+impl<K, P, V, M: Script<K, P, V>, C: Counts<K, V>, E: Entry<V>, D: Deed<K, C>> Deed<
     K,
     Played<M, P, V, C>,
 > for Step<M, P, V, E, D> {
     ghost use Rattle.playing.specs.Passes.{Stepped};
 
-    ghost tells = { λ key first second before found after. Stepped (M.model key) E.coming (D.tells key first second) before found after };
+    ghost tells = { λ key first second before found after. Stepped (M.model key) (C.follow key) E.coming (D.tells key first second) before found after };
 }
 
 /// An add that its table has.
@@ -37,13 +38,13 @@ struct AddStep<M, P, V, E, D> {
     tells: PhantomData<D>,
 }
 
-impl<K, P, V, M: Script<K, P, V>, C: Rule<(), K>, E: AddEntry<V>, D: Deed<K, C>> Deed<
+impl<K, P, V, M: Script<K, P, V>, C: Counts<K, V>, E: AddEntry<V>, D: Deed<K, C>> Deed<
     K,
     Played<M, P, V, C>,
 > for AddStep<M, P, V, E, D> {
     ghost use Rattle.playing.specs.Passes.{Stepped};
 
-    ghost tells = { λ key more second before found after. Stepped (M.model key) (E.coming more) (D.tells key more second) before found after };
+    ghost tells = { λ key more second before found after. Stepped (M.model key) (C.follow key) (E.coming more) (D.tells key more second) before found after };
 }
 
 /// A load that is no step of the model.
@@ -54,7 +55,7 @@ struct Look<M, P, V, D> {
     tells: PhantomData<D>,
 }
 
-impl<K, P, V, M: Script<K, P, V>, C: Rule<(), K>, D: Deed<K, C>> Deed<K, Played<M, P, V, C>>
+impl<K, P, V, M: Script<K, P, V>, C: Counts<K, V>, D: Deed<K, C>> Deed<K, Played<M, P, V, C>>
     for Look<M, P, V, D> {
     ghost use Rattle.playing.specs.Passes.{Looked};
 
@@ -63,12 +64,12 @@ impl<K, P, V, M: Script<K, P, V>, C: Rule<(), K>, D: Deed<K, C>> Deed<K, Played<
 
 /// The words of an object that plays a model. A pass makes the step that the table has at the place of its call, and no other.
 #[derive(Drop)]
-pub struct Stage<K, M: Script<K, P, V>, P, V, C: Rule<(), K>, A: Allocator = Global> {
+pub struct Stage<K, M: Script<K, P, V>, P, V, C: Counts<K, V>, A: Allocator = Global> {
     words: Words<K, Played<M, P, V, C>, A>,
 }
 
 /// What the passes of these words come from.
-impl<K, M: Script<K, P, V>, P, V, C: Rule<(), K>, A: Allocator> Deref for Stage<K, M, P, V, C, A> {
+impl<K, M: Script<K, P, V>, P, V, C: Counts<K, V>, A: Allocator> Deref for Stage<K, M, P, V, C, A> {
     ghost use Rattle.playing.specs.Stages.{origin};
 
     type Target = Origin<K, Played<M, P, V, C>, A>;
@@ -81,7 +82,7 @@ impl<K, M: Script<K, P, V>, P, V, C: Rule<(), K>, A: Allocator> Deref for Stage<
     }
 }
 
-impl<K, M: Script<K, P, V>, P, V, C: Rule<(), K>, A: Allocator> Stage<K, M, P, V, C, A> {
+impl<K, M: Script<K, P, V>, P, V, C: Counts<K, V>, A: Allocator> Stage<K, M, P, V, C, A> {
     ghost use Rattle.steps_events.specs.declared.row.Intent.TheVariants as intents;
     ghost use Rattle.passes.specs.Parts.{IsWhole};
     ghost use Rattle.passes.specs.Passes.{view, part_of, tally_of, IsSamePass};
@@ -90,7 +91,7 @@ impl<K, M: Script<K, P, V>, P, V, C: Rule<(), K>, A: Allocator> Stage<K, M, P, V
     ghost use Rattle.playing.specs.Slots.{no_parties};
     ghost use Rattle.playing.specs.Words.{AllHold};
     ghost use Rattle.playing.specs.Plays.{MayStep, Went, WentAlone};
-    ghost use Rattle.playing.specs.Passes.{played, parties_of, counted, PlaysAndCounts};
+    ghost use Rattle.playing.specs.Passes.{played, parties_of, counts_of, counted, PlaysAndCounts, GoesOnCounting, StaysCounting};
     ghost use Rattle.playing.specs.Stages.{IsPassOf, IsWordOf, key_of, count_of};
 
     /// The words of an object that nobody has called, and the pass that is whole. `Err` where there was no memory; then nothing was made.
@@ -132,9 +133,10 @@ impl<K, M: Script<K, P, V>, P, V, C: Rule<(), K>, A: Allocator> Stage<K, M, P, V
         requires inside { word < count_of self.now }
         requires may { MayStep (M.model (key_of self.now)) M.names E.coming word (λ w. intents.Load w) (parties_of pass.old) }
         requires update { Updates C.none C.add (C.agrees (key_of self.now)) (counted pass.old) word (λ n. n) (D.tells (key_of self.now) 0 0 (counted pass.old)) }
+        requires follow { GoesOnCounting (M.model (key_of self.now)) M.names C.add (C.agrees (key_of self.now)) (C.follow (key_of self.now)) E.coming word (λ w. intents.Load w) (parties_of pass.old) (counts_of pass.old) (D.tells (key_of self.now) 0 0 (counted pass.old)) }
         ensures same { IsSamePass pass.old pass.new }
         ensures went { Went (M.model (key_of self.now)) E.coming (parties_of pass.old) result (parties_of pass.new) }
-        ensures alone { IsWhole (part_of pass.old) → WentAlone (M.model (key_of self.now)) E.coming (parties_of pass.old) result }
+        ensures alone { IsWhole (part_of pass.old) → WentAlone (M.model (key_of self.now)) (λ past. C.follow (key_of self.now) past (counts_of pass.old)) E.coming (parties_of pass.old) result }
         ensures told { D.tells (key_of self.now) 0 0 (counted pass.old) result (counted pass.new) }
     {
         entry.spend();
@@ -154,9 +156,10 @@ impl<K, M: Script<K, P, V>, P, V, C: Rule<(), K>, A: Allocator> Stage<K, M, P, V
         requires inside { word < count_of self.now }
         requires may { MayStep (M.model (key_of self.now)) M.names E.coming word (λ w. intents.Store w put) (parties_of pass.old) }
         requires update { Updates C.none C.add (C.agrees (key_of self.now)) (counted pass.old) word (λ _. put) (λ _. D.tells (key_of self.now) put 0 (counted pass.old) put) }
+        requires follow { GoesOnCounting (M.model (key_of self.now)) M.names C.add (C.agrees (key_of self.now)) (C.follow (key_of self.now)) E.coming word (λ w. intents.Store w put) (parties_of pass.old) (counts_of pass.old) (D.tells (key_of self.now) put 0 (counted pass.old)) }
         ensures same { IsSamePass pass.old pass.new }
         ensures went { Went (M.model (key_of self.now)) E.coming (parties_of pass.old) put (parties_of pass.new) }
-        ensures alone { IsWhole (part_of pass.old) → WentAlone (M.model (key_of self.now)) E.coming (parties_of pass.old) put }
+        ensures alone { IsWhole (part_of pass.old) → WentAlone (M.model (key_of self.now)) (λ past. C.follow (key_of self.now) past (counts_of pass.old)) E.coming (parties_of pass.old) put }
         ensures told { D.tells (key_of self.now) put 0 (counted pass.old) put (counted pass.new) }
     {
         entry.spend();
@@ -176,9 +179,10 @@ impl<K, M: Script<K, P, V>, P, V, C: Rule<(), K>, A: Allocator> Stage<K, M, P, V
         requires inside { word < count_of self.now }
         requires may { MayStep (M.model (key_of self.now)) M.names E.coming word (λ w. intents.Load w) (parties_of pass.old) }
         requires update { Updates C.none C.add (C.agrees (key_of self.now)) (counted pass.old) word (λ n. n) (D.tells (key_of self.now) 0 0 (counted pass.old)) }
+        requires follow { GoesOnCounting (M.model (key_of self.now)) M.names C.add (C.agrees (key_of self.now)) (C.follow (key_of self.now)) E.coming word (λ w. intents.Load w) (parties_of pass.old) (counts_of pass.old) (D.tells (key_of self.now) 0 0 (counted pass.old)) }
         ensures same { IsSamePass pass.old pass.new }
         ensures went { Went (M.model (key_of self.now)) E.coming (parties_of pass.old) result (parties_of pass.new) }
-        ensures alone { IsWhole (part_of pass.old) → WentAlone (M.model (key_of self.now)) E.coming (parties_of pass.old) result }
+        ensures alone { IsWhole (part_of pass.old) → WentAlone (M.model (key_of self.now)) (λ past. C.follow (key_of self.now) past (counts_of pass.old)) E.coming (parties_of pass.old) result }
         ensures told { D.tells (key_of self.now) 0 0 (counted pass.old) result (counted pass.new) }
     {
         self.load::<E, D>(entry, pass, word)
@@ -198,9 +202,10 @@ impl<K, M: Script<K, P, V>, P, V, C: Rule<(), K>, A: Allocator> Stage<K, M, P, V
         requires inside { word < count_of self.now }
         requires may { MayStep (M.model (key_of self.now)) M.names E.coming word (λ w. intents.Store w put) (parties_of pass.old) }
         requires update { Updates C.none C.add (C.agrees (key_of self.now)) (counted pass.old) word (λ _. put) (λ _. D.tells (key_of self.now) put 0 (counted pass.old) put) }
+        requires follow { GoesOnCounting (M.model (key_of self.now)) M.names C.add (C.agrees (key_of self.now)) (C.follow (key_of self.now)) E.coming word (λ w. intents.Store w put) (parties_of pass.old) (counts_of pass.old) (D.tells (key_of self.now) put 0 (counted pass.old)) }
         ensures same { IsSamePass pass.old pass.new }
         ensures went { Went (M.model (key_of self.now)) E.coming (parties_of pass.old) put (parties_of pass.new) }
-        ensures alone { IsWhole (part_of pass.old) → WentAlone (M.model (key_of self.now)) E.coming (parties_of pass.old) put }
+        ensures alone { IsWhole (part_of pass.old) → WentAlone (M.model (key_of self.now)) (λ past. C.follow (key_of self.now) past (counts_of pass.old)) E.coming (parties_of pass.old) put }
         ensures told { D.tells (key_of self.now) put 0 (counted pass.old) put (counted pass.new) }
     {
         self.store::<E, D>(entry, pass, word, put);
@@ -212,6 +217,7 @@ impl<K, M: Script<K, P, V>, P, V, C: Rule<(), K>, A: Allocator> Stage<K, M, P, V
         requires own { IsPassOf self.now pass.old }
         requires inside { word < count_of self.now }
         requires update { Updates C.none C.add (C.agrees (key_of self.now)) (counted pass.old) word (λ n. n) (D.tells (key_of self.now) 0 0 (counted pass.old)) }
+        requires follow { StaysCounting (M.model (key_of self.now)) M.names C.add (C.agrees (key_of self.now)) (C.follow (key_of self.now)) (counts_of pass.old) (D.tells (key_of self.now) 0 0 (counted pass.old)) }
         ensures same { IsSamePass pass.old pass.new }
         ensures stayed { parties_of pass.new ≡ parties_of pass.old }
         ensures told { D.tells (key_of self.now) 0 0 (counted pass.old) result (counted pass.new) }
@@ -233,9 +239,10 @@ impl<K, M: Script<K, P, V>, P, V, C: Rule<(), K>, A: Allocator> Stage<K, M, P, V
         requires inside { word < count_of self.now }
         requires may { MayStep (M.model (key_of self.now)) M.names E.coming word (λ w. intents.Exchange w from to) (parties_of pass.old) }
         requires update { Updates C.none C.add (C.agrees (key_of self.now)) (counted pass.old) word (λ n. either (n == from) to n) (D.tells (key_of self.now) from to (counted pass.old)) }
+        requires follow { GoesOnCounting (M.model (key_of self.now)) M.names C.add (C.agrees (key_of self.now)) (C.follow (key_of self.now)) E.coming word (λ w. intents.Exchange w from to) (parties_of pass.old) (counts_of pass.old) (D.tells (key_of self.now) from to (counted pass.old)) }
         ensures same { IsSamePass pass.old pass.new }
         ensures went { Went (M.model (key_of self.now)) E.coming (parties_of pass.old) result (parties_of pass.new) }
-        ensures alone { IsWhole (part_of pass.old) → WentAlone (M.model (key_of self.now)) E.coming (parties_of pass.old) result }
+        ensures alone { IsWhole (part_of pass.old) → WentAlone (M.model (key_of self.now)) (λ past. C.follow (key_of self.now) past (counts_of pass.old)) E.coming (parties_of pass.old) result }
         ensures told { D.tells (key_of self.now) from to (counted pass.old) result (counted pass.new) }
     {
         entry.spend();
@@ -255,9 +262,10 @@ impl<K, M: Script<K, P, V>, P, V, C: Rule<(), K>, A: Allocator> Stage<K, M, P, V
         requires inside { word < count_of self.now }
         requires may { MayStep (M.model (key_of self.now)) M.names (E.coming more) word (λ w. intents.Add w more) (parties_of pass.old) }
         requires update { Updates C.none C.add (C.agrees (key_of self.now)) (counted pass.old) word (λ n. (n + more) % 2 ^ 64) (D.tells (key_of self.now) more 0 (counted pass.old)) }
+        requires follow { GoesOnCounting (M.model (key_of self.now)) M.names C.add (C.agrees (key_of self.now)) (C.follow (key_of self.now)) (E.coming more) word (λ w. intents.Add w more) (parties_of pass.old) (counts_of pass.old) (D.tells (key_of self.now) more 0 (counted pass.old)) }
         ensures same { IsSamePass pass.old pass.new }
         ensures went { Went (M.model (key_of self.now)) (E.coming more) (parties_of pass.old) result (parties_of pass.new) }
-        ensures alone { IsWhole (part_of pass.old) → WentAlone (M.model (key_of self.now)) (E.coming more) (parties_of pass.old) result }
+        ensures alone { IsWhole (part_of pass.old) → WentAlone (M.model (key_of self.now)) (λ past. C.follow (key_of self.now) past (counts_of pass.old)) (E.coming more) (parties_of pass.old) result }
         ensures told { D.tells (key_of self.now) more 0 (counted pass.old) result (counted pass.new) }
     {
         self.words
@@ -277,9 +285,10 @@ impl<K, M: Script<K, P, V>, P, V, C: Rule<(), K>, A: Allocator> Stage<K, M, P, V
         requires inside { word < count_of self.now }
         requires may { MayStep (M.model (key_of self.now)) M.names E.coming word (λ w. intents.Subtract w less) (parties_of pass.old) }
         requires update { Updates C.none C.add (C.agrees (key_of self.now)) (counted pass.old) word (λ n. (n + (2 ^ 64 - less)) % 2 ^ 64) (D.tells (key_of self.now) less 0 (counted pass.old)) }
+        requires follow { GoesOnCounting (M.model (key_of self.now)) M.names C.add (C.agrees (key_of self.now)) (C.follow (key_of self.now)) E.coming word (λ w. intents.Subtract w less) (parties_of pass.old) (counts_of pass.old) (D.tells (key_of self.now) less 0 (counted pass.old)) }
         ensures same { IsSamePass pass.old pass.new }
         ensures went { Went (M.model (key_of self.now)) E.coming (parties_of pass.old) result (parties_of pass.new) }
-        ensures alone { IsWhole (part_of pass.old) → WentAlone (M.model (key_of self.now)) E.coming (parties_of pass.old) result }
+        ensures alone { IsWhole (part_of pass.old) → WentAlone (M.model (key_of self.now)) (λ past. C.follow (key_of self.now) past (counts_of pass.old)) E.coming (parties_of pass.old) result }
         ensures told { D.tells (key_of self.now) less 0 (counted pass.old) result (counted pass.new) }
     {
         entry.spend();
@@ -291,7 +300,7 @@ impl<K, M: Script<K, P, V>, P, V, C: Rule<(), K>, A: Allocator> Stage<K, M, P, V
     pub fn close(self, pass: Pass<Played<M, P, V, C>>, word: usize) -> u64
         requires own { IsPassOf self pass }
         requires inside { word < count_of self }
-        ensures exact { IsWhole (part_of pass) → HasClosed (PlaysAndCounts (M.model (key_of self)) M.names (C.agrees (key_of self))) (tally_of pass) word result }
+        ensures exact { IsWhole (part_of pass) → HasClosed (PlaysAndCounts (M.model (key_of self)) M.names (C.agrees (key_of self)) (C.follow (key_of self))) (tally_of pass) word result }
     {
         self.words.close(pass, word)
     }
@@ -302,7 +311,7 @@ impl<K, M: Script<K, P, V>, P, V, C: Rule<(), K>, A: Allocator> Stage<K, M, P, V
         requires own { IsPassOf self pass }
         requires inside { word < count_of self }
         requires also { second < count_of self }
-        ensures exact { IsWhole (part_of pass) → HaveClosed (PlaysAndCounts (M.model (key_of self)) M.names (C.agrees (key_of self))) (tally_of pass) word result.0 second result.1 }
+        ensures exact { IsWhole (part_of pass) → HaveClosed (PlaysAndCounts (M.model (key_of self)) M.names (C.agrees (key_of self)) (C.follow (key_of self))) (tally_of pass) word result.0 second result.1 }
     {
         self.words.close_two(pass, word, second)
     }

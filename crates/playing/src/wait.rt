@@ -6,11 +6,12 @@ ghost use Rattle.playing.specs.Answers.{action_of};
 ghost use Rattle.playing.specs.Passes.{parties_of};
 ghost use Rattle.playing.specs.Tries.{IsToWake, IsToWakeTwice, StandsToWait, HasTold};
 
+use crate::counts::Counts;
 use crate::entry::{Answered, Continued, hear};
 use crate::played::Played;
 use crate::script::Script;
 use crate::stage::Stage;
-use passes::{Pass, Rule};
+use passes::Pass;
 use std::alloc::Allocator;
 use steps_events::WaitAction;
 
@@ -23,7 +24,7 @@ pub trait Shown {
     ghost index: { Self → ℕ };
 }
 
-impl<K, M: Script<K, P, V>, P, V, C: Rule<(), K>, A: Allocator> Stage<K, M, P, V, C, A> {
+impl<K, M: Script<K, P, V>, P, V, C: Counts<K, V>, A: Allocator> Stage<K, M, P, V, C, A> {
     ghost use Rattle.playing.specs.Stages.{IsPassOf, id_of, key_of};
 
     /// Calls a wait closure that answers nothing, at which a call of the pass stands. It is handed the word that the model names for that

@@ -2,7 +2,7 @@
 use Rattle.std.proofs.Common.{◌≡◌, ℕ, ◌+◌, ◌-◌, ◌%◌, ◌^◌, ◌<◌, ◌==◌, Bool, true, false, List, [], ◌∷◌, ◌++◌, get_or, set, sym, refl, ap, ◌∙◌, subst, arith, length-set, get_or-set_same, get_or-set_other}
 use Rattle.std.specs.Prelude.{MatchBool}
 use prog.Atomic.{either}
-use Rattle.steps_events.specs.Arithmetic.{Arithmetic}
+use Rattle.steps_events.specs.Arithmetic.{Arithmetic, IsValue, IsClosed}
 use Rattle.passes.specs.declared.view.View.{View}
 use Rattle.passes.specs.Parts.{IsWhole}
 use Rattle.passes.specs.Views.{looked, missed, wrote, Updates}
@@ -17,10 +17,11 @@ use Rattle.running_atomic.specs.declared.history.AtomicAct.{AtomicAct}
 use Rattle.running_atomic.specs.declared.history.AtomicAct.TheVariants as act
 use Rattle.running_atomic.specs.declared.history.Heard.{Heard}
 use Rattle.running_atomic.specs.History.{content, heard, both_heard, atomic_tally, no_acts, both_tallies, heard_adds_up, same_content, tells_same_content}
-use Rattle.running_atomic.specs.AtomicRule.{register_after, value_after, IsRegister, HasHistory, AtomicAgrees, data_of, register_of, value_of, act_in, acts_in, answer_to, history_in, known, each_once}
-use Rattle.running_atomic.specs.AtomicSteps.{StartsWith, now_holds, EntersRead, EntersWrite, Leaves, IfHeld, ReadsLow, ReadsHigh, EndsLoad, IfWriting, StoresLow, EndsStore, EndsUnchanged, Settles, Acts, ActsAt, IsReading, IsSettled, IsWriting, IsOn, IsRight, ChangesNothing, KeepsOthers, ComparesHigh, IsLast}
+use Rattle.steps_atomic.specs.Register.{value_after, answer_to, after_acts}
+use Rattle.running_atomic.specs.AtomicRule.{IsRegister, HasHistory, AtomicAgrees, data_of, register_of, value_of, act_in, acts_in, history_in, known, each_once}
+use Rattle.running_atomic.specs.AtomicSteps.{StartsWith, now_holds, EntersRead, EntersWrite, Leaves, IfHeld, ReadsLow, ReadsHigh, EndsLoad, IfWriting, StoresLow, EndsStore, EndsUnchanged, Settles, Acts, ActsAt, Records, IsReading, IsSettled, IsWriting, IsOn, IsRight, ChangesNothing, KeepsOthers, ComparesHigh, IsLast}
 use Rattle.running_atomic.proofs.LockKeeps.{enters_read, enters_write, reads, leaves_read, writes}
-use Rattle.running_atomic.proofs.HistoryKeeps.{begins, alone, marks_in, more, extends, absorbs, seen_known, acts_append, acts_length, each_act}
+use Rattle.running_atomic.proofs.HistoryKeeps.{begins, alone, marks_in, more, extends, absorbs, absorbs_first, keeps_more, seen_known, acts_append, acts_length, each_act}
 
 abbrev B : Type 0
 B = AtomicTally
@@ -70,13 +71,15 @@ module _ {T : Type 0} (z : Arithmetic T) (k : T) where
   relock : (words : List ℕ) (n : ℕ) (held other : Held Content) (shared : Heard) → IsRegister z k words (atomic_tally held shared) → Locks n (data_of words) other → register_of other (data_of words) ≡ register_of held (data_of words)
       → IsRegister z k (set words 0 n) (atomic_tally other shared)
   relock words n held other shared r locks same = let d = data_set words n in let three = r.three_words in record {
+    closed = r.closed;
+    opening_is = r.opening_is;
     three_words = length-set words 0 n ∙ three;
     locks = subst (λ (w : ℕ). Locks w (data_of (set words 0 n)) other) (sym (get_or-set_same words 0 n 0 (omega (arith, three)))) (subst (λ (e : Content). Locks n e other) (sym d) locks);
     has = subst (HasHistory z k shared) (ap (value_of z) (sym same ∙ ap (register_of other) (sym d))) r.has;
   }
 
-  pub opens : (low high : ℕ) → z.of_words low high ≡ k → IsRegister z k (0 ∷ low ∷ high ∷ []) no_acts
-  opens low high is = record { three_words = refl; locks = record { word_is = refl; room = omega arith; knows = tt }; has = record { history = []; seen = refl; own = refl; value_is = sym is } }
+  pub opens : (low high : ℕ) → IsClosed z → IsValue z k → z.of_words low high ≡ k → IsRegister z k (0 ∷ low ∷ high ∷ []) no_acts
+  opens low high closed value is = record { closed = closed; opening_is = value; three_words = refl; locks = record { word_is = refl; room = omega arith; knows = tt }; has = record { history = []; seen = refl; own = refl; value_is = sym is } }
 
   pub looks : (v : View B) → Update v 0 (λ n. n) (λ found w. w ≡ looked v found)
   looks v = by_look no_acts both_tallies (AtomicAgrees z k) v 0 (λ found w. w ≡ looked v found) (λ words homes rest r only fits. (looked v (get_or words 0 0), refl, r, refl))
@@ -149,6 +152,10 @@ module _ {T : Type 0} (z : Arithmetic T) (k : T) where
         part = refl;
       }
 
+  -- and what all passes may say of it
+  recorded : (v : View B) (rest : B) (held : Held Content) (a : AtomicAct) (old : T) (has : HasHistory z k (both_heard v.tally.heard rest.heard) old) → Records a v (after has.history a held v)
+  recorded v rest held a old has = record { before = has.history; seen = refl; knew = keeps_more has.history (a ∷ []) v.tally.heard.seen rest.heard.seen has.seen; own = refl }
+
   pub ends_load : (v : View B) → IsReading v.tally.hold → Update v 2 (λ n. n) (EndsLoad z k v)
   ends_load v on = by_look no_acts both_tallies (AtomicAgrees z k) v 2 (EndsLoad z k v) (λ words homes rest r only fits. let x = (reading_is v.tally.hold on).0 in let is = (reading_is v.tally.hold on).1 in let d : Content = data_of words in let n : ℕ = get_or words 0 0 in
       let t = reads same_content tells_same_content n d x rest.hold (subst (λ (h : Held Content). Locks n d (both_held same_content h rest.hold)) is r.locks) in
@@ -157,8 +164,8 @@ module _ {T : Type 0} (z : Arithmetic T) (k : T) where
       let w : View B = after has.history act.Load v.tally.hold v in (
         w,
         refl,
-        record { three_words = r.three_words; locks = r.locks; has = subst (HasHistory z k (both_heard w.tally.heard rest.heard)) (ap (value_of z) (sym old_is)) (extends z k v.tally.heard rest.heard act.Load (value_of z x) has) },
-        (refl, subst (λ (h : Held Content). IfHeld h (λ c. (d.high ≡ c.high) × ActsAt z k act.Load c v w)) (sym is) (ap (λ (c : Content). c.high) (sym t.0), acts v rest v.tally.hold act.Load (value_of z x) has only)),
+        record { closed = r.closed; opening_is = r.opening_is; three_words = r.three_words; locks = r.locks; has = subst (HasHistory z k (both_heard w.tally.heard rest.heard)) (ap (value_of z) (sym old_is)) (extends z k v.tally.heard rest.heard act.Load (value_of z x) has) },
+        (refl, subst (λ (h : Held Content). IfHeld h (λ c. (d.high ≡ c.high) × ActsAt z k act.Load c v w)) (sym is) (ap (λ (c : Content). c.high) (sym t.0), acts v rest v.tally.hold act.Load (value_of z x) has only), recorded v rest v.tally.hold act.Load (value_of z x) has),
       ))
 
   pub stores_low : (v : View B) (new : ℕ) → IsWriting v.tally.hold → Update v 1 (λ _. new) (λ _. StoresLow v new)
@@ -171,6 +178,8 @@ module _ {T : Type 0} (z : Arithmetic T) (k : T) where
           w,
           refl,
           record {
+            closed = r.closed;
+            opening_is = r.opening_is;
             three_words = length-set words 1 new ∙ three;
             locks = subst (Locks (get_or (set words 1 new) 0 0) (data_of (set words 1 new))) (sym lone) (record { word_is = get_or-set_other words 1 0 new 0 (λ e. absurd (omega arith)) ∙ t.1; room = omega arith; knows = words_are });
             has = subst (HasHistory z k (both_heard v.tally.heard rest.heard)) (ap (value_of z) (ap (λ (g : Held Content). register_of (both_held same_content g rest.hold) d) is ∙ ap (λ (g : Held Content). register_of (both_held same_content (Writing x u) g) d) t.0 ∙ sym (ap (λ (g : Held Content). register_of g (data_of (set words 1 new))) lone))) r.has;
@@ -191,11 +200,13 @@ module _ {T : Type 0} (z : Arithmetic T) (k : T) where
           w,
           refl,
           record {
+            closed = r.closed;
+            opening_is = r.opening_is;
             three_words = length-set words 2 new ∙ three;
             locks = subst (Locks (get_or (set words 2 new) 0 0) (data_of (set words 2 new))) (sym lone) (record { word_is = get_or-set_other words 2 0 new 0 (λ e. absurd (omega arith)) ∙ t.1; room = omega arith; knows = words_are });
             has = subst (HasHistory z k (both_heard w.tally.heard rest.heard)) (right ∙ ap (value_of z) (sym (ap (λ (g : Held Content). register_of g (data_of (set words 2 new))) lone))) (extends z k v.tally.heard rest.heard a (value_of z u) has);
           },
-          subst (λ (g : Held Content). IfWriting g (λ c found. (h ≡ Writing (content c.low new) (content c.low new)) × ActsAt z k a found v w)) (sym is) (refl, acts v rest h a (value_of z u) has only),
+          subst (λ (g : Held Content). IfWriting g (λ c found. (h ≡ Writing (content c.low new) (content c.low new)) × ActsAt z k a found v w × Records a v w)) (sym is) (refl, acts v rest h a (value_of z u) has only, recorded v rest h a (value_of z u) has),
         );
   }
 
@@ -208,8 +219,8 @@ module _ {T : Type 0} (z : Arithmetic T) (k : T) where
       let w : View B = after has.history a v.tally.hold v in (
         w,
         refl,
-        record { three_words = r.three_words; locks = r.locks; has = subst (HasHistory z k (both_heard w.tally.heard rest.heard)) (right ∙ sym old_is) (extends z k v.tally.heard rest.heard a (value_of z x) has) },
-        (refl, subst (λ (g : Held Content). IfWriting g (λ c found. ActsAt z k a found v w)) (sym is) (acts v rest v.tally.hold a (value_of z x) has only)),
+        record { closed = r.closed; opening_is = r.opening_is; three_words = r.three_words; locks = r.locks; has = subst (HasHistory z k (both_heard w.tally.heard rest.heard)) (right ∙ sym old_is) (extends z k v.tally.heard rest.heard a (value_of z x) has) },
+        (refl, subst (λ (g : Held Content). IfWriting g (λ c found. ActsAt z k a found v w)) (sym is) (acts v rest v.tally.hold a (value_of z x) has only), recorded v rest v.tally.hold a (value_of z x) has),
       ))
 
   -- by the value that is compared: where it is another, the act is made
@@ -224,8 +235,8 @@ module _ {T : Type 0} (z : Arithmetic T) (k : T) where
       let w : View B = after has.history a v.tally.hold v in (
         w,
         refl,
-        record { three_words = r.three_words; locks = r.locks; has = subst (HasHistory z k (both_heard w.tally.heard rest.heard)) (so same ∙ sym old_is) (extends z k v.tally.heard rest.heard a (value_of z x) has) },
-        (refl, subst (λ (g : Held Content). IfWriting g (λ c found. ActsAt z k a found v w)) (sym is) (acts v rest v.tally.hold a (value_of z x) has only)),
+        record { closed = r.closed; opening_is = r.opening_is; three_words = r.three_words; locks = r.locks; has = subst (HasHistory z k (both_heard w.tally.heard rest.heard)) (so same ∙ sym old_is) (extends z k v.tally.heard rest.heard a (value_of z x) has) },
+        (refl, subst (λ (g : Held Content). IfWriting g (λ c found. ActsAt z k a found v w)) (sym is) (acts v rest v.tally.hold a (value_of z x) has only), recorded v rest v.tally.hold a (value_of z x) has),
       )
 
   pub compares_high : (v : View B) (a : AtomicAct) (current : T) → IsSettled v.tally.hold → KeepsOthers z a current v.tally.hold → Update v 2 (λ n. n) (ComparesHigh z k a current v)
@@ -243,10 +254,11 @@ module _ {T : Type 0} (z : Arithmetic T) (k : T) where
       let all : history_in z w.tally.heard ≡ acts_in z h = seen_known z w.tally.heard h refl in (
         w,
         refl,
-        record { three_words = r.three_words; locks = r.locks; has = record { history = h; seen = absorbs v.tally.heard.seen rest.heard.seen (known h) has.seen; own = has.own; value_is = has.value_is } },
+        record { closed = r.closed; opening_is = r.opening_is; three_words = r.three_words; locks = r.locks; has = record { history = h; seen = absorbs v.tally.heard.seen rest.heard.seen (known h) has.seen; own = has.own; value_is = has.value_is } },
         record {
           history = h;
           seen = refl;
+          keeps = absorbs_first v.tally.heard.seen rest.heard.seen (known h) has.seen;
           knew = λ a b is. let sum_is : (both_heard (both_heard a b) rest.heard).seen ≡ known h = ap (λ (t : Heard). (both_heard t rest.heard).seen) (sym is) ∙ has.seen in (
             subst (λ l. StartsWith l (history_in z a)) (sym all) (begins z h a (both_heard b rest.heard) (sym (heard_group a b rest.heard) ∙ sum_is)),
             subst (λ l. StartsWith l (history_in z b)) (sym all) (begins z h b (both_heard a rest.heard) (sym (heard_group b a rest.heard) ∙ ap (λ (t : Heard). (both_heard t rest.heard).seen) (heard_adds_up.swap b a) ∙ sum_is)),
@@ -261,5 +273,5 @@ module _ {T : Type 0} (z : Arithmetic T) (k : T) where
   pub lasts : (v : View B) (words : List ℕ) (low high : ℕ) → IsRegister z k words v.tally → v.tally.hold ≡ Free → get_or words 1 0 ≡ low → get_or words 2 0 ≡ high → IsLast z k v.tally.heard (z.of_words low high)
   lasts v words low high r free is also = let has = r.has in let all = seen_known z v.tally.heard has.history has.seen in record {
     own = has.own ∙ sym (each_act z has.history) ∙ ap each_once (sym all);
-    value_is = (λ i. z.of_words (sym is i) (sym also i)) ∙ ap (λ (h : Held Content). value_of z (register_of h (data_of words))) (sym free) ∙ sym has.value_is ∙ ap (register_after z k) (sym all);
+    value_is = (λ i. z.of_words (sym is i) (sym also i)) ∙ ap (λ (h : Held Content). value_of z (register_of h (data_of words))) (sym free) ∙ sym has.value_is ∙ ap (after_acts z k) (sym all);
   }

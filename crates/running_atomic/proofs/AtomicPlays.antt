@@ -21,7 +21,7 @@ use Rattle.steps_atomic.specs.Table.{look_at, puts, inside, compares, knows}
 use Rattle.playing.specs.Slots.{Slot, Parties, all_of}
 use Rattle.playing.specs.Plays.{Coming, Going, Beginning, Choosing, ComesBy, Led, Leads, HasEnded, HasCalled, MayStep, Went}
 use Rattle.running_atomic.specs.AtomicModel.{atomic_model, atomic_names}
-use Rattle.running_atomic.specs.AtomicParties.{Writes, IsNext, Reads, Knows, Puts, ComesToPut, MayPut, HasPut}
+use Rattle.running_atomic.specs.AtomicParties.{Writes, IsNext, Reads, Knows, Puts, ComesToPut, MayPut, IsAtPutHigh, HasPut}
 
 eqb_hit : (n m : ℕ) → n ≡ m → (n == m) ≡ true
 eqb_hit n m same = subst (λ (k : ℕ). (n == k) ≡ true) same (eqb_same n)
@@ -149,7 +149,7 @@ module _ {T : Type 0} (z : Arithmetic T) (v : T) where
 
   -- the high word once more, where a `FetchUpdate` was given no choice
 
-  nothing_chosen : (old : T) (done : List (Slot T)) (p : Parties T) → Knows z v calls.FetchUpdate old done p → ComesBy (atomic_model z v) (Choosing None) calls.FetchUpdate (places.Again old) (Some kinds.Write) done p
+  pub nothing_chosen : (old : T) (done : List (Slot T)) (p : Parties T) → Knows z v calls.FetchUpdate old done p → ComesBy (atomic_model z v) (Choosing None) calls.FetchUpdate (places.Again old) (Some kinds.Write) done p
   nothing_chosen old done p at = record { stood = places.Again old; old = old; at = at; chosen = refl; values = tt }
 
   pub may_read_again : (old : T) (done : List (Slot T)) (p : Parties T) → Knows z v calls.FetchUpdate old done p → MayStep (atomic_model z v) atomic_names (Choosing None) 2 (λ w. intents.Load w) p
@@ -165,13 +165,13 @@ module _ {T : Type 0} (z : Arithmetic T) (v : T) where
   pub something_chosen : (old new : T) (done : List (Slot T)) (p : Parties T) → IsValue z new → Knows z v calls.FetchUpdate old done p → ComesToPut z v (Choosing (Some new)) calls.FetchUpdate new (answers.OkOld old) done p
   something_chosen old new done p value at = record { stood = places.Again old; old = old; at = at; chosen = refl; values = value }
 
-  pub may_put_low : (coming : Coming T) (new : T) (low : ℕ) (p : Parties T) → low ≡ z.low new → MayPut z v coming new p → MayStep (atomic_model z v) atomic_names coming 1 (λ w. intents.Store w low) p
-  may_put_low coming new low p is may = record {
-    call = may.0;
-    place = puts z new may.1;
+  pub may_put_low : (coming : Coming T) (call : Call T) (new : T) (low : ℕ) (p : Parties T) → low ≡ z.low new → MayPut z v coming call new p → MayStep (atomic_model z v) atomic_names coming 1 (λ w. intents.Store w low) p
+  may_put_low coming call new low p is may = record {
+    call = call;
+    place = puts z new may.0;
     hold = Some kinds.Write;
-    done = may.2;
-    comes = may.3;
+    done = may.1;
+    comes = may.2;
     name = words.Low;
     named = refl;
     intends = ap (λ (n : ℕ). intents.Store words.Low n) (sym is);
@@ -185,17 +185,24 @@ module _ {T : Type 0} (z : Arithmetic T) (v : T) where
   pub puts_low : (coming : Coming T) (new : T) (low : ℕ) (p q : Parties T) → low ≡ z.low new → Went (atomic_model z v) coming p low q → PutsHigh coming new p q
   puts_low coming new low p q is went call answer done comes = went call (puts z new answer) (Some kinds.Write) done comes
 
-  pub may_put_high : (coming : Coming T) (new : T) (high : ℕ) (p q : Parties T) → high ≡ z.high new → MayPut z v coming new p → PutsHigh coming new p q → MayStep (atomic_model z v) atomic_names Going 2 (λ w. intents.Store w high) q
-  may_put_high coming new high p q is may next = record {
-    call = may.0;
-    place = places.PutHigh (z.high new) may.1;
+  pub may_put_high : (coming : Coming T) (call : Call T) (new : T) (high : ℕ) (p q : Parties T) → high ≡ z.high new → MayPut z v coming call new p → PutsHigh coming new p q → MayStep (atomic_model z v) atomic_names Going 2 (λ w. intents.Store w high) q
+  may_put_high coming call new high p q is may next = record {
+    call = call;
+    place = places.PutHigh (z.high new) may.0;
     hold = Some kinds.Write;
-    done = may.2;
-    comes = next may.0 may.1 may.2 may.3;
+    done = may.1;
+    comes = next call may.0 may.1 may.2;
     name = words.High;
     named = refl;
     intends = ap (λ (n : ℕ). intents.Store words.High n) (sym is);
     on = refl;
+  }
+
+  pub at_put_high : (coming : Coming T) (call : Call T) (new : T) (high : ℕ) (p q : Parties T) → high ≡ z.high new → MayPut z v coming call new p → PutsHigh coming new p q → IsAtPutHigh z v call high q
+  at_put_high coming call new high p q is may next = record {
+    answer = may.0;
+    done = may.1;
+    at = subst (λ (n : ℕ). IsNext z v call (places.PutHigh n may.0) (Some kinds.Write) may.1 q) (sym is) (next call may.0 may.1 may.2);
   }
 
   -- the release is next
@@ -224,6 +231,10 @@ module _ {T : Type 0} (z : Arithmetic T) (v : T) where
   -- a call that knows the old value comes to put the new one
   pub comes_to_put : (call : Call T) (old new : T) (answer : Answer T) (done : List (Slot T)) (p : Parties T) → Puts z call old new answer → Knows z v call old done p → ComesToPut z v Going call new answer done p
   comes_to_put call old new answer done p is at = subst (λ a. Leads (atomic_model z v) call a (Some kinds.Write) done p) is at
+
+  -- whatever the call is written as
+  pub may_put : (call other : Call T) (new : T) (answer : Answer T) (done : List (Slot T)) (p : Parties T) → call ≡ other → IsNext z v call (puts z new answer) (Some kinds.Write) done p → MayPut z v Going other new p
+  may_put call other new answer done p is at = (answer, done, subst (λ (k : Call T). IsNext z v k (puts z new answer) (Some kinds.Write) done p) is at)
 
   -- what it answers is the old value
   pub answers_old : (call : Call T) (old given : T) (answer : T → Answer T) (p q : Parties T) → given ≡ old → HasCalled (atomic_model z v) call (answer old) None p q → HasCalled (atomic_model z v) call (answer given) None p q

@@ -18,13 +18,21 @@ use Rattle.running_atomic.specs.declared.history.AtomicTally.{AtomicTally}
 use Rattle.running_atomic.specs.declared.history.Content.{Content}
 use Rattle.running_atomic.specs.declared.history.AtomicAct.{AtomicAct}
 use Rattle.running_atomic.specs.declared.history.Heard.{Heard}
-use Rattle.running_atomic.specs.AtomicRule.{RegisterAct, plain, value_of, act_in, answer_to, history_in}
+use Rattle.steps_atomic.specs.Register.{RegisterAct, plain, answer_to}
+use Rattle.running_atomic.specs.AtomicRule.{value_of, act_in, history_in}
 use Rattle.running_atomic.specs.AtomicSteps.{PlayedAtomic, StartsWith, Acts, ActsAt, IfHeld, IfWriting, IsSettled, Leaves, now_holds, ReadsLow, EndsUnchanged, ComparesHigh}
 use Rattle.running_atomic.specs.AtomicShown.{HasGot, HasActedAt, HasTaken, HasCompared}
 use Rattle.running_atomic.proofs.AtomicKeeps.{settled_is}
 
 same_twice : {T : Type 0} (p q r : Pass (PlayedAtomic T)) → IsSamePass p q → IsSamePass q r → IsSamePass p r
 same_twice p q r first second = (second.0 ∙ first.0, second.1 ∙ first.1)
+
+-- the low word that was read is the one that the hold knows
+pub low_read : (v w : View AtomicTally) (low : ℕ) → IsSettled v.tally.hold → ReadsLow v low w → IfWriting w.tally.hold (λ x found. low ≡ x.low)
+low_read v w low on read =
+    let settled = settled_is v.tally.hold on in
+    let low_is : low ≡ settled.0.low = subst (λ (h : Held Content). IfHeld h (λ (c : Content). low ≡ c.low)) settled.1 read.1 in
+    subst (λ (h : Held Content). IfWriting h (λ x found. low ≡ x.low)) (sym (ap (λ (u : View AtomicTally). u.tally.hold) read.0 ∙ settled.1)) low_is
 
 module _ {T : Type 0} (z : Arithmetic T) (k : T) where
   -- an act counts from whatever the pass was before, where it had seen and weighed the same

@@ -6,4 +6,5 @@ pub mod AtEnd
 pub mod OneHistory
 pub mod Joins
 pub mod AtomicPlays
+pub mod HistoryFollows
 pub mod Compares

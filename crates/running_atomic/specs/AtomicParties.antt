@@ -1,19 +1,20 @@
 -- The party of the model that a pass of an atomic is, and how its calls go.
-use Rattle.std.specs.Prelude.{◌≡◌, ℕ, List, Option, Some, None}
+use Rattle.std.specs.Prelude.{◌≡◌, ℕ, false, not, List, Option, Some, None}
 use Rattle.steps_events.specs.declared.event.Call.{Call}
+use Rattle.steps_events.specs.declared.event.Call.TheVariants as calls
 use Rattle.steps_events.specs.declared.event.Answer.{Answer}
 use Rattle.steps_events.specs.declared.event.Event.{Event}
 use Rattle.steps_events.specs.declared.event.Then.TheVariants as thens
 use Rattle.steps_events.specs.declared.hold.HoldKind.{HoldKind}
 use Rattle.steps_events.specs.declared.hold.HoldKind.TheVariants as kinds
 use Rattle.steps_events.specs.declared.row.After.TheVariants as afters
-use Rattle.steps_events.specs.Arithmetic.{Arithmetic, IsValue, IsClosed}
+use Rattle.steps_events.specs.Arithmetic.{Arithmetic}
 use Rattle.steps_events.specs.Moves.{hold_fault, CallValues}
 use Rattle.steps_events.specs.Runs.{IsPast}
 use Rattle.steps_atomic.specs.declared.AtomicPlace.{AtomicPlace}
 use Rattle.steps_atomic.specs.declared.AtomicPlace.TheVariants as places
 use Rattle.steps_atomic.specs.Table.{atomic_table, atomic_begins, atomic_grant, puts, inside, knows}
-use Rattle.steps_atomic.specs.Register.{register_after}
+use Rattle.steps_atomic.specs.Register.{RegisterAct, register_after, acts_of_run, ends_at_look}
 use Rattle.playing.specs.Slots.{Slot, Parties, slot_at, all_of}
 use Rattle.playing.specs.Plays.{events_of, Matches, Coming, ComesBy, IsAt, Leads, HasEnded}
 use Rattle.running_atomic.specs.AtomicModel.{atomic_model}
@@ -33,6 +34,14 @@ Reads z call = inside z call ≡ places.Low call
 abbrev pub Puts : {T : Type 0} → Arithmetic T → Call T → T → T → Answer T → Type 0
 Puts z call old new answer = knows z call old ≡ afters.At (puts z new answer)
 
+-- it goes on once it knows the value, whatever that is
+abbrev pub GoesOnKnowing : {T : Type 0} → Arithmetic T → Call T → Type 0
+GoesOnKnowing {T} z call = (old : T) → ends_at_look z call None old ≡ false
+
+-- it goes on where the value is the one compared with, and acts where it is another
+abbrev pub ActsAtOther : {T : Type 0} → Arithmetic T → Call T → T → Type 0
+ActsAtOther {T} z call current = (old : T) → ends_at_look z call None old ≡ not (z.same old current)
+
 module _ {T : Type 0} (z : Arithmetic T) (v : T) where
   -- the call goes on at this place
   abbrev pub IsNext : Call T → AtomicPlace T → Option HoldKind → List (Slot T) → Parties T → Type 0
@@ -46,8 +55,33 @@ module _ {T : Type 0} (z : Arithmetic T) (v : T) where
   abbrev pub ComesToPut : Coming T → Call T → T → Answer T → List (Slot T) → Parties T → Type 0
   ComesToPut coming call new answer done p = ComesBy (atomic_model z v) coming call (puts z new answer) (Some kinds.Write) done p
 
-  abbrev pub MayPut : Coming T → T → Parties T → Type 0
-  MayPut coming new p = (call : Call T) × (answer : Answer T) × (done : List (Slot T)) × ComesToPut coming call new answer done p
+  abbrev pub MayPut : Coming T → Call T → T → Parties T → Type 0
+  MayPut coming call new p = (answer : Answer T) × (done : List (Slot T)) × ComesToPut coming call new answer done p
+
+  -- the call is at its load of the high word, and has read this low one
+  pub record IsAtHigh (call : Call T) (low : ℕ) (p : Parties T) : Type 0 where
+    pub hold : Option HoldKind
+    pub done : List (Slot T)
+    pub at : IsNext call (places.High call low) hold done p
+
+  -- a call is there, and goes on after it
+  pub record IsAtLook (p : Parties T) : Type 0 where
+    pub call : Call T
+    pub low : ℕ
+    pub at : IsAtHigh call low p
+    pub goes_on : GoesOnKnowing z call
+
+  -- a `FetchUpdate` whose closure has chosen nothing comes so to its second load of the high word
+  pub record ComesAgain (coming : Coming T) (p : Parties T) : Type 0 where
+    pub old : T
+    pub done : List (Slot T)
+    pub comes : ComesBy (atomic_model z v) coming calls.FetchUpdate (places.Again old) (Some kinds.Write) done p
+
+  -- the call is at its store of the high word
+  pub record IsAtPutHigh (call : Call T) (high : ℕ) (p : Parties T) : Type 0 where
+    pub answer : Answer T
+    pub done : List (Slot T)
+    pub at : IsNext call (places.PutHigh high answer) (Some kinds.Write) done p
 
   -- and has put it, left the lock and answered
   abbrev pub HasPut : Coming T → T → Parties T → Parties T → Type 0
@@ -57,11 +91,12 @@ module _ {T : Type 0} (z : Arithmetic T) (v : T) where
   abbrev pub HasReplaced : Call T → T → Answer T → Parties T → Parties T → Type 0
   HasReplaced call old answer p q = (done : List (Slot T)) → Knows call old done p → HasEnded (atomic_model z v) call answer None done q
 
-  -- There is a run in which no other parties are than these, each with all events that it has made, and this value is the register's
-  -- after it. The premises are those of the model's law.
-  pub record StandsAtRun (p : Parties T) (value : T) : Type 0 where
+  -- There is a run in which no other parties are than these, each with all events that it has made. Its acts are these, one for one and in
+  -- this order, and this value is the register's after it.
+  pub record StandsAtRun (p : Parties T) (history : List (RegisterAct T)) (value : T) : Type 0 where
     pub parties : ℕ
     pub past : List (Event T)
     pub run : IsPast z (atomic_table z v) parties past
     pub each : (q : ℕ) → Matches (slot_at q (all_of p)) (events_of q past)
-    pub value_is : IsClosed z → IsValue z v → value ≡ register_after z v past
+    pub acts_are : acts_of_run z past ≡ history
+    pub value_is : value ≡ register_after z v past

@@ -1,14 +1,20 @@
 -- An atomic as one register, by the model's acts; and the rule that ties the one history of all passes to the words.
-use Rattle.std.specs.Prelude.{◌≡◌, ℕ, List, [], ◌∷◌, length, slice_index, Option, Some, None}
+use Rattle.std.specs.Prelude.{◌≡◌, ℕ, List, [], ◌∷◌, ◌++◌, length, slice_index, Option, Some, None}
+use Rattle.std.proofs.Common.{refl, sym, ap, ◌∙◌}
+use Rattle.std.proofs.lemmas.List.{append-nil}
 use mathlib.Core.Option as maybe
-use Rattle.steps_events.specs.declared.event.Call.{Call}
 use Rattle.steps_events.specs.declared.event.Call.TheVariants as calls
-use Rattle.steps_events.specs.declared.event.Answer.{Answer}
-use Rattle.steps_events.specs.Arithmetic.{Arithmetic}
-use Rattle.steps_atomic.specs.Register.{act_of}
+use Rattle.steps_events.specs.declared.event.Act.{Act}
+use Rattle.steps_events.specs.declared.event.Act.TheVariants as acts
+use Rattle.steps_events.specs.declared.event.Event.{Event}
+use Rattle.steps_events.specs.Arithmetic.{Arithmetic, IsValue, IsClosed}
+use Rattle.steps_events.specs.Past.{PendingCall, call_of}
+use Rattle.steps_atomic.specs.Register.{RegisterAct, plain, update, after_acts, acts_at, acts_of_run}
 use Rattle.tallies.specs.declared.held.Held.{Held}
 use Rattle.tallies.specs.declared.held.Held.TheVariants.{Free, Reading, Writing, Torn}
 use Rattle.tallies.specs.Held.{Locks}
+use Rattle.playing.specs.Words.{IsQuiet}
+use Rattle.playing.specs.Passes.{StaysQuiet}
 use Rattle.running_atomic.specs.declared.history.AtomicTally.{AtomicTally}
 use Rattle.running_atomic.specs.declared.history.Content.{Content}
 use Rattle.running_atomic.specs.declared.history.AtomicAct.{AtomicAct}
@@ -18,32 +24,7 @@ use Rattle.running_atomic.specs.declared.history.Place.TheVariants.{Unknown, Is,
 use Rattle.running_atomic.specs.declared.history.Heard.{Heard}
 use Rattle.running_atomic.specs.History.{content}
 
--- A call of the model at a register, with its choice where its closure was asked for one.
-pub record RegisterAct (T : Type 0) : Type 0 where
-  pub call : Call T
-  pub choice : Option (Option T)
-
--- a call that asks nobody
-abbrev pub plain : {T : Type 0} → Call T → RegisterAct T
-plain call = record { call = call; choice = None }
-
--- a `fetch_update` whose closure chose this
-abbrev pub update : {T : Type 0} → Option T → RegisterAct T
-update choice = record { call = calls.FetchUpdate; choice = Some choice }
-
 module _ {T : Type 0} (z : Arithmetic T) where
-  -- what the register answers, and what it is then: the law is the model's
-  abbrev pub answer_to : RegisterAct T → T → Answer T
-  answer_to a old = (act_of z a.call a.choice old).0
-
-  abbrev pub value_after : RegisterAct T → T → T
-  value_after a old = (act_of z a.call a.choice old).1
-
-  -- the register after these acts, the first one first, where it began with v
-  abbrev pub register_after : T → List (RegisterAct T) → T
-  register_after v [] = v
-  register_after v (a ∷ acts) = register_after (value_after a v) acts
-
   abbrev pub value_of : Content → T
   value_of x = z.of_words x.low x.high
 
@@ -105,14 +86,35 @@ pub record HasHistory {T : Type 0} (z : Arithmetic T) (opening : T) (t : Heard) 
   pub history : List AtomicAct
   pub seen : t.seen ≡ known history
   pub own : t.own ≡ each_once history
-  pub value_is : register_after z opening (acts_in z history) ≡ value
+  pub value_is : after_acts z opening (acts_in z history) ≡ value
 
--- There are three words. The lock's counts the holds, each of which knows the data words; and the history leaves the register at what they are, or, under
--- a write hold, at what they were when it came in or last acted.
+-- The opening value is one of the type's, whose operators lead from values to values. There are three words. The lock's counts the holds,
+-- each of which knows the data words; and the history leaves the register at what they are, or, under a write hold, at what they were when it
+-- came in or last acted.
 pub record IsRegister {T : Type 0} (z : Arithmetic T) (opening : T) (words : List ℕ) (t : AtomicTally) : Type 0 where
+  pub closed : IsClosed z
+  pub opening_is : IsValue z opening
   pub three_words : length words ≡ 3
   pub locks : Locks (slice_index words 0) (data_of words) t.hold
   pub has : HasHistory z opening t.heard (value_of z (register_of t.hold (data_of words)))
 
 abbrev pub AtomicAgrees : {T : Type 0} → Arithmetic T → T → List ℕ → List (maybe.Option (Unit {0})) → AtomicTally → Type 0
 AtomicAgrees z opening words homes = IsRegister z opening words
+
+-- what all passes have seen together is, act for act and in order, what this run has of acts
+abbrev pub IsHistoryOf : {T : Type 0} → Arithmetic T → List (Event T) → AtomicTally → Type 0
+IsHistoryOf z past t = history_in z t.heard ≡ acts_of_run z past
+
+-- acts on no word are no acts on the register
+no_act : {T : Type 0} (z : Arithmetic T) (k : Option (PendingCall T)) (act : Act T) → IsQuiet act → acts_at z k act ≡ []
+no_act z None act quiet = refl
+no_act z (Some c) (acts.Begun call) quiet = refl
+no_act z (Some c) (acts.Answered action) quiet = refl
+no_act z (Some c) (acts.Chosen choice) quiet = refl
+no_act z (Some c) (acts.Woke wake) quiet = refl
+no_act z (Some c) acts.Ended quiet = refl
+no_act z (Some c) (acts.ReadCell value) quiet = refl
+no_act z (Some c) other quiet = absurd quiet
+
+pub quiet_on : {T : Type 0} (z : Arithmetic T) → StaysQuiet (IsHistoryOf z)
+quiet_on z past e t quiet is = is ∙ sym (ap (λ (l : List (RegisterAct _)). acts_of_run z past ++ l) (no_act z (call_of e.party past) e.act quiet) ∙ append-nil (acts_of_run z past))

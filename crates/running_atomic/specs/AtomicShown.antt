@@ -20,7 +20,8 @@ use Rattle.running_atomic.specs.declared.pass.AtomicPass.{AtomicPass}
 use Rattle.running_atomic.specs.declared.shown.AtomicShown.{AtomicShown}
 use Rattle.running_atomic.specs.AtomicModel.{atomic_model}
 use Rattle.running_atomic.specs.AtomicParties.{StandsAtRun}
-use Rattle.running_atomic.specs.AtomicRule.{RegisterAct, answer_to, value_of, act_in, history_in}
+use Rattle.steps_atomic.specs.Register.{RegisterAct, answer_to}
+use Rattle.running_atomic.specs.AtomicRule.{value_of, act_in, history_in}
 use Rattle.running_atomic.specs.AtomicSteps.{PlayedAtomic, Acts, Joins, IsLast, IsSettled}
 
 -- the pass inside, between two calls
@@ -72,9 +73,9 @@ module _ {T : Type 0} (z : Arithmetic T) where
   abbrev pub IsLastOf : T → AtomicPass T → T → Type 0
   IsLastOf opening p value = IsWhole (part_of_atomic p) → IsLast z opening (counts_of (pass_in p)).heard value
 
-  -- and after a run in which no other parties are than the pass's own
+  -- and after a run in which no other parties are than the pass's own; and its history is that run's
   abbrev pub IsLastInRun : T → AtomicPass T → T → Type 0
-  IsLastInRun opening p value = IsWhole (part_of_atomic p) → StandsAtRun z opening (parties_in p) value
+  IsLastInRun opening p value = IsWhole (part_of_atomic p) → StandsAtRun z opening (parties_in p) (history_of p) value
 
   -- within a call: a write hold stands, and the value is this
   pub record IsHolding (value : T) (p : Pass (PlayedAtomic T)) : Type 0 where

@@ -1,9 +1,10 @@
 -- What the steps of an atomic tell, and what holds whenever its rule does.
-use Rattle.std.specs.Prelude.{◌≡◌, ◌≢◌, ℕ, ◌≤◌, false, MatchBool, List, [], ◌∷◌, ◌++◌, length}
+use Rattle.std.specs.Prelude.{◌≡◌, ◌≢◌, ℕ, ◌≤◌, false, MatchBool, List, [], ◌∷◌, ◌++◌, length, None}
 use mathlib.Core.Option as maybe
 use mathlib.Core.Option.{some}
 use lib.ListN.{get_elem?}
 use Rattle.atomic_table.specs.Table.{State}
+use Rattle.steps_events.specs.declared.event.Call.{Call}
 use Rattle.steps_events.specs.declared.event.Answer.{Answer}
 use Rattle.steps_events.specs.Arithmetic.{Arithmetic}
 use Rattle.passes.specs.declared.view.View.{View}
@@ -14,7 +15,9 @@ use Rattle.tallies.specs.declared.held.Held.{Held}
 use Rattle.tallies.specs.declared.held.Held.TheVariants.{Free, Reading, Writing, Torn}
 use Rattle.tallies.specs.Held.{write_holds}
 use Rattle.steps_atomic.specs.declared.AtomicPlace.{AtomicPlace}
+use Rattle.steps_atomic.specs.Register.{RegisterAct, plain, answer_to, value_after, after_acts}
 use Rattle.playing.specs.declared.played.Played.{Played}
+use Rattle.playing.specs.Slots.{Parties}
 use Rattle.playing.specs.Passes.{none_played, both_played, PlaysAndCounts}
 use Rattle.running_atomic.specs.declared.script.AtomicScript.{AtomicScript}
 use Rattle.running_atomic.specs.declared.history.AtomicTally.{AtomicTally}
@@ -22,10 +25,11 @@ use Rattle.running_atomic.specs.declared.history.Content.{Content}
 use Rattle.running_atomic.specs.declared.history.AtomicAct.{AtomicAct}
 use Rattle.running_atomic.specs.declared.history.AtomicAct.TheVariants as act
 use Rattle.running_atomic.specs.declared.history.Heard.{Heard}
-use Rattle.running_atomic.specs.History.{content, both_heard, atomic_tally, both_tallies, no_acts}
+use Rattle.running_atomic.specs.Agree.{merge}
+use Rattle.running_atomic.specs.History.{content, both_heard, atomic_tally, both_tallies, no_acts, same_act}
 use Rattle.running_atomic.specs.AtomicModel.{atomic_model, atomic_names}
-use Rattle.running_atomic.specs.AtomicParties.{StandsAtRun}
-use Rattle.running_atomic.specs.AtomicRule.{RegisterAct, answer_to, value_after, register_after, value_of, act_in, history_in, known, each_once, data_of, AtomicAgrees}
+use Rattle.running_atomic.specs.AtomicParties.{ActsAtOther, IsAtHigh, StandsAtRun}
+use Rattle.running_atomic.specs.AtomicRule.{value_of, act_in, history_in, known, each_once, data_of, AtomicAgrees, IsHistoryOf}
 
 abbrev V : Type 0
 V = View AtomicTally
@@ -79,7 +83,7 @@ AreMarks own history = (place : ℕ) → (count_at place own ≤ 1) × (length h
 -- One act more, which was answered so: after all that the pass had seen, and what others did since. With no other pass left nobody did.
 pub record Acts {T : Type 0} (z : Arithmetic T) (opening : T) (a : RegisterAct T) (answer : Answer T) (v w : V) : Type 0 where
   pub before : List (RegisterAct T)
-  pub answered : answer_to z a (register_after z opening before) ≡ answer
+  pub answered : answer_to z a (after_acts z opening before) ≡ answer
   pub begins : StartsWith before (history_in z v.tally.heard)
   pub alone : IsWhole v.part → before ≡ history_in z v.tally.heard
   pub seen : history_in z w.tally.heard ≡ before ++ a ∷ []
@@ -87,21 +91,28 @@ pub record Acts {T : Type 0} (z : Arithmetic T) (opening : T) (a : RegisterAct T
   pub marks : AreMarks w.tally.heard.own (history_in z w.tally.heard)
   pub part : w.part ≡ v.part
 
+-- The pass knows all of a history from then on: with what it knew, and with this act, which is its own, as the last.
+pub record Records (a : AtomicAct) (v w : V) : Type 0 where
+  pub before : List AtomicAct
+  pub seen : w.tally.heard.seen ≡ known (before ++ a ∷ [])
+  pub knew : merge same_act w.tally.heard.seen v.tally.heard.seen ≡ w.tally.heard.seen
+  pub own : w.tally.heard.own ≡ one_more (length before) v.tally.heard.own
+
 -- the act of a place, at a register of these words
 abbrev pub ActsAt : {T : Type 0} → Arithmetic T → T → AtomicAct → Content → V → V → Type 0
 ActsAt z opening a found v w = Acts z opening (act_in z a) (answer_to z (act_in z a) (value_of z found)) v w
 
 -- the last access of a load
 abbrev pub EndsLoad : {T : Type 0} → Arithmetic T → T → V → ℕ → V → Type 0
-EndsLoad z opening v found w = (w.tally.hold ≡ v.tally.hold) × IfHeld v.tally.hold (λ x. (found ≡ x.high) × ActsAt z opening act.Load x v w)
+EndsLoad z opening v found w = (w.tally.hold ≡ v.tally.hold) × IfHeld v.tally.hold (λ x. (found ≡ x.high) × ActsAt z opening act.Load x v w) × Records act.Load v w
 
 -- the last access of a call that stores
 abbrev pub EndsStore : {T : Type 0} → Arithmetic T → T → AtomicAct → V → ℕ → V → Type 0
-EndsStore z opening a v new w = IfWriting v.tally.hold (λ x found. (w.tally.hold ≡ Writing (content x.low new) (content x.low new)) × ActsAt z opening a found v w)
+EndsStore z opening a v new w = IfWriting v.tally.hold (λ x found. (w.tally.hold ≡ Writing (content x.low new) (content x.low new)) × ActsAt z opening a found v w × Records a v w)
 
 -- the last access of a call under a write hold that stores nothing
 abbrev pub EndsUnchanged : {T : Type 0} → Arithmetic T → T → AtomicAct → V → V → Type 0
-EndsUnchanged z opening a v w = (w.tally.hold ≡ v.tally.hold) × IfWriting v.tally.hold (λ x found. ActsAt z opening a found v w)
+EndsUnchanged z opening a v w = (w.tally.hold ≡ v.tally.hold) × IfWriting v.tally.hold (λ x found. ActsAt z opening a found v w) × Records a v w
 
 -- one read hold stands
 abbrev pub IsReading : {X : Type 0} → Held X → Type 0
@@ -149,10 +160,25 @@ abbrev pub ComparesHigh : {T : Type 0} → Arithmetic T → T → AtomicAct → 
 ComparesHigh z opening a current v found w =
     IfWriting v.tally.hold (λ x old. (found ≡ x.high) × MatchBool (z.same (value_of z x) current) (w ≡ v) (EndsUnchanged z opening a v w))
 
+-- The call that compares, whose act this is, is at its load of the high word, and has read the low one that its hold knows.
+pub record IsComparing {T : Type 0} (z : Arithmetic T) (opening : T) (a : AtomicAct) (current : T) (h : Held Content) (p : Parties T) : Type 0 where
+  pub call : Call T
+  pub low : ℕ
+  pub low_is : IfWriting h (λ x found. low ≡ x.low)
+  pub at : IsAtHigh z opening call low p
+  pub acts : ActsAtOther z call current
+  pub is_act : act_in z a ≡ plain call
+
+-- it stores: it is no `fetch_update` whose closure has chosen nothing
+abbrev pub IsStoring : AtomicAct → Type 0
+IsStoring (act.FetchUpdate None) = ⊥
+IsStoring other = Unit {0}
+
 -- all of the history was seen, whose start the pass knew
 pub record Settles {T : Type 0} (z : Arithmetic T) (opening : T) (v w : V) : Type 0 where
   pub history : List AtomicAct
   pub seen : w.tally.heard.seen ≡ known history
+  pub keeps : merge same_act w.tally.heard.seen v.tally.heard.seen ≡ w.tally.heard.seen
   pub knew : (a b : Heard) → v.tally.heard ≡ both_heard a b → StartsWith (history_in z w.tally.heard) (history_in z a) × StartsWith (history_in z w.tally.heard) (history_in z b)
   pub own : w.tally.heard.own ≡ v.tally.heard.own
   pub marks : AreMarks w.tally.heard.own (history_in z w.tally.heard)
@@ -170,7 +196,7 @@ pub record Joins {T : Type 0} (z : Arithmetic T) (v u w : V) : Type 0 where
 -- the history is the own acts, and the value is the register's after it
 pub record IsLast {T : Type 0} (z : Arithmetic T) (opening : T) (t : Heard) (value : T) : Type 0 where
   pub own : t.own ≡ each_once (history_in z t)
-  pub value_is : value ≡ register_after z opening (history_in z t)
+  pub value_is : value ≡ after_acts z opening (history_in z t)
 
 -- what a pass of an atomic is in its model, and counts beside
 abbrev pub PlayedAtomic : Type 0 → Type 0
@@ -182,16 +208,16 @@ all_of views = sum_of (none_played no_acts) (both_played both_tallies) views
 
 -- the rule over all passes of an atomic: its words are those of a run of the model, in which the passes are parties, and the register's
 abbrev pub AtomicRules : {T : Type 0} → Arithmetic T → T → List ℕ → List (maybe.Option (Unit {0})) → PlayedAtomic T → Type 0
-AtomicRules z opening = PlaysAndCounts (atomic_model z opening) atomic_names (AtomicAgrees z opening)
+AtomicRules z opening = PlaysAndCounts (atomic_model z opening) atomic_names (AtomicAgrees z opening) (IsHistoryOf z)
 
 -- Whenever the rule holds there is one history: what each pass has seen begins it, each act in it is one pass's own, and while no write
--- hold stands the data words are the register after it; and that is the register after a run in which all passes are the parties.
+-- hold stands the data words are the register after it. It is, act for act and in order, that of a run in which all passes are the parties.
 pub record IsOneHistory {T : Type 0} (z : Arithmetic T) (opening : T) (s : State (Unit {0}) (View (PlayedAtomic T))) : Type 0 where
   pub history : List (RegisterAct T)
   pub begins : (i : ℕ) (v : View (PlayedAtomic T)) → get_elem? s.views i ≡ some v → StartsWith history (history_in z v.tally.counts.heard)
   pub own : (all_of s.views).counts.heard.own ≡ each_once history
-  pub value_is : write_holds (all_of s.views).counts.hold ≡ 0 → value_of z (data_of s.words) ≡ register_after z opening history
-  pub in_run : write_holds (all_of s.views).counts.hold ≡ 0 → StandsAtRun z opening (all_of s.views).parties (register_after z opening history)
+  pub value_is : write_holds (all_of s.views).counts.hold ≡ 0 → value_of z (data_of s.words) ≡ after_acts z opening history
+  pub in_run : StandsAtRun z opening (all_of s.views).parties history (after_acts z opening history)
 
 abbrev pub OneHistory : {T : Type 0} → Arithmetic T → Type 0
 OneHistory {T} z = (opening : T) (s : State (Unit {0}) (View (PlayedAtomic T))) → IsCounted (none_played no_acts) (both_played both_tallies) (AtomicRules z opening) s → IsOneHistory z opening s

@@ -13,11 +13,12 @@ ghost use Rattle.playing.specs.Slots.{Slot, no_parties, all_of};
 ghost use Rattle.playing.specs.Plays.{HasCalled};
 ghost use Rattle.playing.specs.Passes.{played, parties_of, counts_of, counted};
 ghost use Rattle.playing.specs.Stages.{IsPassOf, key_of, count_of};
-ghost use Rattle.running_atomic.specs.AtomicParties.{Writes, IsNext, Reads, Knows, Puts, MayPut, HasPut, HasReplaced};
+ghost use Rattle.running_atomic.specs.AtomicParties.{Writes, IsNext, Reads, GoesOnKnowing, ActsAtOther, Knows, Puts, MayPut, HasPut, HasReplaced};
 ghost use Rattle.running_atomic.specs.AtomicModel.{atomic_model};
-ghost use Rattle.running_atomic.specs.AtomicRule.{plain, update, value_after, act_in, answer_to, value_of};
+ghost use Rattle.steps_atomic.specs.Register.{plain, update, value_after, answer_to};
+ghost use Rattle.running_atomic.specs.AtomicRule.{act_in, value_of};
 ghost use Rattle.running_atomic.specs.History.{no_acts};
-ghost use Rattle.running_atomic.specs.AtomicSteps.{IsReading, IsSettled, IfWriting, ActsAt, OneHistory};
+ghost use Rattle.running_atomic.specs.AtomicSteps.{IsReading, IsSettled, IfWriting, IsStoring, ActsAt, OneHistory};
 
 use crate::begins::{LoadBegins, NothingChosen};
 use crate::history::{AtomicAct, AtomicTally, Content};
@@ -33,7 +34,7 @@ use std::marker::Brand;
 use std::sync::Wait;
 use std::sync::atomic::Ordering;
 use std::thread;
-use steps_atomic::AtomicPlace;
+use steps_atomic::{AtomicPlace, closed};
 use steps_events::SPIN_REPETITIONS;
 use steps_events::atomic::internal::AtomicInteger;
 use steps_events::event::Call;
@@ -89,6 +90,7 @@ impl<T: AtomicInteger, A: Allocator> Atomic<T, A> {
         ensures opening { IfOk result (λ made. opening_of made.0 ≡ value) }
         ensures first { IfOk result (λ made. view (pass_in made.1) ≡ first_view (played no_parties no_acts)) }
     {
+        closed::<T>();
         let (low, high) = value.to_words();
         let (stage, pass) = Stage::new(alloc, &[0, low, high], &value)?;
         Ok((Atomic { stage }, AtomicPass { pass }))
@@ -477,6 +479,7 @@ impl<T: AtomicInteger, A: Allocator> Atomic<T, A> {
         requires rest { (counts_of pass.old).hold ≡ Free }
         requires writes { Writes T.arithmetic (key_of self.now.stage) call.now }
         requires reads { Reads T.arithmetic call.now }
+        requires goes_on { GoesOnKnowing T.arithmetic call.now }
         ensures taken { HasTaken T.arithmetic result pass.old pass.new }
         ensures knows { Knows T.arithmetic (key_of self.now.stage) call.now result (all_of (parties_of pass.old)) (parties_of pass.new) }
     {
@@ -500,6 +503,8 @@ impl<T: AtomicInteger, A: Allocator> Atomic<T, A> {
         requires writes { Writes T.arithmetic (key_of self.now.stage) call.now }
         requires reads { Reads T.arithmetic call.now }
         requires right { (old : T) → T.arithmetic.same old by.now.current ≡ false → value_after T.arithmetic (act_in T.arithmetic by.now.act) old ≡ old }
+        requires other { ActsAtOther T.arithmetic call.now by.now.current }
+        requires acts { act_in T.arithmetic by.now.act ≡ plain call.now }
         ensures compared { MatchBool (T.arithmetic.same result by.now.current) (HasTaken T.arithmetic result pass.old pass.new) (HasCompared T.arithmetic (key_of self.now.stage) by.now.act result pass.old pass.new) }
         ensures knows { Knows T.arithmetic (key_of self.now.stage) call.now result (all_of (parties_of pass.old)) (parties_of pass.new) }
     {
@@ -515,7 +520,8 @@ impl<T: AtomicInteger, A: Allocator> Atomic<T, A> {
         requires own { IsPassOf self.now.stage pass.old }
         requires on { IsSettled (counts_of pass.old).hold }
         requires right { IfWriting (counts_of pass.old).hold (λ _ found. value_after T.arithmetic (act_in T.arithmetic act.now) (value_of T.arithmetic found) ≡ new) }
-        requires may { MayPut T.arithmetic (key_of self.now.stage) W.coming new (parties_of pass.old) }
+        requires stores { IsStoring act.now }
+        requires may { MayPut T.arithmetic (key_of self.now.stage) W.coming (act_in T.arithmetic act.now).call new (parties_of pass.old) }
         ensures same { IsSamePass pass.old pass.new }
         ensures acted { IfWriting (counts_of pass.old).hold (λ _ found. ActsAt T.arithmetic (key_of self.now.stage) act.now found (counted pass.old) (counted pass.new)) }
         ensures rest { (counts_of pass.new).hold ≡ Free }
@@ -542,6 +548,8 @@ impl<T: AtomicInteger, A: Allocator> Atomic<T, A> {
         requires right { value_after T.arithmetic (act_in T.arithmetic act.now) old ≡ new }
         requires knows { (done : List (Slot T)) × Knows T.arithmetic (key_of self.now.stage) call.now old done (parties_of pass.old) }
         requires puts { Puts T.arithmetic call.now old new (answer_to T.arithmetic (act_in T.arithmetic act.now) old) }
+        requires stores { IsStoring act.now }
+        requires acts { call.now ≡ (act_in T.arithmetic act.now).call }
         ensures old { result ≡ old }
         ensures acted { HasActedAt T.arithmetic (key_of self.now.stage) (act_in T.arithmetic act.now) (answer_to T.arithmetic (act_in T.arithmetic act.now) old) pass.old pass.new }
         ensures rest { (counts_of pass.new).hold ≡ Free }
@@ -570,8 +578,8 @@ impl<T: AtomicInteger, A: Allocator> Atomic<T, A> {
 }
 
 /// Whenever the rule of an atomic holds there is one history: what each pass has seen begins it, each act in it is one pass's own, and
-/// while no write hold stands the data words are the register after it, as after a run of the model in which all passes are the parties.
-/// Says so of the rule alone, and does nothing.
+/// while no write hold stands the data words are the register after it. It is, act for act and in order, that of a run of the model in
+/// which all passes are the parties. Says so of the rule alone, and does nothing.
 #[tactic(auto, using(crate::proofs::OneHistory::one_history))]
 pub fn one_history<T: AtomicInteger>()
     ensures one { OneHistory T.arithmetic }

@@ -4,6 +4,7 @@ ghost use Rattle.running_atomic.specs.AtomicSteps as steps;
 
 use crate::history::AtomicTally;
 use passes::{Deed, Rule};
+use playing::Counts;
 use steps_events::atomic::internal::AtomicInteger;
 
 /// The data words are the register after the one history that all passes know, unless a write hold stands.
@@ -14,6 +15,18 @@ impl<T: AtomicInteger> Rule<(), T> for AtomicTally {
     ghost first = { λ _. no_acts };
 
     ghost agrees = { AtomicAgrees T.arithmetic };
+}
+
+/// The history that all passes know together is, act for act, that of the run.
+impl<T: AtomicInteger> Counts<T, T> for AtomicTally {
+    ghost use Rattle.std.proofs.Common.{refl};
+    ghost use Rattle.running_atomic.specs.AtomicRule.{IsHistoryOf, quiet_on};
+
+    ghost follow = { λ _. IsHistoryOf T.arithmetic };
+
+    ghost quiet = { λ _. quiet_on T.arithmetic };
+
+    ghost opens = { λ _. refl };
 }
 
 /// A load of the lock's word.

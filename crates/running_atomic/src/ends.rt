@@ -10,8 +10,8 @@ use steps_events::atomic::internal::AtomicInteger;
 impl<A: Allocator> Atomic<u64, A> {
     ghost use Rattle.running_atomic.specs.AtomicShown.{IsAtomicPass, opening_of, IsLastOf, IsLastInRun};
 
-    /// Ends the atomic, and answers its value. With the whole pass that is the register's after the pass's own acts, which are all, and
-    /// after a run of the model in which it alone is the parties.
+    /// Ends the atomic, and answers its value. With the whole pass that is the register's after the pass's own acts, which are all: those
+    /// of a run of the model in which it alone is the parties, one for one and in order.
     pub fn into_inner(self, pass: AtomicPass<u64>) -> u64
         requires own { IsAtomicPass self pass }
         ensures last { IsLastOf u64_arithmetic (opening_of self) pass result }
@@ -27,8 +27,8 @@ impl<A: Allocator> Atomic<u64, A> {
 impl<A: Allocator> Atomic<u128, A> {
     ghost use Rattle.running_atomic.specs.AtomicShown.{IsAtomicPass, opening_of, IsLastOf, IsLastInRun};
 
-    /// Ends the atomic, and answers its value. With the whole pass that is the register's after the pass's own acts, which are all, and
-    /// after a run of the model in which it alone is the parties.
+    /// Ends the atomic, and answers its value. With the whole pass that is the register's after the pass's own acts, which are all: those
+    /// of a run of the model in which it alone is the parties, one for one and in order.
     pub fn into_inner(self, pass: AtomicPass<u128>) -> u128
         requires own { IsAtomicPass self pass }
         ensures last { IsLastOf u128_arithmetic (opening_of self) pass result }
@@ -44,8 +44,8 @@ impl<A: Allocator> Atomic<u128, A> {
 impl<A: Allocator> Atomic<i64, A> {
     ghost use Rattle.running_atomic.specs.AtomicShown.{IsAtomicPass, opening_of, IsLastOf, IsLastInRun};
 
-    /// Ends the atomic, and answers its value. With the whole pass that is the register's after the pass's own acts, which are all, and
-    /// after a run of the model in which it alone is the parties.
+    /// Ends the atomic, and answers its value. With the whole pass that is the register's after the pass's own acts, which are all: those
+    /// of a run of the model in which it alone is the parties, one for one and in order.
     pub fn into_inner(self, pass: AtomicPass<i64>) -> i64
         requires own { IsAtomicPass self pass }
         ensures last { IsLastOf i64_arithmetic (opening_of self) pass result }
@@ -61,8 +61,8 @@ impl<A: Allocator> Atomic<i64, A> {
 impl<A: Allocator> Atomic<i128, A> {
     ghost use Rattle.running_atomic.specs.AtomicShown.{IsAtomicPass, opening_of, IsLastOf, IsLastInRun};
 
-    /// Ends the atomic, and answers its value. With the whole pass that is the register's after the pass's own acts, which are all, and
-    /// after a run of the model in which it alone is the parties.
+    /// Ends the atomic, and answers its value. With the whole pass that is the register's after the pass's own acts, which are all: those
+    /// of a run of the model in which it alone is the parties, one for one and in order.
     pub fn into_inner(self, pass: AtomicPass<i128>) -> i128
         requires own { IsAtomicPass self pass }
         ensures last { IsLastOf i128_arithmetic (opening_of self) pass result }

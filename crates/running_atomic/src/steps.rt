@@ -1,13 +1,17 @@
 //! The steps on the words of an atomic, one atomic step each.
-ghost use Rattle.std.specs.Prelude.{◌≡◌, ◌<◌, ◌-◌, ◌^◌, ◌+◌};
+ghost use Rattle.std.specs.Prelude.{◌≡◌, ◌<◌, ◌-◌, ◌^◌, ◌+◌, ℕ, None};
 ghost use Rattle.tallies.specs.declared.held.Held.TheVariants.{Free};
 ghost use Rattle.passes.specs.Passes.{IsSamePass};
 ghost use Rattle.playing.specs.Plays.{Going, MayStep, Went};
 ghost use Rattle.playing.specs.Passes.{parties_of, counts_of, counted};
 ghost use Rattle.playing.specs.Stages.{IsPassOf, key_of};
 ghost use Rattle.running_atomic.specs.AtomicModel.{atomic_model, atomic_names};
+ghost use Rattle.running_atomic.specs.AtomicParties.{IsAtHigh, IsAtLook, ComesAgain, IsAtPutHigh};
+ghost use Rattle.running_atomic.specs.AtomicRule.{act_in};
+ghost use Rattle.steps_events.specs.declared.event.Call.TheVariants as calls;
+ghost use Rattle.steps_atomic.specs.Register.{update};
 ghost use Rattle.passes.specs.Views.{looked};
-ghost use Rattle.running_atomic.specs.AtomicSteps.{EntersRead, EntersWrite, Leaves, ReadsLow, ReadsHigh, EndsLoad, EndsStore, EndsUnchanged, StoresLow, Settles, IsReading, IsSettled, IsWriting, IsOn, IsRight, ChangesNothing, KeepsOthers, ComparesHigh};
+ghost use Rattle.running_atomic.specs.AtomicSteps.{EntersRead, EntersWrite, Leaves, ReadsLow, ReadsHigh, EndsLoad, EndsStore, EndsUnchanged, StoresLow, Settles, IsReading, IsSettled, IsWriting, IsOn, IsRight, ChangesNothing, KeepsOthers, ComparesHigh, IsComparing, IsStoring};
 
 use crate::calls::Atomic;
 use crate::deeds::{
@@ -135,6 +139,7 @@ impl<T: AtomicInteger, A: Allocator> Atomic<T, A> {
         requires own { IsPassOf self.now.stage pass.old }
         requires on { IsOn (counts_of pass.old).hold }
         requires may { MayStep (atomic_model T.arithmetic (key_of self.now.stage)) atomic_names Going 2 (λ w. intents.Load w) (parties_of pass.old) }
+        requires goes_on { IsAtLook T.arithmetic (key_of self.now.stage) (parties_of pass.old) }
         ensures same { IsSamePass pass.old pass.new }
         ensures went { Went (atomic_model T.arithmetic (key_of self.now.stage)) Going (parties_of pass.old) result (parties_of pass.new) }
         ensures read { ReadsHigh (counted pass.old) result (counted pass.new) }
@@ -148,6 +153,7 @@ impl<T: AtomicInteger, A: Allocator> Atomic<T, A> {
         requires own { IsPassOf self.now.stage pass.old }
         requires on { IsReading (counts_of pass.old).hold }
         requires may { MayStep (atomic_model T.arithmetic (key_of self.now.stage)) atomic_names Going 2 (λ w. intents.Load w) (parties_of pass.old) }
+        requires loads { (low : ℕ) × IsAtHigh T.arithmetic (key_of self.now.stage) calls.Load low (parties_of pass.old) }
         ensures same { IsSamePass pass.old pass.new }
         ensures went { Went (atomic_model T.arithmetic (key_of self.now.stage)) Going (parties_of pass.old) result (parties_of pass.new) }
         ensures ended { EndsLoad T.arithmetic (key_of self.now.stage) (counted pass.old) result (counted pass.new) }
@@ -176,6 +182,8 @@ impl<T: AtomicInteger, A: Allocator> Atomic<T, A> {
         requires on { IsWriting (counts_of pass.old).hold }
         requires right { IsRight T.arithmetic act.now new (counts_of pass.old).hold }
         requires may { MayStep (atomic_model T.arithmetic (key_of self.now.stage)) atomic_names Going 2 (λ w. intents.Store w new) (parties_of pass.old) }
+        requires stores { IsStoring act.now }
+        requires puts { IsAtPutHigh T.arithmetic (key_of self.now.stage) (act_in T.arithmetic act.now).call new (parties_of pass.old) }
         ensures same { IsSamePass pass.old pass.new }
         ensures went { Went (atomic_model T.arithmetic (key_of self.now.stage)) Going (parties_of pass.old) new (parties_of pass.new) }
         ensures ended { EndsStore T.arithmetic (key_of self.now.stage) act.now (counted pass.old) new (counted pass.new) }
@@ -196,6 +204,8 @@ impl<T: AtomicInteger, A: Allocator> Atomic<T, A> {
         requires on { IsSettled (counts_of pass.old).hold }
         requires right { ChangesNothing T.arithmetic act.now (counts_of pass.old).hold }
         requires may { MayStep (atomic_model T.arithmetic (key_of self.now.stage)) atomic_names E.coming 2 (λ w. intents.Load w) (parties_of pass.old) }
+        requires again { ComesAgain T.arithmetic (key_of self.now.stage) E.coming (parties_of pass.old) }
+        requires none { act_in T.arithmetic act.now ≡ update None }
         ensures same { IsSamePass pass.old pass.new }
         ensures went { Went (atomic_model T.arithmetic (key_of self.now.stage)) E.coming (parties_of pass.old) result (parties_of pass.new) }
         ensures ended { EndsUnchanged T.arithmetic (key_of self.now.stage) act.now (counted pass.old) (counted pass.new) }
@@ -211,6 +221,7 @@ impl<T: AtomicInteger, A: Allocator> Atomic<T, A> {
         requires on { IsSettled (counts_of pass.old).hold }
         requires right { KeepsOthers T.arithmetic by.now.act by.now.current (counts_of pass.old).hold }
         requires may { MayStep (atomic_model T.arithmetic (key_of self.now.stage)) atomic_names Going 2 (λ w. intents.Load w) (parties_of pass.old) }
+        requires compares { IsComparing T.arithmetic (key_of self.now.stage) by.now.act by.now.current (counts_of pass.old).hold (parties_of pass.old) }
         ensures same { IsSamePass pass.old pass.new }
         ensures went { Went (atomic_model T.arithmetic (key_of self.now.stage)) Going (parties_of pass.old) result (parties_of pass.new) }
         ensures compared { ComparesHigh T.arithmetic (key_of self.now.stage) by.now.act by.now.current (counted pass.old) result (counted pass.new) }

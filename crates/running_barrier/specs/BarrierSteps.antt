@@ -11,13 +11,13 @@ use Rattle.tallies.specs.BarrierScript.{barrier_model}
 use Rattle.passes.specs.declared.view.View.{View}
 use Rattle.passes.specs.Parts.{IsWhole, total}
 use Rattle.passes.specs.Sights.{stale}
-use Rattle.passes.specs.Views.{view_of, looked, missed, IsCounted}
+use Rattle.passes.specs.Views.{view_of, looked, missed, sum_of, IsCounted}
 use Rattle.playing.specs.declared.played.Played.{Played}
-use Rattle.playing.specs.Passes.{none_played, both_played, PlaysAndCounts}
+use Rattle.playing.specs.Passes.{none_played, both_played, PlaysAndCounts, IsOfARun}
 use Rattle.tallies.specs.declared.barrier.Rounds.{Rounds}
 use Rattle.tallies.specs.declared.barrier.BarrierScript.{BarrierScript}
 use Rattle.tallies.specs.Counts.{one_more}
-use Rattle.tallies.specs.BarrierRule.{in_round, rounds, no_rounds, both_rounds, word_of, BarrierAgrees}
+use Rattle.tallies.specs.BarrierRule.{in_round, rounds, no_rounds, both_rounds, word_of, BarrierAgrees, AreArrivalsIn}
 
 -- what the pass of a barrier knows
 abbrev pub BarrierView : Type 0
@@ -25,9 +25,13 @@ BarrierView = View (Played BarrierScript BarrierPlace ℕ Rounds)
 
 -- the rule of a barrier for n holds
 abbrev pub IsRuled : ℕ → State (Unit {0}) BarrierView → Type 0
-IsRuled n s = IsCounted (none_played no_rounds) (both_played both_rounds) (PlaysAndCounts (barrier_model n) (words.State ∷ []) (BarrierAgrees n)) s
+IsRuled n s = IsCounted (none_played no_rounds) (both_played both_rounds) (PlaysAndCounts (barrier_model n) (words.State ∷ []) (BarrierAgrees n) AreArrivalsIn) s
 
--- whenever it does, a round that a pass knows to be open has n arrivals of all passes
+-- whenever it does, all passes are the parties of a run, and arrived as often as calls did in it
+abbrev pub ArrivalsAreOfARun : Type 0
+ArrivalsAreOfARun = (n : ℕ) (s : State (Unit {0}) BarrierView) → IsRuled n s → IsOfARun (barrier_model n) AreArrivalsIn (sum_of (none_played no_rounds) (both_played both_rounds) s.views)
+
+-- and a round that a pass knows to be open has n arrivals of all passes
 abbrev pub OpenRoundsAreFull : Type 0
 OpenRoundsAreFull = (n : ℕ) (s : State (Unit {0}) BarrierView) → IsRuled n s → (i : ℕ) (v : BarrierView) → get_elem? s.views i ≡ some v
     → (round : ℕ) → round < v.tally.counts.reached → total (λ u. in_round round u.tally.counts.arrivals) s.views ≡ n

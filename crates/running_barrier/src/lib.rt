@@ -8,7 +8,7 @@
 ghost use Rattle.std.specs.Prelude.{◌≡◌, ℕ, ◌≢◌, ◌<◌, ◌≤◌, ◌+◌, IfOk, MatchBool};
 ghost use Rattle.playing.specs.Passes.{parties_of, counts_of as tally_of, counted};
 ghost use Rattle.playing.specs.Stages.{count_of as words_of, key_of};
-ghost use Rattle.running_barrier.specs.BarrierSteps.{OpenRoundsAreFull};
+ghost use Rattle.running_barrier.specs.BarrierSteps.{ArrivalsAreOfARun, OpenRoundsAreFull};
 ghost use Rattle.steps_barrier.specs.Rounds.{epoch_of, count_of};
 
 use passes::{Deed, Origin, Pass};
@@ -330,4 +330,11 @@ fn fills(from: u64, number_of_waiters: u32) -> bool
 #[tactic(auto, using(crate::proofs::BarrierKeeps::open_rounds_are_full))]
 pub fn open_rounds_are_full()
     ensures { OpenRoundsAreFull }
+{}
+
+/// Whenever the rule of a barrier holds, its passes are the parties of a run of the model, and all together arrived as often as calls did in
+/// it. Says so of the rule alone, and does nothing.
+#[tactic(auto, using(crate::proofs::BarrierKeeps::arrivals_are_of_a_run))]
+pub fn arrivals_are_of_a_run()
+    ensures { ArrivalsAreOfARun }
 {}

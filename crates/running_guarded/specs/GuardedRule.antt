@@ -4,7 +4,7 @@ use Rattle.steps_mutex.specs.declared.MutexPlace.{MutexPlace}
 use Rattle.tallies.specs.MutexScript.{mutex_model}
 use Rattle.tallies.specs.declared.mutex.MutexScript.{MutexScript}
 use Rattle.running_mutex.specs.MutexSteps.{PlayedMutex}
-use Rattle.running_spin_lock.specs.ValueRule.{HasOneHolder}
+use Rattle.running_spin_lock.specs.ValueRule.{HasOneHolder, GrantsAreOfARunOf}
 
 -- what a pass knows
 abbrev pub MutexView : Type 0
@@ -12,3 +12,6 @@ MutexView = View PlayedMutex
 
 abbrev pub OneHolderAtMost : (T : Type 0) → Type 0
 OneHolderAtMost T = HasOneHolder MutexScript MutexPlace mutex_model T
+
+abbrev pub GrantsAreOfARun : (T : Type 0) → Type 0
+GrantsAreOfARun T = GrantsAreOfARunOf MutexScript MutexPlace mutex_model T

@@ -21,7 +21,7 @@ ghost use Rattle.running_mutex.specs.MutexParties.{HasMutex};
 ghost use Rattle.running_mutex.specs.MutexShown.{IsLocked};
 ghost use Rattle.running_spin_lock.specs.ValueRule.{none_held};
 ghost use Rattle.running_spin_lock.specs.ValueSteps.{Locks, Lets, Enters, Tried, Stored, HasValue, has_vacant_slot};
-ghost use Rattle.running_guarded.specs.GuardedRule.{OneHolderAtMost};
+ghost use Rattle.running_guarded.specs.GuardedRule.{GrantsAreOfARun, OneHolderAtMost};
 ghost use Rattle.running_guarded.specs.GuardedSteps.{SeesLocked, Tries, SeesLockedOften, GivesUp, Plays, PlaysUnlock, PlaysBoth, Acts};
 
 use crate::guard::Guard;
@@ -545,4 +545,10 @@ fn only<T, A: Allocator>(slots: Vec<Option<T>, A>) -> T
 /// of the rule alone, and does nothing.
 pub fn one_holder_at_most<T>()
     ensures { OneHolderAtMost T }
+{}
+
+/// Whenever the rule of a guarded value holds, its passes are the parties of a run of the mutex's model, and all together were granted as
+/// often as calls were in it. Says so of the rule alone, and does nothing.
+pub fn grants_are_of_a_run<T>()
+    ensures { GrantsAreOfARun T }
 {}

@@ -12,7 +12,7 @@ mod when;
 mod word;
 
 pub use guard::Guard;
-pub use guarded::{Guarded, one_holder_at_most};
+pub use guarded::{Guarded, grants_are_of_a_run, one_holder_at_most};
 pub use pass::GuardedPass;
 pub use rule::GuardedRule;
 pub use word::GuardedWord;

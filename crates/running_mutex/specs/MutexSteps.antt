@@ -5,23 +5,32 @@ use lib.ListN.{get_elem?}
 use Rattle.atomic_table.specs.Table.{State}
 use Rattle.passes.specs.declared.view.View.{View}
 use Rattle.passes.specs.Parts.{IsWhole}
-use Rattle.passes.specs.Views.{missed, wrote, IsCounted}
+use Rattle.passes.specs.Views.{missed, wrote, sum_of, IsCounted}
 use Rattle.steps_events.specs.declared.event.Word.TheVariants as words
 use Rattle.steps_mutex.specs.declared.MutexPlace.{MutexPlace}
+use Rattle.steps_mutex.specs.Table.{mutex_table}
 use Rattle.tallies.specs.MutexScript.{mutex_model}
 use Rattle.playing.specs.declared.played.Played.{Played}
-use Rattle.playing.specs.Passes.{none_played, both_played, PlaysAndCounts}
+use Rattle.playing.specs.Passes.{none_played, both_played, PlaysAndCounts, IsOfARun}
 use Rattle.tallies.specs.declared.mutex.Holds.{Holds}
 use Rattle.tallies.specs.declared.mutex.MutexScript.{MutexScript}
-use Rattle.tallies.specs.MutexRule.{MutexAgrees, both_holds, holds, no_holds}
+use Rattle.tallies.specs.MutexRule.{MutexAgrees, AreGrantsIn, both_holds, holds, no_holds}
 
 -- what a pass of a mutex is in its model, and counts beside
 abbrev pub PlayedMutex : Type 0
 PlayedMutex = Played MutexScript MutexPlace ℕ Holds
 
--- whenever the rule holds, no two passes have a hold
+-- the rule of a mutex holds
+abbrev pub IsRuled : State (Unit {0}) (View PlayedMutex) → Type 0
+IsRuled s = IsCounted (none_played no_holds) (both_played both_holds) (PlaysAndCounts mutex_model (words.State ∷ []) MutexAgrees (AreGrantsIn mutex_table)) s
+
+-- whenever it does, all passes are the parties of a run, and were granted as often as calls were in it
+abbrev pub GrantsAreOfARun : Type 0
+GrantsAreOfARun = (s : State (Unit {0}) (View PlayedMutex)) → IsRuled s → IsOfARun mutex_model (AreGrantsIn mutex_table) (sum_of (none_played no_holds) (both_played both_holds) s.views)
+
+-- and no two passes have a hold
 abbrev pub OneHolder : Type 0
-OneHolder = (s : State (Unit {0}) (View PlayedMutex)) → IsCounted (none_played no_holds) (both_played both_holds) (PlaysAndCounts mutex_model (words.State ∷ []) MutexAgrees) s →
+OneHolder = (s : State (Unit {0}) (View PlayedMutex)) → IsRuled s →
     (i j : ℕ) (v w : View PlayedMutex) → get_elem? s.views i ≡ some v → get_elem? s.views j ≡ some w → v.tally.counts.holds ≡ 1 → w.tally.counts.holds ≡ 1 → i ≡ j
 
 -- the hold is turned on, by a grant

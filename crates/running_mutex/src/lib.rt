@@ -9,7 +9,7 @@ ghost use Rattle.std.specs.Prelude.{◌≡◌, ℕ, IfOk};
 ghost use Rattle.playing.specs.Passes.{parties_of, counts_of};
 ghost use Rattle.playing.specs.Stages.{count_of};
 ghost use Rattle.running_mutex.specs.MutexParties.{HasMutex};
-ghost use Rattle.running_mutex.specs.MutexSteps.{OneHolder};
+ghost use Rattle.running_mutex.specs.MutexSteps.{GrantsAreOfARun, OneHolder};
 
 pub mod condition_variable;
 
@@ -382,4 +382,10 @@ fn locked() -> u64
 #[tactic(auto, using(crate::proofs::MutexKeeps::one_holder))]
 pub fn one_holder_at_most()
     ensures { OneHolder }
+{}
+
+/// Whenever the rule of a mutex holds, its passes are the parties of a run of the model, and all together were granted as often as calls
+/// were in it. Says so of the rule alone, and does nothing.
+pub fn grants_are_of_a_run()
+    ensures { GrantsAreOfARun }
 {}

@@ -90,11 +90,11 @@ total_ended [] = refl
 total_ended (v ∷ views) = let rest = total_ended views in omega arith
 
 pub one_closure : OneClosure
-one_closure s r = let begun = total_begun s.views in let one = r.agree.1.one in omega arith
+one_closure s r = let begun = total_begun s.views in let one = r.agree.agrees.one in omega arith
 
 pub known_has_ended : KnownHasEnded
 known_has_ended s r i v here complete =
     let at = sum_at (none_played no_runs) (both_played both_runs) (core_played known_runs) (played_add_up no_runs both_runs known_runs runs_add_up) s.views i v here in
     let known = ap (λ t. t.counts.complete) at in
     total_ended s.views
-    ∙ r.agree.1.known (known ∙ or_true v.tally.counts.complete (others (none_played no_runs) (both_played both_runs) s.views i).counts.complete complete)
+    ∙ r.agree.agrees.known (known ∙ or_true v.tally.counts.complete (others (none_played no_runs) (both_played both_runs) s.views i).counts.complete complete)

@@ -5,13 +5,18 @@ use mathlib.Core.Option.{some}
 use lib.ListN.{get_elem?}
 use Rattle.atomic_table.specs.Table.{State}
 use Rattle.steps_events.specs.declared.event.Word.TheVariants as words
+use Rattle.steps_events.specs.declared.event.Act.{Act}
+use Rattle.steps_events.specs.declared.event.Act.TheVariants as acts
+use Rattle.steps_events.specs.declared.event.Event.{Event}
+use Rattle.steps_events.specs.Sights.{acts_in}
 use Rattle.steps_once.specs.declared.OncePlace.{OncePlace}
+use Rattle.steps_once.specs.Closures.{begins_in, ends_in}
 use Rattle.running_once.specs.OnceScript.{once_model}
 use Rattle.passes.specs.declared.view.View.{View}
 use Rattle.passes.specs.Parts.{IsWhole, total}
-use Rattle.passes.specs.Views.{view_of, looked, missed, wrote, IsCounted}
+use Rattle.passes.specs.Views.{view_of, looked, missed, wrote, IsCounted, sum_of}
 use Rattle.playing.specs.declared.played.Played.{Played}
-use Rattle.playing.specs.Passes.{none_played, both_played, PlaysAndCounts}
+use Rattle.playing.specs.Passes.{none_played, both_played, PlaysAndCounts, IsOfARun}
 use Rattle.running_once.specs.declared.Runs.{Runs}
 use Rattle.running_once.specs.declared.OnceScript.{OnceScript}
 
@@ -43,15 +48,31 @@ pub record IsRun (words : List ℕ) (t : Runs) : Type 0 where
 abbrev pub OnceAgrees : List ℕ → List (maybe.Option (Unit {0})) → Runs → Type 0
 OnceAgrees words homes = IsRun words
 
+-- a store of the word completes the once
+abbrev pub is_completion : Act ℕ → Bool
+is_completion (acts.Store words.State put) = true
+is_completion act = false
+
+-- What the run says of it: so many closures began, and so many calls stored that theirs had ended. The end itself comes just before, on no
+-- word, so each of them stands in the run.
+pub record AreRunsIn (past : List (Event ℕ)) (t : Runs) : Type 0 where
+  pub begun : t.running + t.ended ≡ begins_in past
+  pub completed : t.ended ≡ acts_in is_completion past
+  pub over : t.ended ≤ ends_in past
+
 -- what the pass of a once is in its model, and knows
 abbrev pub OnceView : Type 0
 OnceView = View (Played OnceScript OncePlace ℕ Runs)
 
 -- the rule of a once holds
 abbrev pub IsRuled : State (Unit {0}) OnceView → Type 0
-IsRuled s = IsCounted (none_played no_runs) (both_played both_runs) (PlaysAndCounts once_model (words.State ∷ []) OnceAgrees) s
+IsRuled s = IsCounted (none_played no_runs) (both_played both_runs) (PlaysAndCounts once_model (words.State ∷ []) OnceAgrees AreRunsIn) s
 
--- whenever it does, all passes together began one closure at most
+-- whenever it does, all passes are the parties of a run, and began as many closures as calls did in it, and completed as many
+abbrev pub ClosuresAreOfARun : Type 0
+ClosuresAreOfARun = (s : State (Unit {0}) OnceView) → IsRuled s → IsOfARun once_model AreRunsIn (sum_of (none_played no_runs) (both_played both_runs) s.views)
+
+-- and all passes together began one closure at most
 abbrev pub OneClosure : Type 0
 OneClosure = (s : State (Unit {0}) OnceView) → IsRuled s → total (λ u. u.tally.counts.running + u.tally.counts.ended) s.views ≤ 1
 

@@ -1,7 +1,12 @@
--- What the passes of a once count and know adds up.
-use Rattle.std.proofs.Common.{◌≡◌, ℕ, ◌+◌, Bool, true, false, ◌||◌, refl, arith}
+-- What the passes of a once count and know adds up, and acts on no word begin and complete nothing.
+use Rattle.std.proofs.Common.{◌≡◌, ℕ, ◌+◌, Bool, true, false, cond, ◌||◌, refl, ap, arith}
+use Rattle.steps_events.specs.declared.event.Act.{Act}
+use Rattle.steps_events.specs.declared.event.Act.TheVariants as acts
+use Rattle.steps_once.specs.Closures.{is_begin}
 use Rattle.passes.specs.Tallies.{IsTally}
-use Rattle.running_once.specs.OnceRule.{runs, no_runs, both_runs, known_runs}
+use Rattle.playing.specs.Words.{IsQuiet}
+use Rattle.playing.specs.Passes.{StaysQuiet}
+use Rattle.running_once.specs.OnceRule.{runs, no_runs, both_runs, known_runs, is_completion, AreRunsIn}
 
 same_runs : (a b c d : ℕ) (x y : Bool) → a ≡ b → c ≡ d → x ≡ y → runs a c x ≡ runs b d y
 same_runs a b c d x y first second third = λ i. runs (first i) (second i) (third i)
@@ -28,3 +33,29 @@ runs_add_up = record {
       ((t.complete || u.complete) || v.complete) (t.complete || (u.complete || v.complete)) (omega arith) (omega arith) (or_group t.complete u.complete v.complete);
   copy = λ t. same_runs (0 + t.running) t.running (0 + t.ended) t.ended (t.complete || t.complete) t.complete (omega arith) (omega arith) (or_same t.complete);
 }
+
+-- acts on no word
+
+quiet_begins : (act : Act ℕ) → IsQuiet act → is_begin act ≡ false
+quiet_begins (acts.Begun call) quiet = refl
+quiet_begins (acts.Answered action) quiet = refl
+quiet_begins (acts.Chosen choice) quiet = refl
+quiet_begins (acts.Woke wake) quiet = refl
+quiet_begins acts.Ended quiet = refl
+quiet_begins (acts.ReadCell value) quiet = refl
+quiet_begins other quiet = absurd quiet
+
+quiet_completes : (act : Act ℕ) → IsQuiet act → is_completion act ≡ false
+quiet_completes (acts.Begun call) quiet = refl
+quiet_completes (acts.Answered action) quiet = refl
+quiet_completes (acts.Chosen choice) quiet = refl
+quiet_completes (acts.Woke wake) quiet = refl
+quiet_completes acts.Ended quiet = refl
+quiet_completes (acts.ReadCell value) quiet = refl
+quiet_completes other quiet = absurd quiet
+
+pub runs_stay : StaysQuiet AreRunsIn
+runs_stay past e counts quiet is =
+    let none_begins : ◌≡◌ {A = ℕ} (cond (is_begin e.act) 1 0) 0 = ap (λ (b : Bool). cond b 1 0) (quiet_begins e.act quiet) in
+    let none_completes : ◌≡◌ {A = ℕ} (cond (is_completion e.act) 1 0) 0 = ap (λ (b : Bool). cond b 1 0) (quiet_completes e.act quiet) in
+    record { begun = omega (arith, is.begun, none_begins); completed = omega (arith, is.completed, none_completes); over = omega (arith, is.over) }

@@ -7,11 +7,11 @@
 ghost use Rattle.std.specs.Prelude.{◌≡◌, ℕ, IfOk};
 ghost use Rattle.playing.specs.Passes.{counts_of};
 ghost use Rattle.playing.specs.Stages.{count_of};
-ghost use Rattle.running_once.specs.OnceRule.{OneClosure, KnownHasEnded};
+ghost use Rattle.running_once.specs.OnceRule.{ClosuresAreOfARun, OneClosure, KnownHasEnded};
 ghost use Rattle.running_once.specs.OnceLaws.{DoneComesAfterTheEnd, TrueComesAfterTheEnd};
 
 use passes::{Deed, Pass, Rule, Tally};
-use playing::{AfterAside, Entry, GoesOn, Played, Script, Stage};
+use playing::{AfterAside, Counts, Entry, GoesOn, Played, Script, Stage};
 use std::alloc::{AllocError, Allocator, Global};
 use std::hint::spin_loop;
 use std::sync::Wait;
@@ -69,6 +69,19 @@ impl Rule<(), ()> for Runs {
     ghost first = { λ _. no_runs };
 
     ghost agrees = { λ _. OnceAgrees };
+}
+
+/// All passes together began as many closures as the run has, and completed as many. What a pass knows beside is tied to the word alone.
+impl Counts<(), u64> for Runs {
+    ghost use Rattle.std.proofs.Common.{refl, arith};
+    ghost use Rattle.running_once.specs.OnceRule.{AreRunsIn};
+    ghost use Rattle.running_once.specs.OnceTally.{runs_stay};
+
+    ghost follow = { λ _. AreRunsIn };
+
+    ghost quiet = { λ _. runs_stay };
+
+    ghost opens = { λ _. record { begun = refl; completed = refl; over = omega arith } };
 }
 
 /// A closure that runs once.
@@ -380,4 +393,10 @@ pub fn one_closure_at_most()
 pub fn answers_come_after_the_end()
     ensures done { DoneComesAfterTheEnd }
     ensures flag { TrueComesAfterTheEnd }
+{}
+
+/// Whenever the rule of a once holds, its passes are the parties of a run of the model, and all together began as many closures as calls did
+/// in it, and completed as many. Says so of the rule alone, and does nothing.
+pub fn closures_are_of_a_run()
+    ensures { ClosuresAreOfARun }
 {}

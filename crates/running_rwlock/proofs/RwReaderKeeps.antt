@@ -113,7 +113,7 @@ none_beside s r i j v w here there writes some = dite (ℕ_discrete i j) (λ sam
     (λ apart.
     let two = sum_of_two (none_played no_holds) (both_played both_holds) (core_played (λ _. Free)) (played_add_up no_holds both_holds (λ _. Free) (held_adds_up same_nothing tells_same_nothing)) s.views i j v w here there apart in
     let rest : Holds = two.0.counts in
-    let all : Locks (get_or s.words 0 0) tt (both_holds v.tally.counts (both_holds w.tally.counts rest)) = subst (λ t. Locks (get_or s.words 0 0) tt t) (ap (λ t. t.counts) two.1) r.agree.1.locks in
+    let all : Locks (get_or s.words 0 0) tt (both_holds v.tally.counts (both_holds w.tally.counts rest)) = subst (λ t. Locks (get_or s.words 0 0) tt t) (ap (λ t. t.counts) two.1) r.agree.agrees.locks in
     let mine = parts same_nothing tells_same_nothing tt v.tally.counts (both_holds w.tally.counts rest) all.knows in
     let others : Locks 0 tt (both_holds w.tally.counts rest) = subst (λ t. Locks 0 tt t) (sym (mine.alone writes)) (record { word_is = omega arith; room = omega arith; knows = tt }) in
     let theirs = parts same_nothing tells_same_nothing tt w.tally.counts rest others.knows in

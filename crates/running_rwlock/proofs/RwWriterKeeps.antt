@@ -249,7 +249,7 @@ none_beside s r i j v w here there writes some = dite (ℕ_discrete i j) (λ sam
     let two = sum_of_two (none_played nothing_marked) (both_played both_marked) (core_played (λ _. nothing_marked)) (played_add_up nothing_marked both_marked (λ _. nothing_marked) marked_add_up) s.views i j v w here there apart in
     let rest : MarkedHolds = two.0.counts in
     let others : Holds = both_holds w.tally.counts.held rest.held in
-    let all : IsMarkedOrHeld s.words (both_marked v.tally.counts (both_marked w.tally.counts rest)) = subst (λ t. IsMarkedOrHeld s.words t) (ap (λ t. t.counts) two.1) r.agree.1 in
+    let all : IsMarkedOrHeld s.words (both_marked v.tally.counts (both_marked w.tally.counts rest)) = subst (λ t. IsMarkedOrHeld s.words t) (ap (λ t. t.counts) two.1) r.agree.agrees in
     let nobody : others ≡ no_holds = (parts same_nothing tells_same_nothing tt v.tally.counts.held others all.knows).alone writes in
     let theirs = parts same_nothing tells_same_nothing tt w.tally.counts.held rest.held (subst (λ t. Knows tt t) (sym nobody) tt) in
     let reads = ap (λ (t : Holds). read_holds t) nobody in let written = ap (λ (t : Holds). write_holds t) nobody in
@@ -265,7 +265,7 @@ no_flag_up [] down = refl
 no_flag_up (v ∷ views) down = let rest = no_flag_up views down.1 in let one = down.0 in omega arith
 
 pub no_mark : NoMarkWithoutAFlag
-no_mark s r down marked = let is = r.agree.1 in let flags = no_flag_up s.views down in let odd = marked.odd in let unwritten = marked.unwritten in
+no_mark s r down marked = let is = r.agree.agrees in let flags = no_flag_up s.views down in let odd = marked.odd in let unwritten = marked.unwritten in
     let all = (sum_played s.views).counts in
     unmarked_word is.mark (read_holds all.held) (write_holds all.held) (get_or s.words 0 0) is.word_is is.one_mark (omega (arith, is.flagged, flags)) (λ on. only_writes tt all.held is.knows on) odd unwritten
   where

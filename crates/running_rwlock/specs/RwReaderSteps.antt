@@ -5,17 +5,18 @@ use lib.ListN.{get_elem?}
 use Rattle.atomic_table.specs.Table.{State}
 use Rattle.steps_events.specs.declared.event.Word.TheVariants as words
 use Rattle.steps_rw_reader.specs.declared.RwReaderPlace.{RwReaderPlace}
+use Rattle.steps_rw_reader.specs.Table.{rw_reader_table}
 use Rattle.tallies.specs.RwReaderScript.{rw_reader_model}
 use Rattle.passes.specs.declared.view.View.{View}
 use Rattle.passes.specs.Parts.{IsWhole}
-use Rattle.passes.specs.Views.{looked, missed, wrote, IsCounted}
+use Rattle.passes.specs.Views.{looked, missed, wrote, sum_of, IsCounted}
 use Rattle.playing.specs.declared.played.Played.{Played}
-use Rattle.playing.specs.Passes.{none_played, both_played, PlaysAndCounts}
+use Rattle.playing.specs.Passes.{none_played, both_played, PlaysAndCounts, IsOfARun}
 use Rattle.tallies.specs.declared.rw_reader.RwReaderScript.{RwReaderScript}
 use Rattle.tallies.specs.declared.held.Held.TheVariants.{Writing}
 use Rattle.tallies.specs.Held.{read_holds, write_holds, reader_in, reader_out}
 use Rattle.tallies.specs.HeldTally.{same_nothing}
-use Rattle.tallies.specs.RwReaderRule.{Holds, RwReaderAgrees, both_holds, no_holds}
+use Rattle.tallies.specs.RwReaderRule.{Holds, RwReaderAgrees, AreHoldsIn, both_holds, no_holds}
 
 -- what a pass of a reader-preferring lock is in its model, and counts beside
 abbrev pub PlayedRwReader : Type 0
@@ -23,9 +24,13 @@ PlayedRwReader = Played RwReaderScript RwReaderPlace ℕ Holds
 
 -- the rule of a lock holds
 abbrev pub IsRuled : State (Unit {0}) (View PlayedRwReader) → Type 0
-IsRuled s = IsCounted (none_played no_holds) (both_played both_holds) (PlaysAndCounts rw_reader_model (words.State ∷ []) RwReaderAgrees) s
+IsRuled s = IsCounted (none_played no_holds) (both_played both_holds) (PlaysAndCounts rw_reader_model (words.State ∷ []) RwReaderAgrees (AreHoldsIn rw_reader_table)) s
 
--- whenever it does, no pass has a hold where another has a write hold
+-- whenever it does, all passes are the parties of a run, and have as many holds of each kind as calls have in it
+abbrev pub HoldsAreOfARun : Type 0
+HoldsAreOfARun = (s : State (Unit {0}) (View PlayedRwReader)) → IsRuled s → IsOfARun rw_reader_model (AreHoldsIn rw_reader_table) (sum_of (none_played no_holds) (both_played both_holds) s.views)
+
+-- and no pass has a hold where another has a write hold
 abbrev pub NoHoldBesideAWriteHold : Type 0
 NoHoldBesideAWriteHold = (s : State (Unit {0}) (View PlayedRwReader)) → IsRuled s → (i j : ℕ) (v w : View PlayedRwReader) → get_elem? s.views i ≡ some v → get_elem? s.views j ≡ some w
     → write_holds v.tally.counts ≡ 1 → 0 < read_holds w.tally.counts + write_holds w.tally.counts → i ≡ j

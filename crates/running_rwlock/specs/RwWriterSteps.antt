@@ -5,22 +5,23 @@ use lib.ListN.{get_elem?}
 use Rattle.atomic_table.specs.Table.{State}
 use Rattle.steps_events.specs.declared.event.Word.TheVariants as words
 use Rattle.steps_rw_writer.specs.declared.RwWriterPlace.{RwWriterPlace}
+use Rattle.steps_rw_writer.specs.Table.{rw_writer_table}
 use Rattle.tallies.specs.RwWriterScript.{rw_writer_model}
 use Rattle.passes.specs.declared.part.Part.{Part}
 use Rattle.passes.specs.declared.part.Sights.{Sights}
 use Rattle.passes.specs.declared.view.View.{View}
 use Rattle.passes.specs.Parts.{IsWhole, Each}
 use Rattle.passes.specs.Sights.{seen, seen_instead}
-use Rattle.passes.specs.Views.{view_of, looked, missed, wrote, IsCounted}
+use Rattle.passes.specs.Views.{view_of, looked, missed, wrote, IsCounted, sum_of}
 use Rattle.playing.specs.declared.played.Played.{Played}
-use Rattle.playing.specs.Passes.{none_played, both_played, PlaysAndCounts}
+use Rattle.playing.specs.Passes.{none_played, both_played, PlaysAndCounts, IsOfARun}
 use Rattle.tallies.specs.declared.held.Held.TheVariants.{Writing}
 use Rattle.tallies.specs.declared.rw_writer.RwWriterScript.{RwWriterScript}
 use Rattle.tallies.specs.declared.rw_writer.MarkedHolds.{MarkedHolds}
 use Rattle.tallies.specs.Held.{read_holds, write_holds, reader_in, reader_out}
 use Rattle.tallies.specs.HeldTally.{same_nothing}
 use Rattle.tallies.specs.RwReaderRule.{no_holds}
-use Rattle.tallies.specs.RwWriterRule.{marked, nothing_marked, both_marked, RwWriterAgrees}
+use Rattle.tallies.specs.RwWriterRule.{marked, nothing_marked, both_marked, RwWriterAgrees, AreGrantsByKindIn}
 
 -- what a pass of a writer-preferring lock is in its model, and counts beside
 abbrev pub PlayedRwWriter : Type 0
@@ -28,9 +29,14 @@ PlayedRwWriter = Played RwWriterScript RwWriterPlace ℕ MarkedHolds
 
 -- the rule of a lock holds
 abbrev pub IsRuled : State (Unit {0}) (View PlayedRwWriter) → Type 0
-IsRuled s = IsCounted (none_played nothing_marked) (both_played both_marked) (PlaysAndCounts rw_writer_model (words.State ∷ words.Counter ∷ []) RwWriterAgrees) s
+IsRuled s = IsCounted (none_played nothing_marked) (both_played both_marked) (PlaysAndCounts rw_writer_model (words.State ∷ words.Counter ∷ []) RwWriterAgrees (AreGrantsByKindIn rw_writer_table)) s
 
--- whenever it does, no pass has a hold where another has a write hold
+-- whenever it does, all passes are the parties of a run, and were granted as many holds of each kind as calls were in it
+abbrev pub GrantsAreOfARun : Type 0
+GrantsAreOfARun = (s : State (Unit {0}) (View PlayedRwWriter)) → IsRuled s →
+    IsOfARun rw_writer_model (AreGrantsByKindIn rw_writer_table) (sum_of (none_played nothing_marked) (both_played both_marked) s.views)
+
+-- and no pass has a hold where another has a write hold
 abbrev pub NoHoldBesideTheWriter : Type 0
 NoHoldBesideTheWriter = (s : State (Unit {0}) (View PlayedRwWriter)) → IsRuled s → (i j : ℕ) (v w : View PlayedRwWriter) → get_elem? s.views i ≡ some v → get_elem? s.views j ≡ some w
     → write_holds v.tally.counts.held ≡ 1 → 0 < read_holds w.tally.counts.held + write_holds w.tally.counts.held → i ≡ j

@@ -11,7 +11,10 @@ mod reader_preference;
 mod writer_preference;
 
 pub use hold::{ReadHold, RwHold, RwPass, WriteHold};
-pub use reader_preference::{RwLockReaderPreference, RwReaderPass, no_hold_beside_a_write_hold};
+pub use reader_preference::{
+    RwLockReaderPreference, RwReaderPass, holds_are_of_a_run, no_hold_beside_a_write_hold,
+};
 pub use writer_preference::{
-    RwLockWriterPreference, RwWriterPass, no_hold_beside_the_writer, no_mark_without_a_flag,
+    RwLockWriterPreference, RwWriterPass, grants_are_of_a_run, no_hold_beside_the_writer,
+    no_mark_without_a_flag,
 };

@@ -3,7 +3,7 @@
 ghost use Rattle.std.specs.Prelude.{◌≡◌, ℕ, ◌-◌, ◌^◌, IfOk};
 ghost use Rattle.playing.specs.Passes.{parties_of, counts_of as tally_of, counted};
 ghost use Rattle.playing.specs.Stages.{count_of};
-ghost use Rattle.running_rwlock.specs.RwReaderSteps.{NoHoldBesideAWriteHold};
+ghost use Rattle.running_rwlock.specs.RwReaderSteps.{HoldsAreOfARun, NoHoldBesideAWriteHold};
 
 use crate::begins::{ReadBegins, TryReadBegins, TryWriteBegins, UnlockBegins, WriteBegins};
 use crate::hold::{ReadHold, RwHold, WriteHold};
@@ -620,4 +620,10 @@ fn write_locked() -> u64
 /// and does nothing.
 pub fn no_hold_beside_a_write_hold()
     ensures { NoHoldBesideAWriteHold }
+{}
+
+/// Whenever the rule of a reader-preferring lock holds, its passes are the parties of a run of the model, and all together have as many holds
+/// of each kind as calls have after it. Says so of the rule alone, and does nothing.
+pub fn holds_are_of_a_run()
+    ensures { HoldsAreOfARun }
 {}

@@ -3,7 +3,7 @@
 //! look again.
 ghost use Rattle.std.specs.Prelude.{◌≡◌};
 ghost use Rattle.playing.specs.Stages.{count_of};
-ghost use Rattle.running_rwlock.specs.RwWriterSteps.{NoHoldBesideTheWriter, NoMarkWithoutAFlag};
+ghost use Rattle.running_rwlock.specs.RwWriterSteps.{GrantsAreOfARun, NoHoldBesideTheWriter, NoMarkWithoutAFlag};
 
 mod deeds;
 mod pass;
@@ -222,4 +222,10 @@ pub fn no_hold_beside_the_writer()
 #[tactic(auto, using(crate::proofs::RwWriterKeeps::no_mark))]
 pub fn no_mark_without_a_flag()
     ensures { NoMarkWithoutAFlag }
+{}
+
+/// Whenever the rule of a writer-preferring lock holds, its passes are the parties of a run of the model, and all together were granted as
+/// many holds of each kind as calls were in it. Says so of the rule alone, and does nothing.
+pub fn grants_are_of_a_run()
+    ensures { GrantsAreOfARun }
 {}

@@ -1,10 +1,34 @@
 -- What holds whenever the rule of a semaphore does, and what a step changes in a pass.
-use Rattle.std.specs.Prelude.{◌≡◌, ◌≢◌, ℕ, ◌+◌, ◌≤◌}
+use Rattle.std.specs.Prelude.{◌≡◌, ◌≢◌, ℕ, ◌+◌, ◌≤◌, ◌<◌, ◌^◌, [], ◌∷◌, slice_index}
+use Rattle.atomic_table.specs.Table.{State}
+use Rattle.steps_events.specs.declared.event.Word.TheVariants as words
+use Rattle.steps_semaphore.specs.declared.SemaphorePlace.{SemaphorePlace}
 use Rattle.passes.specs.declared.view.View.{View}
-use Rattle.passes.specs.Parts.{IsWhole}
-use Rattle.passes.specs.Views.{looked, missed, wrote}
+use Rattle.passes.specs.Views.{looked, missed, wrote, sum_of, IsCounted}
+use Rattle.playing.specs.declared.played.Played.{Played}
+use Rattle.playing.specs.Passes.{none_played, both_played, PlaysAndCounts, IsOfARun}
 use Rattle.tallies.specs.declared.semaphore.Permits.{Permits}
-use Rattle.tallies.specs.SemaphoreRule.{permits, value_of}
+use Rattle.tallies.specs.declared.semaphore.SemaphoreScript.{SemaphoreScript}
+use Rattle.tallies.specs.SemaphoreRule.{permits, no_permits, both_permits, value_of, ArePermitsOf}
+use Rattle.tallies.specs.SemaphoreScript.{semaphore_model}
+
+-- what a pass of a semaphore is in its model, and counts beside
+abbrev pub PlayedSemaphore : Type 0
+PlayedSemaphore = Played SemaphoreScript SemaphorePlace ℕ Permits
+
+-- the rule of a semaphore of this initial value holds
+abbrev pub IsRuled : ℕ → State (Unit {0}) (View PlayedSemaphore) → Type 0
+IsRuled initial s = IsCounted (none_played no_permits) (both_played both_permits) (PlaysAndCounts (semaphore_model initial) (words.State ∷ []) (λ _ _ _. Unit {0}) (ArePermitsOf initial)) s
+
+-- All passes are the parties of a run whose acts gave and took what they did. No more was taken than given, and the word is what is left.
+pub record AreLeft (initial : ℕ) (s : State (Unit {0}) (View PlayedSemaphore)) : Type 0 where
+  pub run : IsOfARun (semaphore_model initial) (ArePermitsOf initial) (sum_of (none_played no_permits) (both_played both_permits) s.views)
+  pub enough : (sum_of (none_played no_permits) (both_played both_permits) s.views).counts.taken ≤ (sum_of (none_played no_permits) (both_played both_permits) s.views).counts.given
+  pub word : slice_index s.words 0 ≡ value_of (sum_of (none_played no_permits) (both_played both_permits) s.views).counts
+
+-- so it is whenever the rule holds
+abbrev pub PermitsAreOfARun : Type 0
+PermitsAreOfARun = (initial : ℕ) → initial < 2 ^ 64 → (s : State (Unit {0}) (View PlayedSemaphore)) → IsRuled initial s → AreLeft initial s
 
 -- a permit is taken
 abbrev pub took : Permits → Permits
@@ -14,17 +38,14 @@ took t = permits t.given (t.taken + 1)
 abbrev pub gave : ℕ → Permits → Permits
 gave n t = permits (t.given + n) t.taken
 
--- A load. Where no other pass is left, it gives what the tally comes to, and no more was taken than given.
+-- a load
 pub record Loaded (v : View Permits) (found : ℕ) (w : View Permits) : Type 0 where
   pub saw : w ≡ looked v found
-  pub alone : IsWhole v.part → found ≡ value_of v.tally
-  pub enough : IsWhole v.part → v.tally.taken ≤ v.tally.given
 
 -- an exchange from a value to one less: it took a permit, or saw another value
 pub record Exchanged (from : ℕ) (v : View Permits) (found : ℕ) (w : View Permits) : Type 0 where
   pub done : found ≡ from → w ≡ wrote v (took v.tally)
   pub failed : found ≢ from → w ≡ missed v from found
-  pub alone : IsWhole v.part → found ≡ value_of v.tally
 
 -- an add
 pub record Added (more : ℕ) (v : View Permits) (w : View Permits) : Type 0 where

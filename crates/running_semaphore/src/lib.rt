@@ -6,6 +6,7 @@
 ghost use Rattle.std.specs.Prelude.{◌≡◌, ◌<◌, ◌≤◌, IfOk};
 ghost use Rattle.playing.specs.Passes.{parties_of, counts_of};
 ghost use Rattle.playing.specs.Stages.{count_of};
+ghost use Rattle.running_semaphore.specs.SemaphoreSteps.{PermitsAreOfARun};
 
 use passes::{Deed, Origin, Pass, WaitResult, success_if};
 use playing::{AddEntry, Attempt, Entry, GoesOn, Stage, try_again};
@@ -392,3 +393,9 @@ impl<A: Allocator> Attempt<u64, SemaphoreScript, SemaphorePlace, u64, Permits> f
         }
     }
 }
+
+/// Whenever the rule of a semaphore holds, all passes together gave and took what the acts of a run of the model did, in which they are the
+/// parties; no more was taken than given, and the word is what is left, modulo 2^64. Says so of the rule alone, and does nothing.
+pub fn permits_are_of_a_run()
+    ensures { PermitsAreOfARun }
+{}

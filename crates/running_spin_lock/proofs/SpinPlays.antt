@@ -1,20 +1,31 @@
 -- The steps of a spin lock are those of its table.
-use Rattle.std.proofs.Common.{◌≡◌, ◌≢◌, ◌≤◌, ℕ, zero, suc, Bool, true, false, refl, sym, subst, List, [], ◌∷◌, Some, None, inl, inr, arith}
-use Rattle.std.specs.Prelude.{MatchBool}
+use Rattle.std.proofs.Common.{◌≡◌, ◌≢◌, ◌≤◌, ◌==◌, ℕ, zero, suc, Bool, true, false, cond, refl, sym, ap, subst, ◌∙◌, List, [], ◌∷◌, Option, Some, None, inl, inr, arith}
+use Rattle.std.specs.Prelude.{MatchBool, MatchOption}
 use Rattle.std.proofs.lemmas.Bool.{ne_eqb}
+use Rattle.steps_events.specs.declared.event.Word.{Word}
 use Rattle.steps_events.specs.declared.event.Word.TheVariants as words
 use Rattle.steps_events.specs.declared.event.Call.{Call}
 use Rattle.steps_events.specs.declared.event.Call.TheVariants as calls
+use Rattle.steps_events.specs.declared.event.Act.{Act}
+use Rattle.steps_events.specs.declared.event.Act.TheVariants as acts
+use Rattle.steps_events.specs.declared.event.Event.{Event}
+use Rattle.steps_events.specs.declared.event.Then.{Then}
 use Rattle.steps_events.specs.declared.event.Answer.TheVariants as answers
+use Rattle.steps_events.specs.declared.hold.HoldKind.{HoldKind}
 use Rattle.steps_events.specs.declared.hold.HoldKind.TheVariants as kinds
 use Rattle.steps_events.specs.declared.row.Intent.{Intent}
 use Rattle.steps_events.specs.declared.row.Intent.TheVariants as intents
 use Rattle.steps_spin.specs.declared.SpinPlace.{SpinPlace}
 use Rattle.steps_spin.specs.declared.SpinPlace.TheVariants as places
-use Rattle.steps_spin.specs.Table.{spin_intent}
-use Rattle.running_spin_lock.specs.SpinLawful.{spin_model}
+use Rattle.steps_events.specs.Rows.{carried_out}
+use Rattle.steps_events.specs.Past.{PendingCall, call_of}
+use Rattle.steps_events.specs.Moves.{is_step}
+use Rattle.steps_spin.specs.Table.{spin_table, spin_intent}
+use Rattle.steps_spin.specs.Law.{SpinStep}
+use Rattle.running_spin_lock.specs.SpinLawful.{spin_model, spin_lawful}
 use Rattle.playing.specs.Slots.{Slot, Parties, all_of}
-use Rattle.playing.specs.Plays.{Coming, Going, Beginning, Continuing, ComesBy, IsHolding, Led, HasCalled, MayStep, Went}
+use Rattle.playing.specs.Plays.{Coming, Going, Beginning, Continuing, ComesBy, IsHolding, Led, HasCalled, MayStep, IsStepAt, Went}
+use Rattle.playing.specs.Sums.{grants_by}
 use Rattle.playing.proofs.Holding.{holding_told, holding_is}
 use Rattle.running_spin_lock.specs.SpinParties.{IsWaiting, IsSpinning, IsGranted, HasLock, Unlocks}
 
@@ -119,3 +130,27 @@ may_unlock p has = record {
 
 pub unlocks : (p q : Parties ℕ) → Went spin_model (Continuing calls.Unlock) p 0 q → Unlocks p q
 unlocks p q went = λ done holding. went calls.Unlock places.Release (Some kinds.Write) done (unlock_begins done p holding)
+
+-- in a run only a locking call swaps, and it takes the lock by a swap that found 0
+pub swap_grants : (call : Call ℕ) (place : SpinPlace) (hold : Option HoldKind) (past : List (Event ℕ)) (e : Event ℕ) (name : Word) (found : ℕ) → IsStepAt spin_model call place hold found past e → words.State ≡ name →
+    e.act ≡ carried_out (intents.Swap name 1) (λ _. found) → grants_by spin_table kinds.Write e.act (call_of e.party past) ≡ cond (found == 0) 1 0
+swap_grants call place hold past e name found step named act =
+    let c : PendingCall ℕ = step.pending in
+    let law = (spin_lawful step.parties (e ∷ past) step.run).law.steps in
+    let is_swap : e.act ≡ acts.Swap words.State found 1 = act ∙ ap (λ w. acts.Swap w found 1) (sym named) in
+    let next : SpinStep c.call c.own (acts.Swap words.State found 1) e.then =
+    subst (λ (k : Option (PendingCall ℕ)). MatchOption k ⊥ (λ d. SpinStep d.call d.own (acts.Swap words.State found 1) e.then)) step.under_way
+    (subst (λ (a : Act ℕ). MatchBool (is_step a) (MatchOption (call_of e.party past) ⊥ (λ d. SpinStep d.call d.own a e.then)) (Unit {0})) is_swap law) in
+    subst (λ (a : Act ℕ). grants_by spin_table kinds.Write a (call_of e.party past) ≡ cond (found == 0) 1 0) (sym is_swap)
+    (subst (λ (k : Option (PendingCall ℕ)). grants_by spin_table kinds.Write (acts.Swap words.State found 1) k ≡ cond (found == 0) 1 0) (sym step.under_way) (by_call c.call c.own found e.then next))
+  where
+    by_call : (called : Call ℕ) (own : List (Event ℕ)) (old : ℕ) (outcome : Then ℕ) → SpinStep called own (acts.Swap words.State old 1) outcome →
+        grants_by spin_table kinds.Write (acts.Swap words.State old 1) (Some (record { call = called; own = own })) ≡ cond (old == 0) 1 0
+    by_call calls.Lock own zero outcome next = refl
+    by_call calls.Lock own (suc n) outcome next = rw (ne_eqb (suc n) 0 (λ same. absurd (omega (arith, same)))) refl
+    by_call calls.BlockingLock own zero outcome next = refl
+    by_call calls.BlockingLock own (suc n) outcome next = rw (ne_eqb (suc n) 0 (λ same. absurd (omega (arith, same)))) refl
+    by_call calls.TryLock own zero outcome next = refl
+    by_call calls.TryLock own (suc n) outcome next = rw (ne_eqb (suc n) 0 (λ same. absurd (omega (arith, same)))) refl
+    by_call calls.Unlock own old outcome next = let same : ◌≡◌ {A = Act ℕ} (acts.Swap words.State old 1) (acts.Store words.State 0) = next.1 in absurd cc
+    by_call other own old outcome next = absurd next

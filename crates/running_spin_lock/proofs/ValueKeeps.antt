@@ -1,6 +1,6 @@
 -- Each step of a lock that guards a value keeps its rule, whatever model its passes play.
-use Rattle.std.proofs.Common.{◌≡◌, ◌≢◌, ℕ, ◌<◌, ◌≤◌, eqb, List, [], ◌∷◌, get_or, set, sym, refl, ap, ◌∙◌, subst, arith, true, Option, Some, None, length-set, get_or-set_same, true-eqb}
-use Rattle.std.proofs.lemmas.Bool.{and_parts, false≢true}
+use Rattle.std.proofs.Common.{◌≡◌, ◌≢◌, ℕ, ◌+◌, ◌==◌, ◌<◌, ◌≤◌, eqb, Bool, cond, List, [], ◌∷◌, get_or, set, sym, refl, ap, ◌∙◌, subst, arith, true, Option, Some, None, length-set, get_or-set_same, true-eqb}
+use Rattle.std.proofs.lemmas.Bool.{and_parts, false≢true, ne_eqb}
 use mathlib.Core.Logic.{dite}
 use mathlib.Core.Option as maybe
 use native.Mathlib.Decide.{ℕ_discrete}
@@ -11,29 +11,49 @@ use Rattle.passes.specs.declared.part.Sights.{Sights}
 use Rattle.passes.specs.declared.view.View.{View}
 use Rattle.passes.specs.Parts.{IsWhole}
 use Rattle.passes.specs.Sights.{stale}
-use Rattle.passes.specs.Views.{first_view, view_of, IsCounted}
+use Rattle.passes.specs.Views.{first_view, view_of, sum_of, IsCounted}
 use Rattle.passes.specs.Tallies.{IsTally}
 use Rattle.passes.proofs.Parts.{shared_first, shared_step}
 use Rattle.passes.proofs.Sums.{others, sum_at, sum_set, sum_of_two, alone}
 use Rattle.steps_events.specs.declared.event.Word.{Word}
 use Rattle.steps_events.specs.declared.event.Word.TheVariants as words
+use Rattle.steps_events.specs.declared.event.Call.{Call}
 use Rattle.steps_events.specs.declared.event.Call.TheVariants as calls
+use Rattle.steps_events.specs.declared.event.Act.{Act}
 use Rattle.steps_events.specs.declared.event.Event.{Event}
 use Rattle.steps_events.specs.declared.row.Intent.{Intent}
 use Rattle.steps_events.specs.declared.row.Intent.TheVariants as intents
+use Rattle.steps_events.specs.declared.hold.HoldKind.{HoldKind}
+use Rattle.steps_events.specs.declared.hold.HoldKind.TheVariants as kinds
+use Rattle.steps_events.specs.Rows.{carried_out}
+use Rattle.steps_events.specs.Past.{call_of}
 use Rattle.steps_events.specs.Runs.{IsPast}
 use Rattle.playing.specs.Models.{Model}
 use Rattle.playing.specs.declared.played.Played.{Played}
 use Rattle.playing.specs.Words.{effect}
-use Rattle.playing.specs.Plays.{Coming, Continuing, MayStep}
-use Rattle.playing.specs.Passes.{played, played_add_up}
+use Rattle.playing.specs.Plays.{Coming, Continuing, IsStepAt, MayStep}
+use Rattle.playing.specs.Passes.{played, played_add_up, IsOfARun}
+use Rattle.playing.specs.Sums.{grants_by, next_grants}
 use Rattle.playing.proofs.Opening as opening_runs
-use Rattle.playing.proofs.Updates.{makes}
+use Rattle.playing.proofs.OfARun.{of_a_run}
+use Rattle.playing.proofs.Updates.{makes, made_run}
 use Rattle.tallies.specs.declared.mutex.Holds.{Holds}
-use Rattle.tallies.specs.MutexRule.{no_holds, both_holds}
-use Rattle.tallies.specs.MutexTally.{holds_add_up}
-use Rattle.running_spin_lock.specs.ValueRule.{none_held, both_held, core_held, ValueAgrees, OneHolder}
+use Rattle.tallies.specs.MutexRule.{no_holds, both_holds, AreGrantsIn}
+use Rattle.tallies.specs.MutexTally.{holds_add_up, grants_stay}
+use Rattle.running_spin_lock.specs.ValueRule.{none_held, both_held, core_held, IsGuarding, ValueAgrees, OneHolder}
 use Rattle.running_spin_lock.specs.ValueSteps.{granted, released, Tried, Stored, is_vacant, has_vacant_slot}
+
+-- a step of this intent grants its call where it found 0, and no other call
+abbrev pub GrantsAtZero : {P : Type 0} → Model ℕ P → (Word → Intent ℕ) → Type 0
+GrantsAtZero {P} m intent =
+    (call : Call ℕ) (place : P) (hold : Option HoldKind) (past : List (Event ℕ)) (e : Event ℕ) (name : Word) (found : ℕ) → IsStepAt m call place hold found past e → words.State ≡ name →
+    e.act ≡ carried_out (intent name) (λ _. found) → grants_by m.table kinds.Write e.act (call_of e.party past) ≡ cond (found == 0) 1 0
+
+at_zero : (found grants : ℕ) → grants ≡ cond (found == 0) 1 0 → found ≡ 0 → grants ≡ 1
+at_zero found grants is zero = is ∙ ap (λ (n : ℕ). cond (n == 0) 1 0) zero
+
+beside_zero : (found grants : ℕ) → grants ≡ cond (found == 0) 1 0 → found ≢ 0 → grants ≡ 0
+beside_zero found grants is some = is ∙ ap (λ (b : Bool). cond b 1 0) (ne_eqb found 0 some)
 
 module _ {M Q : Type 0} where
   pub held_add_up : IsTally {T = Played M Q ℕ Holds} none_held both_held core_held
@@ -64,28 +84,32 @@ module _ {M Q : Type 0} where
     -- A try makes 1 of 0, and leaves a 1.
     pub tries : ((n : ℕ) (past : List (Event ℕ)) → IsPast m.arithmetic m.table n past → m.law past) → (slots id : ℕ) (see : Sights → Sights) (coming : Coming ℕ) (intent : Word → Intent ℕ) (f : ℕ → ℕ)
         (me : Me (Option T) (View (Played M Q ℕ Holds))) → ((w : Word) (n : ℕ) → effect (intent w) n ≡ f n) → f 0 ≡ 1 → ((n : ℕ) → n ≢ 0 → n ≤ 1 → f n ≡ n) → me.1 ≡ [] → 0 < me.0.part.share
-        → MayStep m (words.State ∷ []) coming 0 intent me.0.tally.parties → Allows IsKept slots id me 0 f (Tried m see coming me)
-    tries lawful slots id see coming intent f me leaves grants stays none alive may s r wide at fits =
+        → MayStep m (words.State ∷ []) coming 0 intent me.0.tally.parties → GrantsAtZero m intent → Allows IsKept slots id me 0 f (Tried m see coming me)
+    tries lawful slots id see coming intent f me leaves grants stays none alive may granting s r wide at fits =
         let v : View (Played M Q ℕ Holds) = me.0 in let more : Played M Q ℕ Holds = the_others s.views id in let is = apart s id v r at in
-        let word = is.1.held.word in let one = is.1.held.one in let long = is.1.held.one_word in
+        let word = is.agrees.held.word in let one = is.agrees.held.one in let long = is.agrees.held.one_word in
         let x : ℕ = get_or s.words 0 0 in let y : ℕ = f x in
-        let a = makes m (words.State ∷ []) lawful (tt, tt) coming s.words v.tally.parties more.parties 0 y x intent may (λ w. leaves w x) (λ w. refl) is.0 in
+        let Says : List (Event ℕ) → Type 0 = λ past. AreGrantsIn m.table past (both_holds v.tally.counts more.counts) in
+        let a = makes m (words.State ∷ []) lawful (tt, tt) coming s.words v.tally.parties more.parties 0 y x intent may (λ w. leaves w x) (λ w. refl) is.played Says
+        (λ past e quiet so. grants_stay m.table past e (both_holds v.tally.counts more.counts) quiet so) is.follows in
+        let step = granting may.call may.place may.hold a.past a.latest may.name x a.step may.named a.act_is in
         let put : get_or (set s.words 0 y) 0 0 ≡ y = get_or-set_same s.words 0 y 0 (omega (arith, long)) in
         dite (ℕ_discrete x 0)
-        (λ free. let home = is.1.home (omega (arith, word, free)) in let b : T = home.0 in
+        (λ free. let home = is.agrees.home (omega (arith, word, free)) in let b : T = home.0 in
         let is_1 : y ≡ 1 = ap f free ∙ grants in
         let w : View (Played M Q ℕ Holds) = view_of v.part (stale v.sights) (played a.after (granted v.tally.counts)) in (
           w,
           takes 0 (Some b),
           ap (λ hs. get_elem? hs 0) home.1,
-          kept_again s id v w r at refl alive (set s.words 0 y) (set s.homes 0 maybe.none) (
-            a.played,
-            record {
+          kept_again s id v w r at refl alive (set s.words 0 y) (set s.homes 0 maybe.none) (record {
+            played = made_run m (words.State ∷ []) _ _ _ _ _ _ _ _ _ _ _ _ a;
+            agrees = record {
               held = record { one_word = length-set s.words 0 y ∙ long; word = put ∙ is_1 ∙ omega (arith, word, free); one = omega (arith, word, free) };
               home = λ off. absurd (omega (arith, off));
               out = λ _. ap (λ hs. set hs 0 maybe.none) home.1;
-            },
-          ),
+            };
+            follows = next_grants m.table kinds.Write a.past a.latest v.tally.counts.grants (v.tally.counts.grants + 1) more.counts.grants (omega (arith, at_zero x _ step free)) a.says;
+          }),
           record {
             went = a.went;
             free = λ _. ((omega (arith, word, free), refl), (b, ap (λ l. (0, Some b) ∷ l) none));
@@ -99,14 +123,15 @@ module _ {M Q : Type 0} where
           w,
           keeps,
           tt,
-          kept_again s id v w r at refl alive (set s.words 0 y) s.homes (
-            a.played,
-            record {
+          kept_again s id v w r at refl alive (set s.words 0 y) s.homes (record {
+            played = made_run m (words.State ∷ []) _ _ _ _ _ _ _ _ _ _ _ _ a;
+            agrees = record {
               held = record { one_word = length-set s.words 0 y ∙ long; word = put ∙ is_x ∙ word; one = one };
-              home = is.1.home;
-              out = is.1.out;
-            },
-          ),
+              home = is.agrees.home;
+              out = is.agrees.out;
+            };
+            follows = next_grants m.table kinds.Write a.past a.latest v.tally.counts.grants v.tally.counts.grants more.counts.grants (omega (arith, beside_zero x _ step held)) a.says;
+          }),
           record {
             went = a.went;
             free = λ hit. absurd (held hit);
@@ -122,31 +147,33 @@ module _ {M Q : Type 0} where
         → Allows IsKept slots id me 0 (λ _. 0) (λ _. Stored m me)
     stores lawful slots id me b carries on alive may s r wide at fits =
         let v : View (Played M Q ℕ Holds) = me.0 in let more : Played M Q ℕ Holds = the_others s.views id in let is = apart s id v r at in
-        let word = is.1.held.word in let one = is.1.held.one in let long = is.1.held.one_word in
-        let a = makes m (words.State ∷ []) lawful (tt, tt) (Continuing calls.Unlock) s.words v.tally.parties more.parties 0 0 0 (λ w. intents.Store w 0) may (λ w. refl) (λ w. refl) is.0 in
-        let out = is.1.out (omega (arith, one, on)) in
+        let word = is.agrees.held.word in let one = is.agrees.held.one in let long = is.agrees.held.one_word in
+        let Says : List (Event ℕ) → Type 0 = λ past. AreGrantsIn m.table past (both_holds v.tally.counts more.counts) in
+        let a = makes m (words.State ∷ []) lawful (tt, tt) (Continuing calls.Unlock) s.words v.tally.parties more.parties 0 0 0 (λ w. intents.Store w 0) may (λ w. refl) (λ w. refl) is.played Says
+        (λ past e quiet so. grants_stay m.table past e (both_holds v.tally.counts more.counts) quiet so) is.follows in
+        let none : grants_by m.table kinds.Write a.latest.act (call_of a.latest.party a.past) ≡ 0 = ap (λ (act : Act ℕ). grants_by m.table kinds.Write act (call_of a.latest.party a.past)) a.act_is in
+        let out = is.agrees.out (omega (arith, one, on)) in
         let w : View (Played M Q ℕ Holds) = view_of v.part (stale v.sights) (played a.after (released v.tally.counts)) in (
           w,
           gives,
           tt,
-          kept_again s id v w r at refl alive (set s.words 0 0) (put_back s.homes me.1) (
-            a.played,
-            record {
+          kept_again s id v w r at refl alive (set s.words 0 0) (put_back s.homes me.1) (record {
+            played = made_run m (words.State ∷ []) _ _ _ _ _ _ _ _ _ _ _ _ a;
+            agrees = record {
               held = record { one_word = length-set s.words 0 0 ∙ long; word = get_or-set_same s.words 0 0 0 (omega (arith, long)) ∙ omega (arith, one, on); one = omega (arith, one, on) };
               home = λ _. (b, λ i. put_back (out i) (carries i));
               out = λ on_again. absurd (omega (arith, one, on, on_again));
-            },
-          ),
+            };
+            follows = next_grants m.table kinds.Write a.past a.latest v.tally.counts.grants v.tally.counts.grants more.counts.grants (omega (arith, none)) a.says;
+          }),
           record { went = a.went; off = (on, refl); gave = ap rest carries },
         )
 
     pub opens : ((n : ℕ) (past : List (Event ℕ)) → IsPast m.arithmetic m.table n past → m.law past) → 0 ≡ m.table.opening words.State → (x : T) (slots : List (Option T)) → slots ≡ Some x ∷ []
         → IsKept (opening (0 ∷ []) slots (first_view none_held))
     opens lawful free x slots is = subst (λ l. IsKept (opening (0 ∷ []) l (first_view none_held))) (sym is) (record {
-      agree = (
-        opening_runs.opens m (words.State ∷ []) (0 ∷ []) lawful (free, tt),
-        record { held = record { one_word = refl; word = refl; one = omega arith }; home = λ _. (x, refl); out = λ on. absurd (omega (arith, on)) },
-      );
+      agree = opening_runs.opens m (words.State ∷ []) _ _ (0 ∷ []) _ no_holds lawful (free, tt)
+          (record { held = record { one_word = refl; word = refl; one = omega arith }; home = λ _. (x, refl); out = λ on. absurd (omega (arith, on)) }) refl;
       shared = shared_first (first_view none_held) refl;
     })
 
@@ -156,16 +183,19 @@ module _ {M Q : Type 0} where
     closes words slots id v final whole off =
         let s = final.0 in let r = final.1.0 in let at = final.1.1 in let is = apart s id v r at in
         let none_else = ap (λ (t : Played M Q ℕ Holds). t.counts.holds) (alone none_held both_held core_held held_add_up s.views id v at whole r.shared) in
-        let home = is.1.home (omega (arith, off, none_else)) in
+        let home = is.agrees.home (omega (arith, off, none_else)) in
         (home.0, final.4 0 (Some home.0) (ap (λ hs. get_elem? hs 0) home.1))
+
+    pub grants_are_of_a_run : (s : State (Option T) (View (Played M Q ℕ Holds))) → IsKept s → IsOfARun m (AreGrantsIn m.table) (sum_of none_held both_held s.views)
+    grants_are_of_a_run s r = of_a_run m (words.State ∷ []) IsGuarding (AreGrantsIn m.table) s.words s.homes (sum_of none_held both_held s.views) r.agree
 
     -- two holds would be more than one
     pub one_holder : (s : State (Option T) (View (Played M Q ℕ Holds))) → IsKept s → OneHolder T s
     one_holder s r = record {
       one = λ i j v w here there on also. dite (ℕ_discrete i j) (λ same. same)
           (λ differ. let two = sum_of_two none_held both_held core_held held_add_up s.views i j v w here there differ in
-          let sum = ap (λ (t : Played M Q ℕ Holds). t.counts.holds) two.1 in let one = r.agree.1.held.one in absurd (omega (arith, sum, one, on, also)));
-      out = λ i v here on. let is = apart s i v r here in let one = is.1.held.one in is.1.out (omega (arith, one, on));
+          let sum = ap (λ (t : Played M Q ℕ Holds). t.counts.holds) two.1 in let one = r.agree.agrees.held.one in absurd (omega (arith, sum, one, on, also)));
+      out = λ i v here on. let is = apart s i v r here in let one = is.agrees.held.one in is.agrees.out (omega (arith, one, on));
     }
 
 module _ {T : Type 0} where

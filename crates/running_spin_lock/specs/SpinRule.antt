@@ -6,7 +6,7 @@ use Rattle.running_spin_lock.specs.SpinLawful.{spin_model}
 use Rattle.playing.specs.declared.played.Played.{Played}
 use Rattle.tallies.specs.declared.mutex.Holds.{Holds}
 use Rattle.running_spin_lock.specs.declared.script.SpinScript.{SpinScript}
-use Rattle.running_spin_lock.specs.ValueRule.{HasOneHolder}
+use Rattle.running_spin_lock.specs.ValueRule.{HasOneHolder, GrantsAreOfARunOf}
 
 -- what a pass of a spin lock is in its model, and counts beside
 abbrev pub PlayedSpin : Type 0
@@ -18,3 +18,6 @@ SpinView = View PlayedSpin
 
 abbrev pub OneHolderAtMost : (T : Type 0) → Type 0
 OneHolderAtMost T = HasOneHolder SpinScript SpinPlace spin_model T
+
+abbrev pub GrantsAreOfARun : (T : Type 0) → Type 0
+GrantsAreOfARun T = GrantsAreOfARunOf SpinScript SpinPlace spin_model T

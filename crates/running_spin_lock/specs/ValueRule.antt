@@ -5,12 +5,12 @@ use lib.ListN.{get_elem?}
 use Rattle.atomic_table.specs.Table.{State}
 use Rattle.steps_events.specs.declared.event.Word.TheVariants as words
 use Rattle.passes.specs.declared.view.View.{View}
-use Rattle.passes.specs.Views.{spent_view, IsCounted}
+use Rattle.passes.specs.Views.{spent_view, sum_of, IsCounted}
 use Rattle.playing.specs.Models.{Model}
 use Rattle.playing.specs.declared.played.Played.{Played}
-use Rattle.playing.specs.Passes.{none_played, both_played, core_played, PlaysAndCounts}
+use Rattle.playing.specs.Passes.{none_played, both_played, core_played, PlaysAndCounts, IsOfARun}
 use Rattle.tallies.specs.declared.mutex.Holds.{Holds}
-use Rattle.tallies.specs.MutexRule.{no_holds, both_holds, IsHeld}
+use Rattle.tallies.specs.MutexRule.{no_holds, both_holds, IsHeld, AreGrantsIn}
 
 module _ {T : Type 0} where
   -- the value is in its slot
@@ -44,9 +44,9 @@ module _ {M Q : Type 0} where
   view_in [] = spent_view none_held
   view_in (v ∷ views) = v
 
-  -- the word is that of a run of the model, in which the passes are parties, and the value is guarded
+  -- the word is that of a run of the model, in which the passes are parties and were granted as often as calls were; and the value is guarded
   abbrev pub ValueAgrees : {P T : Type 0} → Model ℕ P → List ℕ → List (maybe.Option (Option T)) → Played M Q ℕ Holds → Type 0
-  ValueAgrees m = PlaysAndCounts m (words.State ∷ []) IsGuarding
+  ValueAgrees m = PlaysAndCounts m (words.State ∷ []) IsGuarding (AreGrantsIn m.table)
 
   -- no two passes have a hold, and where one has, the value is out of its slot
   pub record OneHolder (T : Type 0) (s : State (Option T) (View (Played M Q ℕ Holds))) : Type 0 where
@@ -57,3 +57,7 @@ module _ {M Q : Type 0} where
 -- so it is whenever the rule holds
 abbrev pub HasOneHolder : {P : Type 0} → (M Q : Type 0) → Model ℕ P → (T : Type 0) → Type 0
 HasOneHolder M Q m T = (s : State (Option T) (View (Played M Q ℕ Holds))) → IsCounted none_held both_held (ValueAgrees m) s → OneHolder T s
+
+-- and all passes are the parties of a run, and were granted as often as calls were in it
+abbrev pub GrantsAreOfARunOf : {P : Type 0} → (M Q : Type 0) → Model ℕ P → (T : Type 0) → Type 0
+GrantsAreOfARunOf M Q m T = (s : State (Option T) (View (Played M Q ℕ Holds))) → IsCounted none_held both_held (ValueAgrees m) s → IsOfARun m (AreGrantsIn m.table) (sum_of none_held both_held s.views)

@@ -19,4 +19,4 @@ pub use pass::SpinPass;
 pub use poison::{LockResult, PoisonError};
 pub use rule::ValueRule;
 pub use script::{PlayedSpin, SpinScript};
-pub use spin_lock::{SpinLock, one_holder_at_most};
+pub use spin_lock::{SpinLock, grants_are_of_a_run, one_holder_at_most};

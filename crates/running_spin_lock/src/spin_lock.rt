@@ -14,7 +14,7 @@ ghost use Rattle.playing.specs.Slots.{Slot};
 ghost use Rattle.playing.specs.Plays.{Beginning, MayStep};
 ghost use Rattle.running_spin_lock.specs.ValueRule.{none_held};
 ghost use Rattle.running_spin_lock.specs.ValueSteps.{Locks, Lets, Enters, Tries, Tried, Stored, HasValue, has_vacant_slot};
-ghost use Rattle.running_spin_lock.specs.SpinRule.{OneHolderAtMost};
+ghost use Rattle.running_spin_lock.specs.SpinRule.{GrantsAreOfARun, OneHolderAtMost};
 ghost use Rattle.running_spin_lock.specs.SpinParties.{IsWaiting, IsSpinning, IsGranted, HasLock};
 ghost use Rattle.running_spin_lock.specs.SpinSteps.{SeesLocked, HasPlayed, HasPlayedUnlock};
 
@@ -352,4 +352,10 @@ fn only<T, A: Allocator>(slots: Vec<Option<T>, A>) -> T
 /// of the rule alone, and does nothing.
 pub fn one_holder_at_most<T>()
     ensures { OneHolderAtMost T }
+{}
+
+/// Whenever the rule of a spin lock holds, its passes are the parties of a run of the model, and all together were granted as often as calls
+/// were in it. Says so of the rule alone, and does nothing.
+pub fn grants_are_of_a_run<T>()
+    ensures { GrantsAreOfARun T }
 {}

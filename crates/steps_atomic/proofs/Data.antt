@@ -46,31 +46,31 @@ use Rattle.steps_atomic.proofs.Apart.{alone, accesses, writes_alone, few_accesse
 use Rattle.steps_atomic.proofs.NextSteps.{each_steps}
 
 -- the data words and the register's value
-record Data (T : Type 0) : Type 0 where
-  low : ℕ
-  high : ℕ
-  value : T
+pub record Data (T : Type 0) : Type 0 where
+  pub low : ℕ
+  pub high : ℕ
+  pub value : T
 
-abbrev data_at : {T : Type 0} → Arithmetic T → T → List (Event T) → Data T
+abbrev pub data_at : {T : Type 0} → Arithmetic T → T → List (Event T) → Data T
 data_at z v past = record { low = word_in (atomic_table z v) past words.Low; high = word_in (atomic_table z v) past words.High; value = register_after z v past }
 
 -- the same after an act of this call
 abbrev data_after : {T : Type 0} → Arithmetic T → Data T → Option (PendingCall T) → Act T → Data T
 data_after z d k act = record { low = word_after words.Low act d.low; high = word_after words.High act d.high; value = acted z k act d.value }
 
-abbrev Tied : {T : Type 0} → Arithmetic T → Data T → Type 0
+abbrev pub Tied : {T : Type 0} → Arithmetic T → Data T → Type 0
 Tied z d = z.of_words d.low d.high ≡ d.value
 
 -- what a call that will store both words stores, and answers
-record Will {T : Type 0} (z : Arithmetic T) (value : T) (c : PendingCall T) (low high : ℕ) (answer : Answer T) : Type 0 where
-  new : T
-  is_value : IsValue z new
-  low_is : low ≡ z.low new
-  high_is : high ≡ z.high new
-  act_is : act_of z c.call (choice_of c.own) value ≡ (answer, new)
+pub record Will {T : Type 0} (z : Arithmetic T) (value : T) (c : PendingCall T) (low high : ℕ) (answer : Answer T) : Type 0 where
+  pub new : T
+  pub is_value : IsValue z new
+  pub low_is : low ≡ z.low new
+  pub high_is : high ≡ z.high new
+  pub act_is : act_of z c.call (choice_of c.own) value ≡ (answer, new)
 
 -- what is so of the data while a call is at this place, and of what the register answered it
-abbrev DataAt : {T : Type 0} → Arithmetic T → Data T → Option (Answer T) → AtomicPlace T → PendingCall T → Type 0
+abbrev pub DataAt : {T : Type 0} → Arithmetic T → Data T → Option (Answer T) → AtomicPlace T → PendingCall T → Type 0
 DataAt z d owed places.Look c = Unit {0}
 DataAt z d owed (places.Enter seen to) c = Unit {0}
 DataAt z d owed (places.Take call) c = Unit {0}
@@ -99,10 +99,10 @@ unwritten_at w holds (inl read) small = read.unwritten
 unwritten_at w holds (inr written) small = let full = written.is_full in absurd (omega (arith, full, small))
 
 -- what is so at a front, of the data and of each call under way
-record AtFront {T : Type 0} (z : Arithmetic T) (v : T) (past : List (Event T)) : Type 0 where
-  value : IsValue z (register_after z v past)
-  tied : DataIsRegister z v past
-  each : (party : ℕ) (c : PendingCall T) (place : AtomicPlace T) → call_of party past ≡ Some c → stage_of (atomic_table z v) c ≡ Some place → DataAt z (data_at z v past) (answer_of z v party past) place c
+pub record AtFront {T : Type 0} (z : Arithmetic T) (v : T) (past : List (Event T)) : Type 0 where
+  pub value : IsValue z (register_after z v past)
+  pub tied : DataIsRegister z v past
+  pub each : (party : ℕ) (c : PendingCall T) (place : AtomicPlace T) → call_of party past ≡ Some c → stage_of (atomic_table z v) c ≡ Some place → DataAt z (data_at z v past) (answer_of z v party past) place c
 
 -- an answer, by the call under way
 abbrev Says : {T : Type 0} → Arithmetic T → Data T → Option (Answer T) → Option (PendingCall T) → Then T → Type 0
@@ -504,7 +504,7 @@ module _ {T : Type 0} (z : Arithmetic T) (v : T) (past : List (Event T)) (party 
 
 -- At every front.
 
-goes_free : {T : Type 0} (t : Table T (AtomicPlace T)) (pending : Option (PendingCall T)) (hold : Option HoldKind) (input : Input T) (c : PendingCall T) → fault_at t pending hold input ≡ None → input ≡ inputs.Go → pending ≡ Some c → go_fault (latest_outcome c.own) ≡ None
+pub goes_free : {T : Type 0} (t : Table T (AtomicPlace T)) (pending : Option (PendingCall T)) (hold : Option HoldKind) (input : Input T) (c : PendingCall T) → fault_at t pending hold input ≡ None → input ≡ inputs.Go → pending ≡ Some c → go_fault (latest_outcome c.own) ≡ None
 goes_free {T} t pending hold input c allowed goes called =
     let free : fault_at t pending hold inputs.Go ≡ None = subst (λ (i : Input T). fault_at t pending hold i ≡ None) goes allowed in
     subst (λ (k : Option (PendingCall T)). fault_at t k hold inputs.Go ≡ None) called free
@@ -525,7 +525,7 @@ moved_by {T} z closed v parties past e before run =
     (goes_free table (call_of e.party past) (hold_of table e.party past) input c allowed goes called))
     next.moved
 
-keeps : {T : Type 0} (z : Arithmetic T) → IsClosed z → (v : T) (parties : ℕ) (past : List (Event T)) → IsValue z v → IsPast z (atomic_table z v) parties past → AtFront z v past
+pub keeps : {T : Type 0} (z : Arithmetic T) → IsClosed z → (v : T) (parties : ℕ) (past : List (Event T)) → IsValue z v → IsPast z (atomic_table z v) parties past → AtFront z v past
 keeps z closed v parties [] is run = record { value = is; tied = λ none. is; each = λ party c place called stage. absurd cc }
 keeps z closed v parties (e ∷ past) is run = next_front z v past e (moved_by z closed v parties past e (keeps z closed v parties past is run.1) run)
 

@@ -3,3 +3,4 @@ pub mod Laws
 pub mod Apart
 pub mod NextSteps
 pub mod Data
+pub mod Acts

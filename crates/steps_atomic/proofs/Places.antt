@@ -48,13 +48,24 @@ pub record Outside {T : Type 0} (z : Arithmetic T) (call : Call T) (own : List (
   pub fresh : Fresh z call own
   pub untouched : acts_in is_data_access own ≡ 0
 
+-- a `FetchUpdate` puts what its closure chose
+abbrev pub HasSome : {T : Type 0} → Call T → Option (Option T) → Type 0
+HasSome calls.FetchUpdate (Some choice) = is_some choice ≡ true
+HasSome calls.FetchUpdate None = ⊥
+HasSome other choice = Unit {0}
+
+has_chosen : {T : Type 0} (call : Call T) (choice : Option (Option T)) → HasSome call choice → HasChosen call choice
+has_chosen calls.FetchUpdate (Some choice) some = refl
+has_chosen calls.FetchUpdate None some = absurd some
+has_chosen other choice some = some
+
 -- it has the lock for writing, and has not acted yet
 pub record Puts {T : Type 0} (z : Arithmetic T) (most : ℕ) (answer : Answer T) (call : Call T) (own : List (Event T)) (hold : Option HoldKind) : Type 0 where
   pub held : hold ≡ Some kinds.Write
   pub unmade : acts_made z call own ≡ 0
   pub goes : latest_outcome own ≡ thens.GoesOn
   pub said : is_refusal (thens.Answers answer) ≡ false
-  pub chose : HasChosen call (choice_of own)
+  pub chose : HasSome call (choice_of own)
   pub few : acts_in is_data_access own < most
 
 pub record Leaves {T : Type 0} (z : Arithmetic T) (answer : Answer T) (call : Call T) (own : List (Event T)) (hold : Option HoldKind) : Type 0 where
@@ -178,7 +189,7 @@ module _ {T : Type 0} (z : Arithmetic T) (own : List (Event T)) (low w number : 
   after_look call outcome = record { call = call; own = event number (acts.Load words.High w) outcome ∷ own }
 
   -- it has not acted, and will store
-  will_put : (call : Call T) (new : T) (answer : Answer T) → hold ≡ Some kinds.Write → is_refusal (thens.Answers answer) ≡ false → Fresh z call own → is_last z (record { call = call; own = own }) (acts.Load words.High w) ≡ false → HasChosen call (choice_of own) →
+  will_put : (call : Call T) (new : T) (answer : Answer T) → hold ≡ Some kinds.Write → is_refusal (thens.Answers answer) ≡ false → Fresh z call own → is_last z (record { call = call; own = own }) (acts.Load words.High w) ≡ false → HasSome call (choice_of own) →
       ◌≡◌ {A = Option (AtomicPlace T)} (Some (puts z new answer)) (Some next) → AtAtomic z next (after_look call thens.GoesOn) hold
   will_put call new answer held said fresh early chose is =
       let unmade = fresh.unmade in
@@ -191,10 +202,10 @@ module _ {T : Type 0} (z : Arithmetic T) (own : List (Event T)) (low w number : 
       let unmade = fresh.unmade in
       leads z (places.Leave answer) next _ hold is (record { held = held; made = rw late (omega (arith, unmade)); goes = refl; said = said; chose = chose; few = omega (arith, looked) })
 
-  compare_leads : (call : Call T) (new : T) (b : Bool) → hold ≡ Some kinds.Write → Fresh z call own → is_last z (record { call = call; own = own }) (acts.Load words.High w) ≡ not b → HasChosen call (choice_of own) →
+  compare_leads : (call : Call T) (new : T) (b : Bool) → hold ≡ Some kinds.Write → Fresh z call own → is_last z (record { call = call; own = own }) (acts.Load words.High w) ≡ not b → HasSome call (choice_of own) →
       ◌≡◌ {A = Option (AtomicPlace T)} (Some (compares z b (z.of_words low w) new)) (Some next) → AtAtomic z next (after_look call thens.GoesOn) hold
   compare_leads call new true held fresh last chose is = will_put call new (answers.OkOld (z.of_words low w)) held refl fresh last chose is
-  compare_leads call new false held fresh last chose is = has_acted call (answers.ErrOld (z.of_words low w)) (ap is_some held) refl fresh last chose is
+  compare_leads call new false held fresh last chose is = has_acted call (answers.ErrOld (z.of_words low w)) (ap is_some held) refl fresh last (has_chosen call (choice_of own) chose) is
 
   high_leads : (call : Call T) → hold ≡ atomic_grant call → Looks z call → Fresh z call own → low_told own ≡ low → place_after (knows z call (z.of_words low w)) ≡ Some next →
       AtAtomic z next (after_look call (outcome_of (knows z call (z.of_words low w)))) hold
@@ -260,7 +271,7 @@ steps_at z v (places.PutLow low high answer) c hold memory number next at free i
 steps_at z v (places.PutHigh high answer) c hold memory number next at free is =
     let unmade = at.unmade in
     let few = at.few in
-    leads z (places.Leave answer) next _ _ is (record { held = ap is_some at.held; made = omega (arith, unmade); goes = refl; said = at.said; chose = at.chose; few = omega (arith, few) })
+    leads z (places.Leave answer) next _ _ is (record { held = ap is_some at.held; made = omega (arith, unmade); goes = refl; said = at.said; chose = has_chosen c.call (choice_of c.own) at.chose; few = omega (arith, few) })
 steps_at z v (places.Leave answer) c hold memory number next at free is = absurd cc
 
 -- Where an answer leads: no call stands at a wait closure.
@@ -302,7 +313,7 @@ chooses_at z v (places.Enter seen to) c hold choice number at stands value = abs
 chooses_at z v (places.Take call) c hold choice number at stands value = absurd (offered_nothing c.own at.4.fresh.goes stands)
 chooses_at z v (places.Low call) c hold choice number at stands value = absurd (offered_nothing c.own at.3.fresh.goes stands)
 chooses_at z v (places.High call low) c hold choice number at stands value = absurd (offered_nothing c.own at.3.goes stands)
-chooses_at {T} z v (places.Again old) c hold (Some new) number at stands value = let unmade = at.1.unmade in let looked = at.1.looked in record { held = at.1.held; unmade = omega (arith, unmade); goes = refl; said = refl; chose = subst (λ (k : Call T). HasChosen k (Some (Some new))) (sym at.0) refl; few = omega (arith, looked) }
+chooses_at {T} z v (places.Again old) c hold (Some new) number at stands value = let unmade = at.1.unmade in let looked = at.1.looked in record { held = at.1.held; unmade = omega (arith, unmade); goes = refl; said = refl; chose = subst (λ (k : Call T). HasSome k (Some (Some new))) (sym at.0) refl; few = omega (arith, looked) }
 chooses_at z v (places.Again old) c hold None number at stands value = let unmade = at.1.unmade in let looked = at.1.looked in (at.0, record { held = at.1.held; unmade = omega (arith, unmade); looked = omega (arith, looked); chooses = inr (refl, refl) })
 chooses_at z v (places.PutLow low high answer) c hold choice number at stands value = absurd (offered_nothing c.own at.goes stands)
 chooses_at z v (places.PutHigh high answer) c hold choice number at stands value = absurd (offered_nothing c.own at.goes stands)

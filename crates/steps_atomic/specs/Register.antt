@@ -1,5 +1,5 @@
 -- An atomic as one register: a value, and the acts of its calls, in the order of their last data accesses.
-use Rattle.std.specs.Prelude.{◌≡◌, is_some, ℕ, Bool, true, false, ◌+◌, ◌==◌, ◌||◌, if◌then◌else◌, not, List, [], ◌∷◌, Option, Some, None}
+use Rattle.std.specs.Prelude.{◌≡◌, is_some, ℕ, Bool, true, false, ◌+◌, ◌==◌, ◌||◌, if◌then◌else◌, not, List, [], ◌∷◌, ◌++◌, Option, Some, None}
 use Rattle.steps_events.specs.declared.event.Word.TheVariants as words
 use Rattle.steps_events.specs.declared.event.Call.{Call}
 use Rattle.steps_events.specs.declared.event.Call.TheVariants as calls
@@ -44,6 +44,31 @@ act_of z (calls.FetchMin x) choice old = swapped old (z.lesser old x)
 act_of z calls.FetchUpdate choice old = updated choice old
 act_of z other choice old = (answers.Done, old)
 
+-- a call at a register, with its choice where its closure was asked for one
+pub record RegisterAct (T : Type 0) : Type 0 where
+  pub call : Call T
+  pub choice : Option (Option T)
+
+-- a call that asks nobody
+abbrev pub plain : {T : Type 0} → Call T → RegisterAct T
+plain call = record { call = call; choice = None }
+
+-- a `fetch_update` whose closure chose this
+abbrev pub update : {T : Type 0} → Option T → RegisterAct T
+update choice = record { call = calls.FetchUpdate; choice = Some choice }
+
+-- what the register answers, and what it is then
+abbrev pub answer_to : {T : Type 0} → Arithmetic T → RegisterAct T → T → Answer T
+answer_to z a old = (act_of z a.call a.choice old).0
+
+abbrev pub value_after : {T : Type 0} → Arithmetic T → RegisterAct T → T → T
+value_after z a old = (act_of z a.call a.choice old).1
+
+-- the register after these acts, the first one first, where it began with v
+abbrev pub after_acts : {T : Type 0} → Arithmetic T → T → List (RegisterAct T) → T
+after_acts z v [] = v
+after_acts z v (a ∷ acts) = after_acts z (value_after z a v) acts
+
 -- the choice that the call was given
 abbrev pub choice_in : {T : Type 0} → Act T → Option (Option T) → Option (Option T)
 choice_in (acts.Chosen choice) before = Some choice
@@ -79,6 +104,24 @@ is_last z c other = false
 abbrev pub acted : {T : Type 0} → Arithmetic T → Option (PendingCall T) → Act T → T → T
 acted z None act old = old
 acted z (Some c) act old = if is_last z c act then (act_of z c.call (choice_of c.own) old).1 else old
+
+-- the choice that a call acts with: only a `FetchUpdate` has one
+abbrev pub choice_for : {T : Type 0} → Call T → Option (Option T) → Option (Option T)
+choice_for calls.FetchUpdate choice = choice
+choice_for other choice = None
+
+abbrev pub act_by : {T : Type 0} → PendingCall T → RegisterAct T
+act_by c = record { call = c.call; choice = choice_for c.call (choice_of c.own) }
+
+-- the act that an event of this call is, where it is its last data access
+abbrev pub acts_at : {T : Type 0} → Arithmetic T → Option (PendingCall T) → Act T → List (RegisterAct T)
+acts_at z None act = []
+acts_at z (Some c) act = if is_last z c act then act_by c ∷ [] else []
+
+-- the acts of a run, the first one first
+abbrev pub acts_of_run : {T : Type 0} → Arithmetic T → List (Event T) → List (RegisterAct T)
+acts_of_run z [] = []
+acts_of_run z (e ∷ past) = acts_of_run z past ++ acts_at z (call_of e.party past) e.act
 
 -- the register's value after the events, where it began with v
 abbrev pub register_after : {T : Type 0} → Arithmetic T → T → List (Event T) → T

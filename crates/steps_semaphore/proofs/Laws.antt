@@ -347,7 +347,7 @@ event_law {T} z initial parties past e run law =
 
 -- The law of every run: the word's value and the effect of each event go hand in hand.
 
-semaphore_tallies :
+pub semaphore_tallies :
     {T : Type 0} (z : Arithmetic T) (initial parties : ℕ) → initial < 2 ^ 64 → (past : List (Event T)) → IsPast z (semaphore_table initial) parties past →
     Tallies (word_in (semaphore_table initial) past words.State) (permits_given semaphore_gives initial past) (permits_taken words.State past)
 semaphore_tallies z initial parties fits [] run = tallies_first initial fits

@@ -3,6 +3,8 @@ use Rattle.std.specs.Prelude.{◌≡◌, ℕ, ◌+◌, ◌-◌, ◌*◌, ◌%◌
 use Rattle.std.specs.List.{sum}
 use mathlib.Core.Option as maybe
 use mathlib.Core.Option.{some}
+use Rattle.steps_events.specs.declared.event.Event.{Event}
+use Rattle.steps_barrier.specs.Rounds.{arrivals_in}
 use Rattle.tallies.specs.declared.barrier.Rounds.{Rounds}
 use Rattle.tallies.specs.Counts.{both_counts}
 
@@ -42,3 +44,7 @@ pub record IsFilling (n : ℕ) (words : List ℕ) (t : Rounds) : Type 0 where
 
 abbrev pub BarrierAgrees : ℕ → List ℕ → List (maybe.Option (Unit {0})) → Rounds → Type 0
 BarrierAgrees n words homes = IsFilling n words
+
+-- so many arrivals stand in the run
+abbrev pub AreArrivalsIn : List (Event ℕ) → Rounds → Type 0
+AreArrivalsIn past t = sum t.arrivals ≡ arrivals_in past

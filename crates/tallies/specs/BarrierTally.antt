@@ -1,8 +1,13 @@
--- What the passes of a barrier count and know adds up.
-use Rattle.std.proofs.Common.{◌≡◌, ℕ, ◌+◌, max, List, refl, arith}
+-- What the passes of a barrier count and know adds up, and acts on no word are no arrivals.
+use Rattle.std.proofs.Common.{◌≡◌, ℕ, ◌+◌, Bool, false, cond, max, List, refl, ap, ◌∙◌, arith}
 use Rattle.passes.specs.Tallies.{IsTally}
 use Rattle.tallies.specs.Counts.{both_counts, counts_swap, counts_group}
-use Rattle.tallies.specs.BarrierRule.{rounds, no_rounds, both_rounds, known_rounds}
+use Rattle.steps_events.specs.declared.event.Act.{Act}
+use Rattle.steps_events.specs.declared.event.Act.TheVariants as acts
+use Rattle.steps_barrier.specs.Rounds.{is_arrival}
+use Rattle.playing.specs.Words.{IsQuiet}
+use Rattle.playing.specs.Passes.{StaysQuiet}
+use Rattle.tallies.specs.BarrierRule.{rounds, no_rounds, both_rounds, known_rounds, AreArrivalsIn}
 
 max_group : (a b c : ℕ) → max (max a b) c ≡ max a (max b c)
 max_group a b c = omega arith
@@ -20,3 +25,15 @@ rounds_add_up = record {
       (counts_group t.arrivals u.arrivals v.arrivals) (max_group t.reached u.reached v.reached) (omega arith);
   copy = λ t. same_rounds t.arrivals t.arrivals (max t.reached t.reached) t.reached (0 + t.opened) t.opened refl (omega arith) (omega arith);
 }
+
+no_arrival : (act : Act ℕ) → IsQuiet act → is_arrival act ≡ false
+no_arrival (acts.Begun call) quiet = refl
+no_arrival (acts.Answered action) quiet = refl
+no_arrival (acts.Chosen choice) quiet = refl
+no_arrival (acts.Woke wake) quiet = refl
+no_arrival acts.Ended quiet = refl
+no_arrival (acts.ReadCell value) quiet = refl
+no_arrival other quiet = absurd quiet
+
+pub arrivals_stay : StaysQuiet AreArrivalsIn
+arrivals_stay past e counts quiet is = let none : ◌≡◌ {A = ℕ} (cond (is_arrival e.act) 1 0) 0 = ap (λ (b : Bool). cond b 1 0) (no_arrival e.act quiet) in is ∙ omega (arith, none)

@@ -8,6 +8,7 @@ pub mod BarrierTally
 pub mod Held
 pub mod HeldTally
 pub mod RwReaderRule
+pub mod RwReaderTally
 pub mod RwWriterRule
 pub mod RwWriterTally
 pub mod MutexScript

@@ -1,7 +1,11 @@
--- What the passes of a mutex count adds up.
+-- What the passes of a mutex count adds up, and acts on no word grant nothing.
 use Rattle.std.proofs.Common.{ℕ, ◌+◌, ◌≡◌, arith}
+use Rattle.steps_events.specs.declared.hold.HoldKind.TheVariants as kinds
+use Rattle.steps_events.specs.Tables.{Table}
+use Rattle.playing.specs.Passes.{StaysQuiet}
+use Rattle.playing.specs.Sums.{grants_quiet}
 use Rattle.passes.specs.Tallies.{IsTally}
-use Rattle.tallies.specs.MutexRule.{holds, no_holds, both_holds}
+use Rattle.tallies.specs.MutexRule.{holds, no_holds, both_holds, AreGrantsIn}
 
 same_holds : (a b c d : ℕ) → a ≡ b → c ≡ d → holds a c ≡ holds b d
 same_holds a b c d first second = λ i. holds (first i) (second i)
@@ -13,3 +17,6 @@ holds_add_up = record {
   group = λ t u v. same_holds (t.holds + u.holds + v.holds) (t.holds + (u.holds + v.holds)) (t.grants + u.grants + v.grants) (t.grants + (u.grants + v.grants)) (omega arith) (omega arith);
   copy = λ t. same_holds (0 + t.holds) t.holds (0 + t.grants) t.grants (omega arith) (omega arith);
 }
+
+pub grants_stay : {V P : Type 0} (t : Table V P) → StaysQuiet (AreGrantsIn t)
+grants_stay t past e counts quiet is = grants_quiet t kinds.Write past e counts.grants quiet is

@@ -2,9 +2,13 @@
 use Rattle.std.specs.Prelude.{◌≡◌, ℕ, List, length, slice_index}
 use mathlib.Core.Option as maybe
 use mathlib.Core.Option.{some}
+use Rattle.steps_events.specs.declared.event.Event.{Event}
+use Rattle.steps_events.specs.Tables.{Table}
+use Rattle.steps_events.specs.Past.{holds_of}
+use Rattle.steps_events.specs.HoldCounts.{reads_in, writes_in}
 use Rattle.tallies.specs.declared.held.Held.{Held}
 use Rattle.tallies.specs.declared.held.Held.TheVariants.{Free}
-use Rattle.tallies.specs.Held.{both_held, Locks}
+use Rattle.tallies.specs.Held.{both_held, read_holds, write_holds, Locks}
 use Rattle.tallies.specs.HeldTally.{same_nothing}
 
 -- the holds of a pass of the plain lock, which know nothing
@@ -24,3 +28,8 @@ pub record IsHeld (words : List ℕ) (t : Holds) : Type 0 where
 
 abbrev pub RwReaderAgrees : List ℕ → List (maybe.Option (Unit {0})) → Holds → Type 0
 RwReaderAgrees words homes = IsHeld words
+
+-- as many holds of each kind stand in the run
+pub record AreHoldsIn {V P : Type 0} (t : Table V P) (past : List (Event V)) (counts : Holds) : Type 0 where
+  pub reads : read_holds counts ≡ reads_in (holds_of t past)
+  pub writes : write_holds counts ≡ writes_in (holds_of t past)

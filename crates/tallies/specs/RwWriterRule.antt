@@ -1,6 +1,10 @@
 -- What a pass of a writer-preferring lock counts, and the rule over all passes.
 use Rattle.std.specs.Prelude.{◌≡◌, ℕ, ◌+◌, ◌-◌, ◌*◌, ◌^◌, ◌<◌, ◌≤◌, List, length, slice_index}
 use mathlib.Core.Option as maybe
+use Rattle.steps_events.specs.declared.event.Event.{Event}
+use Rattle.steps_events.specs.declared.hold.HoldKind.TheVariants as kinds
+use Rattle.steps_events.specs.Tables.{Table}
+use Rattle.playing.specs.Sums.{grants_in}
 use Rattle.tallies.specs.declared.rw_writer.MarkedHolds.{MarkedHolds}
 use Rattle.tallies.specs.Held.{read_holds, write_holds, Knows}
 use Rattle.tallies.specs.RwReaderRule.{Holds, no_holds, both_holds}
@@ -27,3 +31,8 @@ pub record IsMarkedOrHeld (words : List ℕ) (t : MarkedHolds) : Type 0 where
 
 abbrev pub RwWriterAgrees : List ℕ → List (maybe.Option (Unit {0})) → MarkedHolds → Type 0
 RwWriterAgrees words homes = IsMarkedOrHeld words
+
+-- so often was a call granted a hold of each kind in the run
+pub record AreGrantsByKindIn {V P : Type 0} (t : Table V P) (past : List (Event V)) (counts : MarkedHolds) : Type 0 where
+  pub reads : counts.read_grants ≡ grants_in t kinds.Read past
+  pub writes : counts.write_grants ≡ grants_in t kinds.Write past

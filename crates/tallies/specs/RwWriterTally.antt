@@ -1,9 +1,13 @@
--- What the passes of a writer-preferring lock count adds up.
+-- What the passes of a writer-preferring lock count adds up, and acts on no word grant nothing.
 use Rattle.std.proofs.Common.{ℕ, ◌+◌, ◌≡◌, refl, arith}
+use Rattle.steps_events.specs.declared.hold.HoldKind.TheVariants as kinds
+use Rattle.steps_events.specs.Tables.{Table}
+use Rattle.playing.specs.Passes.{StaysQuiet}
+use Rattle.playing.specs.Sums.{grants_quiet}
 use Rattle.passes.specs.Tallies.{IsTally}
 use Rattle.tallies.specs.HeldTally.{same_nothing, tells_same_nothing, held_adds_up}
 use Rattle.tallies.specs.RwReaderRule.{Holds, no_holds, both_holds}
-use Rattle.tallies.specs.RwWriterRule.{marked, nothing_marked, both_marked}
+use Rattle.tallies.specs.RwWriterRule.{marked, nothing_marked, both_marked, AreGrantsByKindIn}
 
 same_marked : (t u : Holds) (a b c d e f : ℕ) → t ≡ u → a ≡ b → c ≡ d → e ≡ f → marked t a c e ≡ marked u b d f
 same_marked t u a b c d e f held flags reads writes = λ i. marked (held i) (flags i) (reads i) (writes i)
@@ -18,4 +22,10 @@ marked_add_up = let holds = held_adds_up same_nothing tells_same_nothing in reco
       (t.read_grants + u.read_grants + v.read_grants) (t.read_grants + (u.read_grants + v.read_grants)) (t.write_grants + u.write_grants + v.write_grants) (t.write_grants + (u.write_grants + v.write_grants))
       (holds.group t.held u.held v.held) (omega arith) (omega arith) (omega arith);
   copy = λ t. same_marked (both_holds no_holds t.held) t.held (0 + t.flags) t.flags (0 + t.read_grants) t.read_grants (0 + t.write_grants) t.write_grants refl (omega arith) (omega arith) (omega arith);
+}
+
+pub grants_by_kind_stay : {V P : Type 0} (t : Table V P) → StaysQuiet (AreGrantsByKindIn t)
+grants_by_kind_stay t past e counts quiet is = record {
+  reads = grants_quiet t kinds.Read past e counts.read_grants quiet is.reads;
+  writes = grants_quiet t kinds.Write past e counts.write_grants quiet is.writes;
 }

@@ -1,6 +1,12 @@
--- What a pass of a semaphore counts, the rule over all passes.
-use Rattle.std.specs.Prelude.{◌≡◌, ℕ, ◌+◌, ◌-◌, ◌%◌, ◌^◌, ◌≤◌, List, length, slice_index}
-use mathlib.Core.Option as maybe
+-- What a pass of a semaphore counts, and what all passes count together: what the acts of the run gave and took.
+use Rattle.std.specs.Prelude.{ℕ, ◌+◌, ◌-◌, ◌%◌, ◌^◌, if◌then◌else◌, List, Option}
+use Rattle.steps_events.specs.declared.event.Word.TheVariants as words
+use Rattle.steps_events.specs.declared.event.Act.{Act}
+use Rattle.steps_events.specs.declared.event.Event.{Event}
+use Rattle.steps_events.specs.Past.{PendingCall}
+use Rattle.steps_semaphore.specs.Permits.{is_take}
+use Rattle.steps_semaphore.specs.Law.{semaphore_gives}
+use Rattle.playing.specs.Sums.{IsSumOf}
 use Rattle.tallies.specs.declared.semaphore.Permits.{Permits}
 
 abbrev pub permits : ℕ → ℕ → Permits
@@ -20,11 +26,9 @@ first_permits initial = permits initial 0
 abbrev pub value_of : Permits → ℕ
 value_of t = (t.given - t.taken) % 2 ^ 64
 
--- there is one word; it is what was given less what was taken, and no more was taken than given
-pub record IsLeft (words : List ℕ) (t : Permits) : Type 0 where
-  pub one_word : length words ≡ 1
-  pub word : slice_index words 0 ≡ value_of t
-  pub enough : t.taken ≤ t.given
+-- what an act of a call gives and takes, as the model's law counts it
+abbrev pub permits_of : Act ℕ → Option (PendingCall ℕ) → Permits
+permits_of act pending = permits (semaphore_gives act pending) (if is_take words.State act then 1 else 0)
 
-abbrev pub SemaphoreAgrees : List ℕ → List (maybe.Option (Unit {0})) → Permits → Type 0
-SemaphoreAgrees words homes = IsLeft words
+abbrev pub ArePermitsOf : ℕ → List (Event ℕ) → Permits → Type 0
+ArePermitsOf initial = IsSumOf (first_permits initial) both_permits permits_of

@@ -1,7 +1,7 @@
 //! The model that a barrier plays, and what its pass counts and knows beside.
 
 use passes::{Rule, Tally};
-use playing::{Played, Script};
+use playing::{Counts, Played, Script};
 use std::marker::Model;
 use steps_barrier::BarrierPlace;
 
@@ -74,4 +74,17 @@ impl Rule<(), u32> for Rounds {
     ghost first = { λ _. no_rounds };
 
     ghost agrees = { λ key. BarrierAgrees (key % 2 ^ 32) };
+}
+
+/// All passes together arrived as often as calls did in the run.
+impl Counts<u32, u64> for Rounds {
+    ghost use Rattle.std.proofs.Common.{refl};
+    ghost use Rattle.tallies.specs.BarrierRule.{AreArrivalsIn};
+    ghost use Rattle.tallies.specs.BarrierTally.{arrivals_stay};
+
+    ghost follow = { λ _. AreArrivalsIn };
+
+    ghost quiet = { λ _. arrivals_stay };
+
+    ghost opens = { λ _. refl };
 }

@@ -2,6 +2,7 @@
 ghost use Rattle.std.specs.Prelude.{Bool};
 
 use passes::{Rule, Tally};
+use playing::Counts;
 
 /// What a hold knows of what is kept under its lock, as plain data of which no value is made. It can be told whether two holds know
 /// the same.
@@ -56,4 +57,18 @@ impl Rule<(), ()> for Held<()> {
     ghost first = { λ _. no_holds };
 
     ghost agrees = { λ _. RwReaderAgrees };
+}
+
+/// All passes together have as many holds of each kind as the parties of the run.
+impl Counts<(), u64> for Held<()> {
+    ghost use Rattle.std.proofs.Common.{refl};
+    ghost use Rattle.steps_rw_reader.specs.Table.{rw_reader_table};
+    ghost use Rattle.tallies.specs.RwReaderRule.{AreHoldsIn};
+    ghost use Rattle.tallies.specs.RwReaderTally.{holds_stay};
+
+    ghost follow = { λ _. AreHoldsIn rw_reader_table };
+
+    ghost quiet = { λ _. holds_stay rw_reader_table };
+
+    ghost opens = { λ _. record { reads = refl; writes = refl } };
 }

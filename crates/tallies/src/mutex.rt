@@ -1,7 +1,7 @@
 //! The model that a mutex plays, and what its pass counts beside.
 
 use passes::{Rule, Tally};
-use playing::{Played, Script};
+use playing::{Counts, Played, Script};
 use steps_mutex::MutexPlace;
 
 /// The model that a mutex plays: its one word is the lock's.
@@ -54,4 +54,18 @@ impl Rule<(), ()> for Holds {
     ghost first = { λ _. no_holds };
 
     ghost agrees = { λ _. MutexAgrees };
+}
+
+/// All passes together were granted as often as calls were in the run.
+impl Counts<(), u64> for Holds {
+    ghost use Rattle.std.proofs.Common.{refl};
+    ghost use Rattle.steps_mutex.specs.Table.{mutex_table};
+    ghost use Rattle.tallies.specs.MutexRule.{AreGrantsIn};
+    ghost use Rattle.tallies.specs.MutexTally.{grants_stay};
+
+    ghost follow = { λ _. AreGrantsIn mutex_table };
+
+    ghost quiet = { λ _. grants_stay mutex_table };
+
+    ghost opens = { λ _. refl };
 }

@@ -2,7 +2,7 @@
 
 use crate::held::Held;
 use passes::{Rule, Tally};
-use playing::{Played, Script};
+use playing::{Counts, Played, Script};
 use steps_rw_writer::RwWriterPlace;
 
 /// The model that a writer-preferring lock plays: its words are the lock's and the wake counter.
@@ -61,4 +61,18 @@ impl Rule<(), ()> for MarkedHolds {
     ghost first = { λ _. nothing_marked };
 
     ghost agrees = { λ _. RwWriterAgrees };
+}
+
+/// All passes together were granted holds of each kind as often as calls were in the run.
+impl Counts<(), u64> for MarkedHolds {
+    ghost use Rattle.std.proofs.Common.{refl};
+    ghost use Rattle.steps_rw_writer.specs.Table.{rw_writer_table};
+    ghost use Rattle.tallies.specs.RwWriterRule.{AreGrantsByKindIn};
+    ghost use Rattle.tallies.specs.RwWriterTally.{grants_by_kind_stay};
+
+    ghost follow = { λ _. AreGrantsByKindIn rw_writer_table };
+
+    ghost quiet = { λ _. grants_by_kind_stay rw_writer_table };
+
+    ghost opens = { λ _. record { reads = refl; writes = refl } };
 }

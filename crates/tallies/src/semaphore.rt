@@ -1,7 +1,7 @@
 //! The model that a semaphore plays, and what its pass counts beside.
 
 use passes::{Rule, Tally};
-use playing::{Played, Script};
+use playing::{Counts, Played, Script};
 use steps_semaphore::SemaphorePlace;
 
 /// The model that a semaphore plays: its one word is that of the permits. The key is the initial value, as a word.
@@ -47,11 +47,25 @@ impl Tally for Permits {
     ghost adds_up = { permits_add_up };
 }
 
-/// The semaphore's word is what was given less what was taken, and no more was taken than given. The key is the initial value.
 impl Rule<(), u64> for Permits {
-    ghost use Rattle.tallies.specs.SemaphoreRule.{first_permits, SemaphoreAgrees};
+    ghost use Rattle.std.specs.Prelude.{◌%◌, ◌^◌};
+    ghost use Rattle.tallies.specs.SemaphoreRule.{first_permits};
 
-    ghost first = { first_permits };
+    ghost first = { λ key. first_permits (key % 2 ^ 64) };
 
-    ghost agrees = { λ _. SemaphoreAgrees };
+    ghost agrees = { λ _ _ _ _. Unit {0} };
+}
+
+/// What all passes gave and took is what the acts of the run did. The key is the initial value.
+impl Counts<u64, u64> for Permits {
+    ghost use Rattle.std.specs.Prelude.{◌%◌, ◌^◌};
+    ghost use Rattle.std.proofs.Common.{refl};
+    ghost use Rattle.tallies.specs.SemaphoreRule.{ArePermitsOf};
+    ghost use Rattle.tallies.specs.SemaphoreTally.{permits_quiet};
+
+    ghost follow = { λ key. ArePermitsOf (key % 2 ^ 64) };
+
+    ghost quiet = { λ key. permits_quiet (key % 2 ^ 64) };
+
+    ghost opens = { λ _. refl };
 }

@@ -3,6 +3,7 @@ ghost use Rattle.std.specs.Prelude.{◌≡◌, ◌+◌, ◌<◌};
 ghost use Rattle.passes.specs.Passes.{IsSamePass};
 ghost use Rattle.running_barrier.specs.BarrierShown.{IsBarrierPass, HasWaited, arrivals_of, waiters_of};
 
+use crate::WaitWord;
 use crate::strategy::barrier::{Barrier, BarrierFull, BarrierPass};
 use signal::{Notes, Signal};
 use std::sync::Wait;
@@ -10,6 +11,11 @@ use std::sync::atomic::{AtomicU64, Ordering};
 use std::test::Fail;
 use std::thread;
 use std::thread::Threads;
+
+/// A wait closure: yields.
+fn yield_once(_word: &WaitWord, _seen: &u64) {
+    thread::yield_now();
+}
 
 /// What a `wait` did: its answer, how often it called its wait closure and its wake closure, and the word that the wake closure saw.
 fn wait_counted<R: Wait>(
@@ -44,21 +50,19 @@ fn a_barrier_of_none_is_full(rt: HostRuntime) -> Result<(), Fail> {
     let (barrier, mut pass) = Barrier::new(rt.alloc(), 0)?;
     let first = wait_counted(&rt, &barrier, &mut pass);
     let second = wait_counted(&rt, &barrier, &mut pass);
-    assert_eq!(rt; first, (Err(BarrierFull), 0, 0, 9));
-    assert_eq!(rt; second, (Err(BarrierFull), 0, 0, 9));
+    let full = (Err(BarrierFull), 0, 0, 9);
+    assert_eq!(rt; (first, second), (full, full));
     Ok(())
 }
 
 #[test]
 fn a_barrier_of_one_opens_at_each_call(rt: HostRuntime) -> Result<(), Fail> {
     let (barrier, mut pass) = Barrier::new(rt.alloc(), 1)?;
+    let first = wait_counted(&rt, &barrier, &mut pass);
+    let second = wait_counted(&rt, &barrier, &mut pass);
     assert_eq!(rt;
-        wait_counted(&rt, &barrier, &mut pass),
-        (Ok(()), 0, 1, 4_294_967_296)
-    );
-    assert_eq!(rt;
-        wait_counted(&rt, &barrier, &mut pass),
-        (Ok(()), 0, 1, 8_589_934_592)
+        (first, second),
+        ((Ok(()), 0, 1, 4_294_967_296), (Ok(()), 0, 1, 8_589_934_592))
     );
     Ok(())
 }
@@ -101,14 +105,9 @@ fn wait_second<R: Wait>(
     requires { IsBarrierPass barrier.now pass.old }
 {
     let was_asked = asked.awaited();
-    let answer = barrier.wait(
-        rt,
-        pass,
-        |_, _| thread::yield_now(),
-        |_| {
-            wakes.fetch_add(1, Ordering::SeqCst);
-        },
-    );
+    let answer = barrier.wait(rt, pass, yield_once, |_| {
+        wakes.fetch_add(1, Ordering::SeqCst);
+    });
     (answer, was_asked)
 }
 
@@ -125,9 +124,10 @@ fn a_barrier_of_two(rt: HostRuntime) -> Result<(), Fail> {
         || wait_first(&rt, &barrier, &mut one, &asked, &wakes),
         || wait_second(&rt, &barrier, &mut two, &asked, &wakes),
     );
-    assert_eq!(rt; first, (Ok(()), (1, 1)));
-    assert_eq!(rt; second, (Ok(()), true));
-    assert_eq!(rt; wakes.load(Ordering::SeqCst), 1);
+    assert_eq!(rt;
+        (first, second, wakes.load(Ordering::SeqCst)),
+        ((Ok(()), (1, 1)), (Ok(()), true), 1)
+    );
     Ok(())
 }
 
@@ -153,14 +153,9 @@ fn wait_50_times<R: Wait>(
 {
     for round in 0..50u64 {
         counts.arrivals.fetch_add(1, Ordering::SeqCst);
-        let passed = barrier.wait(
-            rt,
-            &mut pass,
-            |_, _| thread::yield_now(),
-            |_| {
-                counts.wakes.fetch_add(1, Ordering::SeqCst);
-            },
-        );
+        let passed = barrier.wait(rt, &mut pass, yield_once, |_| {
+            counts.wakes.fetch_add(1, Ordering::SeqCst);
+        });
         let Ok(()) = passed else { unreachable!() };
         if counts.arrivals.load(Ordering::SeqCst) < 4 * (round + 1) {
             counts.early.fetch_add(1, Ordering::SeqCst);
@@ -244,8 +239,9 @@ fn four_threads_pass_50_rounds(rt: HostRuntime) -> Result<(), Fail> {
         early: AtomicU64::new(0),
     };
     wait_in_four_threads(&rt, &barrier, pass, &counts);
-    assert_eq!(rt; counts.arrivals.load(Ordering::SeqCst), 200);
-    assert_eq!(rt; counts.wakes.load(Ordering::SeqCst), 50);
-    assert_eq!(rt; counts.early.load(Ordering::SeqCst), 0);
+    let arrivals = counts.arrivals.load(Ordering::SeqCst);
+    let wakes = counts.wakes.load(Ordering::SeqCst);
+    let early = counts.early.load(Ordering::SeqCst);
+    assert_eq!(rt; (arrivals, wakes, early), (200, 50, 0));
     Ok(())
 }

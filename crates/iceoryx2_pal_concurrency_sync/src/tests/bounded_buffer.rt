@@ -8,7 +8,7 @@ ghost use Rattle.running_mutex.specs.CondShown.{IsCondPass, HasStayed as HasWait
 use crate::spin_lock::{SpinLock, SpinPass};
 use crate::strategy::condition_variable::{CondPass, ConditionVariable, Woken};
 use crate::strategy::mutex::{Mutex, MutexHold, MutexPass};
-use crate::{WaitAction, WaitResult};
+use crate::{WaitResult, wake_nobody, yield_and_go_on};
 use std::sync::Wait;
 use std::test::Fail;
 use std::thread;
@@ -98,22 +98,16 @@ fn make<'p, R: Wait>(
             rt,
             waits,
             mutex,
-            |_| (),
-            |_, _| {
-                thread::yield_now();
-                WaitAction::Continue
-            },
-            |_, _| {
-                thread::yield_now();
-                WaitAction::Continue
-            },
+            wake_nobody,
+            yield_and_go_on,
+            yield_and_go_on,
         );
         match answer {
             WaitResult::Success(Woken::Signalled(again)) => held = again,
             WaitResult::Success(Woken::Unsignalled(_)) | WaitResult::Interrupted => unreachable!(),
         }
     }
-    mutex.unlock(held, |_| ());
+    mutex.unlock(held, wake_nobody);
     unreachable!()
 }
 
@@ -162,15 +156,12 @@ fn lock_and_make<R: Wait>(
     ensures spun { HasSpunAtMost pass.old pass.new }
 {
     let mut item = 0;
-    let locked = Mutex::lock(locks, mutex, rt, |_, _| {
-        thread::yield_now();
-        WaitAction::Continue
-    });
+    let locked = Mutex::lock(locks, mutex, rt, yield_and_go_on);
     match locked {
         WaitResult::Success(hold) => {
             let hold = make(hold, rt, mutex, can, waits, items, pass, what, &mut item);
-            others_can.notify_one(notifies, |_| ());
-            mutex.unlock(hold, |_| ());
+            others_can.notify_one(notifies, wake_nobody);
+            mutex.unlock(hold, wake_nobody);
         }
         WaitResult::Interrupted => unreachable!(),
     }

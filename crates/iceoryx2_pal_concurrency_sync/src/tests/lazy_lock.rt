@@ -17,6 +17,11 @@ use std::sync::atomic::{AtomicU64, Ordering};
 use std::test::Fail;
 use std::thread;
 
+/// The closure of most of these values.
+fn forty_two() -> u64 {
+    42
+}
+
 #[test]
 fn a_value_is_made_once_and_read_twice(rt: HostRuntime) -> Result<(), Fail> {
     let calls = AtomicU64::new(0);
@@ -53,7 +58,7 @@ fn force_twice<F: FnOnce() -> u64 + Drop, R: Wait>(
 
 #[test]
 fn the_closure_is_taken_once(rt: HostRuntime) -> Result<(), Fail> {
-    let Ok((lazy, mut pass)) = LazyLock::new(rt.alloc(), || -> u64 { 42 }) else {
+    let Ok((lazy, mut pass)) = LazyLock::new(rt.alloc(), forty_two) else {
         return Err("no memory")?;
     };
     assert_eq!(rt; force_twice(&rt, &lazy, &mut pass), 42);
@@ -101,7 +106,7 @@ fn force_in_parts<F: FnOnce() -> u64 + Drop, R: Wait>(
 
 #[test]
 fn parts_are_the_whole_again(rt: HostRuntime) -> Result<(), Fail> {
-    let Ok((lazy, pass)) = LazyLock::new(rt.alloc(), || -> u64 { 42 }) else {
+    let Ok((lazy, pass)) = LazyLock::new(rt.alloc(), forty_two) else {
         return Err("no memory")?;
     };
     let (_pass, forced) = force_in_parts(&rt, &lazy, pass);
@@ -206,7 +211,7 @@ fn a_lazy_value_that_finds_no_memory_hands_its_closure_back(rt: HostRuntime) -> 
         (80, true),
     ] {
         let heap = LocalHeap::new(rt.alloc(), size)?;
-        match LazyLock::new(&heap, || -> u64 { 42 }) {
+        match LazyLock::new(&heap, forty_two) {
             Ok((lazy, mut pass)) => {
                 assert!(rt; room);
                 assert_eq!(rt; *LazyLock::force(&lazy, &rt, &mut pass), 42);
@@ -231,7 +236,7 @@ fn shared_where_it_moves<T: Send + Sync, F: Send>(lazy: &LazyLock<T, F>) {
 
 #[test]
 fn a_lazy_value_is_shared_where_its_closure_moves(rt: HostRuntime) -> Result<(), Fail> {
-    let Ok((lazy, mut pass)) = LazyLock::new(rt.alloc(), || -> u64 { 42 }) else {
+    let Ok((lazy, mut pass)) = LazyLock::new(rt.alloc(), forty_two) else {
         return Err("no memory")?;
     };
     shared_where_it_moves(&lazy);

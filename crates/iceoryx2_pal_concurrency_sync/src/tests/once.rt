@@ -1,16 +1,28 @@
 //! The running once.
-ghost use Rattle.std.specs.Prelude.{◌≡◌};
+ghost use Rattle.std.specs.Prelude.{◌≡◌, IfOk};
 ghost use Rattle.passes.specs.Parts.{IsWhole};
 ghost use Rattle.passes.specs.Passes.{IsSamePass};
 ghost use Rattle.running_once.specs.OnceShown.{IsOncePass, IsComplete, ended_of, part_of_once, pass_in};
 
 use crate::once::{Once, OncePass};
 use signal::{Meeting, Signal};
+use std::alloc::{AllocError, Global};
 use std::sync::Wait;
 use std::sync::atomic::{AtomicU64, Ordering};
 use std::test::Fail;
 use std::thread;
 use std::thread::Threads;
+
+/// A new once, and two parts of its pass.
+fn in_two_parts(alloc: Global) -> Result<(Once, OncePass, OncePass), AllocError>
+    ensures own { IfOk result (λ made. IsOncePass made.0 made.1 × IsOncePass made.0 made.2) }
+{
+    let (once, pass) = Once::new(alloc)?;
+    match pass.split(&once) {
+        Ok((one, two)) => Ok((once, one, two)),
+        Err(_) => unreachable!(),
+    }
+}
 
 /// Calls a once twice with its whole pass, each time with a closure of its own.
 fn call_twice<R: Wait>(
@@ -38,11 +50,11 @@ fn call_twice<R: Wait>(
 fn the_first_closure_alone_runs(rt: HostRuntime) -> Result<(), Fail> {
     let (once, mut pass) = Once::new(rt.alloc())?;
     let (first, second) = (AtomicU64::new(0), AtomicU64::new(0));
-    assert_eq!(rt; once.is_completed(&mut pass), false);
+    let before = once.is_completed(&mut pass);
     call_twice(&rt, &once, &mut pass, &first, &second);
-    assert_eq!(rt; once.is_completed(&mut pass), true);
-    assert_eq!(rt; first.load(Ordering::SeqCst), 1);
-    assert_eq!(rt; second.load(Ordering::SeqCst), 0);
+    let after = once.is_completed(&mut pass);
+    let runs = (first.load(Ordering::SeqCst), second.load(Ordering::SeqCst));
+    assert_eq!(rt; (before, after, runs), (false, true, (1, 0)));
     Ok(())
 }
 
@@ -62,10 +74,7 @@ fn ask_within<R: Wait>(rt: &R, once: &Once, one: &mut OncePass, two: &mut OncePa
 /// A call that stored 2 before its closure has ended would have the closure see it.
 #[test]
 fn it_is_complete_only_after_the_end(rt: HostRuntime) -> Result<(), Fail> {
-    let (once, pass) = Once::new(rt.alloc())?;
-    let Ok((mut one, mut two)) = pass.split(&once) else {
-        unreachable!()
-    };
+    let (once, mut one, mut two) = in_two_parts(rt.alloc())?;
     assert_eq!(rt; ask_within(&rt, &once, &mut one, &mut two), (0, true));
     Ok(())
 }
@@ -194,21 +203,17 @@ fn call_second<R: Wait>(rt: &R, once: &Once, pass: &mut OncePass, told: &Told) -
 /// A call that comes while the closure of another runs returns only once that has ended.
 #[test]
 fn a_second_caller_waits_for_the_closure(rt: HostRuntime) -> Result<(), Fail> {
-    let (once, pass) = Once::new(rt.alloc())?;
-    let Ok((mut one, mut two)) = pass.split(&once) else {
-        unreachable!()
-    };
+    let (once, mut one, mut two) = in_two_parts(rt.alloc())?;
     let told = Told {
         meeting: Meeting::of(2),
         ending: Signal::new(),
     };
-    let (first, second) = thread::join(
+    let both = thread::join(
         &rt,
         || call_first(&rt, &once, &mut one, &told),
         || call_second(&rt, &once, &mut two, &told),
     );
-    assert!(rt; first);
-    assert!(rt; second);
+    assert_eq!(rt; both, (true, true));
     Ok(())
 }
 

@@ -8,87 +8,128 @@ use crate::strategy::mutex::Mutex;
 use crate::strategy::rwlock::{RwLockReaderPreference, RwLockWriterPreference};
 use crate::strategy::semaphore::Semaphore;
 use linked_list_allocator::LocalHeap;
+use std::alloc::{AllocError, Global};
 use std::test::Fail;
+
+/// Whether the object was made, how many bytes of the heap were used then, and how many once it was dropped.
+type Held = (bool, usize, usize);
+
+/// What is held where there is room, or not: so many bytes, or none.
+fn held(room: bool, size: usize) -> Held {
+    (room, if room { size } else { 0 }, 0)
+}
+
+fn a_mutex_in(alloc: Global, size: usize) -> Result<Held, AllocError> {
+    let heap = LocalHeap::new(alloc, size)?;
+    let made = Mutex::new(&heap);
+    let (is_made, used) = (made.is_ok(), heap.used());
+    drop(made);
+    Ok((is_made, used, heap.used()))
+}
 
 #[test]
 fn a_mutex_that_finds_no_memory(rt: HostRuntime) -> Result<(), Fail> {
     for (size, room) in [(0, false), (16, false), (32, true)] {
-        let heap = LocalHeap::new(rt.alloc(), size)?;
-        let made = Mutex::new(&heap);
-        assert_eq!(rt; made.is_ok(), room);
-        assert_eq!(rt; heap.used(), if room { 32 } else { 0 });
-        drop(made);
-        assert_eq!(rt; heap.used(), 0);
+        assert_eq!(rt; a_mutex_in(rt.alloc(), size)?, held(room, 32));
     }
     Ok(())
+}
+
+fn a_reader_preferring_lock_in(alloc: Global, size: usize) -> Result<Held, AllocError> {
+    let heap = LocalHeap::new(alloc, size)?;
+    let made = RwLockReaderPreference::new(&heap);
+    let (is_made, used) = (made.is_ok(), heap.used());
+    drop(made);
+    Ok((is_made, used, heap.used()))
 }
 
 #[test]
 fn a_reader_preferring_lock_that_finds_no_memory(rt: HostRuntime) -> Result<(), Fail> {
     for (size, room) in [(0, false), (16, false), (32, true)] {
-        let heap = LocalHeap::new(rt.alloc(), size)?;
-        let made = RwLockReaderPreference::new(&heap);
-        assert_eq!(rt; made.is_ok(), room);
-        assert_eq!(rt; heap.used(), if room { 32 } else { 0 });
-        drop(made);
-        assert_eq!(rt; heap.used(), 0);
+        assert_eq!(rt;
+            a_reader_preferring_lock_in(rt.alloc(), size)?,
+            held(room, 32)
+        );
     }
     Ok(())
+}
+
+fn a_writer_preferring_lock_in(alloc: Global, size: usize) -> Result<Held, AllocError> {
+    let heap = LocalHeap::new(alloc, size)?;
+    let made = RwLockWriterPreference::new(&heap);
+    let (is_made, used) = (made.is_ok(), heap.used());
+    drop(made);
+    Ok((is_made, used, heap.used()))
 }
 
 #[test]
 fn a_writer_preferring_lock_that_finds_no_memory(rt: HostRuntime) -> Result<(), Fail> {
     for (size, room) in [(0, false), (16, false), (32, true)] {
-        let heap = LocalHeap::new(rt.alloc(), size)?;
-        let made = RwLockWriterPreference::new(&heap);
-        assert_eq!(rt; made.is_ok(), room);
-        assert_eq!(rt; heap.used(), if room { 32 } else { 0 });
-        drop(made);
-        assert_eq!(rt; heap.used(), 0);
+        assert_eq!(rt;
+            a_writer_preferring_lock_in(rt.alloc(), size)?,
+            held(room, 32)
+        );
     }
     Ok(())
+}
+
+fn a_semaphore_in(alloc: Global, size: usize) -> Result<Held, AllocError> {
+    let heap = LocalHeap::new(alloc, size)?;
+    let made = Semaphore::new(&heap, 5);
+    let (is_made, used) = (made.is_ok(), heap.used());
+    drop(made);
+    Ok((is_made, used, heap.used()))
 }
 
 #[test]
 fn a_semaphore_that_finds_no_memory(rt: HostRuntime) -> Result<(), Fail> {
     for (size, room) in [(0, false), (16, false), (32, true)] {
-        let heap = LocalHeap::new(rt.alloc(), size)?;
-        let made = Semaphore::new(&heap, 5);
-        assert_eq!(rt; made.is_ok(), room);
-        assert_eq!(rt; heap.used(), if room { 32 } else { 0 });
-        drop(made);
-        assert_eq!(rt; heap.used(), 0);
+        assert_eq!(rt; a_semaphore_in(rt.alloc(), size)?, held(room, 32));
     }
     Ok(())
+}
+
+fn a_barrier_in(alloc: Global, size: usize) -> Result<Held, AllocError> {
+    let heap = LocalHeap::new(alloc, size)?;
+    let made = Barrier::new(&heap, 3);
+    let (is_made, used) = (made.is_ok(), heap.used());
+    drop(made);
+    Ok((is_made, used, heap.used()))
 }
 
 #[test]
 fn a_barrier_that_finds_no_memory(rt: HostRuntime) -> Result<(), Fail> {
     for (size, room) in [(0, false), (16, false), (32, true)] {
-        let heap = LocalHeap::new(rt.alloc(), size)?;
-        let made = Barrier::new(&heap, 3);
-        assert_eq!(rt; made.is_ok(), room);
-        assert_eq!(rt; heap.used(), if room { 32 } else { 0 });
-        drop(made);
-        assert_eq!(rt; heap.used(), 0);
+        assert_eq!(rt; a_barrier_in(rt.alloc(), size)?, held(room, 32));
     }
     Ok(())
+}
+
+fn a_once_in(alloc: Global, size: usize) -> Result<Held, AllocError> {
+    let heap = LocalHeap::new(alloc, size)?;
+    let made = Once::new(&heap);
+    let (is_made, used) = (made.is_ok(), heap.used());
+    drop(made);
+    Ok((is_made, used, heap.used()))
 }
 
 #[test]
 fn a_once_that_finds_no_memory(rt: HostRuntime) -> Result<(), Fail> {
     for (size, room) in [(0, false), (16, false), (32, true)] {
-        let heap = LocalHeap::new(rt.alloc(), size)?;
-        let made = Once::new(&heap);
-        assert_eq!(rt; made.is_ok(), room);
-        assert_eq!(rt; heap.used(), if room { 32 } else { 0 });
-        drop(made);
-        assert_eq!(rt; heap.used(), 0);
+        assert_eq!(rt; a_once_in(rt.alloc(), size)?, held(room, 32));
     }
     Ok(())
 }
 
 /// A condition variable is four blocks of 16 bytes: its count and its permits.
+fn a_condition_variable_in(alloc: Global, size: usize) -> Result<Held, AllocError> {
+    let heap = LocalHeap::new(alloc, size)?;
+    let made = ConditionVariable::new(&heap);
+    let (is_made, used) = (made.is_ok(), heap.used());
+    drop(made);
+    Ok((is_made, used, heap.used()))
+}
+
 #[test]
 fn a_condition_variable_that_finds_no_memory(rt: HostRuntime) -> Result<(), Fail> {
     for (size, room) in [
@@ -98,26 +139,24 @@ fn a_condition_variable_that_finds_no_memory(rt: HostRuntime) -> Result<(), Fail
         (48, false),
         (64, true),
     ] {
-        let heap = LocalHeap::new(rt.alloc(), size)?;
-        let made = ConditionVariable::new(&heap);
-        assert_eq!(rt; made.is_ok(), room);
-        assert_eq!(rt; heap.used(), if room { 64 } else { 0 });
-        drop(made);
-        assert_eq!(rt; heap.used(), 0);
+        assert_eq!(rt; a_condition_variable_in(rt.alloc(), size)?, held(room, 64));
     }
     Ok(())
 }
 
 /// Three words, and so a block more than a lock's.
+fn an_atomic_in(alloc: Global, size: usize) -> Result<Held, AllocError> {
+    let heap = LocalHeap::new(alloc, size)?;
+    let made = Atomic::<u128, _>::new(&heap, 7);
+    let (is_made, used) = (made.is_ok(), heap.used());
+    drop(made);
+    Ok((is_made, used, heap.used()))
+}
+
 #[test]
 fn an_atomic_that_finds_no_memory(rt: HostRuntime) -> Result<(), Fail> {
     for (size, room) in [(0, false), (16, false), (32, false), (48, true)] {
-        let heap = LocalHeap::new(rt.alloc(), size)?;
-        let made = Atomic::<u128, _>::new(&heap, 7);
-        assert_eq!(rt; made.is_ok(), room);
-        assert_eq!(rt; heap.used(), if room { 48 } else { 0 });
-        drop(made);
-        assert_eq!(rt; heap.used(), 0);
+        assert_eq!(rt; an_atomic_in(rt.alloc(), size)?, held(room, 48));
     }
     Ok(())
 }

@@ -1,5 +1,5 @@
 //! The running semaphore.
-ghost use Rattle.std.specs.Prelude.{◌≡◌, ◌+◌};
+ghost use Rattle.std.specs.Prelude.{◌≡◌, ◌+◌, IfOk};
 ghost use Rattle.passes.specs.Parts.{IsWhole};
 ghost use Rattle.passes.specs.Passes.{IsSamePass, part_of, view};
 ghost use Rattle.passes.specs.Views.{first_view};
@@ -9,13 +9,28 @@ ghost use Rattle.tallies.specs.SemaphoreRule.{first_permits};
 ghost use Rattle.running_semaphore.specs.SemaphoreShown.{IsSemPass, HasCounted, given_of, taken_of};
 
 use crate::strategy::semaphore::{SemPass, Semaphore};
-use crate::{WaitAction, WaitResult};
+use crate::{WaitAction, WaitResult, wake_nobody, yield_and_go_on};
 use signal::{Gathering, Meeting, Notes, Signal};
+use std::alloc::{AllocError, Global};
 use std::sync::Wait;
 use std::sync::atomic::{AtomicU64, Ordering};
 use std::test::Fail;
 use std::thread;
 use std::thread::Threads;
+
+/// A new semaphore of so many permits, and two parts of its pass.
+pub(super) fn in_two_parts(
+    alloc: Global,
+    permits: u64,
+) -> Result<(Semaphore, SemPass, SemPass), AllocError>
+    ensures own { IfOk result (λ made. IsSemPass made.0 made.1 × IsSemPass made.0 made.2) }
+{
+    let (semaphore, pass) = Semaphore::new(alloc, permits)?;
+    match pass.split(&semaphore) {
+        Ok((one, two)) => Ok((semaphore, one, two)),
+        Err(_) => unreachable!(),
+    }
+}
 
 /// Takes both permits of a new semaphore of 2.
 fn take_both<R: Wait>(
@@ -46,7 +61,7 @@ fn take_three_and_post_one<R: Wait>(
 {
     let (first, second) = take_both(rt, semaphore, pass);
     let third = semaphore.try_wait(rt, pass);
-    semaphore.post(pass, |_| (), 1);
+    semaphore.post(pass, wake_nobody, 1);
     (first, second, third)
 }
 
@@ -54,11 +69,17 @@ fn take_three_and_post_one<R: Wait>(
 fn two_of_three_take(rt: HostRuntime) -> Result<(), Fail> {
     let (semaphore, mut pass) = Semaphore::new(rt.alloc(), 2)?;
     let (first, second, third) = take_three_and_post_one(&rt, &semaphore, &mut pass);
-    assert_eq!(rt; first, WaitResult::Success(()));
-    assert_eq!(rt; second, WaitResult::Success(()));
-    assert_eq!(rt; third, WaitResult::Interrupted);
-    assert_eq!(rt; semaphore.value(&mut pass), 1);
-    assert_eq!(rt; semaphore.close(pass), 1);
+    let left = semaphore.value(&mut pass);
+    assert_eq!(rt;
+        (first, second, third, left, semaphore.close(pass)),
+        (
+            WaitResult::Success(()),
+            WaitResult::Success(()),
+            WaitResult::Interrupted,
+            1,
+            1
+        )
+    );
     Ok(())
 }
 
@@ -99,15 +120,16 @@ fn wait_and_abort<R: Wait>(
 #[test]
 fn a_waiter_aborts(rt: HostRuntime) -> Result<(), Fail> {
     let (semaphore, mut pass) = Semaphore::new(rt.alloc(), 1)?;
+    let first = wait_and_abort(&rt, &semaphore, &mut pass);
+    let second = wait_and_abort(&rt, &semaphore, &mut pass);
     assert_eq!(rt;
-        wait_and_abort(&rt, &semaphore, &mut pass),
-        (WaitResult::Success(()), (0, 0, 0))
+        (first, second, semaphore.close(pass)),
+        (
+            (WaitResult::Success(()), (0, 0, 0)),
+            (WaitResult::Interrupted, (1, 0, 0)),
+            0
+        )
     );
-    assert_eq!(rt;
-        wait_and_abort(&rt, &semaphore, &mut pass),
-        (WaitResult::Interrupted, (1, 0, 0))
-    );
-    assert_eq!(rt; semaphore.close(pass), 0);
     Ok(())
 }
 
@@ -116,7 +138,7 @@ fn post_when_over(semaphore: &Semaphore, pass: &mut SemPass, over: &Signal) -> b
     requires { IsSemPass semaphore.now pass.old }
 {
     let was_over = over.awaited();
-    semaphore.post(pass, |_| (), 1);
+    semaphore.post(pass, wake_nobody, 1);
     was_over
 }
 
@@ -143,18 +165,14 @@ fn wait_until_over<R: Wait>(
 /// A call that went on after `Abort` would take what the other thread then posts.
 #[test]
 fn an_abort_is_obeyed(rt: HostRuntime) -> Result<(), Fail> {
-    let (semaphore, pass) = Semaphore::new(rt.alloc(), 0)?;
-    let Ok((mut one, mut two)) = pass.split(&semaphore) else {
-        unreachable!()
-    };
+    let (semaphore, mut one, mut two) = in_two_parts(rt.alloc(), 0)?;
     let over = Signal::new();
-    let (was_over, answer) = thread::join(
+    let over_and_answer = thread::join(
         &rt,
         || post_when_over(&semaphore, &mut one, &over),
         || wait_until_over(&rt, &semaphore, &mut two, &over),
     );
-    assert!(rt; was_over);
-    assert_eq!(rt; answer, (WaitResult::Interrupted, 1));
+    assert_eq!(rt; over_and_answer, (true, (WaitResult::Interrupted, 1)));
     Ok(())
 }
 
@@ -163,7 +181,7 @@ fn post_when_asked(semaphore: &Semaphore, pass: &mut SemPass, meeting: &Meeting)
     requires { IsSemPass semaphore.now pass.old }
 {
     let was_asked = meeting.meet();
-    semaphore.post(pass, |_| (), 1);
+    semaphore.post(pass, wake_nobody, 1);
     was_asked && meeting.meet()
 }
 
@@ -189,22 +207,31 @@ fn wait_until_posted<R: Wait>(
     (answer, notes.noted())
 }
 
+/// One thread posts once another has asked its closure, which answers so. Whether that came, what the other was answered, and what its
+/// closure noted.
+fn post_beside_a_waiter<R: Threads + Wait + Sync>(
+    rt: &R,
+    alloc: Global,
+    action: WaitAction,
+) -> Result<(bool, (WaitResult<()>, (u64, u64, u64))), AllocError> {
+    let (semaphore, mut one, mut two) = in_two_parts(alloc, 0)?;
+    let meeting = Meeting::of(2);
+    Ok(thread::join(
+        rt,
+        || post_when_asked(&semaphore, &mut one, &meeting),
+        || wait_until_posted(rt, &semaphore, &mut two, &meeting, action),
+    ))
+}
+
 /// The call looks once more, whatever its closure answers.
 #[test]
 fn success_after_abort(rt: HostRuntime) -> Result<(), Fail> {
     for action in [WaitAction::Abort, WaitAction::Continue] {
-        let (semaphore, pass) = Semaphore::new(rt.alloc(), 0)?;
-        let Ok((mut one, mut two)) = pass.split(&semaphore) else {
-            unreachable!()
-        };
-        let meeting = Meeting::of(2);
-        let (met, answer) = thread::join(
-            &rt,
-            || post_when_asked(&semaphore, &mut one, &meeting),
-            || wait_until_posted(&rt, &semaphore, &mut two, &meeting, action),
+        let met_and_answer = post_beside_a_waiter(&rt, rt.alloc(), action)?;
+        assert_eq!(rt;
+            met_and_answer,
+            (true, (WaitResult::Success(()), (1, 0, 0)))
         );
-        assert!(rt; met);
-        assert_eq!(rt; answer, (WaitResult::Success(()), (1, 0, 0)));
     }
     Ok(())
 }
@@ -215,7 +242,7 @@ fn post_often(semaphore: &Semaphore, mut pass: SemPass, times: u64) -> SemPass
     ensures posted { HasCounted times 0 pass result }
 {
     for _ in 0..times {
-        semaphore.post(&mut pass, |_| (), 1);
+        semaphore.post(&mut pass, wake_nobody, 1);
     }
     pass
 }
@@ -226,10 +253,7 @@ fn take_often<R: Wait>(rt: &R, semaphore: &Semaphore, mut pass: SemPass, times: 
     ensures taken { HasCounted 0 times pass result }
 {
     for _ in 0..times {
-        let answer = semaphore.wait(rt, &mut pass, |_, _| {
-            thread::yield_now();
-            WaitAction::Continue
-        });
+        let answer = semaphore.wait(rt, &mut pass, yield_and_go_on);
         match answer {
             WaitResult::Success(()) => (),
             WaitResult::Interrupted => unreachable!(),
@@ -280,7 +304,7 @@ fn act_under_a_permit<R: Wait>(rt: &R, semaphore: &Semaphore, pass: &mut SemPass
     ensures same { IsSamePass pass.old pass.new }
     ensures tally { (given_of pass.new ≡ 2) × (taken_of pass.new ≡ 1) }
 {
-    let answer = semaphore.with_permit(rt, pass, |_, _| WaitAction::Continue, |_| (), || 7);
+    let answer = semaphore.with_permit(rt, pass, yield_and_go_on, wake_nobody, || 7);
     match answer {
         WaitResult::Success(seven) => seven,
         WaitResult::Interrupted => unreachable!(),
@@ -307,18 +331,15 @@ fn value_under_a_permit<R: Wait>(
     semaphore.with_permit(
         rt,
         one,
-        |_, _| WaitAction::Continue,
-        |_| (),
+        yield_and_go_on,
+        wake_nobody,
         || semaphore.value(two),
     )
 }
 
 #[test]
 fn acts_while_the_permit_is_taken(rt: HostRuntime) -> Result<(), Fail> {
-    let (semaphore, pass) = Semaphore::new(rt.alloc(), 1)?;
-    let Ok((mut one, mut two)) = pass.split(&semaphore) else {
-        return Err("no parts")?;
-    };
+    let (semaphore, mut one, mut two) = in_two_parts(rt.alloc(), 1)?;
     let inside = value_under_a_permit(&rt, &semaphore, &mut one, &mut two);
     assert_eq!(rt; matches!(inside, WaitResult::Success(0)), true);
     Ok(())

@@ -8,7 +8,7 @@ ghost use Rattle.tallies.specs.SemaphoreRule.{first_permits};
 ghost use Rattle.running_semaphore.specs.SemaphoreShown.{IsSemPass, HasCounted};
 
 use crate::strategy::semaphore::{SemPass, Semaphore};
-use crate::{WaitAction, WaitResult};
+use crate::{WaitResult, wake_nobody, yield_and_go_on};
 use std::sync::Wait;
 use std::test::Fail;
 use std::thread;
@@ -29,12 +29,9 @@ fn pass_on<R: Wait>(rt: &R, from: &Semaphore, to: &Semaphore, mut side: Side, ti
     ensures gave { HasCounted times 0 side.giving result.giving }
 {
     for _ in 0..times {
-        let answer = from.wait(rt, &mut side.taking, |_, _| {
-            thread::yield_now();
-            WaitAction::Continue
-        });
+        let answer = from.wait(rt, &mut side.taking, yield_and_go_on);
         match answer {
-            WaitResult::Success(()) => to.post(&mut side.giving, |_| (), 1),
+            WaitResult::Success(()) => to.post(&mut side.giving, wake_nobody, 1),
             WaitResult::Interrupted => unreachable!(),
         }
     }

@@ -1,6 +1,7 @@
 //! The closures to hand in.
 ghost use Rattle.running_semaphore.specs.SemaphoreShown.{IsSemPass};
 
+use super::semaphore::in_two_parts;
 use crate::strategy::semaphore::{SemPass, Semaphore};
 use crate::{WaitAction, WaitResult, wake_nobody, yield_and_go_on};
 use std::sync::Wait;
@@ -30,10 +31,7 @@ fn it_goes_on(rt: HostRuntime) -> Result<(), Fail> {
 
 #[test]
 fn who_yields_needs_no_wake(rt: HostRuntime) -> Result<(), Fail> {
-    let (semaphore, pass) = Semaphore::new(rt.alloc(), 0)?;
-    let Ok((mut one, mut two)) = pass.split(&semaphore) else {
-        unreachable!()
-    };
+    let (semaphore, mut one, mut two) = in_two_parts(rt.alloc(), 0)?;
     let (waited, ()) = thread::join(
         &rt,
         || semaphore.wait(&rt, &mut one, yield_and_go_on),

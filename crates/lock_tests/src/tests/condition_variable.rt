@@ -1,19 +1,38 @@
 //! The running condition variable.
-ghost use Rattle.std.specs.Prelude.{◌≡◌};
+ghost use Rattle.std.specs.Prelude.{◌≡◌, IfOk};
 ghost use Rattle.passes.specs.Passes.{IsSamePass};
 ghost use Rattle.running_mutex.specs.MutexShown.{IsMutexPass, HasStayed as HasLockedAtMost, pass_of, borrow_of};
 ghost use Rattle.running_mutex.specs.CondShown.{IsCondPass, HasStayed};
 
+use super::give_up;
+use super::mutex::in_two_parts as mutex_in_two_parts;
 use iceoryx2_pal_concurrency_sync::strategy::condition_variable::{
     CondPass, CondResult, ConditionVariable, Woken,
 };
 use iceoryx2_pal_concurrency_sync::strategy::mutex::{Mutex, MutexHold, MutexPass};
-use iceoryx2_pal_concurrency_sync::{WaitAction, WaitResult, WaitWord};
+use iceoryx2_pal_concurrency_sync::{
+    WaitAction, WaitResult, WaitWord, wake_nobody, yield_and_go_on,
+};
 use signal::{Gathering, Meeting, Notes};
+use std::alloc::{AllocError, Global};
 use std::sync::Wait;
 use std::sync::atomic::{AtomicBool, AtomicU64, Ordering};
 use std::test::Fail;
 use std::thread;
+use std::thread::Threads;
+
+/// A new condition variable, and two parts of its pass.
+pub(super) fn in_two_parts(
+    alloc: Global,
+) -> Result<(ConditionVariable, CondPass, CondPass), AllocError>
+    ensures own { IfOk result (λ made. IsCondPass made.0 made.1 × IsCondPass made.0 made.2) }
+{
+    let (cond, pass) = ConditionVariable::new(alloc)?;
+    match pass.split(&cond) {
+        Ok((one, two)) => Ok((cond, one, two)),
+        Err(_) => unreachable!(),
+    }
+}
 
 /// Notifies one and then all. What their closures saw of the permits.
 fn notify_gathered(cond: &ConditionVariable, pass: &mut CondPass) -> (u64, u64)
@@ -58,11 +77,11 @@ fn wait_and_abort<R: Wait>(
     );
     match answer {
         CondResult::Interrupted(Some(hold)) => {
-            mutex.unlock(hold, |_| ());
+            mutex.unlock(hold, wake_nobody);
             Some(gathering.gathered())
         }
         CondResult::Success(hold) => {
-            mutex.unlock(hold, |_| ());
+            mutex.unlock(hold, wake_nobody);
             None
         }
         CondResult::Interrupted(None) => None,
@@ -75,7 +94,7 @@ fn is_free(mutex: &Mutex, pass: &mut MutexPass) -> bool
 {
     match Mutex::try_lock(pass, mutex) {
         WaitResult::Success(hold) => {
-            mutex.unlock(hold, |_| ());
+            mutex.unlock(hold, wake_nobody);
             true
         }
         WaitResult::Interrupted => false,
@@ -85,17 +104,15 @@ fn is_free(mutex: &Mutex, pass: &mut MutexPass) -> bool
 /// It wakes after its unlock, and then asks, told that there is no permit.
 #[test]
 fn a_notify_before_the_wait_is_lost(rt: HostRuntime) -> Result<(), Fail> {
-    let (mutex, mutex_pass) = Mutex::new(rt.alloc())?;
-    let Ok((mut one, mut other)) = mutex_pass.split(&mutex) else {
-        unreachable!()
-    };
+    let (mutex, mut one, mut other) = mutex_in_two_parts(rt.alloc())?;
     let (cond, mut pass) = ConditionVariable::new(rt.alloc())?;
-    assert_eq!(rt; notify_gathered(&cond, &mut pass), (23, 0));
+    let notified = notify_gathered(&cond, &mut pass);
+    let waited = wait_and_abort(&rt, &cond, &mut pass, &mutex, &mut one);
+    let free_after = is_free(&mutex, &mut other);
     assert_eq!(rt;
-        wait_and_abort(&rt, &cond, &mut pass, &mutex, &mut one),
-        Some((21, 0))
+        (notified, waited, free_after),
+        ((23, 0), Some((21, 0)), true)
     );
-    assert!(rt; is_free(&mutex, &mut other));
     Ok(())
 }
 
@@ -125,22 +142,16 @@ fn until_turn<'p, R: Wait>(
             rt,
             pass,
             mutex,
-            |_| (),
-            |_, _| {
-                thread::yield_now();
-                WaitAction::Continue
-            },
-            |_, _| {
-                thread::yield_now();
-                WaitAction::Continue
-            },
+            wake_nobody,
+            yield_and_go_on,
+            yield_and_go_on,
         );
         match answer {
             CondResult::Success(again) => held = again,
             CondResult::Interrupted(_) => unreachable!(),
         }
     }
-    mutex.unlock(held, |_| ());
+    mutex.unlock(held, wake_nobody);
     unreachable!()
 }
 
@@ -161,16 +172,13 @@ fn hand_on<R: Wait>(
     ensures held { HasLockedAtMost mtx_pass.old mtx_pass.new }
     ensures stayed { HasStayed my_pass.old my_pass.new × HasStayed their_pass.old their_pass.new }
 {
-    let locked = Mutex::lock(mtx_pass, mutex, rt, |_, _| {
-        thread::yield_now();
-        WaitAction::Continue
-    });
+    let locked = Mutex::lock(mtx_pass, mutex, rt, yield_and_go_on);
     match locked {
         WaitResult::Success(hold) => {
             let hold = until_turn(hold, rt, mine, my_pass, mutex, turn, own);
             turn.store(!own, Ordering::SeqCst);
-            theirs.notify_one(their_pass, |_| ());
-            mutex.unlock(hold, |_| ());
+            theirs.notify_one(their_pass, wake_nobody);
+            mutex.unlock(hold, wake_nobody);
         }
         WaitResult::Interrupted => unreachable!(),
     }
@@ -213,18 +221,9 @@ fn hand_on_often<R: Wait>(
 
 #[test]
 fn two_threads_hand_a_turn_to_each_other(rt: HostRuntime) -> Result<(), Fail> {
-    let (mutex, pass) = Mutex::new(rt.alloc())?;
-    let Ok((locking_one, locking_two)) = pass.split(&mutex) else {
-        unreachable!()
-    };
-    let (first, pass) = ConditionVariable::new(rt.alloc())?;
-    let Ok((waiting_one, notifying_two)) = pass.split(&first) else {
-        unreachable!()
-    };
-    let (second, pass) = ConditionVariable::new(rt.alloc())?;
-    let Ok((waiting_two, notifying_one)) = pass.split(&second) else {
-        unreachable!()
-    };
+    let (mutex, locking_one, locking_two) = mutex_in_two_parts(rt.alloc())?;
+    let (first, waiting_one, notifying_two) = in_two_parts(rt.alloc())?;
+    let (second, waiting_two, notifying_one) = in_two_parts(rt.alloc())?;
     let one = Side {
         waiting: waiting_one,
         notifying: notifying_one,
@@ -262,30 +261,14 @@ fn wait_twice<R: Wait>(
 ) -> Option<(bool, bool)>
     requires own { IsCondPass cond.now pass.old × IsMutexPass mutex.now mtx_pass.old }
 {
-    let first = wait_once(
-        rt,
-        cond,
-        pass,
-        mutex,
-        mtx_pass,
-        |_| (),
-        |_, _| {
-            if meeting.meet() && meeting.meet() {
-                action
-            } else {
-                WaitAction::Abort
-            }
-        },
-    )?;
-    let second = wait_once(
-        rt,
-        cond,
-        pass,
-        mutex,
-        mtx_pass,
-        |_| (),
-        |_, _| WaitAction::Abort,
-    )?;
+    let first = wait_once(rt, cond, pass, mutex, mtx_pass, wake_nobody, |_, _| {
+        if meeting.meet() && meeting.meet() {
+            action
+        } else {
+            WaitAction::Abort
+        }
+    })?;
+    let second = wait_once(rt, cond, pass, mutex, mtx_pass, wake_nobody, give_up)?;
     Some((first, second))
 }
 
@@ -315,15 +298,15 @@ pub(super) fn wait_once<R: Wait, K: Fn(&WaitWord), W: Fn(&WaitWord, &u64) -> Wai
         mutex,
         mtx_wake_one,
         wait,
-        |_, _| WaitAction::Abort,
+        give_up,
     );
     match answer {
         WaitResult::Success(Woken::Signalled(hold)) => {
-            mutex.unlock(hold, |_| ());
+            mutex.unlock(hold, wake_nobody);
             Some(true)
         }
         WaitResult::Success(Woken::Unsignalled(hold)) => {
-            mutex.unlock(hold, |_| ());
+            mutex.unlock(hold, wake_nobody);
             Some(false)
         }
         WaitResult::Interrupted => None,
@@ -346,27 +329,31 @@ fn notify_the_sleeper(
     (was_asked && was_free && meeting.meet()).then_some(gathered)
 }
 
+/// One thread waits twice, with a closure that answers so, and another notifies it. What that saw, and whether each wait took a permit.
+fn notify_while_it_sleeps<R: Threads + Wait + Sync>(
+    rt: &R,
+    alloc: Global,
+    action: WaitAction,
+) -> Result<(Option<(u64, u64)>, Option<(bool, bool)>), AllocError> {
+    let (mutex, mut mtx_one, mut mtx_two) = mutex_in_two_parts(alloc)?;
+    let (cond, mut one, mut two) = in_two_parts(alloc)?;
+    let meeting = Meeting::of(2);
+    Ok(thread::join(
+        rt,
+        || notify_the_sleeper(&cond, &mut one, &mutex, &mut mtx_one, &meeting),
+        || wait_twice(rt, &cond, &mut two, &mutex, &mut mtx_two, &meeting, action),
+    ))
+}
+
 /// The waiter is counted while it sleeps, so both notifies give a permit, and wake then: it takes one whatever its closure answers, and the
 /// other stays for its next wait.
 #[test]
 fn a_sleeper_is_counted_and_the_mutex_is_free(rt: HostRuntime) -> Result<(), Fail> {
     for action in [WaitAction::Abort, WaitAction::Continue] {
-        let (mutex, pass) = Mutex::new(rt.alloc())?;
-        let Ok((mut mtx_one, mut mtx_two)) = pass.split(&mutex) else {
-            unreachable!()
-        };
-        let (cond, pass) = ConditionVariable::new(rt.alloc())?;
-        let Ok((mut one, mut two)) = pass.split(&cond) else {
-            unreachable!()
-        };
-        let meeting = Meeting::of(2);
-        let (gathered, took) = thread::join(
-            &rt,
-            || notify_the_sleeper(&cond, &mut one, &mutex, &mut mtx_one, &meeting),
-            || wait_twice(&rt, &cond, &mut two, &mutex, &mut mtx_two, &meeting, action),
+        assert_eq!(rt;
+            notify_while_it_sleeps(&rt, rt.alloc(), action)?,
+            (Some((23, 12)), Some((true, true)))
         );
-        assert_eq!(rt; gathered, Some((23, 12)));
-        assert_eq!(rt; took, Some((true, true)));
     }
     Ok(())
 }
@@ -376,7 +363,7 @@ fn notify_the_unlocker(cond: &ConditionVariable, pass: &mut CondPass, meeting: &
     requires own { IsCondPass cond.now pass.old }
 {
     let was_unlocked = meeting.meet();
-    cond.notify_one(pass, |_| ());
+    cond.notify_one(pass, wake_nobody);
     was_unlocked && meeting.meet()
 }
 
@@ -385,12 +372,9 @@ fn notify_the_unlocker(cond: &ConditionVariable, pass: &mut CondPass, meeting: &
 #[test]
 fn a_waiter_is_counted_before_it_unlocks(rt: HostRuntime) -> Result<(), Fail> {
     let (mutex, mut mtx_pass) = Mutex::new(rt.alloc())?;
-    let (cond, pass) = ConditionVariable::new(rt.alloc())?;
-    let Ok((mut one, mut two)) = pass.split(&cond) else {
-        unreachable!()
-    };
+    let (cond, mut one, mut two) = in_two_parts(rt.alloc())?;
     let meeting = Meeting::of(2);
-    let (was_unlocked, took) = thread::join(
+    let unlocked_and_took = thread::join(
         &rt,
         || notify_the_unlocker(&cond, &mut one, &meeting),
         || {
@@ -403,12 +387,11 @@ fn a_waiter_is_counted_before_it_unlocks(rt: HostRuntime) -> Result<(), Fail> {
                 |_| {
                     let _ = meeting.meet() && meeting.meet();
                 },
-                |_, _| WaitAction::Abort,
+                give_up,
             )
         },
     );
-    assert!(rt; was_unlocked);
-    assert_eq!(rt; took, Some(true));
+    assert_eq!(rt; unlocked_and_took, (true, Some(true)));
     Ok(())
 }
 
@@ -427,9 +410,9 @@ fn lock_out_the_sleeper(
     match Mutex::try_lock(mtx_pass, mutex) {
         WaitResult::Success(hold) => {
             let was_locking = was_asked && meeting.meet() && meeting.meet();
-            cond.notify_one(pass, |_| ());
+            cond.notify_one(pass, wake_nobody);
             let was_over = was_locking && meeting.meet() && meeting.meet();
-            mutex.unlock(hold, |_| ());
+            mutex.unlock(hold, wake_nobody);
             was_over && meeting.meet()
         }
         WaitResult::Interrupted => false,
@@ -459,7 +442,7 @@ fn wait_locked_out<R: Wait>(
         rt,
         pass,
         mutex,
-        |_| (),
+        wake_nobody,
         |_, _| {
             let _ = meeting.meet() && meeting.meet();
             WaitAction::Abort
@@ -472,20 +455,12 @@ fn wait_locked_out<R: Wait>(
     );
     match answer {
         WaitResult::Success(Woken::Signalled(hold) | Woken::Unsignalled(hold)) => {
-            mutex.unlock(hold, |_| ());
+            mutex.unlock(hold, wake_nobody);
             None
         }
         WaitResult::Interrupted => {
             let _ = meeting.meet() && meeting.meet();
-            let took = wait_once(
-                rt,
-                cond,
-                pass,
-                mutex,
-                mtx_pass,
-                |_| (),
-                |_, _| WaitAction::Abort,
-            )?;
+            let took = wait_once(rt, cond, pass, mutex, mtx_pass, wake_nobody, give_up)?;
             Some((calls.load(Ordering::SeqCst), took))
         }
     }
@@ -494,22 +469,15 @@ fn wait_locked_out<R: Wait>(
 /// It is counted no more once it locks, so the notify that comes then gives no permit, and its next wait takes none.
 #[test]
 fn gives_up_without_the_mutex(rt: HostRuntime) -> Result<(), Fail> {
-    let (mutex, pass) = Mutex::new(rt.alloc())?;
-    let Ok((mut mtx_one, mut mtx_two)) = pass.split(&mutex) else {
-        unreachable!()
-    };
-    let (cond, pass) = ConditionVariable::new(rt.alloc())?;
-    let Ok((mut one, mut two)) = pass.split(&cond) else {
-        unreachable!()
-    };
+    let (mutex, mut mtx_one, mut mtx_two) = mutex_in_two_parts(rt.alloc())?;
+    let (cond, mut one, mut two) = in_two_parts(rt.alloc())?;
     let meeting = Meeting::of(2);
-    let (was_over, asked_again) = thread::join(
+    let over_and_asked = thread::join(
         &rt,
         || lock_out_the_sleeper(&cond, &mut one, &mutex, &mut mtx_one, &meeting),
         || wait_locked_out(&rt, &cond, &mut two, &mutex, &mut mtx_two, &meeting),
     );
-    assert!(rt; was_over);
-    assert_eq!(rt; asked_again, Some((1, false)));
+    assert_eq!(rt; over_and_asked, (true, Some((1, false))));
     Ok(())
 }
 
@@ -526,9 +494,9 @@ fn free_the_mutex(
     let was_asked = meeting.meet();
     match Mutex::try_lock(mtx_pass, mutex) {
         WaitResult::Success(hold) => {
-            cond.notify_one(pass, |_| ());
+            cond.notify_one(pass, wake_nobody);
             let was_locking = was_asked && meeting.meet() && meeting.meet();
-            mutex.unlock(hold, |_| ());
+            mutex.unlock(hold, wake_nobody);
             was_locking && meeting.meet()
         }
         WaitResult::Interrupted => false,
@@ -557,7 +525,7 @@ fn wait_for_the_mutex<R: Wait>(
         rt,
         pass,
         mutex,
-        |_| (),
+        wake_nobody,
         |word, seen| {
             notes.note(word.load(), *seen);
             let _ = meeting.meet() && meeting.meet();
@@ -571,11 +539,11 @@ fn wait_for_the_mutex<R: Wait>(
     );
     match answer {
         CondResult::Success(hold) => {
-            mutex.unlock(hold, |_| ());
+            mutex.unlock(hold, wake_nobody);
             Some([notes.noted(), mtx_notes.noted()])
         }
         CondResult::Interrupted(Some(hold)) => {
-            mutex.unlock(hold, |_| ());
+            mutex.unlock(hold, wake_nobody);
             None
         }
         CondResult::Interrupted(None) => None,
@@ -585,21 +553,14 @@ fn wait_for_the_mutex<R: Wait>(
 /// Both closures answer `Abort`, and after each the wait looks once more: it takes the permit, and then the mutex.
 #[test]
 fn success_after_both_aborts(rt: HostRuntime) -> Result<(), Fail> {
-    let (mutex, pass) = Mutex::new(rt.alloc())?;
-    let Ok((mut mtx_one, mut mtx_two)) = pass.split(&mutex) else {
-        unreachable!()
-    };
-    let (cond, pass) = ConditionVariable::new(rt.alloc())?;
-    let Ok((mut one, mut two)) = pass.split(&cond) else {
-        unreachable!()
-    };
+    let (mutex, mut mtx_one, mut mtx_two) = mutex_in_two_parts(rt.alloc())?;
+    let (cond, mut one, mut two) = in_two_parts(rt.alloc())?;
     let meeting = Meeting::of(2);
-    let (was_freed, noted) = thread::join(
+    let freed_and_noted = thread::join(
         &rt,
         || free_the_mutex(&cond, &mut one, &mutex, &mut mtx_one, &meeting),
         || wait_for_the_mutex(&rt, &cond, &mut two, &mutex, &mut mtx_two, &meeting),
     );
-    assert!(rt; was_freed);
-    assert_eq!(rt; noted, Some([(1, 0, 0), (1, 1, 1)]));
+    assert_eq!(rt; freed_and_noted, (true, Some([(1, 0, 0), (1, 1, 1)])));
     Ok(())
 }

@@ -4,8 +4,8 @@ ghost use Rattle.passes.specs.Parts.{IsWhole};
 ghost use Rattle.passes.specs.Passes.{part_of};
 ghost use Rattle.running_mutex.specs.CondShown.{IsCondPass, HasStayed, HasGiven, waits_in, permits_in};
 
-use iceoryx2_pal_concurrency_sync::in_threads;
 use iceoryx2_pal_concurrency_sync::strategy::condition_variable::{CondPass, ConditionVariable};
+use iceoryx2_pal_concurrency_sync::{in_threads, wake_nobody};
 use std::sync::atomic::{AtomicU64, Ordering};
 use std::test::Fail;
 use std::thread::Threads;
@@ -55,7 +55,7 @@ fn notify_once(condvar: &ConditionVariable, mut pass: CondPass) -> CondPass
     requires own { IsCondPass condvar.now pass }
     ensures stayed { HasStayed pass result }
 {
-    condvar.notify_one(&mut pass, |_| ());
+    condvar.notify_one(&mut pass, wake_nobody);
     pass
 }
 

@@ -1,18 +1,29 @@
 //! The running mutex.
-ghost use Rattle.std.specs.Prelude.{◌≡◌, ◌+◌, false};
-ghost use Rattle.steps_events.specs.declared.WaitAction.TheVariants.{Abort};
+ghost use Rattle.std.specs.Prelude.{◌≡◌, ◌+◌, false, IfOk};
 ghost use Rattle.passes.specs.Passes.{IsSamePass, sights_of};
 ghost use Rattle.running_mutex.specs.MutexShown.{IsMutexPass, IsAlone, HasStayed, grants_of};
 
+use super::give_up;
 use iceoryx2_pal_concurrency_sync::strategy::mutex::{Mutex, MutexPass};
 use iceoryx2_pal_concurrency_sync::{WaitAction, WaitResult, wake_nobody, yield_and_go_on};
 use signal::{Gathering, Meeting, Notes, Signal};
-use std::alloc::Global;
+use std::alloc::{AllocError, Global};
 use std::sync::Wait;
 use std::sync::atomic::{AtomicU64, Ordering};
 use std::test::Fail;
 use std::thread;
 use std::thread::Threads;
+
+/// A new mutex, and two parts of its pass.
+pub(super) fn in_two_parts(alloc: Global) -> Result<(Mutex, MutexPass, MutexPass), AllocError>
+    ensures own { IfOk result (λ made. IsMutexPass made.0 made.1 × IsMutexPass made.0 made.2) }
+{
+    let (mutex, pass) = Mutex::new(alloc)?;
+    match pass.split(&mutex) {
+        Ok((one, two)) => Ok((mutex, one, two)),
+        Err(_) => unreachable!(),
+    }
+}
 
 /// Locks and unlocks, with a wait closure that always goes on: that is never interrupted.
 fn lock_and_unlock<R: Wait>(rt: &R, mutex: &Mutex, pass: &mut MutexPass)
@@ -67,7 +78,7 @@ fn lock_in_two_threads<R: Threads + Wait + Sync>(
     };
     match Mutex::try_lock(&mut pass, mutex) {
         WaitResult::Success(hold) => {
-            mutex.unlock(hold, |_| ());
+            mutex.unlock(hold, wake_nobody);
         }
         WaitResult::Interrupted => unreachable!(),
     }
@@ -88,7 +99,7 @@ fn is_refused(mutex: &Mutex, pass: &mut MutexPass) -> bool
 {
     match Mutex::try_lock(pass, mutex) {
         WaitResult::Success(hold) => {
-            mutex.unlock(hold, |_| ());
+            mutex.unlock(hold, wake_nobody);
             false
         }
         WaitResult::Interrupted => true,
@@ -106,7 +117,7 @@ fn refused_while_held(
     match Mutex::try_lock(one, mutex) {
         WaitResult::Success(hold) => {
             let held = is_refused(mutex, two);
-            mutex.unlock(hold, |_| ());
+            mutex.unlock(hold, wake_nobody);
             Some((held, is_refused(mutex, two)))
         }
         WaitResult::Interrupted => None,
@@ -115,10 +126,7 @@ fn refused_while_held(
 
 #[test]
 fn one_holder_at_a_time(rt: HostRuntime) -> Result<(), Fail> {
-    let (mutex, pass) = Mutex::new(rt.alloc())?;
-    let Ok((mut one, mut two)) = pass.split(&mutex) else {
-        unreachable!()
-    };
+    let (mutex, mut one, mut two) = in_two_parts(rt.alloc())?;
     assert_eq!(rt;
         refused_while_held(&mutex, &mut one, &mut two),
         Some((true, false))
@@ -138,7 +146,7 @@ fn lock_and_abort<R: Wait>(rt: &R, mutex: &Mutex, pass: &mut MutexPass) -> (bool
     });
     let interrupted = match locked {
         WaitResult::Success(hold) => {
-            mutex.unlock(hold, |_| ());
+            mutex.unlock(hold, wake_nobody);
             false
         }
         WaitResult::Interrupted => true,
@@ -159,7 +167,7 @@ fn abort_while_held<R: Wait>(
     match Mutex::try_lock(one, mutex) {
         WaitResult::Success(hold) => {
             let answers = lock_and_abort(rt, mutex, two);
-            mutex.unlock(hold, |_| ());
+            mutex.unlock(hold, wake_nobody);
             Some(answers)
         }
         WaitResult::Interrupted => None,
@@ -168,15 +176,10 @@ fn abort_while_held<R: Wait>(
 
 #[test]
 fn a_waiter_aborts(rt: HostRuntime) -> Result<(), Fail> {
-    let (mutex, pass) = Mutex::new(rt.alloc())?;
-    let Ok((mut one, mut two)) = pass.split(&mutex) else {
-        unreachable!()
-    };
-    assert_eq!(rt;
-        abort_while_held(&rt, &mutex, &mut one, &mut two),
-        Some((true, (1, 1, 1)))
-    );
-    assert_eq!(rt; lock_and_abort(&rt, &mutex, &mut two), (false, (0, 0, 0)));
+    let (mutex, mut one, mut two) = in_two_parts(rt.alloc())?;
+    let held = abort_while_held(&rt, &mutex, &mut one, &mut two);
+    let free = lock_and_abort(&rt, &mutex, &mut two);
+    assert_eq!(rt; (held, free), (Some((true, (1, 1, 1))), (false, (0, 0, 0))));
     Ok(())
 }
 
@@ -186,15 +189,7 @@ fn lock_or_abort_at_once<R: Wait>(rt: &R, mutex: &Mutex, pass: &mut MutexPass) -
     ensures stayed { HasStayed pass.old pass.new }
     ensures looked { result ≡ false → (sights_of pass.new).count ≡ (sights_of pass.old).count + 10002 }
 {
-    let answer = mutex.with_lock(
-        rt,
-        pass,
-        |_, _| -> WaitAction
-            ensures { result ≡ Abort }
-        { WaitAction::Abort },
-        |_| (),
-        || (),
-    );
+    let answer = mutex.with_lock(rt, pass, give_up, wake_nobody, || ());
     match answer {
         WaitResult::Success(()) => true,
         WaitResult::Interrupted => false,
@@ -213,7 +208,7 @@ fn abort_at_once_while_held<R: Wait>(
     match Mutex::try_lock(one, mutex) {
         WaitResult::Success(hold) => {
             let locked = lock_or_abort_at_once(rt, mutex, two);
-            mutex.unlock(hold, |_| ());
+            mutex.unlock(hold, wake_nobody);
             Some(locked)
         }
         WaitResult::Interrupted => None,
@@ -222,15 +217,10 @@ fn abort_at_once_while_held<R: Wait>(
 
 #[test]
 fn gives_up_after_10002_looks(rt: HostRuntime) -> Result<(), Fail> {
-    let (mutex, pass) = Mutex::new(rt.alloc())?;
-    let Ok((mut one, mut two)) = pass.split(&mutex) else {
-        unreachable!()
-    };
-    assert_eq!(rt; lock_or_abort_at_once(&rt, &mutex, &mut one), true);
-    assert_eq!(rt;
-        abort_at_once_while_held(&rt, &mutex, &mut one, &mut two),
-        Some(false)
-    );
+    let (mutex, mut one, mut two) = in_two_parts(rt.alloc())?;
+    let free = lock_or_abort_at_once(&rt, &mutex, &mut one);
+    let held = abort_at_once_while_held(&rt, &mutex, &mut one, &mut two);
+    assert_eq!(rt; (free, held), (true, Some(false)));
     Ok(())
 }
 
@@ -242,7 +232,7 @@ fn hold_until_over(mutex: &Mutex, pass: &mut MutexPass, locked: &Signal, over: &
         WaitResult::Success(hold) => {
             locked.give();
             let was_over = over.awaited();
-            mutex.unlock(hold, |_| ());
+            mutex.unlock(hold, wake_nobody);
             was_over
         }
         WaitResult::Interrupted => false,
@@ -271,7 +261,7 @@ fn lock_until_over<R: Wait>(
     over.give();
     match answer {
         WaitResult::Success(hold) => {
-            mutex.unlock(hold, |_| ());
+            mutex.unlock(hold, wake_nobody);
             None
         }
         WaitResult::Interrupted => Some(calls.load(Ordering::SeqCst)),
@@ -281,18 +271,14 @@ fn lock_until_over<R: Wait>(
 /// A call that went on after `Abort` would lock the mutex once the other thread lets it go.
 #[test]
 fn an_abort_is_obeyed(rt: HostRuntime) -> Result<(), Fail> {
-    let (mutex, pass) = Mutex::new(rt.alloc())?;
-    let Ok((mut one, mut two)) = pass.split(&mutex) else {
-        unreachable!()
-    };
+    let (mutex, mut one, mut two) = in_two_parts(rt.alloc())?;
     let (locked, over) = (Signal::new(), Signal::new());
-    let (was_over, asked) = thread::join(
+    let over_and_asked = thread::join(
         &rt,
         || hold_until_over(&mutex, &mut one, &locked, &over),
         || lock_until_over(&rt, &mutex, &mut two, &locked, &over),
     );
-    assert!(rt; was_over);
-    assert_eq!(rt; asked, Some(1));
+    assert_eq!(rt; over_and_asked, (true, Some(1)));
     Ok(())
 }
 
@@ -324,7 +310,7 @@ fn unlock_when_asked(mutex: &Mutex, pass: &mut MutexPass, meeting: &Meeting) -> 
     match Mutex::try_lock(pass, mutex) {
         WaitResult::Success(hold) => {
             let was_asked = meeting.meet() && meeting.meet();
-            mutex.unlock(hold, |_| ());
+            mutex.unlock(hold, wake_nobody);
             was_asked && meeting.meet()
         }
         WaitResult::Interrupted => false,
@@ -354,11 +340,27 @@ fn lock_after_unlock<R: Wait>(
     });
     match answer {
         WaitResult::Success(hold) => {
-            mutex.unlock(hold, |_| ());
+            mutex.unlock(hold, wake_nobody);
             is_locked.then_some(notes.noted())
         }
         WaitResult::Interrupted => None,
     }
+}
+
+/// One thread holds a new mutex, and another locks it with a closure that answers so: whether the holder was asked to let go, and what
+/// the closure noted.
+fn lock_beside_a_holder<R: Threads + Wait + Sync>(
+    rt: &R,
+    alloc: Global,
+    action: WaitAction,
+) -> Result<(bool, Option<(u64, u64, u64)>), AllocError> {
+    let (mutex, mut one, mut two) = in_two_parts(alloc)?;
+    let meeting = Meeting::of(2);
+    Ok(thread::join(
+        rt,
+        || unlock_when_asked(&mutex, &mut one, &meeting),
+        || lock_after_unlock(rt, &mutex, &mut two, &meeting, action),
+    ))
 }
 
 /// The holder lets go only after the other call has asked its closure, so both calls are under way at once; and that call looks
@@ -366,18 +368,8 @@ fn lock_after_unlock<R: Wait>(
 #[test]
 fn two_calls_meet_and_success_after_abort(rt: HostRuntime) -> Result<(), Fail> {
     for action in [WaitAction::Abort, WaitAction::Continue] {
-        let (mutex, pass) = Mutex::new(rt.alloc())?;
-        let Ok((mut one, mut two)) = pass.split(&mutex) else {
-            unreachable!()
-        };
-        let meeting = Meeting::of(2);
-        let (met, noted) = thread::join(
-            &rt,
-            || unlock_when_asked(&mutex, &mut one, &meeting),
-            || lock_after_unlock(&rt, &mutex, &mut two, &meeting, action),
-        );
-        assert!(rt; met);
-        assert_eq!(rt; noted, Some((1, 1, 1)));
+        let met_and_noted = lock_beside_a_holder(&rt, rt.alloc(), action)?;
+        assert_eq!(rt; met_and_noted, (true, Some((1, 1, 1))));
     }
     Ok(())
 }
@@ -403,7 +395,7 @@ fn part_and_join(mutex: &Mutex, pass: MutexPass) -> MutexPass
     };
     match Mutex::try_lock(&mut pass, mutex) {
         WaitResult::Success(hold) => {
-            mutex.unlock(hold, |_| ());
+            mutex.unlock(hold, wake_nobody);
         }
         WaitResult::Interrupted => unreachable!(),
     }
@@ -474,8 +466,8 @@ impl Counted {
         let answer = self.mutex.with_lock(
             rt,
             &mut self.pass,
-            |_, _| WaitAction::Continue,
-            |_| (),
+            yield_and_go_on,
+            wake_nobody,
             move || entered,
         );
         self.entered = entered.wrapping_add(1);
@@ -494,8 +486,8 @@ fn locks_within_a_method(rt: HostRuntime) -> Result<(), Fail> {
         pass,
         entered: 0,
     };
-    assert_eq!(rt; counted.enter(&rt), 0);
-    assert_eq!(rt; counted.enter(&rt), 1);
+    let first = counted.enter(&rt);
+    assert_eq!(rt; (first, counted.enter(&rt)), (0, 1));
     Ok(())
 }
 
@@ -511,18 +503,15 @@ fn is_refused_under_the_lock<R: Wait>(
     mutex.with_lock(
         rt,
         one,
-        |_, _| WaitAction::Continue,
-        |_| (),
+        yield_and_go_on,
+        wake_nobody,
         || is_refused(mutex, two),
     )
 }
 
 #[test]
 fn acts_while_the_mutex_is_locked(rt: HostRuntime) -> Result<(), Fail> {
-    let (mutex, pass) = Mutex::new(rt.alloc())?;
-    let Ok((mut one, mut two)) = pass.split(&mutex) else {
-        return Err("no parts")?;
-    };
+    let (mutex, mut one, mut two) = in_two_parts(rt.alloc())?;
     let inside = is_refused_under_the_lock(&rt, &mutex, &mut one, &mut two);
     assert_eq!(rt; matches!(inside, WaitResult::Success(true)), true);
     Ok(())

@@ -1,15 +1,18 @@
 //! The running reader-preferring lock.
-ghost use Rattle.std.specs.Prelude.{◌≡◌, ◌+◌, false};
-ghost use Rattle.steps_events.specs.declared.WaitAction.TheVariants.{Abort};
+ghost use Rattle.std.specs.Prelude.{◌≡◌, ◌+◌, false, IfOk};
 ghost use Rattle.passes.specs.Passes.{IsSamePass, sights_of};
+ghost use Rattle.running_rwlock.specs.RwShown.{pass_of, borrow_of};
 ghost use Rattle.running_rwlock.specs.RwReaderShown.{IsRwReaderPass, IsAlone, HasStayed, reads_of, writes_of};
 
+use super::give_up;
 use iceoryx2_pal_concurrency_sync::strategy::rwlock::{
     ReadHold, RwHold, RwLockReaderPreference, RwReaderPass, WriteHold,
 };
-use iceoryx2_pal_concurrency_sync::{WaitAction, WaitResult, WaitWord};
+use iceoryx2_pal_concurrency_sync::{
+    WaitAction, WaitResult, WaitWord, wake_nobody, yield_and_go_on,
+};
 use signal::{Gathering, Meeting, Notes};
-use std::alloc::Global;
+use std::alloc::{AllocError, Global};
 use std::sync::Wait;
 use std::test::Fail;
 use std::thread;
@@ -22,18 +25,49 @@ enum Kind {
     Write,
 }
 
+/// A new lock, and two parts of its pass.
+fn in_two_parts(
+    alloc: Global,
+) -> Result<(RwLockReaderPreference, RwReaderPass, RwReaderPass), AllocError>
+    ensures own { IfOk result (λ made. IsRwReaderPass made.0 made.1 × IsRwReaderPass made.0 made.2) }
+{
+    let (lock, pass) = RwLockReaderPreference::new(alloc)?;
+    match pass.split(&lock) {
+        Ok((one, two)) => Ok((lock, one, two)),
+        Err(_) => unreachable!(),
+    }
+}
+
+/// A new lock, and three parts of its pass.
+fn in_three_parts(
+    alloc: Global,
+) -> Result<
+    (
+        RwLockReaderPreference,
+        RwReaderPass,
+        RwReaderPass,
+        RwReaderPass,
+    ),
+    AllocError,
+>
+    ensures own { IfOk result (λ made. IsRwReaderPass made.0 made.1 × IsRwReaderPass made.0 made.2 × IsRwReaderPass made.0 made.3) }
+{
+    let (lock, one, rest) = in_two_parts(alloc)?;
+    match rest.split(&lock) {
+        Ok((two, three)) => Ok((lock, one, two, three)),
+        Err(_) => unreachable!(),
+    }
+}
+
 /// Locks for reading and unlocks, with closures that yield and answer `Continue`: that is never interrupted.
 fn read_and_unlock<R: Wait>(rt: &R, lock: &RwLockReaderPreference, pass: &mut RwReaderPass)
     requires own { IsRwReaderPass lock.now pass.old }
     ensures stayed { HasStayed pass.old pass.new }
 {
-    let locked = RwLockReaderPreference::read_lock(pass, lock, rt, |_, _| {
-        thread::yield_now();
-        WaitAction::Continue
-    });
+    let locked = RwLockReaderPreference::read_lock(pass, lock, rt, yield_and_go_on);
     match locked {
         WaitResult::Success(hold) => {
-            lock.unlock(hold, |_| ());
+            lock.unlock(hold, wake_nobody);
         }
         WaitResult::Interrupted => unreachable!(),
     }
@@ -44,13 +78,10 @@ fn write_and_unlock<R: Wait>(rt: &R, lock: &RwLockReaderPreference, pass: &mut R
     requires own { IsRwReaderPass lock.now pass.old }
     ensures stayed { HasStayed pass.old pass.new }
 {
-    let locked = RwLockReaderPreference::write_lock(pass, lock, rt, |_, _| {
-        thread::yield_now();
-        WaitAction::Continue
-    });
+    let locked = RwLockReaderPreference::write_lock(pass, lock, rt, yield_and_go_on);
     match locked {
         WaitResult::Success(hold) => {
-            lock.unlock(hold, |_| ());
+            lock.unlock(hold, wake_nobody);
         }
         WaitResult::Interrupted => unreachable!(),
     }
@@ -118,7 +149,7 @@ fn is_refused_to_read(lock: &RwLockReaderPreference, pass: &mut RwReaderPass) ->
 {
     match RwLockReaderPreference::try_read_lock(pass, lock) {
         WaitResult::Success(hold) => {
-            lock.unlock(hold, |_| ());
+            lock.unlock(hold, wake_nobody);
             false
         }
         WaitResult::Interrupted => true,
@@ -132,7 +163,7 @@ fn is_refused_to_write(lock: &RwLockReaderPreference, pass: &mut RwReaderPass) -
 {
     match RwLockReaderPreference::try_write_lock(pass, lock) {
         WaitResult::Success(hold) => {
-            lock.unlock(hold, |_| ());
+            lock.unlock(hold, wake_nobody);
             false
         }
         WaitResult::Interrupted => true,
@@ -156,13 +187,13 @@ fn refused_beside_two_readers<R: Wait>(
                 WaitResult::Success(second) => {
                     let waited = write_and_abort(rt, lock, three);
                     let reads = !is_refused_to_read(lock, three);
-                    lock.unlock(first, |_| ());
+                    lock.unlock(first, wake_nobody);
                     let beside_one = is_refused_to_write(lock, three);
-                    lock.unlock(second, |_| ());
+                    lock.unlock(second, wake_nobody);
                     Some((waited, reads, beside_one, is_refused_to_write(lock, three)))
                 }
                 WaitResult::Interrupted => {
-                    lock.unlock(first, |_| ());
+                    lock.unlock(first, wake_nobody);
                     None
                 }
             }
@@ -187,7 +218,7 @@ fn write_and_abort<R: Wait>(
     });
     let interrupted = match locked {
         WaitResult::Success(hold) => {
-            lock.unlock(hold, |_| ());
+            lock.unlock(hold, wake_nobody);
             false
         }
         WaitResult::Interrupted => true,
@@ -211,7 +242,7 @@ fn read_and_abort<R: Wait>(
     });
     let interrupted = match locked {
         WaitResult::Success(hold) => {
-            lock.unlock(hold, |_| ());
+            lock.unlock(hold, wake_nobody);
             false
         }
         WaitResult::Interrupted => true,
@@ -221,13 +252,7 @@ fn read_and_abort<R: Wait>(
 
 #[test]
 fn a_writer_enters_after_both_readers_left(rt: HostRuntime) -> Result<(), Fail> {
-    let (lock, pass) = RwLockReaderPreference::new(rt.alloc())?;
-    let Ok((mut one, other)) = pass.split(&lock) else {
-        unreachable!()
-    };
-    let Ok((mut two, mut three)) = other.split(&lock) else {
-        unreachable!()
-    };
+    let (lock, mut one, mut two, mut three) = in_three_parts(rt.alloc())?;
     let answers = refused_beside_two_readers(&rt, &lock, &mut one, &mut two, &mut three);
     assert_eq!(rt; answers, Some(((true, (1, 2, 2)), true, true, false)));
     Ok(())
@@ -243,17 +268,10 @@ fn write_or_abort_at_once<R: Wait>(
     ensures same { IsSamePass pass.old pass.new }
     ensures looked { result ≡ false → (sights_of pass.new).count ≡ (sights_of pass.old).count + 10002 }
 {
-    let locked = RwLockReaderPreference::write_lock(
-        pass,
-        lock,
-        rt,
-        |_, _| -> WaitAction
-            ensures { result ≡ Abort }
-        { WaitAction::Abort },
-    );
+    let locked = RwLockReaderPreference::write_lock(pass, lock, rt, give_up);
     match locked {
         WaitResult::Success(hold) => {
-            lock.unlock(hold, |_| ());
+            lock.unlock(hold, wake_nobody);
             true
         }
         WaitResult::Interrupted => false,
@@ -272,7 +290,7 @@ fn abort_at_once_beside_a_reader<R: Wait>(
     match RwLockReaderPreference::try_read_lock(one, lock) {
         WaitResult::Success(hold) => {
             let beside = write_or_abort_at_once(rt, lock, two);
-            lock.unlock(hold, |_| ());
+            lock.unlock(hold, wake_nobody);
             Some((beside, write_or_abort_at_once(rt, lock, two)))
         }
         WaitResult::Interrupted => None,
@@ -281,10 +299,7 @@ fn abort_at_once_beside_a_reader<R: Wait>(
 
 #[test]
 fn gives_up_writing_after_10002_looks(rt: HostRuntime) -> Result<(), Fail> {
-    let (lock, pass) = RwLockReaderPreference::new(rt.alloc())?;
-    let Ok((mut one, mut two)) = pass.split(&lock) else {
-        unreachable!()
-    };
+    let (lock, mut one, mut two) = in_two_parts(rt.alloc())?;
     let answers = abort_at_once_beside_a_reader(&rt, &lock, &mut one, &mut two);
     assert_eq!(rt; answers, Some((false, true)));
     Ok(())
@@ -303,7 +318,7 @@ fn beside_a_reader<R: Wait>(
         WaitResult::Success(hold) => {
             let read = read_and_abort(rt, lock, two);
             let is_refused = is_refused_to_write(lock, two);
-            lock.unlock(hold, |_| ());
+            lock.unlock(hold, wake_nobody);
             Some((read, is_refused))
         }
         WaitResult::Interrupted => None,
@@ -313,10 +328,7 @@ fn beside_a_reader<R: Wait>(
 /// A second reader comes in while the first is in, and is not asked.
 #[test]
 fn readers_lock_together(rt: HostRuntime) -> Result<(), Fail> {
-    let (lock, pass) = RwLockReaderPreference::new(rt.alloc())?;
-    let Ok((mut one, mut two)) = pass.split(&lock) else {
-        unreachable!()
-    };
+    let (lock, mut one, mut two) = in_two_parts(rt.alloc())?;
     let answers = beside_a_reader(&rt, &lock, &mut one, &mut two);
     assert_eq!(rt; answers, Some(((false, (0, 0, 0)), true)));
     Ok(())
@@ -336,7 +348,7 @@ fn refused_beside_a_writer<R: Wait>(
             let reads = is_refused_to_read(lock, two);
             let writes = is_refused_to_write(lock, two);
             let waited = read_and_abort(rt, lock, two);
-            lock.unlock(hold, |_| ());
+            lock.unlock(hold, wake_nobody);
             Some((reads, writes, waited))
         }
         WaitResult::Interrupted => None,
@@ -345,10 +357,7 @@ fn refused_beside_a_writer<R: Wait>(
 
 #[test]
 fn nobody_enters_beside_a_writer(rt: HostRuntime) -> Result<(), Fail> {
-    let (lock, pass) = RwLockReaderPreference::new(rt.alloc())?;
-    let Ok((mut one, mut two)) = pass.split(&lock) else {
-        unreachable!()
-    };
+    let (lock, mut one, mut two) = in_two_parts(rt.alloc())?;
     let word = 18446744073709551615;
     assert_eq!(rt;
         refused_beside_a_writer(&rt, &lock, &mut one, &mut two),
@@ -360,10 +369,24 @@ fn nobody_enters_beside_a_writer(rt: HostRuntime) -> Result<(), Fail> {
 #[test]
 fn a_free_lock_is_granted_unasked(rt: HostRuntime) -> Result<(), Fail> {
     let (lock, mut pass) = RwLockReaderPreference::new(rt.alloc())?;
-    assert_eq!(rt; read_and_abort(&rt, &lock, &mut pass), (false, (0, 0, 0)));
-    assert_eq!(rt; write_and_abort(&rt, &lock, &mut pass), (false, (0, 0, 0)));
-    assert_eq!(rt; lock.close(pass), 0);
+    let read = read_and_abort(&rt, &lock, &mut pass);
+    let written = write_and_abort(&rt, &lock, &mut pass);
+    let unasked = (false, (0, 0, 0));
+    assert_eq!(rt; (read, written, lock.close(pass)), (unasked, unasked, 0));
     Ok(())
+}
+
+/// Unlocks; the wake closure is gathered.
+fn unlock_gathered<'p>(
+    lock: &RwLockReaderPreference,
+    hold: RwHold<'p, RwReaderPass>,
+    gathering: &Gathering,
+) -> &'p mut RwReaderPass
+    requires own { IsRwReaderPass lock.now (pass_of hold) }
+    ensures same_borrow { result.ghost_name ≡ borrow_of hold.entry }
+    ensures same { IsSamePass (pass_of hold.entry) result.now }
+{
+    lock.unlock(hold, |word| gathering.wake_one(word.load()))
 }
 
 /// Locks for reading and unlocks. Whether the lock was granted; the wake closure is gathered.
@@ -377,7 +400,7 @@ fn read_and_wake(
 {
     match RwLockReaderPreference::try_read_lock(pass, lock) {
         WaitResult::Success(hold) => {
-            lock.unlock(hold, |word| gathering.wake_one(word.load()));
+            unlock_gathered(lock, hold, gathering);
             true
         }
         WaitResult::Interrupted => false,
@@ -395,7 +418,7 @@ fn write_and_wake(
 {
     match RwLockReaderPreference::try_write_lock(pass, lock) {
         WaitResult::Success(hold) => {
-            lock.unlock(hold, |word| gathering.wake_one(word.load()));
+            unlock_gathered(lock, hold, gathering);
             true
         }
         WaitResult::Interrupted => false,
@@ -414,7 +437,7 @@ fn read_and_wake_beside_a_reader(
     match RwLockReaderPreference::try_read_lock(one, lock) {
         WaitResult::Success(hold) => {
             let granted = read_and_wake(lock, two, gathering);
-            lock.unlock(hold, |_| ());
+            lock.unlock(hold, wake_nobody);
             granted
         }
         WaitResult::Interrupted => false,
@@ -425,22 +448,22 @@ fn read_and_wake_beside_a_reader(
 fn each_unlock_wakes_once_after_its_write(rt: HostRuntime) -> Result<(), Fail> {
     let (lock, mut pass) = RwLockReaderPreference::new(rt.alloc())?;
     let gathering = Gathering::new();
-    assert!(rt; read_and_wake(&lock, &mut pass, &gathering));
-    assert!(rt; write_and_wake(&lock, &mut pass, &gathering));
-    assert_eq!(rt; gathering.gathered(), (22, 0));
+    let read = read_and_wake(&lock, &mut pass, &gathering);
+    let written = write_and_wake(&lock, &mut pass, &gathering);
+    assert_eq!(rt;
+        (read, written, gathering.gathered()),
+        (true, true, (22, 0))
+    );
     Ok(())
 }
 
 /// The first of two readers to leave wakes too, and leaves the word at 1.
 #[test]
 fn a_reader_that_is_not_the_last_wakes(rt: HostRuntime) -> Result<(), Fail> {
-    let (lock, pass) = RwLockReaderPreference::new(rt.alloc())?;
-    let Ok((mut one, mut two)) = pass.split(&lock) else {
-        unreachable!()
-    };
+    let (lock, mut one, mut two) = in_two_parts(rt.alloc())?;
     let gathering = Gathering::new();
-    assert!(rt; read_and_wake_beside_a_reader(&lock, &mut one, &mut two, &gathering));
-    assert_eq!(rt; gathering.gathered(), (2, 1));
+    let read = read_and_wake_beside_a_reader(&lock, &mut one, &mut two, &gathering);
+    assert_eq!(rt; (read, gathering.gathered()), (true, (2, 1)));
     Ok(())
 }
 
@@ -455,7 +478,7 @@ fn unlock_when_asked(
     match RwLockReaderPreference::try_write_lock(pass, lock) {
         WaitResult::Success(hold) => {
             let was_asked = meeting.meet() && meeting.meet();
-            lock.unlock(hold, |_| ());
+            lock.unlock(hold, wake_nobody);
             was_asked && meeting.meet()
         }
         WaitResult::Interrupted => false,
@@ -489,11 +512,28 @@ fn lock_after_unlock<R: Wait>(
     };
     match answer {
         WaitResult::Success(hold) => {
-            lock.unlock(hold, |_| ());
+            lock.unlock(hold, wake_nobody);
             is_locked.then_some(notes.noted())
         }
         WaitResult::Interrupted => None,
     }
+}
+
+/// One thread writes at a new lock, and another asks for it with a closure that answers so: whether the writer was asked to let go, and
+/// what the closure noted.
+fn lock_beside_a_writer<R: Threads + Wait + Sync>(
+    rt: &R,
+    alloc: Global,
+    kind: Kind,
+    action: WaitAction,
+) -> Result<(bool, Option<(u64, u64, u64)>), AllocError> {
+    let (lock, mut one, mut two) = in_two_parts(alloc)?;
+    let meeting = Meeting::of(2);
+    Ok(thread::join(
+        rt,
+        || unlock_when_asked(&lock, &mut one, &meeting),
+        || lock_after_unlock(rt, &lock, &mut two, &meeting, kind, action),
+    ))
 }
 
 /// The writer lets go only after the other call has asked its closure, so both calls are under way at once; and that call looks once
@@ -506,18 +546,8 @@ fn two_calls_meet_and_success_after_abort(rt: HostRuntime) -> Result<(), Fail> {
         (Kind::Read, WaitAction::Continue),
         (Kind::Write, WaitAction::Continue),
     ] {
-        let (lock, pass) = RwLockReaderPreference::new(rt.alloc())?;
-        let Ok((mut one, mut two)) = pass.split(&lock) else {
-            unreachable!()
-        };
-        let meeting = Meeting::of(2);
-        let (met, noted) = thread::join(
-            &rt,
-            || unlock_when_asked(&lock, &mut one, &meeting),
-            || lock_after_unlock(&rt, &lock, &mut two, &meeting, kind, action),
-        );
-        assert!(rt; met);
-        assert_eq!(rt; noted, Some((1, u64::MAX, u64::MAX)));
+        let met_and_noted = lock_beside_a_writer(&rt, rt.alloc(), kind, action)?;
+        assert_eq!(rt; met_and_noted, (true, Some((1, u64::MAX, u64::MAX))));
     }
     Ok(())
 }
@@ -534,7 +564,7 @@ fn leave_one_by_one(
     match RwLockReaderPreference::try_read_lock(one, lock) {
         WaitResult::Success(hold) => {
             let was_over = read_until_asked(lock, three, meeting) && meeting.meet();
-            lock.unlock(hold, |_| ());
+            lock.unlock(hold, wake_nobody);
             was_over
         }
         WaitResult::Interrupted => false,
@@ -552,7 +582,7 @@ fn read_until_asked(
     match RwLockReaderPreference::try_read_lock(pass, lock) {
         WaitResult::Success(hold) => {
             let was_asked = meeting.meet() && meeting.meet();
-            lock.unlock(hold, |_| ());
+            lock.unlock(hold, wake_nobody);
             was_asked && meeting.meet()
         }
         WaitResult::Interrupted => false,
@@ -581,7 +611,7 @@ fn write_until_told_one<R: Wait>(
     let is_over = meeting.meet();
     match answer {
         WaitResult::Success(hold) => {
-            lock.unlock(hold, |_| ());
+            lock.unlock(hold, wake_nobody);
             None
         }
         WaitResult::Interrupted => (are_reading && is_over).then_some(gathering.gathered()),
@@ -591,20 +621,13 @@ fn write_until_told_one<R: Wait>(
 /// Of two readers one leaves while the writer waits: its closure is told 2, and then 1.
 #[test]
 fn a_waiting_writer_is_told_what_refused_it_last(rt: HostRuntime) -> Result<(), Fail> {
-    let (lock, pass) = RwLockReaderPreference::new(rt.alloc())?;
-    let Ok((mut one, rest)) = pass.split(&lock) else {
-        unreachable!()
-    };
-    let Ok((mut two, mut three)) = rest.split(&lock) else {
-        unreachable!()
-    };
+    let (lock, mut one, mut two, mut three) = in_three_parts(rt.alloc())?;
     let meeting = Meeting::of(2);
-    let (left, told) = thread::join(
+    let left_and_told = thread::join(
         &rt,
         || leave_one_by_one(&lock, &mut one, &mut three, &meeting),
         || write_until_told_one(&rt, &lock, &mut two, &meeting),
     );
-    assert!(rt; left);
-    assert_eq!(rt; told, Some((11, 21)));
+    assert_eq!(rt; left_and_told, (true, Some((11, 21))));
     Ok(())
 }

@@ -1,12 +1,18 @@
 //! The running writer-preferring lock.
-ghost use Rattle.std.specs.Prelude.{◌≡◌};
+ghost use Rattle.std.specs.Prelude.{◌≡◌, IfOk};
 ghost use Rattle.passes.specs.Parts.{IsAgain};
 ghost use Rattle.passes.specs.Passes.{IsSamePass, object_of};
+ghost use Rattle.running_rwlock.specs.RwShown.{pass_of, borrow_of};
 ghost use Rattle.running_rwlock.specs.RwWriterShown.{IsRwWriterPass, IsAlone, HasStayed, pass_in, part_in, reads_of, writes_of};
 
-use iceoryx2_pal_concurrency_sync::strategy::rwlock::{RwLockWriterPreference, RwWriterPass};
-use iceoryx2_pal_concurrency_sync::{WaitAction, WaitResult, WaitWord};
+use iceoryx2_pal_concurrency_sync::strategy::rwlock::{
+    RwHold, RwLockWriterPreference, RwWriterPass,
+};
+use iceoryx2_pal_concurrency_sync::{
+    WaitAction, WaitResult, WaitWord, wake_nobody, yield_and_go_on,
+};
 use signal::{Gathering, Meeting, Notes};
+use std::alloc::{AllocError, Global};
 use std::sync::Wait;
 use std::sync::atomic::{AtomicU64, Ordering};
 use std::test::Fail;
@@ -20,18 +26,49 @@ enum Kind {
     Write,
 }
 
+/// A new lock, and two parts of its pass.
+fn in_two_parts(
+    alloc: Global,
+) -> Result<(RwLockWriterPreference, RwWriterPass, RwWriterPass), AllocError>
+    ensures own { IfOk result (λ made. IsRwWriterPass made.0 made.1 × IsRwWriterPass made.0 made.2) }
+{
+    let (lock, pass) = RwLockWriterPreference::new(alloc)?;
+    match pass.split(&lock) {
+        Ok((one, two)) => Ok((lock, one, two)),
+        Err(_) => unreachable!(),
+    }
+}
+
+/// A new lock, and three parts of its pass.
+fn in_three_parts(
+    alloc: Global,
+) -> Result<
+    (
+        RwLockWriterPreference,
+        RwWriterPass,
+        RwWriterPass,
+        RwWriterPass,
+    ),
+    AllocError,
+>
+    ensures own { IfOk result (λ made. IsRwWriterPass made.0 made.1 × IsRwWriterPass made.0 made.2 × IsRwWriterPass made.0 made.3) }
+{
+    let (lock, one, rest) = in_two_parts(alloc)?;
+    match rest.split(&lock) {
+        Ok((two, three)) => Ok((lock, one, two, three)),
+        Err(_) => unreachable!(),
+    }
+}
+
 /// Locks for reading and unlocks, with a closure that yields and answers `Continue`: that is never interrupted.
 fn read_and_unlock<R: Wait>(rt: &R, lock: &RwLockWriterPreference, pass: &mut RwWriterPass)
     requires own { IsRwWriterPass lock.now pass.old }
     ensures stayed { HasStayed pass.old pass.new }
 {
-    let locked = RwLockWriterPreference::read_lock(pass, lock, rt, |_, _| {
-        thread::yield_now();
-        WaitAction::Continue
-    });
+    let locked = RwLockWriterPreference::read_lock(pass, lock, rt, yield_and_go_on);
     match locked {
         WaitResult::Success(hold) => {
-            lock.unlock(hold, |_| (), |_| ());
+            lock.unlock(hold, wake_nobody, wake_nobody);
         }
         WaitResult::Interrupted => unreachable!(),
     }
@@ -59,12 +96,12 @@ fn write_and_unlock<R: Wait>(
                 WaitAction::Continue
             }
         },
-        |_| (),
-        |_| (),
+        wake_nobody,
+        wake_nobody,
     );
     match locked {
         WaitResult::Success(hold) => {
-            lock.unlock(hold, |_| (), |_| ());
+            lock.unlock(hold, wake_nobody, wake_nobody);
         }
         WaitResult::Interrupted => (),
     }
@@ -225,7 +262,7 @@ fn write_and_abort<R: Wait>(
     );
     match locked {
         WaitResult::Success(hold) => {
-            lock.unlock(hold, |_| (), |_| ());
+            lock.unlock(hold, wake_nobody, wake_nobody);
             false
         }
         WaitResult::Interrupted => true,
@@ -239,7 +276,7 @@ fn is_refused_to_read(lock: &RwLockWriterPreference, pass: &mut RwWriterPass) ->
 {
     match RwLockWriterPreference::try_read_lock(pass, lock) {
         WaitResult::Success(hold) => {
-            lock.unlock(hold, |_| (), |_| ());
+            lock.unlock(hold, wake_nobody, wake_nobody);
             false
         }
         WaitResult::Interrupted => true,
@@ -253,7 +290,7 @@ fn is_refused_to_write(lock: &RwLockWriterPreference, pass: &mut RwWriterPass) -
 {
     match RwLockWriterPreference::try_write_lock(pass, lock) {
         WaitResult::Success(hold) => {
-            lock.unlock(hold, |_| (), |_| ());
+            lock.unlock(hold, wake_nobody, wake_nobody);
             false
         }
         WaitResult::Interrupted => true,
@@ -275,7 +312,7 @@ fn give_up_beside_a_reader<R: Wait>(
         WaitResult::Success(hold) => {
             let interrupted = write_and_abort(rt, lock, two, gathering);
             let refused = is_refused_to_read(lock, two);
-            lock.unlock(hold, |_| (), |_| ());
+            lock.unlock(hold, wake_nobody, wake_nobody);
             Some((interrupted, refused))
         }
         WaitResult::Interrupted => None,
@@ -286,18 +323,16 @@ fn give_up_beside_a_reader<R: Wait>(
 /// are joined the word is 0.
 #[test]
 fn abort_wakes(rt: HostRuntime) -> Result<(), Fail> {
-    let (lock, pass) = RwLockWriterPreference::new(rt.alloc())?;
-    let Ok((mut one, mut two)) = pass.split(&lock) else {
-        unreachable!()
-    };
+    let (lock, mut one, mut two) = in_two_parts(rt.alloc())?;
     let gathering = Gathering::new();
     let answers = give_up_beside_a_reader(&rt, &lock, &mut one, &mut two, &gathering);
-    assert_eq!(rt; answers, Some((true, false)));
-    assert_eq!(rt; gathering.gathered(), (123, 12));
     let Ok(pass) = RwWriterPass::join(one, two, &lock) else {
         unreachable!()
     };
-    assert_eq!(rt; lock.close(pass), 0);
+    assert_eq!(rt;
+        (answers, gathering.gathered(), lock.close(pass)),
+        (Some((true, false)), (123, 12), 0)
+    );
     Ok(())
 }
 
@@ -316,7 +351,7 @@ fn refused_beside_a_writer<R: Wait>(
             let reads = is_refused_to_read(lock, two);
             let writes = is_refused_to_write(lock, two);
             let waited = write_and_abort(rt, lock, two, gathering);
-            lock.unlock(hold, |_| (), |_| ());
+            lock.unlock(hold, wake_nobody, wake_nobody);
             Some((reads, writes, waited))
         }
         WaitResult::Interrupted => None,
@@ -326,14 +361,13 @@ fn refused_beside_a_writer<R: Wait>(
 /// A writer that gives up beside a writer sets no mark, and so wakes nobody.
 #[test]
 fn nobody_enters_beside_a_writer(rt: HostRuntime) -> Result<(), Fail> {
-    let (lock, pass) = RwLockWriterPreference::new(rt.alloc())?;
-    let Ok((mut one, mut two)) = pass.split(&lock) else {
-        unreachable!()
-    };
+    let (lock, mut one, mut two) = in_two_parts(rt.alloc())?;
     let gathering = Gathering::new();
     let answers = refused_beside_a_writer(&rt, &lock, &mut one, &mut two, &gathering);
-    assert_eq!(rt; answers, Some((true, true, true)));
-    assert_eq!(rt; gathering.gathered(), (1, 0));
+    assert_eq!(rt;
+        (answers, gathering.gathered()),
+        (Some((true, true, true)), (1, 0))
+    );
     Ok(())
 }
 
@@ -350,7 +384,7 @@ fn beside_a_reader(
         WaitResult::Success(hold) => {
             let reads = is_refused_to_read(lock, two);
             let writes = is_refused_to_write(lock, two);
-            lock.unlock(hold, |_| (), |_| ());
+            lock.unlock(hold, wake_nobody, wake_nobody);
             Some((reads, writes))
         }
         WaitResult::Interrupted => None,
@@ -359,15 +393,10 @@ fn beside_a_reader(
 
 #[test]
 fn readers_enter_together(rt: HostRuntime) -> Result<(), Fail> {
-    let (lock, pass) = RwLockWriterPreference::new(rt.alloc())?;
-    let Ok((mut one, mut two)) = pass.split(&lock) else {
-        unreachable!()
-    };
-    assert_eq!(rt;
-        beside_a_reader(&lock, &mut one, &mut two),
-        Some((false, true))
-    );
-    assert!(rt; !is_refused_to_write(&lock, &mut two));
+    let (lock, mut one, mut two) = in_two_parts(rt.alloc())?;
+    let beside = beside_a_reader(&lock, &mut one, &mut two);
+    let refused_after = is_refused_to_write(&lock, &mut two);
+    assert_eq!(rt; (beside, refused_after), (Some((false, true)), false));
     Ok(())
 }
 
@@ -386,7 +415,7 @@ fn read_and_abort<R: Wait>(
     });
     let is_interrupted = match locked {
         WaitResult::Success(hold) => {
-            lock.unlock(hold, |_| (), |_| ());
+            lock.unlock(hold, wake_nobody, wake_nobody);
             false
         }
         WaitResult::Interrupted => true,
@@ -406,7 +435,7 @@ fn lock_beside_a_reader<R: Wait>(
     match RwLockWriterPreference::try_read_lock(one, lock) {
         WaitResult::Success(hold) => {
             let read = read_and_abort(rt, lock, two);
-            lock.unlock(hold, |_| (), |_| ());
+            lock.unlock(hold, wake_nobody, wake_nobody);
             Some(read)
         }
         WaitResult::Interrupted => None,
@@ -416,10 +445,7 @@ fn lock_beside_a_reader<R: Wait>(
 /// A second reader comes in while the first is in, and is not asked.
 #[test]
 fn readers_lock_together(rt: HostRuntime) -> Result<(), Fail> {
-    let (lock, pass) = RwLockWriterPreference::new(rt.alloc())?;
-    let Ok((mut one, mut two)) = pass.split(&lock) else {
-        unreachable!()
-    };
+    let (lock, mut one, mut two) = in_two_parts(rt.alloc())?;
     let answer = lock_beside_a_reader(&rt, &lock, &mut one, &mut two);
     assert_eq!(rt; answer, Some((false, 0)));
     Ok(())
@@ -429,11 +455,30 @@ fn readers_lock_together(rt: HostRuntime) -> Result<(), Fail> {
 fn a_free_lock_is_granted_unasked(rt: HostRuntime) -> Result<(), Fail> {
     let (lock, mut pass) = RwLockWriterPreference::new(rt.alloc())?;
     let gathering = Gathering::new();
-    assert!(rt; !write_and_abort(&rt, &lock, &mut pass, &gathering));
-    assert_eq!(rt; gathering.gathered(), (0, 0));
+    let interrupted = write_and_abort(&rt, &lock, &mut pass, &gathering);
     read_and_unlock(&rt, &lock, &mut pass);
-    assert_eq!(rt; lock.close(pass), 0);
+    assert_eq!(rt;
+        (interrupted, gathering.gathered(), lock.close(pass)),
+        (false, (0, 0), 0)
+    );
     Ok(())
+}
+
+/// Unlocks; the wake closures are gathered.
+fn unlock_gathered<'p>(
+    lock: &RwLockWriterPreference,
+    hold: RwHold<'p, RwWriterPass>,
+    gathering: &Gathering,
+) -> &'p mut RwWriterPass
+    requires own { IsRwWriterPass lock.now (pass_of hold) }
+    ensures same_borrow { result.ghost_name ≡ borrow_of hold.entry }
+    ensures same { IsSamePass (pass_in (pass_of hold.entry)) (pass_in result.now) }
+{
+    lock.unlock(
+        hold,
+        |counter| gathering.wake_one(counter.load()),
+        |word| gathering.wake_all(word.load()),
+    )
 }
 
 /// Locks for reading and unlocks. Whether it was granted; the wake closures are gathered.
@@ -447,11 +492,7 @@ fn read_and_wake(
 {
     match RwLockWriterPreference::try_read_lock(pass, lock) {
         WaitResult::Success(hold) => {
-            lock.unlock(
-                hold,
-                |counter| gathering.wake_one(counter.load()),
-                |word| gathering.wake_all(word.load()),
-            );
+            unlock_gathered(lock, hold, gathering);
             true
         }
         WaitResult::Interrupted => false,
@@ -469,11 +510,7 @@ fn write_and_wake(
 {
     match RwLockWriterPreference::try_write_lock(pass, lock) {
         WaitResult::Success(hold) => {
-            lock.unlock(
-                hold,
-                |counter| gathering.wake_one(counter.load()),
-                |word| gathering.wake_all(word.load()),
-            );
+            unlock_gathered(lock, hold, gathering);
             true
         }
         WaitResult::Interrupted => false,
@@ -483,17 +520,16 @@ fn write_and_wake(
 /// A writer that waits is told the count: the first 0, and one that comes after that has given up 1.
 #[test]
 fn a_waiting_writer_is_told_the_count(rt: HostRuntime) -> Result<(), Fail> {
-    let (lock, pass) = RwLockWriterPreference::new(rt.alloc())?;
-    let Ok((mut one, mut two)) = pass.split(&lock) else {
-        unreachable!()
-    };
+    let (lock, mut one, mut two) = in_two_parts(rt.alloc())?;
     let (first, second) = (Gathering::new(), Gathering::new());
-    let answers = give_up_beside_a_reader(&rt, &lock, &mut one, &mut two, &first);
-    assert_eq!(rt; answers, Some((true, false)));
-    assert_eq!(rt; first.gathered(), (123, 12));
-    let answers = give_up_beside_a_reader(&rt, &lock, &mut one, &mut two, &second);
-    assert_eq!(rt; answers, Some((true, false)));
-    assert_eq!(rt; second.gathered(), (123, 122));
+    let one_gave_up = give_up_beside_a_reader(&rt, &lock, &mut one, &mut two, &first);
+    let two_gave_up = give_up_beside_a_reader(&rt, &lock, &mut one, &mut two, &second);
+    let gave_up = Some((true, false));
+    assert_eq!(rt; (one_gave_up, two_gave_up), (gave_up, gave_up));
+    assert_eq!(rt;
+        (first.gathered(), second.gathered()),
+        ((123, 12), (123, 122))
+    );
     Ok(())
 }
 
@@ -502,10 +538,15 @@ fn a_waiting_writer_is_told_the_count(rt: HostRuntime) -> Result<(), Fail> {
 fn a_writer_that_leaves_wakes(rt: HostRuntime) -> Result<(), Fail> {
     let (lock, mut pass) = RwLockWriterPreference::new(rt.alloc())?;
     let gathering = Gathering::new();
-    assert!(rt; read_and_wake(&lock, &mut pass, &gathering));
-    assert_eq!(rt; gathering.gathered(), (0, 0));
-    assert!(rt; write_and_wake(&lock, &mut pass, &gathering));
-    assert_eq!(rt; gathering.gathered(), (23, 10));
+    let read = (
+        read_and_wake(&lock, &mut pass, &gathering),
+        gathering.gathered(),
+    );
+    let written = (
+        write_and_wake(&lock, &mut pass, &gathering),
+        gathering.gathered(),
+    );
+    assert_eq!(rt; (read, written), ((true, (0, 0)), (true, (23, 10))));
     Ok(())
 }
 
@@ -523,11 +564,7 @@ fn read_until_asked(
         WaitResult::Success(hold) => {
             let was_asked = meeting.meet() && meeting.meet();
             let refused = is_refused_to_read(lock, two);
-            lock.unlock(
-                hold,
-                |counter| gathering.wake_one(counter.load()),
-                |word| gathering.wake_all(word.load()),
-            );
+            unlock_gathered(lock, hold, gathering);
             (was_asked && meeting.meet()).then_some(refused)
         }
         WaitResult::Interrupted => None,
@@ -545,7 +582,7 @@ fn unlock_when_asked(
     match RwLockWriterPreference::try_write_lock(pass, lock) {
         WaitResult::Success(hold) => {
             let was_asked = meeting.meet() && meeting.meet();
-            lock.unlock(hold, |_| (), |_| ());
+            lock.unlock(hold, wake_nobody, wake_nobody);
             was_asked && meeting.meet()
         }
         WaitResult::Interrupted => false,
@@ -576,15 +613,39 @@ fn lock_after_unlock<R: Wait>(
     };
     let answer = match kind {
         Kind::Read => RwLockWriterPreference::read_lock(pass, lock, rt, wait),
-        Kind::Write => RwLockWriterPreference::write_lock(pass, lock, rt, wait, |_| (), |_| ()),
+        Kind::Write => RwLockWriterPreference::write_lock(
+            pass,
+            lock,
+            rt,
+            wait,
+            wake_nobody,
+            wake_nobody,
+        ),
     };
     match answer {
         WaitResult::Success(hold) => {
-            lock.unlock(hold, |_| (), |_| ());
+            lock.unlock(hold, wake_nobody, wake_nobody);
             is_locked.then_some(notes.noted())
         }
         WaitResult::Interrupted => None,
     }
+}
+
+/// One thread writes at a new lock, and another asks for it with a closure that answers so: whether the writer was asked to let go, and
+/// what the closure noted.
+fn lock_beside_a_writer<R: Threads + Wait + Sync>(
+    rt: &R,
+    alloc: Global,
+    kind: Kind,
+    action: WaitAction,
+) -> Result<(bool, Option<(u64, u64, u64)>), AllocError> {
+    let (lock, mut one, mut two) = in_two_parts(alloc)?;
+    let meeting = Meeting::of(2);
+    Ok(thread::join(
+        rt,
+        || unlock_when_asked(&lock, &mut one, &meeting),
+        || lock_after_unlock(rt, &lock, &mut two, &meeting, kind, action),
+    ))
 }
 
 /// The writer lets go only after the other call has asked its closure, so both calls are under way at once; and that call looks once
@@ -597,20 +658,28 @@ fn two_calls_meet_and_success_after_abort(rt: HostRuntime) -> Result<(), Fail> {
         (Kind::Read, WaitAction::Continue, u64::MAX),
         (Kind::Write, WaitAction::Continue, 0),
     ] {
-        let (lock, pass) = RwLockWriterPreference::new(rt.alloc())?;
-        let Ok((mut one, mut two)) = pass.split(&lock) else {
-            unreachable!()
-        };
-        let meeting = Meeting::of(2);
-        let (met, noted) = thread::join(
-            &rt,
-            || unlock_when_asked(&lock, &mut one, &meeting),
-            || lock_after_unlock(&rt, &lock, &mut two, &meeting, kind, action),
-        );
-        assert!(rt; met);
-        assert_eq!(rt; noted, Some((1, told, told)));
+        let met_and_noted = lock_beside_a_writer(&rt, rt.alloc(), kind, action)?;
+        assert_eq!(rt; met_and_noted, (true, Some((1, told, told))));
     }
     Ok(())
+}
+
+/// One thread reads at a new lock until a writer waits in another, whose closure answers so. Whether a reader that came then was refused,
+/// what the writer's closure noted, and what the reader's closures were told.
+fn write_after_a_reader<R: Threads + Wait + Sync>(
+    rt: &R,
+    alloc: Global,
+    action: WaitAction,
+) -> Result<(Option<bool>, Option<(u64, u64, u64)>, (u64, u64)), AllocError> {
+    let (lock, mut one, mut two, mut three) = in_three_parts(alloc)?;
+    let gathering = Gathering::new();
+    let meeting = Meeting::of(2);
+    let (refused, noted) = thread::join(
+        rt,
+        || read_until_asked(&lock, &mut one, &mut three, &gathering, &meeting),
+        || lock_after_unlock(rt, &lock, &mut two, &meeting, Kind::Write, action),
+    );
+    Ok((refused, noted, gathering.gathered()))
 }
 
 /// While a writer waits, a reader that comes is refused. The last reader that leaves counts and wakes one, and the writer enters at the
@@ -618,23 +687,10 @@ fn two_calls_meet_and_success_after_abort(rt: HostRuntime) -> Result<(), Fail> {
 #[test]
 fn the_last_reader_wakes_the_writer(rt: HostRuntime) -> Result<(), Fail> {
     for action in [WaitAction::Abort, WaitAction::Continue] {
-        let (lock, pass) = RwLockWriterPreference::new(rt.alloc())?;
-        let Ok((mut one, rest)) = pass.split(&lock) else {
-            unreachable!()
-        };
-        let Ok((mut two, mut three)) = rest.split(&lock) else {
-            unreachable!()
-        };
-        let gathering = Gathering::new();
-        let meeting = Meeting::of(2);
-        let (refused, noted) = thread::join(
-            &rt,
-            || read_until_asked(&lock, &mut one, &mut three, &gathering, &meeting),
-            || lock_after_unlock(&rt, &lock, &mut two, &meeting, Kind::Write, action),
+        assert_eq!(rt;
+            write_after_a_reader(&rt, rt.alloc(), action)?,
+            (Some(true), Some((1, 0, 0)), (2, 1))
         );
-        assert_eq!(rt; refused, Some(true));
-        assert_eq!(rt; noted, Some((1, 0, 0)));
-        assert_eq!(rt; gathering.gathered(), (2, 1));
     }
     Ok(())
 }

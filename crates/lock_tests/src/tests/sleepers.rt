@@ -2,10 +2,10 @@
 ghost use Rattle.running_mutex.specs.MutexShown.{IsMutexPass};
 ghost use Rattle.running_mutex.specs.CondShown.{IsCondPass};
 
-use super::condition_variable::wait_once;
-use iceoryx2_pal_concurrency_sync::WaitAction;
+use super::condition_variable::{in_two_parts, wait_once};
 use iceoryx2_pal_concurrency_sync::strategy::condition_variable::{CondPass, ConditionVariable};
 use iceoryx2_pal_concurrency_sync::strategy::mutex::{Mutex, MutexPass};
+use iceoryx2_pal_concurrency_sync::{WaitAction, wake_nobody};
 use signal::Signal;
 use std::sync::Wait;
 use std::test::Fail;
@@ -44,7 +44,7 @@ fn sleep<R: Wait>(
         &mut pass,
         mutex,
         &mut mtx_pass,
-        |_| (),
+        wake_nobody,
         |_, _| {
             sleeps.give();
             thread::yield_now();
@@ -66,7 +66,7 @@ fn notify_one_of_two(cond: &ConditionVariable, mut pass: CondPass, told: &Told) 
     requires own { IsCondPass cond.now pass }
 {
     let slept = told.first_sleeps.awaited() && told.second_sleeps.awaited();
-    cond.notify_one(&mut pass, |_| ());
+    cond.notify_one(&mut pass, wake_nobody);
     let notified = told.notified.awaited();
     for _ in 0..1000u64 {
         thread::yield_now();
@@ -128,10 +128,7 @@ fn sleep_in_two_threads<R: Threads + Wait + Sync>(
 #[test]
 fn one_notify_leaves_the_other_asleep(rt: HostRuntime) -> Result<(), Fail> {
     let (mutex, mtx_pass) = Mutex::new(rt.alloc())?;
-    let (cond, pass) = ConditionVariable::new(rt.alloc())?;
-    let Ok((sleeping, notifying)) = pass.split(&cond) else {
-        unreachable!()
-    };
+    let (cond, sleeping, notifying) = in_two_parts(rt.alloc())?;
     let told = Told {
         begin: Signal::new(),
         first_sleeps: Signal::new(),

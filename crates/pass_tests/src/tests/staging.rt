@@ -12,7 +12,7 @@ ghost use Rattle.pass_tests.specs.Ending.{ending_model};
 ghost use Rattle.pass_tests.specs.Staging.{counter_model};
 
 use passes::{Deed, Pass, Rule, Tally};
-use playing::{AddEntry, AfterAside, Entry, Played, Script, Stage};
+use playing::{AddEntry, AfterAside, Counts, Entry, Played, Script, Stage};
 use std::marker::{Model, PhantomData};
 use std::test::Fail;
 use steps_events::row::Intent;
@@ -63,6 +63,15 @@ impl Rule<(), ()> for Nothing {
     ghost first = { λ _. tt };
 
     ghost agrees = { λ _ _ _ _. Unit {0} };
+}
+
+/// The rule ties it to the words alone.
+impl Counts<(), u64> for Nothing {
+    ghost follow = { λ _ _ _. Unit {0} };
+
+    ghost quiet = { λ _ _ _ _ _ _. tt };
+
+    ghost opens = { λ _. tt };
 }
 
 /// A step that tells nothing beside.

@@ -1,5 +1,7 @@
 use Rattle.std.proofs.Common.{arith}
-use Rattle.running_barrier.proofs.BarrierKeeps.{exchanges}
+use Rattle.playing.specs.Plays.{Going}
+use Rattle.playing.specs.Passes.{parties_of, counted}
+use Rattle.running_barrier.proofs.BarrierKeeps.{exchanges, exchange_counts}
 use Rattle.running_barrier.proofs.BarrierPlays.{may_arrive, has_joined, looked_again}
 use Rattle.running_barrier.proofs.Barrier.exchange.Goals as goal
 
@@ -9,6 +11,9 @@ exchange-requires-clause-may g c = may_arrive _ _ _ c.requires.looked.0 _ c.requ
 pub exchange-requires-clause-update : goal.exchange-requires-clause-update
 exchange-requires-clause-update g c = let next = c.requires.next in
     exchanges _ _ _ _ (record { room = next.room; last = λ fills. let to = next.last fills in omega arith; early = λ more. let to = next.early more in omega arith })
+
+pub exchange-requires-clause-follow : goal.exchange-requires-clause-follow
+exchange-requires-clause-follow g c = exchange_counts _ Going (parties_of c.args.pass.now) (counted c.args.pass.now) _ _
 
 pub returns-clause-joined : goal.returns-clause-joined
 returns-clause-joined g c = λ hit done at. has_joined _ _ _ done _ _ c.requires.next.room hit at c.exchange.ensures.went

@@ -1,3 +1,6 @@
+use Rattle.playing.specs.Plays.{Going}
+use Rattle.playing.specs.Passes.{parties_of, counted}
+use Rattle.running_once.proofs.OnceCounts.{exchange_counts}
 use Rattle.running_once.proofs.OnceKeeps.{exchanges}
 use Rattle.running_once.proofs.OncePlays.{may_begin, runs, stays}
 use Rattle.running_once.proofs.Once.begin.Goals as goal
@@ -7,6 +10,9 @@ exchange-requires-clause-may g c = may_begin c.requires.comes.0 _ _ c.running.en
 
 pub exchange-requires-clause-update : goal.exchange-requires-clause-update
 exchange-requires-clause-update g c = exchanges _ _ c.running.ensures
+
+pub exchange-requires-clause-follow : goal.exchange-requires-clause-follow
+exchange-requires-clause-follow g c = exchange_counts Going (parties_of c.args.pass.now) (counted c.args.pass.now) _
 
 pub returns-clause-runs : goal.returns-clause-runs
 returns-clause-runs g c = λ hit done at. runs _ done _ _ hit at c.exchange.ensures.went

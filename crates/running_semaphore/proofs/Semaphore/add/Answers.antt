@@ -1,4 +1,4 @@
-use Rattle.running_semaphore.proofs.SemaphoreKeeps.{adds}
+use Rattle.running_semaphore.proofs.SemaphoreKeeps.{adds, add_counts}
 use Rattle.running_semaphore.proofs.SemaphorePlays.{may_add, posts}
 use Rattle.running_semaphore.proofs.Semaphore.add.Goals as goal
 
@@ -7,6 +7,9 @@ add-requires-clause-may g c = may_add _ _ _ c.ranges.value.fits
 
 pub add-requires-clause-update : goal.add-requires-clause-update
 add-requires-clause-update g c = adds _ _
+
+pub add-requires-clause-follow : goal.add-requires-clause-follow
+add-requires-clause-follow g c = add_counts _ _ _ _
 
 pub returns-clause-played : goal.returns-clause-played
 returns-clause-played g c = posts _ _ _ _ _ c.ranges.value.fits c.add.ensures.went

@@ -5,7 +5,7 @@ use Rattle.playing.specs.Passes.{parties_of}
 use Rattle.playing.specs.Stages.{key_of}
 use Rattle.running_atomic.specs.AtomicParties.{Knows}
 use Rattle.running_atomic.proofs.AtomicPlays.{reads_next, may_read_low, reads_low, may_read_high, reads_high}
-use Rattle.running_atomic.proofs.Compares.{compared}
+use Rattle.running_atomic.proofs.Compares.{compared, low_read}
 use Rattle.running_atomic.proofs.calls.Atomic.compare.Goals as goal
 
 pub read_low-low-requires-clause-may : goal.read_low-low-requires-clause-may
@@ -13,6 +13,16 @@ read_low-low-requires-clause-may g c κs within = may_read_low _ _ _ (Some kinds
 
 pub compare_high-high-requires-clause-may : goal.compare_high-high-requires-clause-may
 compare_high-high-requires-clause-may g c κs within = may_read_high _ _ _ _ (Some kinds.Write) _ _ (reads_low _ _ _ (Some kinds.Write) _ _ _ _ (reads_next _ _ _ _ _ c.requires.reads c.write_lock.ensures.next) c.read_low-low.ensures.went)
+
+pub compare_high-high-requires-clause-compares : goal.compare_high-high-requires-clause-compares
+compare_high-high-requires-clause-compares g c κs within = record {
+  call = c.args.call.now;
+  low = c.read_low-low.result;
+  low_is = low_read _ _ _ c.write_lock.ensures.on.on c.read_low-low.ensures.read;
+  at = record { hold = Some kinds.Write; done = _; at = reads_low _ _ _ (Some kinds.Write) _ _ _ _ (reads_next _ _ _ _ _ c.requires.reads c.write_lock.ensures.next) c.read_low-low.ensures.went };
+  acts = c.requires.other;
+  is_act = c.requires.acts;
+}
 
 pub returns-clause-knows : goal.returns-clause-knows
 returns-clause-knows g c = subst (λ x. Knows g.T.AtomicInteger.arithmetic (key_of c.args.self.now.stage) c.args.call.now x (all_of (parties_of c.args.pass.now)) (parties_of c.compare_high-high.new.pass)) (sym c.from_words.ensures.given)

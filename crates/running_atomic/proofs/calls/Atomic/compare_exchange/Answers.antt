@@ -2,7 +2,8 @@ use Rattle.std.proofs.Common.{sym, ◌∙◌, refl}
 use Rattle.std.proofs.lemmas.Bool.{MatchBool-at_false}
 use Rattle.steps_events.specs.declared.event.Call.TheVariants as calls
 use Rattle.steps_events.specs.declared.event.Answer.TheVariants as answers
-use Rattle.running_atomic.specs.AtomicRule.{plain, value_of}
+use Rattle.steps_atomic.specs.Register.{plain}
+use Rattle.running_atomic.specs.AtomicRule.{value_of}
 use Rattle.running_atomic.specs.AtomicShown.{opening_of, pass_in, parties_in}
 use Rattle.running_atomic.proofs.AtomicPlays.{may_leave, leaves, answers_old, answers_so, differs}
 use Rattle.running_atomic.proofs.Compares.{has_kept, answers_other, answers_same}

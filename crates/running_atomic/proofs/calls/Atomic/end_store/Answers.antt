@@ -1,5 +1,9 @@
 use Rattle.running_atomic.proofs.AtomicKeeps.{ends_store}
+use Rattle.running_atomic.proofs.HistoryFollows.{store_follows}
 use Rattle.running_atomic.proofs.calls.Atomic.end_store.Goals as goal
 
 pub store_of-requires-clause-update : goal.store_of-requires-clause-update
 store_of-requires-clause-update g c = ends_store _ _ _ _ _ c.requires.on c.requires.right
+
+pub store_of-requires-clause-follow : goal.store_of-requires-clause-follow
+store_of-requires-clause-follow g c = store_follows _ _ _ _ _ _ c.requires.on c.requires.right c.requires.stores c.requires.puts

@@ -4,7 +4,7 @@ use Rattle.running_atomic.proofs.AtomicPlays.{something_chosen, answers_old}
 use Rattle.running_atomic.proofs.calls.Atomic.fetch_update.Goals as goal
 
 pub put-requires-clause-may : goal.put-requires-clause-may
-put-requires-clause-may g c κs within = (_, _, _, something_chosen _ _ _ _ _ _ c.content-words.ensures.is_value c.take-old.ensures.knows)
+put-requires-clause-may g c κs within = (_, _, something_chosen _ _ _ _ _ _ c.content-words.ensures.is_value c.take-old.ensures.knows)
 
 pub returns-in-Some-clause-played_changed : goal.returns-in-Some-clause-played_changed
 returns-in-Some-clause-played_changed g c = c.put.ensures.put _ _ _ (something_chosen _ _ _ _ _ _ c.content-words.ensures.is_value c.take-old.ensures.knows)

@@ -1,8 +1,11 @@
-use Rattle.running_atomic.proofs.AtomicPlays.{may_read_again, reads_again, may_leave, leaves}
+use Rattle.running_atomic.proofs.AtomicPlays.{nothing_chosen, may_read_again, reads_again, may_leave, leaves}
 use Rattle.running_atomic.proofs.calls.Atomic.keep.Goals as goal
 
 pub end_unchanged-requires-clause-may : goal.end_unchanged-requires-clause-may
 end_unchanged-requires-clause-may g c κs within = may_read_again _ _ _ _ _ c.requires.knows.1
+
+pub end_unchanged-requires-clause-again : goal.end_unchanged-requires-clause-again
+end_unchanged-requires-clause-again g c κs within = record { old = _; done = _; comes = nothing_chosen _ _ _ _ _ c.requires.knows.1 }
 
 pub leave_write-requires-clause-may : goal.leave_write-requires-clause-may
 leave_write-requires-clause-may g c κs within = may_leave _ _ _ _ _ _ (reads_again _ _ _ _ _ _ _ c.requires.knows.1 c.end_unchanged.ensures.went)

@@ -15,6 +15,9 @@ read_low-low-requires-clause-may g c κs within = may_read_low _ _ calls.Load (S
 pub end_load-high-requires-clause-may : goal.end_load-high-requires-clause-may
 end_load-high-requires-clause-may g c κs within = may_read_high _ _ calls.Load _ (Some kinds.Read) _ _ (reads_low _ _ calls.Load (Some kinds.Read) _ _ _ _ c.read_lock.ensures.next c.read_low-low.ensures.went)
 
+pub end_load-high-requires-clause-loads : goal.end_load-high-requires-clause-loads
+end_load-high-requires-clause-loads g c κs within = (c.read_low-low.result, record { hold = Some kinds.Read; done = _; at = reads_low _ _ calls.Load (Some kinds.Read) _ _ _ _ c.read_lock.ensures.next c.read_low-low.ensures.went })
+
 pub leave_read-requires-clause-may : goal.leave_read-requires-clause-may
 leave_read-requires-clause-may g c κs within =
     may_leave_reading _ _ calls.Load _ _ _ (reads_high _ _ calls.Load _ _ (Some kinds.Read) _ _ _ (reads_low _ _ calls.Load (Some kinds.Read) _ _ _ _ c.read_lock.ensures.next c.read_low-low.ensures.went) c.end_load-high.ensures.went)

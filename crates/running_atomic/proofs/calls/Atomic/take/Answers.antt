@@ -13,6 +13,14 @@ read_low-low-requires-clause-may g c κs within = may_read_low _ _ _ (Some kinds
 pub read_high-high-requires-clause-may : goal.read_high-high-requires-clause-may
 read_high-high-requires-clause-may g c κs within = may_read_high _ _ _ _ (Some kinds.Write) _ _ (reads_low _ _ _ (Some kinds.Write) _ _ _ _ (reads_next _ _ _ _ _ c.requires.reads c.write_lock.ensures.next) c.read_low-low.ensures.went)
 
+pub read_high-high-requires-clause-goes_on : goal.read_high-high-requires-clause-goes_on
+read_high-high-requires-clause-goes_on g c κs within = record {
+  call = c.args.call.now;
+  low = c.read_low-low.result;
+  at = record { hold = Some kinds.Write; done = _; at = reads_low _ _ _ (Some kinds.Write) _ _ _ _ (reads_next _ _ _ _ _ c.requires.reads c.write_lock.ensures.next) c.read_low-low.ensures.went };
+  goes_on = c.requires.goes_on;
+}
+
 pub returns-clause-knows : goal.returns-clause-knows
 returns-clause-knows g c = subst (λ x. Knows g.T.AtomicInteger.arithmetic (key_of c.args.self.now.stage) c.args.call.now x (all_of (parties_of c.args.pass.now)) (parties_of c.read_high-high.new.pass)) (sym c.from_words.ensures.given)
     (reads_high _ _ _ _ _ (Some kinds.Write) _ _ _ (reads_low _ _ _ (Some kinds.Write) _ _ _ _ (reads_next _ _ _ _ _ c.requires.reads c.write_lock.ensures.next) c.read_low-low.ensures.went) c.read_high-high.ensures.went)

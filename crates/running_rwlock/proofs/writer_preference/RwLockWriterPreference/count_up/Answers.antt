@@ -1,3 +1,6 @@
+use Rattle.playing.specs.Passes.{parties_of}
+use Rattle.playing.specs.Plays.{Going}
+use Rattle.running_rwlock.proofs.RwWriterCounts.{count_add_counts}
 use Rattle.running_rwlock.proofs.RwWriterKeeps.{counts_add}
 use Rattle.running_rwlock.proofs.RwWriterPlays.{may_count, counted}
 use Rattle.running_rwlock.proofs.writer_preference.RwLockWriterPreference.count_up.Goals as goal
@@ -7,6 +10,9 @@ add-requires-clause-may g c = may_count c.requires.at.0 _ c.requires.at.1
 
 pub add-requires-clause-update : goal.add-requires-clause-update
 add-requires-clause-update g c = counts_add _
+
+pub add-requires-clause-follow : goal.add-requires-clause-follow
+add-requires-clause-follow g c = count_add_counts Going (parties_of c.args.pass.now) _
 
 pub returns-clause-counted : goal.returns-clause-counted
 returns-clause-counted g c = counted _ _ _ c.add.ensures.went

@@ -1,3 +1,6 @@
+use Rattle.playing.specs.Passes.{parties_of, counted}
+use Rattle.playing.specs.Plays.{Going}
+use Rattle.running_rwlock.proofs.RwWriterCounts.{load_to_write_counts}
 use Rattle.running_rwlock.proofs.RwWriterKeeps.{loads_to_write}
 use Rattle.running_rwlock.proofs.RwWriterPlays.{may_look_last, looked_last}
 use Rattle.running_rwlock.proofs.writer_preference.RwLockWriterPreference.look_last.Goals as goal
@@ -7,6 +10,9 @@ load-requires-clause-may g c = let w = c.requires.at in may_look_last _ w.0 w.1 
 
 pub load-requires-clause-update : goal.load-requires-clause-update
 load-requires-clause-update g c = loads_to_write _
+
+pub load-requires-clause-follow : goal.load-requires-clause-follow
+load-requires-clause-follow g c = load_to_write_counts Going (parties_of c.args.pass.now) (counted c.args.pass.now)
 
 pub returns-clause-looked : goal.returns-clause-looked
 returns-clause-looked g c = looked_last _ _ _ _ c.load.ensures.went

@@ -1,3 +1,6 @@
+use Rattle.playing.specs.Passes.{parties_of, counted}
+use Rattle.playing.specs.Plays.{Going}
+use Rattle.running_rwlock.proofs.RwWriterCounts.{mark_counts}
 use Rattle.running_rwlock.proofs.RwWriterKeeps.{marks_set}
 use Rattle.running_rwlock.proofs.RwWriterPlays.{may_mark, marked, mark_missed}
 use Rattle.running_rwlock.proofs.writer_preference.RwLockWriterPreference.set_mark.Goals as goal
@@ -7,6 +10,9 @@ exchange-found-requires-clause-may g c = may_mark c.requires.at.0 _ _ c.requires
 
 pub exchange-found-requires-clause-update : goal.exchange-found-requires-clause-update
 exchange-found-requires-clause-update g c = marks_set _ _ _ c.requires.even c.requires.other c.requires.marked
+
+pub exchange-found-requires-clause-follow : goal.exchange-found-requires-clause-follow
+exchange-found-requires-clause-follow g c = mark_counts Going (parties_of c.args.pass.now) (counted c.args.pass.now) _ _ c.requires.marked
 
 pub returns-then-found-seen-clause-spins : goal.returns-then-found-seen-clause-spins
 returns-then-found-seen-clause-spins g c = λ patience done at. marked patience _ _ done _ _ c.requires.even c.requires.other c.if-found-seen.true at c.exchange-found.ensures.went

@@ -1,3 +1,6 @@
+use Rattle.playing.specs.Passes.{parties_of, counted}
+use Rattle.playing.specs.Plays.{Going}
+use Rattle.running_rwlock.proofs.RwWriterCounts.{unmark_counts}
 use Rattle.running_rwlock.proofs.RwWriterKeeps.{marks_taken}
 use Rattle.running_rwlock.proofs.RwWriterPlays.{may_unmark, unmarked, unmark_missed}
 use Rattle.running_rwlock.proofs.writer_preference.RwLockWriterPreference.take_mark.Goals as goal
@@ -7,6 +10,9 @@ exchange-found-requires-clause-may g c = may_unmark _ _ c.requires.at.0 _ c.requ
 
 pub exchange-found-requires-clause-update : goal.exchange-found-requires-clause-update
 exchange-found-requires-clause-update g c = marks_taken _ _ _ c.requires.set c.requires.unmarked
+
+pub exchange-found-requires-clause-follow : goal.exchange-found-requires-clause-follow
+exchange-found-requires-clause-follow g c = unmark_counts Going (parties_of c.args.pass.now) (counted c.args.pass.now) _ _ c.requires.set c.requires.unmarked
 
 pub returns-then-found-seen-clause-counts : goal.returns-then-found-seen-clause-counts
 returns-then-found-seen-clause-counts g c = unmarked _ _ _ _ c.requires.set c.if-found-seen.true c.exchange-found.ensures.went

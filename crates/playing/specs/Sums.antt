@@ -1,0 +1,66 @@
+-- Counts that are a sum over the acts of a run.
+use Rattle.std.specs.Prelude.{◌≡◌, ℕ, ◌+◌, if◌then◌else◌, List, [], ◌∷◌, Option, None}
+use Rattle.std.proofs.Common.{ap, sym, ◌∙◌, refl, arith}
+use Rattle.steps_events.specs.declared.event.Act.{Act}
+use Rattle.steps_events.specs.declared.event.Event.{Event}
+use Rattle.steps_events.specs.declared.event.Act.TheVariants as acts
+use Rattle.steps_events.specs.declared.hold.HoldKind.{HoldKind}
+use Rattle.steps_events.specs.declared.hold.HoldKind.TheVariants as kinds
+use Rattle.steps_events.specs.Past.{PendingCall, call_of, hold_taken}
+use Rattle.steps_events.specs.Tables.{Table}
+use Rattle.passes.specs.Tallies.{IsTally}
+use Rattle.playing.specs.Holding.{is_kind}
+use Rattle.playing.specs.Words.{IsQuiet}
+use Rattle.playing.specs.Passes.{StaysQuiet}
+
+-- `count` tells what an act counts, by the call under way whose act it is.
+module _ {V C : Type 0} (first : C) (add : C → C → C) (count : Act V → Option (PendingCall V) → C) where
+  -- what the acts of a run count together
+  abbrev pub sum_in : List (Event V) → C
+  sum_in [] = first
+  sum_in (e ∷ past) = add (count e.act (call_of e.party past)) (sum_in past)
+
+  abbrev pub IsSumOf : List (Event V) → C → Type 0
+  IsSumOf past counts = counts ≡ sum_in past
+
+  -- acts on no word count nothing
+  pub quiet_sum : (none : C) (core : C → C) → IsTally none add core → ((act : Act V) (pending : Option (PendingCall V)) → IsQuiet act → count act pending ≡ none) → StaysQuiet IsSumOf
+  quiet_sum none core laws nothing past e counts quiet is = is ∙ sym (ap (λ (c : C). add c (sum_in past)) (nothing e.act (call_of e.party past) quiet) ∙ laws.unit (sum_in past))
+
+  -- what a party counts by its act, all count
+  pub next_sum : (none : C) (core : C → C) → IsTally none add core → (past : List (Event V)) (e : Event V) (before after rest : C) → after ≡ add (count e.act (call_of e.party past)) before → IsSumOf past (add before rest) → IsSumOf (e ∷ past) (add after rest)
+  next_sum none core laws past e before after rest step is =
+      let more : C = count e.act (call_of e.party past) in ap (λ (c : C). add c rest) step ∙ laws.group more before rest ∙ ap (add more) is
+
+-- Grants: a call is granted with the act that takes a hold.
+
+pub numbers_add_up : IsTally 0 (λ n m. n + m) (λ _. 0)
+numbers_add_up = record { unit = λ n. omega arith; swap = λ n m. omega arith; group = λ n m k. omega arith; copy = λ n. omega arith }
+
+module _ {V P : Type 0} (t : Table V P) (kind : HoldKind) where
+  -- whether an act of a call takes a hold of this kind, as a number
+  abbrev pub grants_by : Act V → Option (PendingCall V) → ℕ
+  grants_by act pending = if is_kind kind (hold_taken t act pending) then 1 else 0
+
+  -- how often calls were granted such a hold in a run
+  abbrev pub grants_in : List (Event V) → ℕ
+  grants_in past = sum_in 0 (λ n m. n + m) grants_by past
+
+  no_kind : (k : HoldKind) → ◌≡◌ {A = ℕ} (if is_kind k None then 1 else 0) 0
+  no_kind kinds.Read = refl
+  no_kind kinds.Write = refl
+
+  quiet_grants : (act : Act V) (pending : Option (PendingCall V)) → IsQuiet act → grants_by act pending ≡ 0
+  quiet_grants (acts.Begun call) pending quiet = no_kind kind
+  quiet_grants (acts.Answered action) pending quiet = no_kind kind
+  quiet_grants (acts.Chosen choice) pending quiet = no_kind kind
+  quiet_grants (acts.Woke wake) pending quiet = no_kind kind
+  quiet_grants acts.Ended pending quiet = no_kind kind
+  quiet_grants (acts.ReadCell value) pending quiet = no_kind kind
+  quiet_grants other pending quiet = absurd quiet
+
+  pub grants_quiet : (past : List (Event V)) (e : Event V) (n : ℕ) → IsQuiet e.act → n ≡ grants_in past → n ≡ grants_in (e ∷ past)
+  grants_quiet past e n quiet is = quiet_sum 0 (λ n m. n + m) grants_by 0 (λ _. 0) numbers_add_up quiet_grants past e n quiet is
+
+  pub next_grants : (past : List (Event V)) (e : Event V) (before after rest : ℕ) → after ≡ grants_by e.act (call_of e.party past) + before → before + rest ≡ grants_in past → after + rest ≡ grants_in (e ∷ past)
+  next_grants = next_sum 0 (λ n m. n + m) grants_by 0 (λ _. 0) numbers_add_up

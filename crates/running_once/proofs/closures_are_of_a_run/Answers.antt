@@ -1,0 +1,5 @@
+use Rattle.running_once.proofs.OnceCounts.{closures_are_of_a_run}
+use Rattle.running_once.proofs.closures_are_of_a_run.Goals as goal
+
+pub returns : goal.returns
+returns g = closures_are_of_a_run
