@@ -5,6 +5,7 @@ pub mod Asides
 pub mod Same
 pub mod Ready
 pub mod Updates
+pub mod Steps
 pub mod Opening
 pub mod Attempts
 pub mod Patience

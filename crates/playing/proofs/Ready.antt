@@ -29,7 +29,7 @@ use Rattle.steps_events.proofs.Steps.{carried_goes_on, carried_stage}
 use Rattle.playing.specs.Models.{Model}
 use Rattle.playing.specs.Slots.{Slot, Free, Mine, Torn, both, all, slot_at, only, Parties, parties, all_of, both_parties}
 use Rattle.playing.specs.SlotLaws.{free_adds, group_all, all_of_both, slot_of_all, slot_of_only, slot_of_other, slot_past_end}
-use Rattle.playing.specs.Words.{AllHold, AreApart, IsNamed, IsStepOn, IsAside, IsQuiet, effect}
+use Rattle.playing.specs.Words.{AllHold, AreApart, IsNamed, IsStepOn, IsAside, IsOnNoWord, effect}
 use Rattle.playing.specs.Plays.{events_of, Matches, fresh_call, Coming, Going, Beginning, Continuing, Answered, Choosing, Aside, IsPlayed, IsAt, WasAnswered, HasEnded, MayBegin, Begins, BeginsHolding, GoesOnAfter, GoesOnChoosing, ComesBy, act_at, hold_then, Leads, Led}
 use Rattle.playing.proofs.Own.{events_of_other, own_call, own_hold, absent}
 use Rattle.playing.proofs.Next.{run_of_more, begins_next, answers_next, chooses_next, goes_next}
@@ -290,18 +290,18 @@ module _ {V P : Type 0} (m : Model V P) (names : List Word) where
 
   -- What acts on no word leave as it is, is right before the step as it was.
 
-  quiet_aside : (intent : Intent V) (memory : Word → ℕ) → IsAside intent → IsQuiet (carried_out intent memory)
-  quiet_aside (intents.Load v) memory aside = absurd aside
-  quiet_aside (intents.Store v put) memory aside = absurd aside
-  quiet_aside (intents.Swap v put) memory aside = absurd aside
-  quiet_aside (intents.Add v more) memory aside = absurd aside
-  quiet_aside (intents.Subtract v less) memory aside = absurd aside
-  quiet_aside (intents.Exchange v from to) memory aside = absurd aside
-  quiet_aside (intents.Wake who) memory aside = tt
-  quiet_aside intents.End memory aside = tt
-  quiet_aside (intents.ReadCell value) memory aside = tt
+  is_on_no_word : (intent : Intent V) (memory : Word → ℕ) → IsAside intent → IsOnNoWord (carried_out intent memory)
+  is_on_no_word (intents.Load v) memory aside = absurd aside
+  is_on_no_word (intents.Store v put) memory aside = absurd aside
+  is_on_no_word (intents.Swap v put) memory aside = absurd aside
+  is_on_no_word (intents.Add v more) memory aside = absurd aside
+  is_on_no_word (intents.Subtract v less) memory aside = absurd aside
+  is_on_no_word (intents.Exchange v from to) memory aside = absurd aside
+  is_on_no_word (intents.Wake who) memory aside = tt
+  is_on_no_word intents.End memory aside = tt
+  is_on_no_word (intents.ReadCell value) memory aside = tt
 
-  pub still : (Says : List (Event V) → Type 0) → ((past : List (Event V)) (e : Event V) → IsQuiet e.act → Says past → Says (e ∷ past)) →
+  pub still : (Says : List (Event V) → Type 0) → ((past : List (Event V)) (e : Event V) → IsOnNoWord e.act → Says past → Says (e ∷ past)) →
       (coming : Coming V) (found : List ℕ) (p rest : Parties V) (call : Call V) (place : P) (hold : Option HoldKind) (done : List (Slot V)) →
       (r : IsPlayed m names found (both_parties p rest)) (comes : ComesBy m coming call place hold done p) → Says r.past → Says (ready coming found p rest call place hold done r comes).past
   unfolding ready ready_at ready_begins begin_of ready_continues ready_answered ready_chooses step_aside
@@ -310,7 +310,7 @@ module _ {V P : Type 0} (m : Model V P) (names : List Word) where
   still Says quiet (Continuing begun) found p rest call place hold done r comes is = quiet r.past _ tt is
   still Says quiet (Answered action) found p rest call place hold done r comes is = quiet r.past _ tt is
   still Says quiet (Choosing choice) found p rest call place hold done r comes is = quiet r.past _ tt is
-  still Says quiet Aside found p rest call place hold done r comes is = quiet r.past _ (quiet_aside (m.table.intent comes.from hold) (word_in m.table r.past) comes.aside) is
+  still Says quiet Aside found p rest call place hold done r comes is = quiet r.past _ (is_on_no_word (m.table.intent comes.from hold) (word_in m.table r.past) comes.aside) is
 
   -- The step is made.
 

@@ -18,9 +18,9 @@ use Rattle.playing.specs.Models.{Model}
 use Rattle.playing.specs.declared.played.Played.{Played}
 use Rattle.playing.specs.Slots.{all_of, Parties, no_parties, both_parties}
 use Rattle.playing.specs.SlotLaws.{no_parties_add}
-use Rattle.playing.specs.Words.{AllHold, AreApart, IsStepOn, IsQuiet, effect}
+use Rattle.playing.specs.Words.{AllHold, AreApart, IsStepOn, IsOnNoWord, effect}
 use Rattle.playing.specs.Plays.{fresh_call, Coming, IsPlayed, act_at, Leads, Led, IsStepAt, MayStep, StoodAlone, Went, WentAlone}
-use Rattle.playing.specs.Passes.{played, none_played, both_played, counted_in, PlaysAndCounts, GoesOnCounting, StaysCounting, StaysQuiet, Stepped, Looked}
+use Rattle.playing.specs.Passes.{played, none_played, both_played, counted_in, PlaysAndCounts, GoesOnCounting, StaysCounting, StaysOnNoWord, Stepped, Looked}
 use Rattle.playing.proofs.Words.{hold_at, carried_here}
 use Rattle.playing.proofs.Same.{same_coming}
 use Rattle.playing.proofs.Ready.{AllMatch, ready, still, step_event, steps}
@@ -58,7 +58,7 @@ module _ {V P : Type 0} (m : Model V P) (names : List Word) where
   pub makes :
       ((n : ℕ) (past : List (Event V)) → IsPast m.arithmetic m.table n past → m.law past) → AreApart names → (coming : Coming V) (found : List ℕ) (p rest : Parties V) (i y told : ℕ) (intent : Word → Intent V) →
       (may : MayStep m names coming i intent p) → ((w : Word) → effect (intent w) (get_or found i 0) ≡ y) → ((w : Word) → carried_out (intent w) (λ _. get_or found i 0) ≡ carried_out (intent w) (λ _. told)) →
-      (r : IsPlayed m names found (both_parties p rest)) (Says : List (Event V) → Type 0) → ((past : List (Event V)) (e : Event V) → IsQuiet e.act → Says past → Says (e ∷ past)) → Says r.past →
+      (r : IsPlayed m names found (both_parties p rest)) (Says : List (Event V) → Type 0) → ((past : List (Event V)) (e : Event V) → IsOnNoWord e.act → Says past → Says (e ∷ past)) → Says r.past →
       Makes coming found p rest i y told (intent may.name) may.call may.place may.hold Says
   makes lawful apart coming found p rest i y told intent may leaves tells r Says quiet says =
       let x : ℕ = get_or found i 0 in
@@ -122,7 +122,7 @@ module _ {V P : Type 0} (m : Model V P) (names : List Word) where
   -- beside it the pass counts as it may
   module _ {M Q C : Type 0} (none : C) (add : C → C → C) (unit : (c : C) → add c none ≡ c) (agree : List ℕ → List (maybe.Option (Unit {0})) → C → Type 0) (follow : List (Event V) → C → Type 0) where
     pub updates :
-        ((n : ℕ) (past : List (Event V)) → IsPast m.arithmetic m.table n past → m.law past) → AreApart names → StaysQuiet follow → (coming : Coming V) (v : View (Played M Q V C)) (i : ℕ) (intent : Word → Intent V) (f shows : ℕ → ℕ)
+        ((n : ℕ) (past : List (Event V)) → IsPast m.arithmetic m.table n past → m.law past) → AreApart names → StaysOnNoWord follow → (coming : Coming V) (v : View (Played M Q V C)) (i : ℕ) (intent : Word → Intent V) (f shows : ℕ → ℕ)
         (tells : View C → ℕ → View C → Type 0) → MayStep m names coming i intent v.tally.parties → ((w : Word) (n : ℕ) → effect (intent w) n ≡ f n) →
         ((w : Word) (n : ℕ) → carried_out (intent w) (λ _. n) ≡ carried_out (intent w) (λ _. shows n)) →
         Updates none add agree (counted_in v) i f (λ found. tells (counted_in v) (shows found)) → GoesOnCounting m names add agree follow coming i intent v.tally.parties v.tally.counts (tells (counted_in v)) →

@@ -19,7 +19,7 @@ use Rattle.steps_events.specs.declared.row.Intent.{Intent}
 use Rattle.steps_events.specs.Rows.{carried_out}
 use Rattle.steps_events.specs.Past.{word_in}
 use Rattle.steps_events.specs.Runs.{IsPast}
-use Rattle.playing.specs.Words.{AllHold, IsNamed, IsQuiet}
+use Rattle.playing.specs.Words.{AllHold, IsNamed, IsOnNoWord}
 use Rattle.playing.specs.Plays.{events_of, Matches, IsPlayed, Coming, ComesBy, IsStepAt, Went, WentAlone}
 
 module _ {M Q V C : Type 0} where
@@ -112,5 +112,5 @@ StaysCounting {V} {P} {S} {C} m names add agree follow counts tells =
     (past : List (Event V)) (found : ℕ) (rest : C) (w : View C) → tells found w → StillAgrees m names agree past (add counts rest) (add w.tally rest) → follow past (add counts rest) → follow past (add w.tally rest)
 
 -- acts on no word change nothing of it
-abbrev pub StaysQuiet : {V C : Type 0} → (List (Event V) → C → Type 0) → Type 0
-StaysQuiet {V} {C} follow = (past : List (Event V)) (e : Event V) (counts : C) → IsQuiet e.act → follow past counts → follow (e ∷ past) counts
+abbrev pub StaysOnNoWord : {V C : Type 0} → (List (Event V) → C → Type 0) → Type 0
+StaysOnNoWord {V} {C} follow = (past : List (Event V)) (e : Event V) (counts : C) → IsOnNoWord e.act → follow past counts → follow (e ∷ past) counts

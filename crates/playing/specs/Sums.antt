@@ -10,8 +10,8 @@ use Rattle.steps_events.specs.Past.{PendingCall, call_of, hold_taken}
 use Rattle.steps_events.specs.Tables.{Table}
 use Rattle.passes.specs.Tallies.{IsTally}
 use Rattle.playing.specs.Holding.{is_kind}
-use Rattle.playing.specs.Words.{IsQuiet}
-use Rattle.playing.specs.Passes.{StaysQuiet}
+use Rattle.playing.specs.Words.{IsOnNoWord, on_no_word}
+use Rattle.playing.specs.Passes.{StaysOnNoWord}
 
 -- `count` tells what an act counts, by the call under way whose act it is.
 module _ {V C : Type 0} (first : C) (add : C → C → C) (count : Act V → Option (PendingCall V) → C) where
@@ -24,8 +24,8 @@ module _ {V C : Type 0} (first : C) (add : C → C → C) (count : Act V → Opt
   IsSumOf past counts = counts ≡ sum_in past
 
   -- acts on no word count nothing
-  pub quiet_sum : (none : C) (core : C → C) → IsTally none add core → ((act : Act V) (pending : Option (PendingCall V)) → IsQuiet act → count act pending ≡ none) → StaysQuiet IsSumOf
-  quiet_sum none core laws nothing past e counts quiet is = is ∙ sym (ap (λ (c : C). add c (sum_in past)) (nothing e.act (call_of e.party past) quiet) ∙ laws.unit (sum_in past))
+  pub same_sum : (none : C) (core : C → C) → IsTally none add core → ((act : Act V) (pending : Option (PendingCall V)) → IsOnNoWord act → count act pending ≡ none) → StaysOnNoWord IsSumOf
+  same_sum none core laws nothing past e counts quiet is = is ∙ sym (ap (λ (c : C). add c (sum_in past)) (nothing e.act (call_of e.party past) quiet) ∙ laws.unit (sum_in past))
 
   -- what a party counts by its act, all count
   pub next_sum : (none : C) (core : C → C) → IsTally none add core → (past : List (Event V)) (e : Event V) (before after rest : C) → after ≡ add (count e.act (call_of e.party past)) before → IsSumOf past (add before rest) → IsSumOf (e ∷ past) (add after rest)
@@ -50,17 +50,11 @@ module _ {V P : Type 0} (t : Table V P) (kind : HoldKind) where
   no_kind kinds.Read = refl
   no_kind kinds.Write = refl
 
-  quiet_grants : (act : Act V) (pending : Option (PendingCall V)) → IsQuiet act → grants_by act pending ≡ 0
-  quiet_grants (acts.Begun call) pending quiet = no_kind kind
-  quiet_grants (acts.Answered action) pending quiet = no_kind kind
-  quiet_grants (acts.Chosen choice) pending quiet = no_kind kind
-  quiet_grants (acts.Woke wake) pending quiet = no_kind kind
-  quiet_grants acts.Ended pending quiet = no_kind kind
-  quiet_grants (acts.ReadCell value) pending quiet = no_kind kind
-  quiet_grants other pending quiet = absurd quiet
+  no_grants_by : (act : Act V) (pending : Option (PendingCall V)) → IsOnNoWord act → grants_by act pending ≡ 0
+  no_grants_by act pending = let none = no_kind kind in on_no_word (λ (a : Act V). grants_by a pending ≡ 0) (λ call. none) (λ action. none) (λ choice. none) (λ wake. none) none (λ value. none) act
 
-  pub grants_quiet : (past : List (Event V)) (e : Event V) (n : ℕ) → IsQuiet e.act → n ≡ grants_in past → n ≡ grants_in (e ∷ past)
-  grants_quiet past e n quiet is = quiet_sum 0 (λ n m. n + m) grants_by 0 (λ _. 0) numbers_add_up quiet_grants past e n quiet is
+  pub same_grants : (past : List (Event V)) (e : Event V) (n : ℕ) → IsOnNoWord e.act → n ≡ grants_in past → n ≡ grants_in (e ∷ past)
+  same_grants past e n quiet is = same_sum 0 (λ n m. n + m) grants_by 0 (λ _. 0) numbers_add_up no_grants_by past e n quiet is
 
   pub next_grants : (past : List (Event V)) (e : Event V) (before after rest : ℕ) → after ≡ grants_by e.act (call_of e.party past) + before → before + rest ≡ grants_in past → after + rest ≡ grants_in (e ∷ past)
   next_grants = next_sum 0 (λ n m. n + m) grants_by 0 (λ _. 0) numbers_add_up

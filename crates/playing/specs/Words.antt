@@ -1,6 +1,9 @@
 -- The words of an object, by the names that they have in its model.
-use Rattle.std.specs.Prelude.{◌≡◌, ℕ, zero, suc, ◌+◌, ◌-◌, ◌%◌, ◌^◌, ◌==◌, false, if◌then◌else◌, List, [], ◌∷◌}
+use Rattle.std.specs.Prelude.{◌≡◌, ℕ, zero, suc, ◌+◌, ◌-◌, ◌%◌, ◌^◌, ◌==◌, false, if◌then◌else◌, List, [], ◌∷◌, Option}
 use Rattle.steps_events.specs.declared.event.Word.{Word}
+use Rattle.steps_events.specs.declared.event.Wake.{Wake}
+use Rattle.steps_events.specs.declared.event.Call.{Call}
+use Rattle.steps_events.specs.declared.WaitAction.{WaitAction}
 use Rattle.steps_events.specs.declared.row.Intent.{Intent}
 use Rattle.steps_events.specs.declared.row.Intent.TheVariants as intents
 use Rattle.steps_events.specs.declared.event.Act.{Act}
@@ -47,14 +50,25 @@ IsAside (intents.ReadCell value) = Unit {0}
 IsAside other = ⊥
 
 -- the act is on no word: a call begins, its closure has answered or chosen, or it wakes, ends its closure or reads a cell
-abbrev pub IsQuiet : {V : Type 0} → Act V → Type 0
-IsQuiet (acts.Begun call) = Unit {0}
-IsQuiet (acts.Answered action) = Unit {0}
-IsQuiet (acts.Chosen choice) = Unit {0}
-IsQuiet (acts.Woke wake) = Unit {0}
-IsQuiet acts.Ended = Unit {0}
-IsQuiet (acts.ReadCell value) = Unit {0}
-IsQuiet other = ⊥
+abbrev pub IsOnNoWord : {V : Type 0} → Act V → Type 0
+IsOnNoWord (acts.Begun call) = Unit {0}
+IsOnNoWord (acts.Answered action) = Unit {0}
+IsOnNoWord (acts.Chosen choice) = Unit {0}
+IsOnNoWord (acts.Woke wake) = Unit {0}
+IsOnNoWord acts.Ended = Unit {0}
+IsOnNoWord (acts.ReadCell value) = Unit {0}
+IsOnNoWord other = ⊥
+
+-- what is so of each of these acts is so of every act on no word
+pub on_no_word : {V : Type 0} (Says : Act V → Type 0) → ((call : Call V) → Says (acts.Begun call)) → ((action : WaitAction) → Says (acts.Answered action)) → ((choice : Option V) → Says (acts.Chosen choice)) →
+    ((wake : Wake) → Says (acts.Woke wake)) → Says acts.Ended → ((value : V) → Says (acts.ReadCell value)) → (act : Act V) → IsOnNoWord act → Says act
+on_no_word Says begun answered chosen woke ended read (acts.Begun call) quiet = begun call
+on_no_word Says begun answered chosen woke ended read (acts.Answered action) quiet = answered action
+on_no_word Says begun answered chosen woke ended read (acts.Chosen choice) quiet = chosen choice
+on_no_word Says begun answered chosen woke ended read (acts.Woke wake) quiet = woke wake
+on_no_word Says begun answered chosen woke ended read acts.Ended quiet = ended
+on_no_word Says begun answered chosen woke ended read (acts.ReadCell value) quiet = read value
+on_no_word Says begun answered chosen woke ended read other quiet = absurd quiet
 
 -- what it leaves in the word
 abbrev pub effect : {V : Type 0} → Intent V → ℕ → ℕ

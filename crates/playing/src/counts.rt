@@ -1,7 +1,7 @@
 //! What a pass counts beside its parties.
 ghost use Rattle.std.specs.Prelude.{List, []};
 ghost use Rattle.steps_events.specs.declared.event.Event.{Event};
-ghost use Rattle.playing.specs.Passes.{StaysQuiet};
+ghost use Rattle.playing.specs.Passes.{StaysOnNoWord};
 
 use passes::Rule;
 
@@ -11,7 +11,7 @@ pub trait Counts<K, V>: Rule<(), K> {
     ghost follow: { K → List (Event V) → Self → Type 0 };
 
     // Acts on no word change nothing of it.
-    ghost quiet: { (key : K) → StaysQuiet (follow key) };
+    ghost stays: { (key : K) → StaysOnNoWord (follow key) };
 
     // It is so of a run in which nobody has made anything.
     ghost opens: { (key : K) → follow key [] (Self.Rule.first key) };

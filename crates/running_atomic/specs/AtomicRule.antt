@@ -13,8 +13,8 @@ use Rattle.steps_atomic.specs.Register.{RegisterAct, plain, update, after_acts, 
 use Rattle.tallies.specs.declared.held.Held.{Held}
 use Rattle.tallies.specs.declared.held.Held.TheVariants.{Free, Reading, Writing, Torn}
 use Rattle.tallies.specs.Held.{Locks}
-use Rattle.playing.specs.Words.{IsQuiet}
-use Rattle.playing.specs.Passes.{StaysQuiet}
+use Rattle.playing.specs.Words.{IsOnNoWord, on_no_word}
+use Rattle.playing.specs.Passes.{StaysOnNoWord}
 use Rattle.running_atomic.specs.declared.history.AtomicTally.{AtomicTally}
 use Rattle.running_atomic.specs.declared.history.Content.{Content}
 use Rattle.running_atomic.specs.declared.history.AtomicAct.{AtomicAct}
@@ -106,15 +106,9 @@ abbrev pub IsHistoryOf : {T : Type 0} → Arithmetic T → List (Event T) → At
 IsHistoryOf z past t = history_in z t.heard ≡ acts_of_run z past
 
 -- acts on no word are no acts on the register
-no_act : {T : Type 0} (z : Arithmetic T) (k : Option (PendingCall T)) (act : Act T) → IsQuiet act → acts_at z k act ≡ []
+no_act : {T : Type 0} (z : Arithmetic T) (k : Option (PendingCall T)) (act : Act T) → IsOnNoWord act → acts_at z k act ≡ []
 no_act z None act quiet = refl
-no_act z (Some c) (acts.Begun call) quiet = refl
-no_act z (Some c) (acts.Answered action) quiet = refl
-no_act z (Some c) (acts.Chosen choice) quiet = refl
-no_act z (Some c) (acts.Woke wake) quiet = refl
-no_act z (Some c) acts.Ended quiet = refl
-no_act z (Some c) (acts.ReadCell value) quiet = refl
-no_act z (Some c) other quiet = absurd quiet
+no_act {T} z (Some c) act quiet = on_no_word (λ (a : Act T). acts_at z (Some c) a ≡ []) (λ call. refl) (λ action. refl) (λ choice. refl) (λ wake. refl) refl (λ value. refl) act quiet
 
-pub quiet_on : {T : Type 0} (z : Arithmetic T) → StaysQuiet (IsHistoryOf z)
-quiet_on z past e t quiet is = is ∙ sym (ap (λ (l : List (RegisterAct _)). acts_of_run z past ++ l) (no_act z (call_of e.party past) e.act quiet) ∙ append-nil (acts_of_run z past))
+pub history_stays : {T : Type 0} (z : Arithmetic T) → StaysOnNoWord (IsHistoryOf z)
+history_stays z past e t quiet is = is ∙ sym (ap (λ (l : List (RegisterAct _)). acts_of_run z past ++ l) (no_act z (call_of e.party past) e.act quiet) ∙ append-nil (acts_of_run z past))

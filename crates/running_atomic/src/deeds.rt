@@ -20,11 +20,11 @@ impl<T: AtomicInteger> Rule<(), T> for AtomicTally {
 /// The history that all passes know together is, act for act, that of the run.
 impl<T: AtomicInteger> Counts<T, T> for AtomicTally {
     ghost use Rattle.std.proofs.Common.{refl};
-    ghost use Rattle.running_atomic.specs.AtomicRule.{IsHistoryOf, quiet_on};
+    ghost use Rattle.running_atomic.specs.AtomicRule.{IsHistoryOf, history_stays};
 
     ghost follow = { λ _. IsHistoryOf T.arithmetic };
 
-    ghost quiet = { λ _. quiet_on T.arithmetic };
+    ghost stays = { λ _. history_stays T.arithmetic };
 
     ghost opens = { λ _. refl };
 }

@@ -1,6 +1,5 @@
 -- Each step of a mutex keeps its rule.
 use Rattle.std.proofs.Common.{◌≡◌, ℕ, ◌+◌, ◌≤◌, ◌==◌, eqb, Bool, true, false, cond, List, [], ◌∷◌, Option, Some, set, refl, ap, sym, subst, ◌∙◌, arith, length-set, get_or-set_same}
-use Rattle.std.specs.Prelude.{MatchBool, MatchOption}
 use Rattle.std.proofs.lemmas.Bool.{ne_eqb}
 use Rattle.steps_events.specs.declared.event.Word.{Word}
 use Rattle.steps_events.specs.declared.event.Word.TheVariants as words
@@ -15,7 +14,6 @@ use Rattle.steps_events.specs.declared.hold.HoldKind.TheVariants as kinds
 use Rattle.steps_events.specs.declared.row.Intent.TheVariants as intents
 use Rattle.steps_events.specs.Rows.{carried_out}
 use Rattle.steps_events.specs.Past.{PendingCall, call_of}
-use Rattle.steps_events.specs.Moves.{is_step}
 use Rattle.steps_events.specs.NextStep.{StepsAs}
 use Rattle.steps_mutex.specs.declared.MutexPlace.{MutexPlace}
 use Rattle.steps_mutex.specs.Table.{mutex_table}
@@ -24,6 +22,7 @@ use Rattle.playing.specs.Slots.{Parties}
 use Rattle.playing.specs.Plays.{Coming, IsStepAt}
 use Rattle.playing.specs.Sums.{grants_by, next_grants}
 use Rattle.playing.proofs.OfARun.{of_a_run}
+use Rattle.playing.proofs.Steps.{next_step}
 use Rattle.tallies.specs.MutexScript.{mutex_model, mutex_lawful}
 use mathlib.Core.Logic.{dite}
 use native.Mathlib.Decide.{ℕ_discrete}
@@ -76,9 +75,7 @@ granted_by past e c name new found false named called act steps = subst (λ (a :
     (subst (λ w. grants_by mutex_table kinds.Write (acts.Exchange w 0 new found false) (call_of e.party past) ≡ 0) named refl)
 granted_by past e c name new found true named called act steps =
     let step : MutexStep c.call c.own (acts.Exchange words.State 0 new found true) e.then =
-    subst (λ w. MutexStep c.call c.own (acts.Exchange w 0 new found true) e.then) (sym named)
-    (subst (λ (k : Option (PendingCall ℕ)). MatchOption k ⊥ (λ d. MutexStep d.call d.own (acts.Exchange name 0 new found true) e.then)) called
-    (subst (λ (a : Act ℕ). MatchBool (is_step a) (MatchOption (call_of e.party past) ⊥ (λ d. MutexStep d.call d.own a e.then)) (Unit {0})) act steps)) in
+    subst (λ w. MutexStep c.call c.own (acts.Exchange w 0 new found true) e.then) (sym named) (next_step MutexStep past e c (acts.Exchange name 0 new found true) act refl called steps) in
     subst (λ (a : Act ℕ). grants_by mutex_table kinds.Write a (call_of e.party past) ≡ 1) (sym act)
     (subst (λ w. grants_by mutex_table kinds.Write (acts.Exchange w 0 new found true) (call_of e.party past) ≡ 1) named
     (subst (λ (k : Option (PendingCall ℕ)). grants_by mutex_table kinds.Write (acts.Exchange words.State 0 new found true) k ≡ 1) (sym called) (by_call c.call c.own e.then step)))

@@ -1,11 +1,10 @@
 -- What the passes of a once count and know adds up, and acts on no word begin and complete nothing.
 use Rattle.std.proofs.Common.{◌≡◌, ℕ, ◌+◌, Bool, true, false, cond, ◌||◌, refl, ap, arith}
 use Rattle.steps_events.specs.declared.event.Act.{Act}
-use Rattle.steps_events.specs.declared.event.Act.TheVariants as acts
 use Rattle.steps_once.specs.Closures.{is_begin}
 use Rattle.passes.specs.Tallies.{IsTally}
-use Rattle.playing.specs.Words.{IsQuiet}
-use Rattle.playing.specs.Passes.{StaysQuiet}
+use Rattle.playing.specs.Words.{IsOnNoWord, on_no_word}
+use Rattle.playing.specs.Passes.{StaysOnNoWord}
 use Rattle.running_once.specs.OnceRule.{runs, no_runs, both_runs, known_runs, is_completion, AreRunsIn}
 
 same_runs : (a b c d : ℕ) (x y : Bool) → a ≡ b → c ≡ d → x ≡ y → runs a c x ≡ runs b d y
@@ -36,26 +35,14 @@ runs_add_up = record {
 
 -- acts on no word
 
-quiet_begins : (act : Act ℕ) → IsQuiet act → is_begin act ≡ false
-quiet_begins (acts.Begun call) quiet = refl
-quiet_begins (acts.Answered action) quiet = refl
-quiet_begins (acts.Chosen choice) quiet = refl
-quiet_begins (acts.Woke wake) quiet = refl
-quiet_begins acts.Ended quiet = refl
-quiet_begins (acts.ReadCell value) quiet = refl
-quiet_begins other quiet = absurd quiet
+no_begin : (act : Act ℕ) → IsOnNoWord act → is_begin act ≡ false
+no_begin = on_no_word (λ (a : Act ℕ). is_begin a ≡ false) (λ call. refl) (λ action. refl) (λ choice. refl) (λ wake. refl) refl (λ value. refl)
 
-quiet_completes : (act : Act ℕ) → IsQuiet act → is_completion act ≡ false
-quiet_completes (acts.Begun call) quiet = refl
-quiet_completes (acts.Answered action) quiet = refl
-quiet_completes (acts.Chosen choice) quiet = refl
-quiet_completes (acts.Woke wake) quiet = refl
-quiet_completes acts.Ended quiet = refl
-quiet_completes (acts.ReadCell value) quiet = refl
-quiet_completes other quiet = absurd quiet
+no_completion : (act : Act ℕ) → IsOnNoWord act → is_completion act ≡ false
+no_completion = on_no_word (λ (a : Act ℕ). is_completion a ≡ false) (λ call. refl) (λ action. refl) (λ choice. refl) (λ wake. refl) refl (λ value. refl)
 
-pub runs_stay : StaysQuiet AreRunsIn
+pub runs_stay : StaysOnNoWord AreRunsIn
 runs_stay past e counts quiet is =
-    let none_begins : ◌≡◌ {A = ℕ} (cond (is_begin e.act) 1 0) 0 = ap (λ (b : Bool). cond b 1 0) (quiet_begins e.act quiet) in
-    let none_completes : ◌≡◌ {A = ℕ} (cond (is_completion e.act) 1 0) 0 = ap (λ (b : Bool). cond b 1 0) (quiet_completes e.act quiet) in
+    let none_begins : ◌≡◌ {A = ℕ} (cond (is_begin e.act) 1 0) 0 = ap (λ (b : Bool). cond b 1 0) (no_begin e.act quiet) in
+    let none_completes : ◌≡◌ {A = ℕ} (cond (is_completion e.act) 1 0) 0 = ap (λ (b : Bool). cond b 1 0) (no_completion e.act quiet) in
     record { begun = omega (arith, is.begun, none_begins); completed = omega (arith, is.completed, none_completes); over = omega (arith, is.over) }

@@ -79,7 +79,7 @@ impl Counts<(), u64> for Runs {
 
     ghost follow = { λ _. AreRunsIn };
 
-    ghost quiet = { λ _. runs_stay };
+    ghost stays = { λ _. runs_stay };
 
     ghost opens = { λ _. record { begun = refl; completed = refl; over = omega arith } };
 }

@@ -38,7 +38,7 @@ use Rattle.tallies.specs.declared.semaphore.SemaphoreScript.{SemaphoreScript}
 use Rattle.playing.specs.Sums.{sum_in, next_sum}
 use Rattle.tallies.specs.declared.semaphore.Permits.{Permits}
 use Rattle.tallies.specs.SemaphoreRule.{permits, no_permits, both_permits, first_permits, value_of, permits_of, ArePermitsOf}
-use Rattle.tallies.specs.SemaphoreTally.{permits_add_up}
+use Rattle.tallies.specs.SemaphoreTally.{permits_add_up, same_permits}
 use Rattle.tallies.specs.SemaphoreScript.{semaphore_model}
 use Rattle.running_semaphore.specs.SemaphoreSteps.{PlayedSemaphore, PermitsAreOfARun, took, gave, Loaded, Exchanged, Added}
 
@@ -61,9 +61,6 @@ pub adds : (v : View Permits) (more : ℕ) → Updates no_permits both_permits F
 adds v more = record { may = λ found homes rest is alone fits. (wrote v (gave more v.tally), refl, tt, record { given = refl }) }
 
 -- What it counts is what its act gives and takes.
-
-same_permits : (a b c d : ℕ) → a ≡ b → c ≡ d → permits a c ≡ permits b d
-same_permits a b c d first second = λ i. permits (first i) (second i)
 
 counts_nothing : (t : Permits) → t ≡ both_permits no_permits t
 counts_nothing t = sym (permits_add_up.unit t)

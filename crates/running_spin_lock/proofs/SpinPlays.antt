@@ -1,6 +1,6 @@
 -- The steps of a spin lock are those of its table.
 use Rattle.std.proofs.Common.{◌≡◌, ◌≢◌, ◌≤◌, ◌==◌, ℕ, zero, suc, Bool, true, false, cond, refl, sym, ap, subst, ◌∙◌, List, [], ◌∷◌, Option, Some, None, inl, inr, arith}
-use Rattle.std.specs.Prelude.{MatchBool, MatchOption}
+use Rattle.std.specs.Prelude.{MatchBool}
 use Rattle.std.proofs.lemmas.Bool.{ne_eqb}
 use Rattle.steps_events.specs.declared.event.Word.{Word}
 use Rattle.steps_events.specs.declared.event.Word.TheVariants as words
@@ -19,7 +19,6 @@ use Rattle.steps_spin.specs.declared.SpinPlace.{SpinPlace}
 use Rattle.steps_spin.specs.declared.SpinPlace.TheVariants as places
 use Rattle.steps_events.specs.Rows.{carried_out}
 use Rattle.steps_events.specs.Past.{PendingCall, call_of}
-use Rattle.steps_events.specs.Moves.{is_step}
 use Rattle.steps_spin.specs.Table.{spin_table, spin_intent}
 use Rattle.steps_spin.specs.Law.{SpinStep}
 use Rattle.running_spin_lock.specs.SpinLawful.{spin_model, spin_lawful}
@@ -27,6 +26,7 @@ use Rattle.playing.specs.Slots.{Slot, Parties, all_of}
 use Rattle.playing.specs.Plays.{Coming, Going, Beginning, Continuing, ComesBy, IsHolding, Led, HasCalled, MayStep, IsStepAt, Went}
 use Rattle.playing.specs.Sums.{grants_by}
 use Rattle.playing.proofs.Holding.{holding_told, holding_is}
+use Rattle.playing.proofs.Steps.{next_step}
 use Rattle.running_spin_lock.specs.SpinParties.{IsWaiting, IsSpinning, IsGranted, HasLock, Unlocks}
 
 -- how the calls begin
@@ -138,9 +138,7 @@ swap_grants call place hold past e name found step named act =
     let c : PendingCall ℕ = step.pending in
     let law = (spin_lawful step.parties (e ∷ past) step.run).law.steps in
     let is_swap : e.act ≡ acts.Swap words.State found 1 = act ∙ ap (λ w. acts.Swap w found 1) (sym named) in
-    let next : SpinStep c.call c.own (acts.Swap words.State found 1) e.then =
-    subst (λ (k : Option (PendingCall ℕ)). MatchOption k ⊥ (λ d. SpinStep d.call d.own (acts.Swap words.State found 1) e.then)) step.under_way
-    (subst (λ (a : Act ℕ). MatchBool (is_step a) (MatchOption (call_of e.party past) ⊥ (λ d. SpinStep d.call d.own a e.then)) (Unit {0})) is_swap law) in
+    let next : SpinStep c.call c.own (acts.Swap words.State found 1) e.then = next_step SpinStep past e c (acts.Swap words.State found 1) is_swap refl step.under_way law in
     subst (λ (a : Act ℕ). grants_by spin_table kinds.Write a (call_of e.party past) ≡ cond (found == 0) 1 0) (sym is_swap)
     (subst (λ (k : Option (PendingCall ℕ)). grants_by spin_table kinds.Write (acts.Swap words.State found 1) k ≡ cond (found == 0) 1 0) (sym step.under_way) (by_call c.call c.own found e.then next))
   where

@@ -3,10 +3,9 @@ use Rattle.std.proofs.Common.{◌≡◌, ℕ, ◌+◌, Bool, false, cond, max, L
 use Rattle.passes.specs.Tallies.{IsTally}
 use Rattle.tallies.specs.Counts.{both_counts, counts_swap, counts_group}
 use Rattle.steps_events.specs.declared.event.Act.{Act}
-use Rattle.steps_events.specs.declared.event.Act.TheVariants as acts
 use Rattle.steps_barrier.specs.Rounds.{is_arrival}
-use Rattle.playing.specs.Words.{IsQuiet}
-use Rattle.playing.specs.Passes.{StaysQuiet}
+use Rattle.playing.specs.Words.{IsOnNoWord, on_no_word}
+use Rattle.playing.specs.Passes.{StaysOnNoWord}
 use Rattle.tallies.specs.BarrierRule.{rounds, no_rounds, both_rounds, known_rounds, AreArrivalsIn}
 
 max_group : (a b c : ℕ) → max (max a b) c ≡ max a (max b c)
@@ -26,14 +25,8 @@ rounds_add_up = record {
   copy = λ t. same_rounds t.arrivals t.arrivals (max t.reached t.reached) t.reached (0 + t.opened) t.opened refl (omega arith) (omega arith);
 }
 
-no_arrival : (act : Act ℕ) → IsQuiet act → is_arrival act ≡ false
-no_arrival (acts.Begun call) quiet = refl
-no_arrival (acts.Answered action) quiet = refl
-no_arrival (acts.Chosen choice) quiet = refl
-no_arrival (acts.Woke wake) quiet = refl
-no_arrival acts.Ended quiet = refl
-no_arrival (acts.ReadCell value) quiet = refl
-no_arrival other quiet = absurd quiet
+no_arrival : (act : Act ℕ) → IsOnNoWord act → is_arrival act ≡ false
+no_arrival = on_no_word (λ (a : Act ℕ). is_arrival a ≡ false) (λ call. refl) (λ action. refl) (λ choice. refl) (λ wake. refl) refl (λ value. refl)
 
-pub arrivals_stay : StaysQuiet AreArrivalsIn
+pub arrivals_stay : StaysOnNoWord AreArrivalsIn
 arrivals_stay past e counts quiet is = let none : ◌≡◌ {A = ℕ} (cond (is_arrival e.act) 1 0) 0 = ap (λ (b : Bool). cond b 1 0) (no_arrival e.act quiet) in is ∙ omega (arith, none)

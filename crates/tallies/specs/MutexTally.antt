@@ -2,8 +2,8 @@
 use Rattle.std.proofs.Common.{ℕ, ◌+◌, ◌≡◌, arith}
 use Rattle.steps_events.specs.declared.hold.HoldKind.TheVariants as kinds
 use Rattle.steps_events.specs.Tables.{Table}
-use Rattle.playing.specs.Passes.{StaysQuiet}
-use Rattle.playing.specs.Sums.{grants_quiet}
+use Rattle.playing.specs.Passes.{StaysOnNoWord}
+use Rattle.playing.specs.Sums.{same_grants}
 use Rattle.passes.specs.Tallies.{IsTally}
 use Rattle.tallies.specs.MutexRule.{holds, no_holds, both_holds, AreGrantsIn}
 
@@ -18,5 +18,5 @@ holds_add_up = record {
   copy = λ t. same_holds (0 + t.holds) t.holds (0 + t.grants) t.grants (omega arith) (omega arith);
 }
 
-pub grants_stay : {V P : Type 0} (t : Table V P) → StaysQuiet (AreGrantsIn t)
-grants_stay t past e counts quiet is = grants_quiet t kinds.Write past e counts.grants quiet is
+pub grants_stay : {V P : Type 0} (t : Table V P) → StaysOnNoWord (AreGrantsIn t)
+grants_stay t past e counts quiet is = same_grants t kinds.Write past e counts.grants quiet is

@@ -2,8 +2,8 @@
 use Rattle.std.proofs.Common.{ℕ, ◌+◌, ◌≡◌, refl, arith}
 use Rattle.steps_events.specs.declared.hold.HoldKind.TheVariants as kinds
 use Rattle.steps_events.specs.Tables.{Table}
-use Rattle.playing.specs.Passes.{StaysQuiet}
-use Rattle.playing.specs.Sums.{grants_quiet}
+use Rattle.playing.specs.Passes.{StaysOnNoWord}
+use Rattle.playing.specs.Sums.{same_grants}
 use Rattle.passes.specs.Tallies.{IsTally}
 use Rattle.tallies.specs.HeldTally.{same_nothing, tells_same_nothing, held_adds_up}
 use Rattle.tallies.specs.RwReaderRule.{Holds, no_holds, both_holds}
@@ -24,8 +24,8 @@ marked_add_up = let holds = held_adds_up same_nothing tells_same_nothing in reco
   copy = λ t. same_marked (both_holds no_holds t.held) t.held (0 + t.flags) t.flags (0 + t.read_grants) t.read_grants (0 + t.write_grants) t.write_grants refl (omega arith) (omega arith) (omega arith);
 }
 
-pub grants_by_kind_stay : {V P : Type 0} (t : Table V P) → StaysQuiet (AreGrantsByKindIn t)
+pub grants_by_kind_stay : {V P : Type 0} (t : Table V P) → StaysOnNoWord (AreGrantsByKindIn t)
 grants_by_kind_stay t past e counts quiet is = record {
-  reads = grants_quiet t kinds.Read past e counts.read_grants quiet is.reads;
-  writes = grants_quiet t kinds.Write past e counts.write_grants quiet is.writes;
+  reads = same_grants t kinds.Read past e counts.read_grants quiet is.reads;
+  writes = same_grants t kinds.Write past e counts.write_grants quiet is.writes;
 }

@@ -84,7 +84,7 @@ impl Counts<u32, u64> for Rounds {
 
     ghost follow = { λ _. AreArrivalsIn };
 
-    ghost quiet = { λ _. arrivals_stay };
+    ghost stays = { λ _. arrivals_stay };
 
     ghost opens = { λ _. refl };
 }

@@ -68,7 +68,7 @@ impl Counts<(), u64> for Held<()> {
 
     ghost follow = { λ _. AreHoldsIn rw_reader_table };
 
-    ghost quiet = { λ _. holds_stay rw_reader_table };
+    ghost stays = { λ _. holds_stay rw_reader_table };
 
     ghost opens = { λ _. record { reads = refl; writes = refl } };
 }

@@ -65,7 +65,7 @@ impl Counts<(), u64> for Holds {
 
     ghost follow = { λ _. AreGrantsIn mutex_table };
 
-    ghost quiet = { λ _. grants_stay mutex_table };
+    ghost stays = { λ _. grants_stay mutex_table };
 
     ghost opens = { λ _. refl };
 }

@@ -72,7 +72,7 @@ impl Counts<(), u64> for MarkedHolds {
 
     ghost follow = { λ _. AreGrantsByKindIn rw_writer_table };
 
-    ghost quiet = { λ _. grants_by_kind_stay rw_writer_table };
+    ghost stays = { λ _. grants_by_kind_stay rw_writer_table };
 
     ghost opens = { λ _. record { reads = refl; writes = refl } };
 }

@@ -61,11 +61,11 @@ impl Counts<u64, u64> for Permits {
     ghost use Rattle.std.specs.Prelude.{◌%◌, ◌^◌};
     ghost use Rattle.std.proofs.Common.{refl};
     ghost use Rattle.tallies.specs.SemaphoreRule.{ArePermitsOf};
-    ghost use Rattle.tallies.specs.SemaphoreTally.{permits_quiet};
+    ghost use Rattle.tallies.specs.SemaphoreTally.{permits_stay};
 
     ghost follow = { λ key. ArePermitsOf (key % 2 ^ 64) };
 
-    ghost quiet = { λ key. permits_quiet (key % 2 ^ 64) };
+    ghost stays = { λ key. permits_stay (key % 2 ^ 64) };
 
     ghost opens = { λ _. refl };
 }

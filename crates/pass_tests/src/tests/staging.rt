@@ -69,7 +69,7 @@ impl Rule<(), ()> for Nothing {
 impl Counts<(), u64> for Nothing {
     ghost follow = { λ _ _ _. Unit {0} };
 
-    ghost quiet = { λ _ _ _ _ _ _. tt };
+    ghost stays = { λ _ _ _ _ _ _. tt };
 
     ghost opens = { λ _. tt };
 }
