@@ -5,6 +5,8 @@ test_explore() {
     source tools/test_examples.sh
     is_built sync-explore || return
     is_built sync-play || return
+    # By its rows it is told who holds what.
+    is_built sync-trace || return
     for text in examples/explore/*.txt; do
         play_example sync-explore out "${text%.txt}"
         attempt python3 tools/replayed.py "$text" "${text%.txt}.out"
