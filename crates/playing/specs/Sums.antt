@@ -36,6 +36,11 @@ module _ {V C : Type 0} (first : C) (add : C → C → C) (count : Act V → Opt
 pub numbers_add_up : IsTally 0 (λ n m. n + m) (λ _. 0)
 numbers_add_up = record { unit = λ n. omega arith; swap = λ n m. omega arith; group = λ n m k. omega arith; copy = λ n. omega arith }
 
+-- what takes no hold grants none
+pub no_kind : (kind : HoldKind) → ◌≡◌ {A = ℕ} (if is_kind kind None then 1 else 0) 0
+no_kind kinds.Read = refl
+no_kind kinds.Write = refl
+
 module _ {V P : Type 0} (t : Table V P) (kind : HoldKind) where
   -- whether an act of a call takes a hold of this kind, as a number
   abbrev pub grants_by : Act V → Option (PendingCall V) → ℕ
@@ -44,10 +49,6 @@ module _ {V P : Type 0} (t : Table V P) (kind : HoldKind) where
   -- how often calls were granted such a hold in a run
   abbrev pub grants_in : List (Event V) → ℕ
   grants_in past = sum_in 0 (λ n m. n + m) grants_by past
-
-  no_kind : (k : HoldKind) → ◌≡◌ {A = ℕ} (if is_kind k None then 1 else 0) 0
-  no_kind kinds.Read = refl
-  no_kind kinds.Write = refl
 
   no_grants_by : (act : Act V) (pending : Option (PendingCall V)) → IsOnNoWord act → grants_by act pending ≡ 0
   no_grants_by act pending = let none = no_kind kind in on_no_word (λ (a : Act V). grants_by a pending ≡ 0) (λ call. none) (λ action. none) (λ choice. none) (λ wake. none) none (λ value. none) act

@@ -1,6 +1,5 @@
 -- Each step of a mutex keeps its rule.
-use Rattle.std.proofs.Common.{◌≡◌, ℕ, ◌+◌, ◌≤◌, ◌==◌, eqb, Bool, true, false, cond, List, [], ◌∷◌, Option, Some, set, refl, ap, sym, subst, ◌∙◌, arith, length-set, get_or-set_same}
-use Rattle.std.proofs.lemmas.Bool.{ne_eqb}
+use Rattle.std.proofs.Common.{◌≡◌, ℕ, ◌≤◌, ◌==◌, eqb, Bool, true, false, cond, List, [], ◌∷◌, Option, Some, set, refl, ap, sym, subst, ◌∙◌, arith, length-set, get_or-set_same}
 use Rattle.steps_events.specs.declared.event.Word.{Word}
 use Rattle.steps_events.specs.declared.event.Word.TheVariants as words
 use Rattle.steps_events.specs.declared.event.Call.{Call}
@@ -34,7 +33,7 @@ use Rattle.passes.proofs.Updates.{by_exchange}
 use Rattle.tallies.specs.declared.mutex.Holds.{Holds}
 use Rattle.tallies.specs.MutexRule.{no_holds, both_holds, IsHeld, AreGrantsIn, MutexAgrees}
 use Rattle.running_mutex.specs.MutexSteps.{granted, released, locked, unlocked, saw_locked, Exchanged, Stored, PlayedMutex, GrantsAreOfARun, OneHolder}
-use Rattle.tallies.specs.MutexTally.{holds_add_up}
+use Rattle.tallies.specs.MutexTally.{holds_add_up, at_zero, beside_zero}
 use Rattle.playing.specs.Passes.{none_played, both_played, core_played, played_add_up, GoesOnCounting}
 
 -- the word is written, and is the number of holds again
@@ -99,20 +98,12 @@ exchange_grants call place hold past e name new found step named act =
 
 pub exchange_counts : (way : Coming ℕ) (p : Parties ℕ) (v : View Holds) (new : ℕ) →
     GoesOnCounting mutex_model (words.State ∷ []) both_holds MutexAgrees (AreGrantsIn mutex_table) way 0 (λ w. intents.Exchange w 0 new) p v.tally (Exchanged v)
-exchange_counts way p v new call place hold done comes past e found step name named act rest w told still is = dite (ℕ_discrete found 0)
-    (λ hit. on (found == 0) refl (subst (λ n. (n == 0) ≡ true) (sym hit) refl) (ap (λ (u : View Holds). u.tally.grants) (told.free hit).1))
-    (λ miss. off (found == 0) refl (ne_eqb found 0 miss) (ap (λ (u : View Holds). u.tally.grants) (told.taken miss)))
-  where
-    grants : grants_by mutex_table kinds.Write e.act (call_of e.party past) ≡ cond (found == 0) 1 0
-    grants = exchange_grants call place hold past e name new found step named act
-
-    on : (b : Bool) → (found == 0) ≡ b → b ≡ true → w.tally.grants ≡ v.tally.grants + 1 → AreGrantsIn mutex_table (e ∷ past) (both_holds w.tally rest)
-    on false test hit now = absurd cc
-    on true test hit now = next_grants mutex_table kinds.Write past e v.tally.grants w.tally.grants rest.grants (now ∙ omega (arith, grants ∙ ap (λ (b : Bool). cond b 1 0) test)) is
-
-    off : (b : Bool) → (found == 0) ≡ b → b ≡ false → w.tally.grants ≡ v.tally.grants → AreGrantsIn mutex_table (e ∷ past) (both_holds w.tally rest)
-    off true test miss now = absurd cc
-    off false test miss now = next_grants mutex_table kinds.Write past e v.tally.grants w.tally.grants rest.grants (now ∙ omega (arith, grants ∙ ap (λ (b : Bool). cond b 1 0) test)) is
+exchange_counts way p v new call place hold done comes past e found step name named act rest w told still is =
+    let grants = exchange_grants call place hold past e name new found step named act in dite (ℕ_discrete found 0)
+    (λ hit. let now = ap (λ (u : View Holds). u.tally.grants) (told.free hit).1 in
+    next_grants mutex_table kinds.Write past e v.tally.grants w.tally.grants rest.grants (now ∙ omega (arith, at_zero found _ grants hit)) is)
+    (λ miss. let now = ap (λ (u : View Holds). u.tally.grants) (told.taken miss) in
+    next_grants mutex_table kinds.Write past e v.tally.grants w.tally.grants rest.grants (now ∙ omega (arith, beside_zero found _ grants miss)) is)
 
 pub store_counts : (way : Coming ℕ) (p : Parties ℕ) (v : View Holds) → GoesOnCounting mutex_model (words.State ∷ []) both_holds MutexAgrees (AreGrantsIn mutex_table) way 0 (λ w. intents.Store w 0) p v.tally (λ _. Stored v)
 store_counts way p v call place hold done comes past e found step name named act rest w told still is =

@@ -24,7 +24,7 @@ use Rattle.passes.specs.declared.view.View.{View}
 use Rattle.playing.specs.Slots.{Parties}
 use Rattle.playing.specs.Holding.{is_kind}
 use Rattle.playing.specs.Plays.{Coming, IsStepAt}
-use Rattle.playing.specs.Sums.{grants_by, next_grants}
+use Rattle.playing.specs.Sums.{grants_by, no_kind, next_grants}
 use Rattle.playing.proofs.OfARun.{of_a_run}
 use Rattle.passes.specs.Views.{sum_of}
 use Rattle.playing.specs.Passes.{GoesOnCounting, none_played, both_played}
@@ -64,10 +64,6 @@ Grantless (acts.Load w seen) = Unit {0}
 Grantless (acts.Store w put) = Unit {0}
 Grantless (acts.Add w old put) = Unit {0}
 Grantless other = ⊥
-
-no_kind : (kind : HoldKind) → ◌≡◌ {A = ℕ} (cond (is_kind kind None) 1 0) 0
-no_kind kinds.Read = refl
-no_kind kinds.Write = refl
 
 grantless : (kind : HoldKind) (act : Act ℕ) (pending : Option (PendingCall ℕ)) → Grantless act → grants_by rw_writer_table kind act pending ≡ 0
 grantless kind (acts.Load w seen) pending is = no_kind kind

@@ -1,6 +1,6 @@
 -- Each step of a lock that guards a value keeps its rule, whatever model its passes play.
-use Rattle.std.proofs.Common.{◌≡◌, ◌≢◌, ℕ, ◌+◌, ◌==◌, ◌<◌, ◌≤◌, eqb, Bool, cond, List, [], ◌∷◌, get_or, set, sym, refl, ap, ◌∙◌, subst, arith, true, Option, Some, None, length-set, get_or-set_same, true-eqb}
-use Rattle.std.proofs.lemmas.Bool.{and_parts, false≢true, ne_eqb}
+use Rattle.std.proofs.Common.{◌≡◌, ◌≢◌, ℕ, ◌+◌, ◌==◌, ◌<◌, ◌≤◌, eqb, cond, List, [], ◌∷◌, get_or, set, sym, refl, ap, ◌∙◌, subst, arith, true, Option, Some, None, length-set, get_or-set_same, true-eqb}
+use Rattle.std.proofs.lemmas.Bool.{and_parts, false≢true}
 use mathlib.Core.Logic.{dite}
 use mathlib.Core.Option as maybe
 use native.Mathlib.Decide.{ℕ_discrete}
@@ -39,7 +39,7 @@ use Rattle.playing.proofs.OfARun.{of_a_run}
 use Rattle.playing.proofs.Updates.{makes, made_run}
 use Rattle.tallies.specs.declared.mutex.Holds.{Holds}
 use Rattle.tallies.specs.MutexRule.{no_holds, both_holds, AreGrantsIn}
-use Rattle.tallies.specs.MutexTally.{holds_add_up, grants_stay}
+use Rattle.tallies.specs.MutexTally.{holds_add_up, grants_stay, at_zero, beside_zero}
 use Rattle.running_spin_lock.specs.ValueRule.{none_held, both_held, core_held, IsGuarding, ValueAgrees, OneHolder}
 use Rattle.running_spin_lock.specs.ValueSteps.{granted, released, Tried, Stored, is_vacant, has_vacant_slot}
 
@@ -48,12 +48,6 @@ abbrev pub GrantsAtZero : {P : Type 0} → Model ℕ P → (Word → Intent ℕ)
 GrantsAtZero {P} m intent =
     (call : Call ℕ) (place : P) (hold : Option HoldKind) (past : List (Event ℕ)) (e : Event ℕ) (name : Word) (found : ℕ) → IsStepAt m call place hold found past e → words.State ≡ name →
     e.act ≡ carried_out (intent name) (λ _. found) → grants_by m.table kinds.Write e.act (call_of e.party past) ≡ cond (found == 0) 1 0
-
-at_zero : (found grants : ℕ) → grants ≡ cond (found == 0) 1 0 → found ≡ 0 → grants ≡ 1
-at_zero found grants is zero = is ∙ ap (λ (n : ℕ). cond (n == 0) 1 0) zero
-
-beside_zero : (found grants : ℕ) → grants ≡ cond (found == 0) 1 0 → found ≢ 0 → grants ≡ 0
-beside_zero found grants is some = is ∙ ap (λ (b : Bool). cond b 1 0) (ne_eqb found 0 some)
 
 module _ {M Q : Type 0} where
   pub held_add_up : IsTally {T = Played M Q ℕ Holds} none_held both_held core_held

@@ -1,5 +1,6 @@
 -- What the passes of a mutex count adds up, and acts on no word grant nothing.
-use Rattle.std.proofs.Common.{ℕ, ◌+◌, ◌≡◌, arith}
+use Rattle.std.proofs.Common.{ℕ, ◌+◌, ◌≡◌, ◌≢◌, ◌==◌, Bool, cond, ap, ◌∙◌, arith}
+use Rattle.std.proofs.lemmas.Bool.{ne_eqb}
 use Rattle.steps_events.specs.declared.hold.HoldKind.TheVariants as kinds
 use Rattle.steps_events.specs.Tables.{Table}
 use Rattle.playing.specs.Passes.{StaysOnNoWord}
@@ -20,3 +21,11 @@ holds_add_up = record {
 
 pub grants_stay : {V P : Type 0} (t : Table V P) → StaysOnNoWord (AreGrantsIn t)
 grants_stay t past e counts quiet is = same_grants t kinds.Write past e counts.grants quiet is
+
+-- a step that grants where it found 0
+
+pub at_zero : (found grants : ℕ) → grants ≡ cond (found == 0) 1 0 → found ≡ 0 → grants ≡ 1
+at_zero found grants is zero = is ∙ ap (λ (n : ℕ). cond (n == 0) 1 0) zero
+
+pub beside_zero : (found grants : ℕ) → grants ≡ cond (found == 0) 1 0 → found ≢ 0 → grants ≡ 0
+beside_zero found grants is some = is ∙ ap (λ (b : Bool). cond b 1 0) (ne_eqb found 0 some)
