@@ -1,13 +1,14 @@
 //! The atomic: two data words under a reader-preferring lock.
 #![tactic(auto)]
 
-ghost use Rattle.std.specs.Prelude.{◌≡◌, Option, ℕ, List};
+ghost use Rattle.std.specs.Prelude.{◌≡◌, Option, ℕ, List, ⊤};
 ghost use Rattle.steps_events.specs.declared.event.Event.{Event as AnEvent};
 ghost use Rattle.steps_events.specs.Arithmetic.{IsValue, IsClosed};
 ghost use Rattle.steps_events.specs.Runs.{IsPast};
 ghost use Rattle.steps_atomic.specs.Law.{KeepsAtomic};
 ghost use Rattle.steps_atomic.specs.Table.{atomic_begins, atomic_intent, atomic_after, atomic_chosen, atomic_grant, look_at, puts, inside, knows, atomic_table};
 
+use std::alloc::AllocError;
 use steps_events::WaitAction;
 use steps_events::atomic::internal::AtomicInteger;
 use steps_events::event::{Answer, Call, Word};
@@ -17,7 +18,7 @@ use steps_rw_reader::{RwReaderPlace, reader_enters};
 
 /// Where a party is in a call at an atomic; each place is named for its next step. It keeps what the call was begun with as long as the
 /// call needs it, and then the words that it stores and what it answers.
-#[derive(Clone, Copy)]
+#[derive(Copy)]
 pub enum AtomicPlace<T> {
     /// A load of the lock's word, in `Load`.
     Look,
@@ -50,6 +51,16 @@ pub enum AtomicPlace<T> {
     },
     /// The release of the lock, by the kind of the party's hold.
     Leave(Answer<T>),
+}
+
+impl<T: Copy> Clone for AtomicPlace<T> {
+    ghost is_clone = { λ x y. y ≡ x };
+
+    ghost is_infallible = { λ _. ⊤ };
+
+    fn clone(&self) -> Result<Self, AllocError> {
+        Ok(*self)
+    }
 }
 
 impl<T: Copy> AtomicPlace<T> {

@@ -1,4 +1,10 @@
+//! What a run is made of: the words, the calls and the answers of objects, and events, in each of which one atomic step is made.
+//!
+//! A value of these is cloned as it is copied: a derived `Clone` goes through each variant, and its proof costs as much as the rest here.
+ghost use Rattle.std.specs.Prelude.{◌≡◌, ⊤};
+
 use crate::WaitAction;
+use std::alloc::AllocError;
 
 /// A word of an object: each is one atomic 64-bit word.
 #[derive(Clone, Copy, Debug, PartialEq, Eq)]
@@ -29,7 +35,7 @@ pub enum Wake {
 /// A call of a party at the object, named as in the Rust crate.
 ///
 /// Each object has some of them. The values that the calls of an `Atomic` bring are of its integer type `T`.
-#[derive(Clone, Copy)]
+#[derive(Copy)]
 pub enum Call<T> {
     /// Takes the lock; waits while it is held.
     Lock,
@@ -95,8 +101,18 @@ pub enum Call<T> {
     FetchUpdate,
 }
 
+impl<T: Copy> Clone for Call<T> {
+    ghost is_clone = { λ x y. y ≡ x };
+
+    ghost is_infallible = { λ _. ⊤ };
+
+    fn clone(&self) -> Result<Self, AllocError> {
+        Ok(*self)
+    }
+}
+
 /// What an event did.
-#[derive(Clone, Copy)]
+#[derive(Copy)]
 pub enum Act<T> {
     /// A call began.
     Begun(Call<T>),
@@ -142,8 +158,18 @@ pub enum Act<T> {
     ReadCell(T),
 }
 
+impl<T: Copy> Clone for Act<T> {
+    ghost is_clone = { λ x y. y ≡ x };
+
+    ghost is_infallible = { λ _. ⊤ };
+
+    fn clone(&self) -> Result<Self, AllocError> {
+        Ok(*self)
+    }
+}
+
 /// What a call answers.
-#[derive(Clone, Copy)]
+#[derive(Copy)]
 pub enum Answer<T> {
     /// The hold or the permit is taken.
     Success,
@@ -169,8 +195,18 @@ pub enum Answer<T> {
     ErrOld(T),
 }
 
+impl<T: Copy> Clone for Answer<T> {
+    ghost is_clone = { λ x y. y ≡ x };
+
+    ghost is_infallible = { λ _. ⊤ };
+
+    fn clone(&self) -> Result<Self, AllocError> {
+        Ok(*self)
+    }
+}
+
 /// How a call stands after an event.
-#[derive(Clone, Copy)]
+#[derive(Copy)]
 pub enum Then<T> {
     /// It goes on by itself.
     GoesOn,
@@ -182,9 +218,19 @@ pub enum Then<T> {
     Answers(Answer<T>),
 }
 
+impl<T: Copy> Clone for Then<T> {
+    ghost is_clone = { λ x y. y ≡ x };
+
+    ghost is_infallible = { λ _. ⊤ };
+
+    fn clone(&self) -> Result<Self, AllocError> {
+        Ok(*self)
+    }
+}
+
 /// One event: one atomic step, one call of a wake closure, one answer of a wait or choice closure, the end of a
 /// once's closure, one read of a lazy value, or the beginning of a call.
-#[derive(Clone, Copy)]
+#[derive(Copy)]
 pub struct Event<T> {
     /// The party, counted from 0.
     pub party: usize,
@@ -194,8 +240,18 @@ pub struct Event<T> {
     pub then: Then<T>,
 }
 
+impl<T: Copy> Clone for Event<T> {
+    ghost is_clone = { λ x y. y ≡ x };
+
+    ghost is_infallible = { λ _. ⊤ };
+
+    fn clone(&self) -> Result<Self, AllocError> {
+        Ok(*self)
+    }
+}
+
 /// What a schedule asks of a party.
-#[derive(Clone, Copy)]
+#[derive(Copy)]
 pub enum Input<T> {
     /// It begins this call.
     Begin(Call<T>),
@@ -207,8 +263,18 @@ pub enum Input<T> {
     Choose(Option<T>),
 }
 
+impl<T: Copy> Clone for Input<T> {
+    ghost is_clone = { λ x y. y ≡ x };
+
+    ghost is_infallible = { λ _. ⊤ };
+
+    fn clone(&self) -> Result<Self, AllocError> {
+        Ok(*self)
+    }
+}
+
 /// A primitive, with what it is opened with.
-#[derive(Clone, Copy)]
+#[derive(Copy)]
 pub enum Object<T> {
     /// A lock for one; free at first.
     Mutex,
@@ -230,6 +296,16 @@ pub enum Object<T> {
     Lazy(T),
     /// With its initial value.
     Atomic(T),
+}
+
+impl<T: Copy> Clone for Object<T> {
+    ghost is_clone = { λ x y. y ≡ x };
+
+    ghost is_infallible = { λ _. ⊤ };
+
+    fn clone(&self) -> Result<Self, AllocError> {
+        Ok(*self)
+    }
 }
 
 /// Why a machine refused an input; it is unchanged then. The first that applies, in this order.

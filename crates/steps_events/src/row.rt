@@ -1,11 +1,12 @@
 //! The rows of a table of steps: what a step is to do, and how its call goes on by what the step finds.
-ghost use Rattle.std.specs.Prelude.{◌≡◌};
+ghost use Rattle.std.specs.Prelude.{◌≡◌, ⊤};
 ghost use Rattle.steps_events.specs.Rows.{value_told, outcome_of, IsWithin};
 
 use crate::event::{Act, Answer, Then, Wake, Word};
+use std::alloc::AllocError;
 
 /// What a step is to do, before any word is read.
-#[derive(Clone, Copy)]
+#[derive(Copy)]
 pub enum Intent<T> {
     /// A load.
     Load(Word),
@@ -27,8 +28,18 @@ pub enum Intent<T> {
     ReadCell(T),
 }
 
+impl<T: Copy> Clone for Intent<T> {
+    ghost is_clone = { λ x y. y ≡ x };
+
+    ghost is_infallible = { λ _. ⊤ };
+
+    fn clone(&self) -> Result<Self, AllocError> {
+        Ok(*self)
+    }
+}
+
 /// How a call goes on after a step.
-#[derive(Clone, Copy)]
+#[derive(Copy)]
 pub enum After<T, P> {
     /// By itself, from this place.
     At(P),
@@ -38,6 +49,16 @@ pub enum After<T, P> {
     Chooses(P, T),
     /// It has ended with this answer.
     Ends(Answer<T>),
+}
+
+impl<T: Copy, P: Copy> Clone for After<T, P> {
+    ghost is_clone = { λ x y. y ≡ x };
+
+    ghost is_infallible = { λ _. ⊤ };
+
+    fn clone(&self) -> Result<Self, AllocError> {
+        Ok(*self)
+    }
 }
 
 impl<T, P> After<T, P> {

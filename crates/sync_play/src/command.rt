@@ -1,5 +1,5 @@
 //! What a line after the first asks, and of whom.
-ghost use Rattle.std.specs.Prelude.{◌≡◌, ◌||◌, List, is_some};
+ghost use Rattle.std.specs.Prelude.{◌≡◌, ◌||◌, List, is_some, ⊤};
 ghost use Rattle.sync_play.specs.Lexer.{words_of};
 ghost use Rattle.sync_play.specs.Command as meaning;
 
@@ -8,6 +8,7 @@ use crate::integer::TextInteger;
 use crate::lexer::{
     is, next_word, nothing, number_within, only_number, only_two_values, only_value,
 };
+use std::alloc::AllocError;
 use sync_steps::WaitAction;
 use sync_steps::steps::{Call, Input, Object};
 
@@ -15,7 +16,7 @@ use sync_steps::steps::{Call, Input, Object};
 pub const STEP_LIMIT: u64 = 100000;
 
 /// What is asked of a party, or what is left of it.
-#[derive(Clone, Copy)]
+#[derive(Copy)]
 pub enum Task<T> {
     /// One input.
     Give(Input<T>),
@@ -25,15 +26,35 @@ pub enum Task<T> {
     Run(u64),
 }
 
+impl<T: Copy> Clone for Task<T> {
+    ghost is_clone = { λ x y. y ≡ x };
+
+    ghost is_infallible = { λ _. ⊤ };
+
+    fn clone(&self) -> Result<Self, AllocError> {
+        Ok(*self)
+    }
+}
+
 /// A party, counted from 0, and what is asked of it.
-#[derive(Clone, Copy)]
+#[derive(Copy)]
 pub struct Command<T> {
     pub party: usize,
     pub task: Task<T>,
 }
 
+impl<T: Copy> Clone for Command<T> {
+    ghost is_clone = { λ x y. y ≡ x };
+
+    ghost is_infallible = { λ _. ⊤ };
+
+    fn clone(&self) -> Result<Self, AllocError> {
+        Ok(*self)
+    }
+}
+
 /// What a verb asks, and the numbers that follow it.
-#[derive(Clone, Copy)]
+#[derive(Copy)]
 enum Form<T> {
     /// This task; no number follows.
     Alone(Task<T>),
@@ -49,6 +70,16 @@ enum Form<T> {
     Exchange,
     /// A weak one.
     ExchangeWeak,
+}
+
+impl<T: Copy> Clone for Form<T> {
+    ghost is_clone = { λ x y. y ≡ x };
+
+    ghost is_infallible = { λ _. ⊤ };
+
+    fn clone(&self) -> Result<Self, AllocError> {
+        Ok(*self)
+    }
 }
 
 /// A call of an atomic that brings one value.

@@ -1,21 +1,32 @@
 //! What the first line names.
-ghost use Rattle.std.specs.Prelude.{◌≡◌, ◌≤◌, true, List, IfOk};
+ghost use Rattle.std.specs.Prelude.{◌≡◌, ◌≤◌, true, List, IfOk, ⊤};
 ghost use Rattle.sync_play.specs.Lexer.{words_of, number_within};
 ghost use Rattle.sync_play.specs.Header as meaning;
 
 use crate::fault::LineFault;
 use crate::integer::TextInteger;
 use crate::lexer::{is, next_word, number_within, only_number};
+use std::alloc::AllocError;
 use sync_steps::steps::Object;
 
 /// How many parties an object has at most.
 pub const MOST_PARTIES: u64 = 64;
 
 /// An object, and how many parties use it.
-#[derive(Clone, Copy)]
+#[derive(Copy)]
 pub struct Header<T> {
     pub object: Object<T>,
     pub parties: usize,
+}
+
+impl<T: Copy> Clone for Header<T> {
+    ghost is_clone = { λ x y. y ≡ x };
+
+    ghost is_infallible = { λ _. ⊤ };
+
+    fn clone(&self) -> Result<Self, AllocError> {
+        Ok(*self)
+    }
 }
 
 /// The parties of an object that is opened without a value.

@@ -1,5 +1,5 @@
 //! Walks a text step by step.
-ghost use Rattle.std.specs.Prelude.{◌≡◌, ◌+◌, ◌^◌, ◌<◌, ℕ, true, List, length, Ok, Err, IfOk, IfErr, IfSome};
+ghost use Rattle.std.specs.Prelude.{◌≡◌, ◌+◌, ◌^◌, ◌<◌, ℕ, true, List, length, Ok, Err, IfOk, IfErr, IfSome, ⊤};
 ghost use Rattle.sync_steps.specs.Machine.{StandsAt};
 ghost use Rattle.steps_events.specs.declared.event.Event.{Event as AnEvent};
 ghost use Rattle.steps_events.specs.declared.event.Object.{Object as AnObject};
@@ -14,28 +14,59 @@ use crate::header::Header;
 use crate::integer::TextInteger;
 use crate::lexer::next_line;
 use crate::player::next_events;
+use std::alloc::AllocError;
 use sync_steps::steps::{Event, Machine, Object};
 
 /// An event, and the line that asked for it, counted from 1.
-#[derive(Clone, Copy)]
+#[derive(Copy)]
 pub struct Step<T> {
     pub line: u64,
     pub event: Event<T>,
 }
 
+impl<T: Copy> Clone for Step<T> {
+    ghost is_clone = { λ x y. y ≡ x };
+
+    ghost is_infallible = { λ _. ⊤ };
+
+    fn clone(&self) -> Result<Self, AllocError> {
+        Ok(*self)
+    }
+}
+
 /// Equal steps in a row: one, or those of a call that spins.
-#[derive(Clone, Copy)]
+#[derive(Copy)]
 pub struct Stride<T> {
     pub step: Step<T>,
     pub times: u64,
 }
 
+impl<T: Copy> Clone for Stride<T> {
+    ghost is_clone = { λ x y. y ≡ x };
+
+    ghost is_infallible = { λ _. ⊤ };
+
+    fn clone(&self) -> Result<Self, AllocError> {
+        Ok(*self)
+    }
+}
+
 /// What is left of a text: of line `line` what `left` asks, and all the lines after it.
-#[derive(Clone, Copy)]
+#[derive(Copy)]
 pub struct Rest<'t, T> {
     pub line: u64,
     pub left: Command<T>,
     pub lines: &'t [u8],
+}
+
+impl<'t, T: Copy> Clone for Rest<'t, T> {
+    ghost is_clone = { λ x y. y ≡ x };
+
+    ghost is_infallible = { λ _. ⊤ };
+
+    fn clone(&self) -> Result<Self, AllocError> {
+        Ok(*self)
+    }
 }
 
 /// What asks for no step.

@@ -1,5 +1,5 @@
 //! Where the parties of a machine are, and which primitive's row that is.
-ghost use Rattle.std.specs.Prelude.{◌≡◌, true, is_some};
+ghost use Rattle.std.specs.Prelude.{◌≡◌, true, is_some, ⊤};
 ghost use Rattle.steps_events.specs.declared.event.Object.TheVariants as objects;
 ghost use Rattle.sync_steps.specs.Objects.{has_call as listed_call, is_rw_call as rw_call, is_register_call as register_call, wants_hold, has_word, woken_word};
 ghost use Rattle.sync_steps.specs.Machine.Places.{begins_at, intent_at, after_at, answered_at, chosen_at, grant_at, needs_hold_at, watched_word};
@@ -22,7 +22,7 @@ use steps_semaphore::SemaphorePlace;
 use steps_spin::SpinPlace;
 
 /// Where a party is in its call: a place of its object's primitive.
-#[derive(Clone, Copy)]
+#[derive(Copy)]
 pub enum Place<T> {
     Mutex(MutexPlace),
     Spin(SpinPlace),
@@ -37,6 +37,16 @@ pub enum Place<T> {
     Atomic(AtomicPlace<T>),
 }
 
+impl<T: Copy> Clone for Place<T> {
+    ghost is_clone = { λ x y. y ≡ x };
+
+    ghost is_infallible = { λ _. ⊤ };
+
+    fn clone(&self) -> Result<Self, AllocError> {
+        Ok(*self)
+    }
+}
+
 /// A closure at which a call stands until it has answered.
 #[derive(Clone, Copy, PartialEq, Eq)]
 pub enum Closure {
@@ -45,11 +55,21 @@ pub enum Closure {
 }
 
 /// A call under way: where it is, and whether it stands at a closure.
-#[derive(Clone, Copy)]
+#[derive(Copy)]
 pub struct Doing<T> {
     pub call: Call<T>,
     pub place: Place<T>,
     pub stands: Option<Closure>,
+}
+
+impl<T: Copy> Clone for Doing<T> {
+    ghost is_clone = { λ x y. y ≡ x };
+
+    ghost is_infallible = { λ _. ⊤ };
+
+    fn clone(&self) -> Result<Self, AllocError> {
+        Ok(*self)
+    }
 }
 
 /// A party: the call that it has under way, and what it holds.
