@@ -1,5 +1,5 @@
 //! An atomic: its worked texts, as inputs and what is told of them, in one piece and in two.
-use std::alloc::Global;
+use std::alloc::{AllocError, Global};
 use std::test::Fail;
 use steps_atomic::{AtomicPlace, at_every_front, closed, grant};
 use steps_events::hold::HoldKind;
@@ -11,12 +11,18 @@ use sync_steps::steps::{
 };
 
 /// What a line of a text asks of a party.
-#[derive(Clone, Copy)]
+#[derive(Copy)]
 enum Line<T> {
     Begins(Call<T>),
     Goes(u64),
     Runs,
     Chooses(Option<T>),
+}
+
+impl<T: Copy> Clone for Line<T> {
+    fn clone(&self) -> Result<Self, AllocError> {
+        Ok(*self)
+    }
 }
 
 /// What a text tells of an event: how its call stands after it.
