@@ -1,8 +1,10 @@
 //! What a line after the first asks, and of whom.
 ghost use Rattle.std.specs.Prelude.{◌≡◌, ◌||◌, List, is_some, ⊤};
 ghost use Rattle.sync_play.specs.Lexer.{words_of};
+ghost use Rattle.sync_play.specs.Call.{named as call_of_name, calls_of as listed_calls};
 ghost use Rattle.sync_play.specs.Command as meaning;
 
+use crate::call::{calls_of, named};
 use crate::fault::LineFault;
 use crate::integer::TextInteger;
 use crate::lexer::{
@@ -53,7 +55,7 @@ impl<T: Copy> Clone for Command<T> {
     }
 }
 
-/// What a verb asks, and the numbers that follow it.
+/// What a verb that every object knows asks, and the numbers that follow it.
 #[derive(Copy)]
 enum Form<T> {
     /// This task; no number follows.
@@ -62,14 +64,6 @@ enum Form<T> {
     Steps,
     /// An answer of the choice closure, with its value.
     Choice,
-    /// A post, with how many permits.
-    Permits,
-    /// A call of an atomic, with the value that it brings.
-    Operand(Operation),
-    /// A compare-exchange, with what it is from and to.
-    Exchange,
-    /// A weak one.
-    ExchangeWeak,
 }
 
 impl<T: Copy> Clone for Form<T> {
@@ -80,48 +74,6 @@ impl<T: Copy> Clone for Form<T> {
     fn clone(&self) -> Result<Self, AllocError> {
         Ok(*self)
     }
-}
-
-/// A call of an atomic that brings one value.
-#[derive(Clone, Copy)]
-enum Operation {
-    Store,
-    Swap,
-    FetchAdd,
-    FetchSub,
-    FetchAnd,
-    FetchOr,
-    FetchXor,
-    FetchNand,
-    FetchMax,
-    FetchMin,
-}
-
-impl Operation {
-    /// The call with its value.
-    fn with_value<T>(self, value: T) -> Call<T>
-        ensures { result ≡ meaning.with_value self value }
-    {
-        match self {
-            Operation::Store => Call::Store(value),
-            Operation::Swap => Call::Swap(value),
-            Operation::FetchAdd => Call::FetchAdd(value),
-            Operation::FetchSub => Call::FetchSub(value),
-            Operation::FetchAnd => Call::FetchAnd(value),
-            Operation::FetchOr => Call::FetchOr(value),
-            Operation::FetchXor => Call::FetchXor(value),
-            Operation::FetchNand => Call::FetchNand(value),
-            Operation::FetchMax => Call::FetchMax(value),
-            Operation::FetchMin => Call::FetchMin(value),
-        }
-    }
-}
-
-/// A call that no number follows.
-fn begins<T>(call: Call<T>) -> Form<T>
-    ensures { result ≡ meaning.begins call }
-{
-    Form::Alone(Task::Give(Input::Begin(call)))
 }
 
 /// The verbs that every object knows.
@@ -146,178 +98,11 @@ fn verb<T>(name: &[u8]) -> Option<Form<T>>
     }
 }
 
-fn mutex_call<T>(name: &[u8]) -> Option<Form<T>>
-    ensures { result ≡ meaning.find name.now meaning.mutex_calls }
-{
-    if is(name, b"lock") {
-        Some(begins(Call::Lock))
-    } else if is(name, b"try_lock") {
-        Some(begins(Call::TryLock))
-    } else if is(name, b"unlock") {
-        Some(begins(Call::Unlock))
-    } else {
-        None
-    }
-}
-
-fn spin_call<T>(name: &[u8]) -> Option<Form<T>>
-    ensures { result ≡ meaning.find name.now meaning.spin_calls }
-{
-    if is(name, b"lock") {
-        Some(begins(Call::Lock))
-    } else if is(name, b"blocking_lock") {
-        Some(begins(Call::BlockingLock))
-    } else if is(name, b"try_lock") {
-        Some(begins(Call::TryLock))
-    } else if is(name, b"unlock") {
-        Some(begins(Call::Unlock))
-    } else {
-        None
-    }
-}
-
-/// A call that is named `wait` is written `start_wait`, since `wait` is the closure's answer.
-fn semaphore_call<T>(name: &[u8]) -> Option<Form<T>>
-    ensures { result ≡ meaning.find name.now meaning.semaphore_calls }
-{
-    if is(name, b"value") {
-        Some(begins(Call::Value))
-    } else if is(name, b"post") {
-        Some(Form::Permits)
-    } else if is(name, b"start_wait") {
-        Some(begins(Call::Wait))
-    } else if is(name, b"try_wait") {
-        Some(begins(Call::TryWait))
-    } else {
-        None
-    }
-}
-
-/// The calls of both reader-writer locks.
-fn rw_lock_call<T>(name: &[u8]) -> Option<Form<T>>
-    ensures { result ≡ meaning.find name.now meaning.rw_lock_calls }
-{
-    if is(name, b"read_lock") {
-        Some(begins(Call::ReadLock))
-    } else if is(name, b"try_read_lock") {
-        Some(begins(Call::TryReadLock))
-    } else if is(name, b"write_lock") {
-        Some(begins(Call::WriteLock))
-    } else if is(name, b"try_write_lock") {
-        Some(begins(Call::TryWriteLock))
-    } else if is(name, b"unlock") {
-        Some(begins(Call::Unlock))
-    } else {
-        None
-    }
-}
-
-/// Its one call is written `start_wait`, as a semaphore's.
-fn barrier_call<T>(name: &[u8]) -> Option<Form<T>>
-    ensures { result ≡ meaning.find name.now meaning.barrier_calls }
-{
-    if is(name, b"start_wait") {
-        Some(begins(Call::Wait))
-    } else {
-        None
-    }
-}
-
-/// The calls of its mutex, and its own.
-fn condvar_call<T>(name: &[u8]) -> Option<Form<T>>
-    ensures { result ≡ meaning.find name.now meaning.condvar_calls }
-{
-    if is(name, b"notify_one") {
-        Some(begins(Call::NotifyOne))
-    } else if is(name, b"notify_all") {
-        Some(begins(Call::NotifyAll))
-    } else if is(name, b"start_wait") {
-        Some(begins(Call::Wait))
-    } else {
-        mutex_call(name)
-    }
-}
-
-fn once_call<T>(name: &[u8]) -> Option<Form<T>>
-    ensures { result ≡ meaning.find name.now meaning.once_calls }
-{
-    if is(name, b"call_once") {
-        Some(begins(Call::CallOnce))
-    } else if is(name, b"is_completed") {
-        Some(begins(Call::IsCompleted))
-    } else {
-        None
-    }
-}
-
-fn lazy_call<T>(name: &[u8]) -> Option<Form<T>>
-    ensures { result ≡ meaning.find name.now meaning.lazy_calls }
-{
-    if is(name, b"force") {
-        Some(begins(Call::Force))
-    } else {
-        None
-    }
-}
-
-fn atomic_call<T>(name: &[u8]) -> Option<Form<T>>
-    ensures { result ≡ meaning.find name.now meaning.atomic_calls }
-{
-    if is(name, b"load") {
-        Some(begins(Call::Load))
-    } else if is(name, b"store") {
-        Some(Form::Operand(Operation::Store))
-    } else if is(name, b"swap") {
-        Some(Form::Operand(Operation::Swap))
-    } else if is(name, b"compare_exchange") {
-        Some(Form::Exchange)
-    } else if is(name, b"compare_exchange_weak") {
-        Some(Form::ExchangeWeak)
-    } else if is(name, b"fetch_add") {
-        Some(Form::Operand(Operation::FetchAdd))
-    } else if is(name, b"fetch_sub") {
-        Some(Form::Operand(Operation::FetchSub))
-    } else if is(name, b"fetch_and") {
-        Some(Form::Operand(Operation::FetchAnd))
-    } else if is(name, b"fetch_or") {
-        Some(Form::Operand(Operation::FetchOr))
-    } else if is(name, b"fetch_xor") {
-        Some(Form::Operand(Operation::FetchXor))
-    } else if is(name, b"fetch_nand") {
-        Some(Form::Operand(Operation::FetchNand))
-    } else if is(name, b"fetch_max") {
-        Some(Form::Operand(Operation::FetchMax))
-    } else if is(name, b"fetch_min") {
-        Some(Form::Operand(Operation::FetchMin))
-    } else if is(name, b"fetch_update") {
-        Some(begins(Call::FetchUpdate))
-    } else {
-        None
-    }
-}
-
-/// The calls of an object.
-fn named_call<T: Copy>(object: Object<T>, name: &[u8]) -> Option<Form<T>>
-    ensures { result ≡ meaning.find name.now (meaning.calls_of object) }
-{
-    match object {
-        Object::Mutex => mutex_call(name),
-        Object::Spin => spin_call(name),
-        Object::Semaphore(_) => semaphore_call(name),
-        Object::ReaderLock | Object::WriterLock => rw_lock_call(name),
-        Object::Barrier(_) => barrier_call(name),
-        Object::Condvar => condvar_call(name),
-        Object::Once => once_call(name),
-        Object::Lazy(_) => lazy_call(name),
-        Object::Atomic(_) => atomic_call(name),
-    }
-}
-
 /// Whether this is a verb that a text knows of the object: one of those of every object, or one of its calls.
 pub fn is_known<T: Copy>(object: Object<T>, name: &[u8]) -> bool
-    ensures { result ≡ is_some (meaning.find {T = T} name.now meaning.verbs) || is_some (meaning.find name.now (meaning.calls_of object)) }
+    ensures { result ≡ is_some (meaning.find {T = T} name.now meaning.verbs) || is_some (call_of_name name.now (listed_calls object)) }
 {
-    verb::<T>(name).is_some() || named_call(object, name).is_some()
+    verb::<T>(name).is_some() || named(name, calls_of(&object)).is_some()
 }
 
 /// As many steps as the number says, or one where none follows.
@@ -330,7 +115,7 @@ fn steps<T>(rest: &[u8]) -> Result<Task<T>, LineFault>
     }
 }
 
-/// The task that a verb asks with the words after it.
+/// The task that a verb of every object asks with the words after it.
 fn with_numbers<T: TextInteger>(form: Form<T>, rest: &[u8]) -> Result<Task<T>, LineFault>
     ensures { result ≡ meaning.task_by T.numerals form (words_of rest.now) }
 {
@@ -344,26 +129,80 @@ fn with_numbers<T: TextInteger>(form: Form<T>, rest: &[u8]) -> Result<Task<T>, L
             let value = only_value(rest)?;
             Ok(Task::Give(Input::Choose(Some(value))))
         }
-        Form::Permits => {
-            let permits = only_number(0, u64::MAX, rest)?;
-            Ok(Task::Give(Input::Begin(Call::Post(permits))))
-        }
-        Form::Operand(operation) => {
-            let value = only_value(rest)?;
-            Ok(Task::Give(Input::Begin(operation.with_value(value))))
-        }
-        Form::Exchange => {
+    }
+}
+
+/// A call that brings no value; nothing follows it.
+fn alone<T: Copy>(call: Call<T>, rest: &[u8]) -> Result<Call<T>, LineFault>
+    ensures { result ≡ meaning.alone call (words_of rest.now) }
+{
+    match nothing(rest) {
+        Ok(()) => Ok(call),
+        Err(fault) => Err(fault),
+    }
+}
+
+/// The call with the values that follow its name.
+fn with_values<T: TextInteger>(call: Call<()>, rest: &[u8]) -> Result<Call<T>, LineFault>
+    ensures { result ≡ meaning.with_values T.numerals call (words_of rest.now) }
+{
+    match call {
+        Call::Lock => alone(Call::Lock, rest),
+        Call::TryLock => alone(Call::TryLock, rest),
+        Call::BlockingLock => alone(Call::BlockingLock, rest),
+        Call::Unlock => alone(Call::Unlock, rest),
+        Call::Value => alone(Call::Value, rest),
+        Call::Post(_) => Ok(Call::Post(only_number(0, u64::MAX, rest)?)),
+        Call::Wait => alone(Call::Wait, rest),
+        Call::TryWait => alone(Call::TryWait, rest),
+        Call::ReadLock => alone(Call::ReadLock, rest),
+        Call::TryReadLock => alone(Call::TryReadLock, rest),
+        Call::WriteLock => alone(Call::WriteLock, rest),
+        Call::TryWriteLock => alone(Call::TryWriteLock, rest),
+        Call::NotifyOne => alone(Call::NotifyOne, rest),
+        Call::NotifyAll => alone(Call::NotifyAll, rest),
+        Call::CallOnce => alone(Call::CallOnce, rest),
+        Call::IsCompleted => alone(Call::IsCompleted, rest),
+        Call::Force => alone(Call::Force, rest),
+        Call::Load => alone(Call::Load, rest),
+        Call::Store(()) => Ok(Call::Store(only_value(rest)?)),
+        Call::Swap(()) => Ok(Call::Swap(only_value(rest)?)),
+        Call::CompareExchange((), ()) => {
             let (from, to) = only_two_values(rest)?;
-            Ok(Task::Give(Input::Begin(Call::CompareExchange(from, to))))
+            Ok(Call::CompareExchange(from, to))
         }
-        Form::ExchangeWeak => {
+        Call::CompareExchangeWeak((), ()) => {
             let (from, to) = only_two_values(rest)?;
-            Ok(Task::Give(Input::Begin(Call::CompareExchangeWeak(from, to))))
+            Ok(Call::CompareExchangeWeak(from, to))
         }
+        Call::FetchAdd(()) => Ok(Call::FetchAdd(only_value(rest)?)),
+        Call::FetchSub(()) => Ok(Call::FetchSub(only_value(rest)?)),
+        Call::FetchAnd(()) => Ok(Call::FetchAnd(only_value(rest)?)),
+        Call::FetchOr(()) => Ok(Call::FetchOr(only_value(rest)?)),
+        Call::FetchXor(()) => Ok(Call::FetchXor(only_value(rest)?)),
+        Call::FetchNand(()) => Ok(Call::FetchNand(only_value(rest)?)),
+        Call::FetchMax(()) => Ok(Call::FetchMax(only_value(rest)?)),
+        Call::FetchMin(()) => Ok(Call::FetchMin(only_value(rest)?)),
+        Call::FetchUpdate => alone(Call::FetchUpdate, rest),
+    }
+}
+
+/// The call of an object that a line names, with its values.
+fn call_named<T: TextInteger>(
+    calls: &[Call<()>],
+    name: &[u8],
+    rest: &[u8],
+) -> Result<Task<T>, LineFault>
+    ensures { result ≡ meaning.call_if T.numerals (call_of_name name.now calls.now) (words_of rest.now) }
+{
+    match named(name, calls) {
+        Some(call) => Ok(Task::Give(Input::Begin(with_values(call, rest)?))),
+        None => Err(LineFault::BadLine),
     }
 }
 
 /// What the words of a verb and after it ask of the object.
+#[tactic(auto, unfolding(crate::specs::Command::task_of))]
 fn task_of<T: TextInteger>(
     object: Object<T>,
     name: &[u8],
@@ -371,12 +210,9 @@ fn task_of<T: TextInteger>(
 ) -> Result<Task<T>, LineFault>
     ensures { result ≡ meaning.task_of T.numerals object name.now (words_of rest.now) }
 {
-    if let Some(form) = verb(name) {
-        return with_numbers(form, rest);
-    }
-    match named_call(object, name) {
+    match verb(name) {
         Some(form) => with_numbers(form, rest),
-        None => Err(LineFault::BadLine),
+        None => call_named(calls_of(&object), name, rest),
     }
 }
 
