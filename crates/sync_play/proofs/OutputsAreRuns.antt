@@ -7,7 +7,6 @@ use Rattle.steps_events.specs.declared.event.Event.{Event}
 use Rattle.steps_events.specs.declared.event.Input.{Input}
 use Rattle.steps_events.specs.declared.event.Input.TheVariants as inputs
 use Rattle.steps_events.specs.declared.event.Object.{Object}
-use Rattle.steps_events.specs.declared.event.Object.TheVariants as objects
 use Rattle.steps_events.specs.declared.event.StepFault.{StepFault}
 use Rattle.steps_events.specs.Arithmetic.{Arithmetic, IsValue}
 use Rattle.steps_events.specs.Moves.{Move}
