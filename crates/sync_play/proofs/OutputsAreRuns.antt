@@ -21,6 +21,8 @@ use Rattle.sync_steps.specs.Runs.{IsRun}
 use Rattle.std.specs.Str.{bytes_eq}
 use Rattle.sync_play.specs.declared.command.Form.{Form}
 use Rattle.sync_play.specs.declared.command.Form.TheVariants as forms
+use Rattle.sync_play.specs.declared.command.Values.{Values}
+use Rattle.sync_play.specs.declared.command.Values.TheVariants as values
 use Rattle.sync_play.specs.declared.fault.FaultyLine.{FaultyLine}
 use Rattle.sync_play.specs.declared.fault.LineFault.{LineFault}
 use Rattle.sync_play.specs.declared.command.Task.{Task}
@@ -28,7 +30,7 @@ use Rattle.sync_play.specs.declared.command.Task.TheVariants as tasks
 use Rattle.sync_play.specs.declared.command.Command.{Command}
 use Rattle.sync_play.specs.Fault.{◌>>=◌, at_line}
 use Rattle.sync_play.specs.Call.{calls_of, named}
-use Rattle.sync_play.specs.Command.{find, verbs, alone, with_one, with_two, with_values, steps_asked, task_by, call_if, task_if, task_of, party_of, command_of}
+use Rattle.sync_play.specs.Command.{find, verbs, values_of, alone, with_one, with_two, with_these, with_values, steps_asked, task_by, call_if, task_if, task_of, party_of, command_of}
 use Rattle.sync_play.specs.Lexer.{words_of, number_within, nothing, only, only_two, only_number}
 use Rattle.sync_play.specs.Header.{header_of}
 use Rattle.sync_play.specs.Player.{event_by, unless_refused, event_of, events_of, run_of, steps_of, task_events}
@@ -147,67 +149,64 @@ module _ {T : Type 0} (z : Arithmetic T) (numerals : Numerals T) (reads : ReadsV
   abbrev MakesCall : Result (Call T) LineFault → Type 0
   MakesCall r = (c : Call T) → r ≡ Ok c → CallValues z c
 
-  alone_makes : (call : Call T) (words : List (List ℕ)) → CallValues z call → MakesCall (alone call words)
-  alone_makes call words is c e = let b = bind_ok (nothing words) (λ _. Ok call) c e in subst (CallValues z) (ok_is call c b.2) is
+  alone_values : (call : Call Unit) → CallValues z (alone {T = T} call)
+  alone_values calls.Lock = tt
+  alone_values calls.TryLock = tt
+  alone_values calls.BlockingLock = tt
+  alone_values calls.Unlock = tt
+  alone_values calls.Value = tt
+  alone_values calls.Wait = tt
+  alone_values calls.TryWait = tt
+  alone_values calls.ReadLock = tt
+  alone_values calls.TryReadLock = tt
+  alone_values calls.WriteLock = tt
+  alone_values calls.TryWriteLock = tt
+  alone_values calls.NotifyOne = tt
+  alone_values calls.NotifyAll = tt
+  alone_values calls.CallOnce = tt
+  alone_values calls.IsCompleted = tt
+  alone_values calls.Force = tt
+  alone_values calls.Load = tt
+  alone_values call = tt
 
-  one_makes : (make : T → Call T) (words : List (List ℕ)) → ((v : T) → IsValue z v → CallValues z (make v)) → MakesCall (with_one numerals make words)
-  one_makes make words is c e =
-      let b = bind_ok (only numerals.value_of words) (λ v. Ok (make v)) c e in
-      let word = only_one numerals.value_of words b.0 b.1 in
-      subst (CallValues z) (ok_is (make b.0) c b.2) (is b.0 (reads word.0 b.0 word.1))
+  one_values : (call : Call Unit) (v : T) → IsValue z v → CallValues z (with_one call v)
+  one_values (calls.Store _) v is = is
+  one_values (calls.Swap _) v is = is
+  one_values (calls.FetchAdd _) v is = is
+  one_values (calls.FetchSub _) v is = is
+  one_values (calls.FetchAnd _) v is = is
+  one_values (calls.FetchOr _) v is = is
+  one_values (calls.FetchXor _) v is = is
+  one_values (calls.FetchNand _) v is = is
+  one_values (calls.FetchMax _) v is = is
+  one_values call v is = is
 
-  two_makes : (make : T → T → Call T) (words : List (List ℕ)) → ((v w : T) → IsValue z v → IsValue z w → CallValues z (make v w)) → MakesCall (with_two numerals make words)
-  two_makes make words is c e =
-      let b = bind_ok (only_two numerals.value_of words) (λ vs. Ok (make vs.0 vs.1)) c e in
-      let both = only_both numerals.value_of words b.0 b.1 in
-      subst (CallValues z) (ok_is (make b.0.0 b.0.1) c b.2) (is b.0.0 b.0.1 (reads both.0 b.0.0 both.2) (reads both.1 b.0.1 both.3))
+  two_values : (call : Call Unit) (v w : T) → IsValue z v → IsValue z w → CallValues z (with_two call v w)
+  two_values (calls.CompareExchange _ _) v w is also = (is, also)
+  two_values call v w is also = (is, also)
 
-  post_makes : (words : List (List ℕ)) → MakesCall (only_number 0 (2 ^ 64 - 1) words >>= λ n. Ok (calls.Post n))
-  post_makes words c e =
+  these_make : (call : Call Unit) (these : Values) (words : List (List ℕ)) → MakesCall (with_these numerals call these words)
+  these_make call values.Nothing words c e = let b = bind_ok (nothing words) (λ _. Ok (alone call)) c e in subst (CallValues z) (ok_is (alone call) c b.2) (alone_values call)
+  these_make call values.Permits words c e =
       let b = bind_ok (only_number 0 (2 ^ 64 - 1) words) (λ n. Ok (calls.Post n)) c e in
       let word = only_one (number_within 0 (2 ^ 64 - 1)) words b.0 b.1 in
       let least = number_at_most 0 (2 ^ 64 - 1) b.0 word.0 word.1 in
       let below : b.0 < 2 ^ 64 = omega arith in
       subst (CallValues z) (ok_is (calls.Post b.0) c b.2) below
-
-  call_makes : (call : Call Unit) (words : List (List ℕ)) → MakesCall (with_values numerals call words)
-  call_makes calls.Lock words = alone_makes calls.Lock words tt
-  call_makes calls.TryLock words = alone_makes calls.TryLock words tt
-  call_makes calls.BlockingLock words = alone_makes calls.BlockingLock words tt
-  call_makes calls.Unlock words = alone_makes calls.Unlock words tt
-  call_makes calls.Value words = alone_makes calls.Value words tt
-  call_makes (calls.Post _) words = post_makes words
-  call_makes calls.Wait words = alone_makes calls.Wait words tt
-  call_makes calls.TryWait words = alone_makes calls.TryWait words tt
-  call_makes calls.ReadLock words = alone_makes calls.ReadLock words tt
-  call_makes calls.TryReadLock words = alone_makes calls.TryReadLock words tt
-  call_makes calls.WriteLock words = alone_makes calls.WriteLock words tt
-  call_makes calls.TryWriteLock words = alone_makes calls.TryWriteLock words tt
-  call_makes calls.NotifyOne words = alone_makes calls.NotifyOne words tt
-  call_makes calls.NotifyAll words = alone_makes calls.NotifyAll words tt
-  call_makes calls.CallOnce words = alone_makes calls.CallOnce words tt
-  call_makes calls.IsCompleted words = alone_makes calls.IsCompleted words tt
-  call_makes calls.Force words = alone_makes calls.Force words tt
-  call_makes calls.Load words = alone_makes calls.Load words tt
-  call_makes (calls.Store _) words = one_makes (λ v. calls.Store v) words (λ v is. is)
-  call_makes (calls.Swap _) words = one_makes (λ v. calls.Swap v) words (λ v is. is)
-  call_makes (calls.CompareExchange _ _) words = two_makes (λ v w. calls.CompareExchange v w) words (λ v w is also. (is, also))
-  call_makes (calls.CompareExchangeWeak _ _) words = two_makes (λ v w. calls.CompareExchangeWeak v w) words (λ v w is also. (is, also))
-  call_makes (calls.FetchAdd _) words = one_makes (λ v. calls.FetchAdd v) words (λ v is. is)
-  call_makes (calls.FetchSub _) words = one_makes (λ v. calls.FetchSub v) words (λ v is. is)
-  call_makes (calls.FetchAnd _) words = one_makes (λ v. calls.FetchAnd v) words (λ v is. is)
-  call_makes (calls.FetchOr _) words = one_makes (λ v. calls.FetchOr v) words (λ v is. is)
-  call_makes (calls.FetchXor _) words = one_makes (λ v. calls.FetchXor v) words (λ v is. is)
-  call_makes (calls.FetchNand _) words = one_makes (λ v. calls.FetchNand v) words (λ v is. is)
-  call_makes (calls.FetchMax _) words = one_makes (λ v. calls.FetchMax v) words (λ v is. is)
-  call_makes (calls.FetchMin _) words = one_makes (λ v. calls.FetchMin v) words (λ v is. is)
-  call_makes calls.FetchUpdate words = alone_makes calls.FetchUpdate words tt
+  these_make call values.One words c e =
+      let b = bind_ok (only numerals.value_of words) (λ v. Ok (with_one call v)) c e in
+      let word = only_one numerals.value_of words b.0 b.1 in
+      subst (CallValues z) (ok_is (with_one call b.0) c b.2) (one_values call b.0 (reads word.0 b.0 word.1))
+  these_make call values.Two words c e =
+      let b = bind_ok (only_two numerals.value_of words) (λ vs. Ok (with_two call vs.0 vs.1)) c e in
+      let both = only_both numerals.value_of words b.0 b.1 in
+      subst (CallValues z) (ok_is (with_two call b.0.0 b.0.1) c b.2) (two_values call b.0.0 b.0.1 (reads both.0 b.0.0 both.2) (reads both.1 b.0.1 both.3))
 
   named_makes : (call : Option (Call Unit)) (words : List (List ℕ)) → MakesValues (call_if numerals call words)
   named_makes None words t e = absurd cc
   named_makes (Some call) words t e =
       let b = bind_ok (with_values numerals call words) (λ begun. Ok (tasks.Give (inputs.Begin begun))) t e in
-      subst HasValues (ok_is (tasks.Give (inputs.Begin b.0)) t b.2) (call_makes call words b.0 b.1)
+      subst HasValues (ok_is (tasks.Give (inputs.Begin b.0)) t b.2) (these_make call (values_of call) words b.0 b.1)
 
   asked_makes : (form : Option (Form T)) (call : Option (Call Unit)) (words : List (List ℕ)) → ((found : Form T) → form ≡ Some found → FormValues found) → MakesValues (task_if numerals form call words)
   asked_makes (Some form) call words h = form_makes form words (h form refl)

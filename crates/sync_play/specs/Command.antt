@@ -11,6 +11,8 @@ use Rattle.sync_play.specs.declared.command.Form.{Form}
 use Rattle.sync_play.specs.declared.command.Form.TheVariants as forms
 use Rattle.sync_play.specs.declared.command.Task.{Task}
 use Rattle.sync_play.specs.declared.command.Task.TheVariants as tasks
+use Rattle.sync_play.specs.declared.command.Values.{Values}
+use Rattle.sync_play.specs.declared.command.Values.TheVariants as values
 use Rattle.sync_play.specs.declared.fault.LineFault.{LineFault}
 use Rattle.sync_play.specs.declared.fault.LineFault.TheVariants as faults
 use Rattle.sync_play.specs.Call.{calls_of, named}
@@ -48,50 +50,70 @@ task_by numerals (forms.Alone task) words = nothing words >>= λ _. Ok task
 task_by numerals forms.Steps words = steps_asked words
 task_by numerals forms.Choice words = only numerals.value_of words >>= λ v. Ok (tasks.Give (inputs.Choose (Some v)))
 
--- a call that brings no value
-abbrev pub alone : {T : Type 0} → Call T → List (List ℕ) → Result (Call T) LineFault
-alone call words = nothing words >>= λ _. Ok call
+-- what follows the name of a call
+abbrev pub values_of : Call Unit → Values
+values_of (calls.Post _) = values.Permits
+values_of (calls.Store _) = values.One
+values_of (calls.Swap _) = values.One
+values_of (calls.FetchAdd _) = values.One
+values_of (calls.FetchSub _) = values.One
+values_of (calls.FetchAnd _) = values.One
+values_of (calls.FetchOr _) = values.One
+values_of (calls.FetchXor _) = values.One
+values_of (calls.FetchNand _) = values.One
+values_of (calls.FetchMax _) = values.One
+values_of (calls.FetchMin _) = values.One
+values_of (calls.CompareExchange _ _) = values.Two
+values_of (calls.CompareExchangeWeak _ _) = values.Two
+values_of call = values.Nothing
 
--- one that brings a value, and one that brings two
-abbrev pub with_one : {T : Type 0} → Numerals T → (T → Call T) → List (List ℕ) → Result (Call T) LineFault
-with_one numerals make words = only numerals.value_of words >>= λ v. Ok (make v)
+-- A call with its values, of those that bring none, one and two.
 
-abbrev pub with_two : {T : Type 0} → Numerals T → (T → T → Call T) → List (List ℕ) → Result (Call T) LineFault
-with_two numerals make words = only_two numerals.value_of words >>= λ vs. Ok (make vs.0 vs.1)
+abbrev pub alone : {T : Type 0} → Call Unit → Call T
+alone calls.Lock = calls.Lock
+alone calls.TryLock = calls.TryLock
+alone calls.BlockingLock = calls.BlockingLock
+alone calls.Unlock = calls.Unlock
+alone calls.Value = calls.Value
+alone calls.Wait = calls.Wait
+alone calls.TryWait = calls.TryWait
+alone calls.ReadLock = calls.ReadLock
+alone calls.TryReadLock = calls.TryReadLock
+alone calls.WriteLock = calls.WriteLock
+alone calls.TryWriteLock = calls.TryWriteLock
+alone calls.NotifyOne = calls.NotifyOne
+alone calls.NotifyAll = calls.NotifyAll
+alone calls.CallOnce = calls.CallOnce
+alone calls.IsCompleted = calls.IsCompleted
+alone calls.Force = calls.Force
+alone calls.Load = calls.Load
+alone call = calls.FetchUpdate
 
--- a call with the values that follow its name
+abbrev pub with_one : {T : Type 0} → Call Unit → T → Call T
+with_one (calls.Store _) v = calls.Store v
+with_one (calls.Swap _) v = calls.Swap v
+with_one (calls.FetchAdd _) v = calls.FetchAdd v
+with_one (calls.FetchSub _) v = calls.FetchSub v
+with_one (calls.FetchAnd _) v = calls.FetchAnd v
+with_one (calls.FetchOr _) v = calls.FetchOr v
+with_one (calls.FetchXor _) v = calls.FetchXor v
+with_one (calls.FetchNand _) v = calls.FetchNand v
+with_one (calls.FetchMax _) v = calls.FetchMax v
+with_one call v = calls.FetchMin v
+
+abbrev pub with_two : {T : Type 0} → Call Unit → T → T → Call T
+with_two (calls.CompareExchange _ _) v w = calls.CompareExchange v w
+with_two call v w = calls.CompareExchangeWeak v w
+
+-- with the values that follow its name
+abbrev pub with_these : {T : Type 0} → Numerals T → Call Unit → Values → List (List ℕ) → Result (Call T) LineFault
+with_these numerals call values.Nothing words = nothing words >>= λ _. Ok (alone call)
+with_these numerals call values.Permits words = only_number 0 (2 ^ 64 - 1) words >>= λ n. Ok (calls.Post n)
+with_these numerals call values.One words = only numerals.value_of words >>= λ v. Ok (with_one call v)
+with_these numerals call values.Two words = only_two numerals.value_of words >>= λ vs. Ok (with_two call vs.0 vs.1)
+
 abbrev pub with_values : {T : Type 0} → Numerals T → Call Unit → List (List ℕ) → Result (Call T) LineFault
-with_values numerals calls.Lock words = alone calls.Lock words
-with_values numerals calls.TryLock words = alone calls.TryLock words
-with_values numerals calls.BlockingLock words = alone calls.BlockingLock words
-with_values numerals calls.Unlock words = alone calls.Unlock words
-with_values numerals calls.Value words = alone calls.Value words
-with_values numerals (calls.Post _) words = only_number 0 (2 ^ 64 - 1) words >>= λ n. Ok (calls.Post n)
-with_values numerals calls.Wait words = alone calls.Wait words
-with_values numerals calls.TryWait words = alone calls.TryWait words
-with_values numerals calls.ReadLock words = alone calls.ReadLock words
-with_values numerals calls.TryReadLock words = alone calls.TryReadLock words
-with_values numerals calls.WriteLock words = alone calls.WriteLock words
-with_values numerals calls.TryWriteLock words = alone calls.TryWriteLock words
-with_values numerals calls.NotifyOne words = alone calls.NotifyOne words
-with_values numerals calls.NotifyAll words = alone calls.NotifyAll words
-with_values numerals calls.CallOnce words = alone calls.CallOnce words
-with_values numerals calls.IsCompleted words = alone calls.IsCompleted words
-with_values numerals calls.Force words = alone calls.Force words
-with_values numerals calls.Load words = alone calls.Load words
-with_values numerals (calls.Store _) words = with_one numerals (λ v. calls.Store v) words
-with_values numerals (calls.Swap _) words = with_one numerals (λ v. calls.Swap v) words
-with_values numerals (calls.CompareExchange _ _) words = with_two numerals (λ v w. calls.CompareExchange v w) words
-with_values numerals (calls.CompareExchangeWeak _ _) words = with_two numerals (λ v w. calls.CompareExchangeWeak v w) words
-with_values numerals (calls.FetchAdd _) words = with_one numerals (λ v. calls.FetchAdd v) words
-with_values numerals (calls.FetchSub _) words = with_one numerals (λ v. calls.FetchSub v) words
-with_values numerals (calls.FetchAnd _) words = with_one numerals (λ v. calls.FetchAnd v) words
-with_values numerals (calls.FetchOr _) words = with_one numerals (λ v. calls.FetchOr v) words
-with_values numerals (calls.FetchXor _) words = with_one numerals (λ v. calls.FetchXor v) words
-with_values numerals (calls.FetchNand _) words = with_one numerals (λ v. calls.FetchNand v) words
-with_values numerals (calls.FetchMax _) words = with_one numerals (λ v. calls.FetchMax v) words
-with_values numerals (calls.FetchMin _) words = with_one numerals (λ v. calls.FetchMin v) words
-with_values numerals calls.FetchUpdate words = alone calls.FetchUpdate words
+with_values numerals call words = with_these numerals call (values_of call) words
 
 -- What a verb asks with the words after it: first those of every object, then the object's calls; another is a bad line.
 

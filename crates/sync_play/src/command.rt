@@ -132,13 +132,89 @@ fn with_numbers<T: TextInteger>(form: Form<T>, rest: &[u8]) -> Result<Task<T>, L
     }
 }
 
-/// A call that brings no value; nothing follows it.
-fn alone<T: Copy>(call: Call<T>, rest: &[u8]) -> Result<Call<T>, LineFault>
-    ensures { result ≡ meaning.alone call (words_of rest.now) }
+/// What follows the name of a call.
+#[derive(Clone, Copy)]
+enum Values {
+    Nothing,
+    /// A number of permits.
+    Permits,
+    /// A value.
+    One,
+    /// Two values.
+    Two,
+}
+
+fn values_of(call: Call<()>) -> Values
+    ensures { result ≡ meaning.values_of call }
 {
-    match nothing(rest) {
-        Ok(()) => Ok(call),
-        Err(fault) => Err(fault),
+    match call {
+        Call::Post(_) => Values::Permits,
+        Call::Store(())
+        | Call::Swap(())
+        | Call::FetchAdd(())
+        | Call::FetchSub(())
+        | Call::FetchAnd(())
+        | Call::FetchOr(())
+        | Call::FetchXor(())
+        | Call::FetchNand(())
+        | Call::FetchMax(())
+        | Call::FetchMin(()) => Values::One,
+        Call::CompareExchange((), ()) | Call::CompareExchangeWeak((), ()) => Values::Two,
+        _ => Values::Nothing,
+    }
+}
+
+/// A call that brings no value.
+fn alone<T>(call: Call<()>) -> Call<T>
+    ensures { result ≡ meaning.alone call }
+{
+    match call {
+        Call::Lock => Call::Lock,
+        Call::TryLock => Call::TryLock,
+        Call::BlockingLock => Call::BlockingLock,
+        Call::Unlock => Call::Unlock,
+        Call::Value => Call::Value,
+        Call::Wait => Call::Wait,
+        Call::TryWait => Call::TryWait,
+        Call::ReadLock => Call::ReadLock,
+        Call::TryReadLock => Call::TryReadLock,
+        Call::WriteLock => Call::WriteLock,
+        Call::TryWriteLock => Call::TryWriteLock,
+        Call::NotifyOne => Call::NotifyOne,
+        Call::NotifyAll => Call::NotifyAll,
+        Call::CallOnce => Call::CallOnce,
+        Call::IsCompleted => Call::IsCompleted,
+        Call::Force => Call::Force,
+        Call::Load => Call::Load,
+        _ => Call::FetchUpdate,
+    }
+}
+
+/// A call that brings one value.
+fn with_one<T>(call: Call<()>, value: T) -> Call<T>
+    ensures { result ≡ meaning.with_one call value }
+{
+    match call {
+        Call::Store(()) => Call::Store(value),
+        Call::Swap(()) => Call::Swap(value),
+        Call::FetchAdd(()) => Call::FetchAdd(value),
+        Call::FetchSub(()) => Call::FetchSub(value),
+        Call::FetchAnd(()) => Call::FetchAnd(value),
+        Call::FetchOr(()) => Call::FetchOr(value),
+        Call::FetchXor(()) => Call::FetchXor(value),
+        Call::FetchNand(()) => Call::FetchNand(value),
+        Call::FetchMax(()) => Call::FetchMax(value),
+        _ => Call::FetchMin(value),
+    }
+}
+
+/// A call that brings two.
+fn with_two<T>(call: Call<()>, from: T, to: T) -> Call<T>
+    ensures { result ≡ meaning.with_two call from to }
+{
+    match call {
+        Call::CompareExchange((), ()) => Call::CompareExchange(from, to),
+        _ => Call::CompareExchangeWeak(from, to),
     }
 }
 
@@ -146,44 +222,23 @@ fn alone<T: Copy>(call: Call<T>, rest: &[u8]) -> Result<Call<T>, LineFault>
 fn with_values<T: TextInteger>(call: Call<()>, rest: &[u8]) -> Result<Call<T>, LineFault>
     ensures { result ≡ meaning.with_values T.numerals call (words_of rest.now) }
 {
-    match call {
-        Call::Lock => alone(Call::Lock, rest),
-        Call::TryLock => alone(Call::TryLock, rest),
-        Call::BlockingLock => alone(Call::BlockingLock, rest),
-        Call::Unlock => alone(Call::Unlock, rest),
-        Call::Value => alone(Call::Value, rest),
-        Call::Post(_) => Ok(Call::Post(only_number(0, u64::MAX, rest)?)),
-        Call::Wait => alone(Call::Wait, rest),
-        Call::TryWait => alone(Call::TryWait, rest),
-        Call::ReadLock => alone(Call::ReadLock, rest),
-        Call::TryReadLock => alone(Call::TryReadLock, rest),
-        Call::WriteLock => alone(Call::WriteLock, rest),
-        Call::TryWriteLock => alone(Call::TryWriteLock, rest),
-        Call::NotifyOne => alone(Call::NotifyOne, rest),
-        Call::NotifyAll => alone(Call::NotifyAll, rest),
-        Call::CallOnce => alone(Call::CallOnce, rest),
-        Call::IsCompleted => alone(Call::IsCompleted, rest),
-        Call::Force => alone(Call::Force, rest),
-        Call::Load => alone(Call::Load, rest),
-        Call::Store(()) => Ok(Call::Store(only_value(rest)?)),
-        Call::Swap(()) => Ok(Call::Swap(only_value(rest)?)),
-        Call::CompareExchange((), ()) => {
-            let (from, to) = only_two_values(rest)?;
-            Ok(Call::CompareExchange(from, to))
+    match values_of(call) {
+        Values::Nothing => {
+            nothing(rest)?;
+            Ok(alone(call))
         }
-        Call::CompareExchangeWeak((), ()) => {
-            let (from, to) = only_two_values(rest)?;
-            Ok(Call::CompareExchangeWeak(from, to))
+        Values::Permits => {
+            let permits = only_number(0, u64::MAX, rest)?;
+            Ok(Call::Post(permits))
         }
-        Call::FetchAdd(()) => Ok(Call::FetchAdd(only_value(rest)?)),
-        Call::FetchSub(()) => Ok(Call::FetchSub(only_value(rest)?)),
-        Call::FetchAnd(()) => Ok(Call::FetchAnd(only_value(rest)?)),
-        Call::FetchOr(()) => Ok(Call::FetchOr(only_value(rest)?)),
-        Call::FetchXor(()) => Ok(Call::FetchXor(only_value(rest)?)),
-        Call::FetchNand(()) => Ok(Call::FetchNand(only_value(rest)?)),
-        Call::FetchMax(()) => Ok(Call::FetchMax(only_value(rest)?)),
-        Call::FetchMin(()) => Ok(Call::FetchMin(only_value(rest)?)),
-        Call::FetchUpdate => alone(Call::FetchUpdate, rest),
+        Values::One => {
+            let value = only_value(rest)?;
+            Ok(with_one(call, value))
+        }
+        Values::Two => {
+            let (from, to) = only_two_values(rest)?;
+            Ok(with_two(call, from, to))
+        }
     }
 }
 
