@@ -1,5 +1,5 @@
 -- The lines of a text, one taken after the other.
-use Rattle.std.proofs.Common.{arith, ◌≡◌, ◌<◌, ℕ, zero, suc, ◌+◌, ◌-◌, List, [], ◌∷◌, drop, refl, ap, sym, ◌∙◌}
+use Rattle.std.proofs.Common.{arith, ◌≡◌, ◌<◌, ℕ, zero, suc, ◌+◌, ◌-◌, List, [], ◌∷◌, drop, refl, ap}
 use Rattle.sync_advice.specs.Advice.{first_of}
 
 one_more : (n at : ℕ) → at < n → n - at ≡ suc (n - (at + 1))

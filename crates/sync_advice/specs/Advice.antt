@@ -1,12 +1,14 @@
 -- What is said of a line with a fault: the line, and a sentence of what would be right there.
-use Rattle.std.specs.Prelude.{ℕ, zero, suc, ◌-◌, ◌^◌, Bool, true, false, ◌&&◌, ◌||◌, ◌==◌, if◌then◌else◌, List, [], ◌∷◌, ◌++◌, drop, Option, Some, None, is_some, is_err, codes}
+use Rattle.std.specs.Prelude.{ℕ, ◌-◌, ◌^◌, Bool, false, ◌&&◌, ◌||◌, ◌==◌, if◌then◌else◌, List, [], ◌∷◌, ◌++◌, drop, Option, Some, None, is_some, is_err, codes}
 use Rattle.std.specs.Str.{bytes_eq}
 use Rattle.steps_events.specs.declared.event.Object.{Object}
 use Rattle.steps_events.specs.declared.event.Object.TheVariants as objects
 use Rattle.sync_play.specs.declared.fault.FaultyLine.{FaultyLine}
 use Rattle.sync_play.specs.declared.fault.LineFault.{LineFault}
 use Rattle.sync_play.specs.declared.fault.LineFault.TheVariants as faults
-use Rattle.sync_play.specs.Command.{find, verbs, calls_of}
+use Rattle.steps_events.specs.declared.event.Call.{Call}
+use Rattle.sync_play.specs.Call.{name_of, calls_of, named}
+use Rattle.sync_play.specs.Command.{find, verbs}
 use Rattle.sync_play.specs.Lexer.{words_of, number_within}
 
 -- a line, counted from 1; empty where there is none
@@ -43,11 +45,11 @@ object_by_words (name ∷ words) = object_named name
 abbrev pub object_of : List (List ℕ) → Option (Object ℕ)
 object_of lines = object_by_words (words_of (first_of lines))
 
--- the names in a table of calls, as a list in words: a text can begin these and no others
-abbrev pub listed : {F : Type 0} → List (List ℕ × F) → List ℕ
+-- the names of calls, as a list in words: a text can begin these and no others
+abbrev pub listed : List (Call Unit) → List ℕ
 listed [] = []
-listed (row ∷ []) = row.0
-listed (row ∷ next ∷ rows) = row.0 ++ (codes ", " ++ listed (next ∷ rows))
+listed (call ∷ []) = name_of call
+listed (call ∷ next ∷ calls) = name_of call ++ (codes ", " ++ listed (next ∷ calls))
 
 -- What is said of each object.
 
@@ -102,7 +104,7 @@ answers (objects.Atomic v) = codes "the call stands at its closure, which answer
 answers other = codes "the call stands at its closure, which answers `wait` or `abort`"
 
 abbrev pub has_start_wait : Object ℕ → Bool
-has_start_wait o = is_some (find {T = ℕ} (codes "start_wait") (calls_of o))
+has_start_wait o = is_some (named (codes "start_wait") (calls_of o))
 
 -- The sentence.
 
@@ -122,7 +124,7 @@ abbrev pub of_unknown : Object ℕ → List ℕ → List ℕ
 of_unknown o name = has_no_call o ++ (name ++ (codes "`: " ++ listed (calls_of o)))
 
 abbrev pub of_verb : Object ℕ → List ℕ → List ℕ
-of_verb o name = if (is_some (find {T = ℕ} name verbs) || is_some (find {T = ℕ} name (calls_of o))) then numbers_after o else of_unknown o name
+of_verb o name = if (is_some (find {T = ℕ} name verbs) || is_some (named name (calls_of o))) then numbers_after o else of_unknown o name
 
 abbrev pub after_party : Object ℕ → List (List ℕ) → List ℕ
 after_party o [] = has_two o

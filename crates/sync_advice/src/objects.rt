@@ -1,8 +1,8 @@
-//! What each object is called, how it is opened, and which calls it has.
+//! What each object is called, and how it is opened.
 ghost use Rattle.std.specs.Prelude.{◌≡◌};
-ghost use Rattle.sync_play.specs.Command.{calls_of};
 ghost use Rattle.sync_advice.specs.Advice as meaning;
 
+use sync_play::call::{calls_of, named};
 use sync_play::lexer::is;
 use sync_steps::steps::Object;
 
@@ -43,27 +43,6 @@ fn is_atomic(name: &[u8]) -> bool
         || is(name, b"atomic_u128")
         || is(name, b"atomic_i64")
         || is(name, b"atomic_i128")
-}
-
-/// The names of the calls that a text may begin at the object, all of them.
-pub fn calls(object: Object<u64>) -> &'static [u8]
-    ensures { result.now ≡ meaning.listed (calls_of object) }
-{
-    match object {
-        Object::Mutex => b"lock, try_lock, unlock",
-        Object::Spin => b"lock, blocking_lock, try_lock, unlock",
-        Object::Semaphore(_) => b"value, post, start_wait, try_wait",
-        Object::Barrier(_) => b"start_wait",
-        Object::ReaderLock | Object::WriterLock => {
-            b"read_lock, try_read_lock, write_lock, try_write_lock, unlock"
-        }
-        Object::Condvar => b"lock, try_lock, unlock, notify_one, notify_all, start_wait",
-        Object::Once => b"call_once, is_completed",
-        Object::Lazy(_) => b"force",
-        Object::Atomic(_) => {
-            b"load, store, swap, compare_exchange, compare_exchange_weak, fetch_add, fetch_sub, fetch_and, fetch_or, fetch_xor, fetch_nand, fetch_max, fetch_min, fetch_update"
-        }
-    }
 }
 
 /// That it has no call of a name, up to the name.
@@ -181,8 +160,5 @@ pub fn answers(object: Object<u64>) -> &'static [u8]
 pub fn has_start_wait(object: Object<u64>) -> bool
     ensures { result ≡ meaning.has_start_wait object }
 {
-    matches!(
-        object,
-        Object::Semaphore(_) | Object::Barrier(_) | Object::Condvar
-    )
+    named(b"start_wait", calls_of(&object)).is_some()
 }

@@ -1,25 +1,40 @@
 //! The sentence that says what would be right in the place of a line with a fault.
 ghost use Rattle.std.specs.Prelude.{◌≡◌, ◌++◌, OnOk};
-ghost use Rattle.sync_play.specs.Command.{calls_of};
+ghost use Rattle.sync_play.specs.Call.{calls_of as listed_calls};
 ghost use Rattle.sync_play.specs.Lexer.{words_of};
 ghost use Rattle.sync_advice.specs.Advice as meaning;
 
 use crate::objects::{
-    answers, calls, first_line, first_numbers, has_no_call, has_start_wait, numbers_after,
-    numbers_within,
+    answers, first_line, first_numbers, has_no_call, has_start_wait, numbers_after, numbers_within,
 };
 use std::alloc::AllocError;
+use sync_play::call::{calls_of, name_of};
 use sync_play::command::is_known;
 use sync_play::fault::{FaultyLine, LineFault};
 use sync_play::lexer::{is, next_word, number_within};
-use sync_steps::steps::Object;
+use sync_steps::steps::{Call, Object};
+
+/// Adds the names of calls, with commas between.
+fn add_names(out: &mut Vec<u8>, calls: &[Call<()>]) -> Result<(), AllocError>
+    ensures { OnOk result (out.new.items ≡ out.old.items ++ meaning.listed calls.now) }
+{
+    match calls {
+        [] => Ok(()),
+        [call] => out.extend_from_slice(name_of(call).as_bytes()),
+        [call, rest @ ..] => {
+            out.extend_from_slice(name_of(call).as_bytes())?;
+            out.extend_from_slice(b", ")?;
+            add_names(out, rest)
+        }
+    }
+}
 
 /// Adds words, and then the names of all calls of the object.
 fn list_calls(out: &mut Vec<u8>, words: &[u8], object: Object<u64>) -> Result<(), AllocError>
-    ensures { OnOk result (out.new.items ≡ out.old.items ++ (words.now ++ meaning.listed (calls_of object))) }
+    ensures { OnOk result (out.new.items ≡ out.old.items ++ (words.now ++ meaning.listed (listed_calls object))) }
 {
     out.extend_from_slice(words)?;
-    out.extend_from_slice(calls(object))
+    add_names(out, calls_of(&object))
 }
 
 /// Adds that the object has no call of this name, and which it has.

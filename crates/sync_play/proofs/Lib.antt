@@ -1,5 +1,4 @@
 pub mod LexerLaws
-pub mod CommandLaws
 pub mod PlayerLaws
 pub mod PrintLaws
 pub mod TextLaws

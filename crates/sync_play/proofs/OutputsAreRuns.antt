@@ -1,12 +1,12 @@
 -- Where a text has an output, it is what a run of the text's inputs prints.
 use Rattle.std.proofs.Common.{◌≡◌, ◌<◌, ℕ, zero, suc, ◌+◌, ◌-◌, ◌^◌, ◌≤◌, Bool, true, false, cond, List, [], ◌∷◌, ◌++◌, Option, Some, None, Result, Ok, Err, refl, sym, ap, subst, ◌∙◌, append_assoc, arith}
 use Rattle.std.proofs.lemmas.List.Concat.{flat_map-append}
+use Rattle.steps_events.specs.declared.event.Call.{Call}
 use Rattle.steps_events.specs.declared.event.Call.TheVariants as calls
 use Rattle.steps_events.specs.declared.event.Event.{Event}
 use Rattle.steps_events.specs.declared.event.Input.{Input}
 use Rattle.steps_events.specs.declared.event.Input.TheVariants as inputs
 use Rattle.steps_events.specs.declared.event.Object.{Object}
-use Rattle.steps_events.specs.declared.event.Object.TheVariants as objects
 use Rattle.steps_events.specs.declared.event.StepFault.{StepFault}
 use Rattle.steps_events.specs.Arithmetic.{Arithmetic, IsValue}
 use Rattle.steps_events.specs.Moves.{Move}
@@ -21,15 +21,16 @@ use Rattle.sync_steps.specs.Runs.{IsRun}
 use Rattle.std.specs.Str.{bytes_eq}
 use Rattle.sync_play.specs.declared.command.Form.{Form}
 use Rattle.sync_play.specs.declared.command.Form.TheVariants as forms
-use Rattle.sync_play.specs.declared.command.Operation.{Operation}
-use Rattle.sync_play.specs.declared.command.Operation.TheVariants as operations
+use Rattle.sync_play.specs.declared.command.Values.{Values}
+use Rattle.sync_play.specs.declared.command.Values.TheVariants as values
 use Rattle.sync_play.specs.declared.fault.FaultyLine.{FaultyLine}
 use Rattle.sync_play.specs.declared.fault.LineFault.{LineFault}
 use Rattle.sync_play.specs.declared.command.Task.{Task}
 use Rattle.sync_play.specs.declared.command.Task.TheVariants as tasks
 use Rattle.sync_play.specs.declared.command.Command.{Command}
 use Rattle.sync_play.specs.Fault.{◌>>=◌, at_line}
-use Rattle.sync_play.specs.Command.{find, verbs, calls_of, with_value, steps_asked, task_by, task_if, task_of, party_of, command_of}
+use Rattle.sync_play.specs.Call.{calls_of, named}
+use Rattle.sync_play.specs.Command.{find, verbs, values_of, alone, with_one, with_two, with_these, with_values, steps_asked, task_by, call_if, task_if, task_of, party_of, command_of}
 use Rattle.sync_play.specs.Lexer.{words_of, number_within, nothing, only, only_two, only_number}
 use Rattle.sync_play.specs.Header.{header_of}
 use Rattle.sync_play.specs.Player.{event_by, unless_refused, event_of, events_of, run_of, steps_of, task_events}
@@ -97,7 +98,7 @@ module _ {T : Type 0} (z : Arithmetic T) (numerals : Numerals T) (reads : ReadsV
   abbrev MakesValues : Result (Task T) LineFault → Type 0
   MakesValues r = (t : Task T) → r ≡ Ok t → HasValues t
 
-  -- a form that asks a task without a number asks one with values
+  -- a verb that asks a task without a number asks one with values
   abbrev FormValues : Form T → Type 0
   FormValues (forms.Alone task) = HasValues task
   FormValues other = Unit {0}
@@ -114,24 +115,8 @@ module _ {T : Type 0} (z : Arithmetic T) (numerals : Numerals T) (reads : ReadsV
   found_values name [] form values e = absurd cc
   found_values name (row ∷ rows) form values e = either_form (bytes_eq name row.0) row.1 form (find name rows) values.0 (found_values name rows form values.1) e
 
-  both_values : (rows more : List (List ℕ × Form T)) → RowValues rows → RowValues more → RowValues (rows ++ more)
-  both_values [] more h k = k
-  both_values (row ∷ rows) more h k = (h.0, both_values rows more h.1 k)
-
   verb_values : RowValues verbs
   verb_values = (tt, (tt, (tt, (tt, (tt, (tt, tt))))))
-
-  call_values : (o : Object T) → RowValues (calls_of o)
-  call_values objects.Mutex = (tt, (tt, (tt, tt)))
-  call_values objects.Spin = (tt, (tt, (tt, (tt, tt))))
-  call_values (objects.Semaphore initial) = (tt, (tt, (tt, (tt, tt))))
-  call_values objects.ReaderLock = (tt, (tt, (tt, (tt, (tt, tt)))))
-  call_values objects.WriterLock = (tt, (tt, (tt, (tt, (tt, tt)))))
-  call_values (objects.Barrier n) = (tt, tt)
-  call_values objects.Condvar = (tt, (tt, (tt, (tt, (tt, (tt, tt))))))
-  call_values objects.Once = (tt, (tt, tt))
-  call_values (objects.Lazy v) = (tt, tt)
-  call_values (objects.Atomic v) = (tt, (tt, (tt, (tt, (tt, (tt, (tt, (tt, (tt, (tt, (tt, (tt, (tt, (tt, tt))))))))))))))
 
   only_one : {A : Type 0} (read : List ℕ → Result A LineFault) (words : List (List ℕ)) (x : A) → only read words ≡ Ok x → (word : List ℕ) × (read word ≡ Ok x)
   only_one read [] x e = absurd cc
@@ -148,18 +133,6 @@ module _ {T : Type 0} (z : Arithmetic T) (numerals : Numerals T) (reads : ReadsV
       subst (λ (y : A × A). (first : List ℕ) × (second : List ℕ) × (read first ≡ Ok y.0) × (read second ≡ Ok y.1)) (ok_is both x b.2) (word, other, a.1, b.1)
   only_both read (word ∷ other ∷ more ∷ words) x e = absurd cc
 
-  operation_values : (operation : Operation) (v : T) → IsValue z v → CallValues z (with_value operation v)
-  operation_values operations.Store v is = is
-  operation_values operations.Swap v is = is
-  operation_values operations.FetchAdd v is = is
-  operation_values operations.FetchSub v is = is
-  operation_values operations.FetchAnd v is = is
-  operation_values operations.FetchOr v is = is
-  operation_values operations.FetchXor v is = is
-  operation_values operations.FetchNand v is = is
-  operation_values operations.FetchMax v is = is
-  operation_values operations.FetchMin v is = is
-
   steps_make : (words : List (List ℕ)) → MakesValues (steps_asked words)
   steps_make [] t e = subst HasValues (ok_is (tasks.Go 1) t e) tt
   steps_make (word ∷ words) t e = let b = bind_ok (only_number 1 100000 (word ∷ words)) (λ n. Ok (tasks.Go n)) t e in subst HasValues (ok_is (tasks.Go b.0) t b.2) tt
@@ -171,33 +144,77 @@ module _ {T : Type 0} (z : Arithmetic T) (numerals : Numerals T) (reads : ReadsV
       let b = bind_ok (only numerals.value_of words) (λ v. Ok (tasks.Give (inputs.Choose (Some v)))) t e in
       let word = only_one numerals.value_of words b.0 b.1 in
       subst HasValues (ok_is (tasks.Give (inputs.Choose (Some b.0))) t b.2) (reads word.0 b.0 word.1)
-  form_makes (forms.Operand operation) words h t e =
-      let b = bind_ok (only numerals.value_of words) (λ v. Ok (tasks.Give (inputs.Begin (with_value operation v)))) t e in
-      let word = only_one numerals.value_of words b.0 b.1 in
-      subst HasValues (ok_is (tasks.Give (inputs.Begin (with_value operation b.0))) t b.2) (operation_values operation b.0 (reads word.0 b.0 word.1))
-  form_makes forms.Exchange words h t e =
-      let b = bind_ok (only_two numerals.value_of words) (λ vs. Ok (tasks.Give (inputs.Begin (calls.CompareExchange vs.0 vs.1)))) t e in
-      let both = only_both numerals.value_of words b.0 b.1 in
-      subst HasValues (ok_is (tasks.Give (inputs.Begin (calls.CompareExchange b.0.0 b.0.1))) t b.2) (reads both.0 b.0.0 both.2, reads both.1 b.0.1 both.3)
-  form_makes forms.ExchangeWeak words h t e =
-      let b = bind_ok (only_two numerals.value_of words) (λ vs. Ok (tasks.Give (inputs.Begin (calls.CompareExchangeWeak vs.0 vs.1)))) t e in
-      let both = only_both numerals.value_of words b.0 b.1 in
-      subst HasValues (ok_is (tasks.Give (inputs.Begin (calls.CompareExchangeWeak b.0.0 b.0.1))) t b.2) (reads both.0 b.0.0 both.2, reads both.1 b.0.1 both.3)
-  form_makes forms.Permits words h t e =
-      let b = bind_ok (only_number 0 (2 ^ 64 - 1) words) (λ n. Ok (tasks.Give (inputs.Begin (calls.Post n)))) t e in
+
+  -- a call that is read brings values of the type
+  abbrev MakesCall : Result (Call T) LineFault → Type 0
+  MakesCall r = (c : Call T) → r ≡ Ok c → CallValues z c
+
+  alone_values : (call : Call Unit) → CallValues z (alone {T = T} call)
+  alone_values calls.Lock = tt
+  alone_values calls.TryLock = tt
+  alone_values calls.BlockingLock = tt
+  alone_values calls.Unlock = tt
+  alone_values calls.Value = tt
+  alone_values calls.Wait = tt
+  alone_values calls.TryWait = tt
+  alone_values calls.ReadLock = tt
+  alone_values calls.TryReadLock = tt
+  alone_values calls.WriteLock = tt
+  alone_values calls.TryWriteLock = tt
+  alone_values calls.NotifyOne = tt
+  alone_values calls.NotifyAll = tt
+  alone_values calls.CallOnce = tt
+  alone_values calls.IsCompleted = tt
+  alone_values calls.Force = tt
+  alone_values calls.Load = tt
+  alone_values call = tt
+
+  one_values : (call : Call Unit) (v : T) → IsValue z v → CallValues z (with_one call v)
+  one_values (calls.Store _) v is = is
+  one_values (calls.Swap _) v is = is
+  one_values (calls.FetchAdd _) v is = is
+  one_values (calls.FetchSub _) v is = is
+  one_values (calls.FetchAnd _) v is = is
+  one_values (calls.FetchOr _) v is = is
+  one_values (calls.FetchXor _) v is = is
+  one_values (calls.FetchNand _) v is = is
+  one_values (calls.FetchMax _) v is = is
+  one_values call v is = is
+
+  two_values : (call : Call Unit) (v w : T) → IsValue z v → IsValue z w → CallValues z (with_two call v w)
+  two_values (calls.CompareExchange _ _) v w is also = (is, also)
+  two_values call v w is also = (is, also)
+
+  these_make : (call : Call Unit) (these : Values) (words : List (List ℕ)) → MakesCall (with_these numerals call these words)
+  these_make call values.Nothing words c e = let b = bind_ok (nothing words) (λ _. Ok (alone call)) c e in subst (CallValues z) (ok_is (alone call) c b.2) (alone_values call)
+  these_make call values.Permits words c e =
+      let b = bind_ok (only_number 0 (2 ^ 64 - 1) words) (λ n. Ok (calls.Post n)) c e in
       let word = only_one (number_within 0 (2 ^ 64 - 1)) words b.0 b.1 in
       let least = number_at_most 0 (2 ^ 64 - 1) b.0 word.0 word.1 in
       let below : b.0 < 2 ^ 64 = omega arith in
-      subst HasValues (ok_is (tasks.Give (inputs.Begin (calls.Post b.0))) t b.2) below
+      subst (CallValues z) (ok_is (calls.Post b.0) c b.2) below
+  these_make call values.One words c e =
+      let b = bind_ok (only numerals.value_of words) (λ v. Ok (with_one call v)) c e in
+      let word = only_one numerals.value_of words b.0 b.1 in
+      subst (CallValues z) (ok_is (with_one call b.0) c b.2) (one_values call b.0 (reads word.0 b.0 word.1))
+  these_make call values.Two words c e =
+      let b = bind_ok (only_two numerals.value_of words) (λ vs. Ok (with_two call vs.0 vs.1)) c e in
+      let both = only_both numerals.value_of words b.0 b.1 in
+      subst (CallValues z) (ok_is (with_two call b.0.0 b.0.1) c b.2) (two_values call b.0.0 b.0.1 (reads both.0 b.0.0 both.2) (reads both.1 b.0.1 both.3))
 
-  asked_makes : (asked : Option (Form T)) (words : List (List ℕ)) → ((form : Form T) → asked ≡ Some form → FormValues form) → MakesValues (task_if numerals asked words)
-  asked_makes None words h t e = absurd cc
-  asked_makes (Some form) words h t e = form_makes form words (h form refl) t e
+  named_makes : (call : Option (Call Unit)) (words : List (List ℕ)) → MakesValues (call_if numerals call words)
+  named_makes None words t e = absurd cc
+  named_makes (Some call) words t e =
+      let b = bind_ok (with_values numerals call words) (λ begun. Ok (tasks.Give (inputs.Begin begun))) t e in
+      subst HasValues (ok_is (tasks.Give (inputs.Begin b.0)) t b.2) (these_make call (values_of call) words b.0 b.1)
+
+  asked_makes : (form : Option (Form T)) (call : Option (Call Unit)) (words : List (List ℕ)) → ((found : Form T) → form ≡ Some found → FormValues found) → MakesValues (task_if numerals form call words)
+  asked_makes (Some form) call words h = form_makes form words (h form refl)
+  asked_makes None call words h = named_makes call words
 
   task_makes : (o : Object T) (verb : List ℕ) (words : List (List ℕ)) → MakesValues (task_of numerals o verb words)
   unfolding task_of
-  task_makes o verb words =
-      asked_makes (find verb (verbs ++ calls_of o)) words (λ form e. found_values verb (verbs ++ calls_of o) form (both_values verbs (calls_of o) verb_values (call_values o)) e)
+  task_makes o verb words = asked_makes (find verb verbs) (named verb (calls_of o)) words (λ form e. found_values verb verbs form verb_values e)
 
   none_is_some : {A : Type 0} {x : A} → ◌≡◌ {A = Result (Option A) LineFault} (Ok None) (Ok (Some x)) → ⊥
   none_is_some e = cc

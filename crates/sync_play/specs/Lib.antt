@@ -4,6 +4,7 @@ pub mod Numerals
 pub mod NumeralLaws
 pub mod ValueTypes
 pub mod Header
+pub mod Call
 pub mod Command
 pub mod Player
 pub mod Print

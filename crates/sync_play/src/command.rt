@@ -1,8 +1,10 @@
 //! What a line after the first asks, and of whom.
 ghost use Rattle.std.specs.Prelude.{◌≡◌, ◌||◌, List, is_some, ⊤};
 ghost use Rattle.sync_play.specs.Lexer.{words_of};
+ghost use Rattle.sync_play.specs.Call.{named as call_of_name, calls_of as listed_calls};
 ghost use Rattle.sync_play.specs.Command as meaning;
 
+use crate::call::{calls_of, named};
 use crate::fault::LineFault;
 use crate::integer::TextInteger;
 use crate::lexer::{
@@ -53,7 +55,7 @@ impl<T: Copy> Clone for Command<T> {
     }
 }
 
-/// What a verb asks, and the numbers that follow it.
+/// What a verb that every object knows asks, and the numbers that follow it.
 #[derive(Copy)]
 enum Form<T> {
     /// This task; no number follows.
@@ -62,14 +64,6 @@ enum Form<T> {
     Steps,
     /// An answer of the choice closure, with its value.
     Choice,
-    /// A post, with how many permits.
-    Permits,
-    /// A call of an atomic, with the value that it brings.
-    Operand(Operation),
-    /// A compare-exchange, with what it is from and to.
-    Exchange,
-    /// A weak one.
-    ExchangeWeak,
 }
 
 impl<T: Copy> Clone for Form<T> {
@@ -80,48 +74,6 @@ impl<T: Copy> Clone for Form<T> {
     fn clone(&self) -> Result<Self, AllocError> {
         Ok(*self)
     }
-}
-
-/// A call of an atomic that brings one value.
-#[derive(Clone, Copy)]
-enum Operation {
-    Store,
-    Swap,
-    FetchAdd,
-    FetchSub,
-    FetchAnd,
-    FetchOr,
-    FetchXor,
-    FetchNand,
-    FetchMax,
-    FetchMin,
-}
-
-impl Operation {
-    /// The call with its value.
-    fn with_value<T>(self, value: T) -> Call<T>
-        ensures { result ≡ meaning.with_value self value }
-    {
-        match self {
-            Operation::Store => Call::Store(value),
-            Operation::Swap => Call::Swap(value),
-            Operation::FetchAdd => Call::FetchAdd(value),
-            Operation::FetchSub => Call::FetchSub(value),
-            Operation::FetchAnd => Call::FetchAnd(value),
-            Operation::FetchOr => Call::FetchOr(value),
-            Operation::FetchXor => Call::FetchXor(value),
-            Operation::FetchNand => Call::FetchNand(value),
-            Operation::FetchMax => Call::FetchMax(value),
-            Operation::FetchMin => Call::FetchMin(value),
-        }
-    }
-}
-
-/// A call that no number follows.
-fn begins<T>(call: Call<T>) -> Form<T>
-    ensures { result ≡ meaning.begins call }
-{
-    Form::Alone(Task::Give(Input::Begin(call)))
 }
 
 /// The verbs that every object knows.
@@ -146,178 +98,11 @@ fn verb<T>(name: &[u8]) -> Option<Form<T>>
     }
 }
 
-fn mutex_call<T>(name: &[u8]) -> Option<Form<T>>
-    ensures { result ≡ meaning.find name.now meaning.mutex_calls }
-{
-    if is(name, b"lock") {
-        Some(begins(Call::Lock))
-    } else if is(name, b"try_lock") {
-        Some(begins(Call::TryLock))
-    } else if is(name, b"unlock") {
-        Some(begins(Call::Unlock))
-    } else {
-        None
-    }
-}
-
-fn spin_call<T>(name: &[u8]) -> Option<Form<T>>
-    ensures { result ≡ meaning.find name.now meaning.spin_calls }
-{
-    if is(name, b"lock") {
-        Some(begins(Call::Lock))
-    } else if is(name, b"blocking_lock") {
-        Some(begins(Call::BlockingLock))
-    } else if is(name, b"try_lock") {
-        Some(begins(Call::TryLock))
-    } else if is(name, b"unlock") {
-        Some(begins(Call::Unlock))
-    } else {
-        None
-    }
-}
-
-/// A call that is named `wait` is written `start_wait`, since `wait` is the closure's answer.
-fn semaphore_call<T>(name: &[u8]) -> Option<Form<T>>
-    ensures { result ≡ meaning.find name.now meaning.semaphore_calls }
-{
-    if is(name, b"value") {
-        Some(begins(Call::Value))
-    } else if is(name, b"post") {
-        Some(Form::Permits)
-    } else if is(name, b"start_wait") {
-        Some(begins(Call::Wait))
-    } else if is(name, b"try_wait") {
-        Some(begins(Call::TryWait))
-    } else {
-        None
-    }
-}
-
-/// The calls of both reader-writer locks.
-fn rw_lock_call<T>(name: &[u8]) -> Option<Form<T>>
-    ensures { result ≡ meaning.find name.now meaning.rw_lock_calls }
-{
-    if is(name, b"read_lock") {
-        Some(begins(Call::ReadLock))
-    } else if is(name, b"try_read_lock") {
-        Some(begins(Call::TryReadLock))
-    } else if is(name, b"write_lock") {
-        Some(begins(Call::WriteLock))
-    } else if is(name, b"try_write_lock") {
-        Some(begins(Call::TryWriteLock))
-    } else if is(name, b"unlock") {
-        Some(begins(Call::Unlock))
-    } else {
-        None
-    }
-}
-
-/// Its one call is written `start_wait`, as a semaphore's.
-fn barrier_call<T>(name: &[u8]) -> Option<Form<T>>
-    ensures { result ≡ meaning.find name.now meaning.barrier_calls }
-{
-    if is(name, b"start_wait") {
-        Some(begins(Call::Wait))
-    } else {
-        None
-    }
-}
-
-/// The calls of its mutex, and its own.
-fn condvar_call<T>(name: &[u8]) -> Option<Form<T>>
-    ensures { result ≡ meaning.find name.now meaning.condvar_calls }
-{
-    if is(name, b"notify_one") {
-        Some(begins(Call::NotifyOne))
-    } else if is(name, b"notify_all") {
-        Some(begins(Call::NotifyAll))
-    } else if is(name, b"start_wait") {
-        Some(begins(Call::Wait))
-    } else {
-        mutex_call(name)
-    }
-}
-
-fn once_call<T>(name: &[u8]) -> Option<Form<T>>
-    ensures { result ≡ meaning.find name.now meaning.once_calls }
-{
-    if is(name, b"call_once") {
-        Some(begins(Call::CallOnce))
-    } else if is(name, b"is_completed") {
-        Some(begins(Call::IsCompleted))
-    } else {
-        None
-    }
-}
-
-fn lazy_call<T>(name: &[u8]) -> Option<Form<T>>
-    ensures { result ≡ meaning.find name.now meaning.lazy_calls }
-{
-    if is(name, b"force") {
-        Some(begins(Call::Force))
-    } else {
-        None
-    }
-}
-
-fn atomic_call<T>(name: &[u8]) -> Option<Form<T>>
-    ensures { result ≡ meaning.find name.now meaning.atomic_calls }
-{
-    if is(name, b"load") {
-        Some(begins(Call::Load))
-    } else if is(name, b"store") {
-        Some(Form::Operand(Operation::Store))
-    } else if is(name, b"swap") {
-        Some(Form::Operand(Operation::Swap))
-    } else if is(name, b"compare_exchange") {
-        Some(Form::Exchange)
-    } else if is(name, b"compare_exchange_weak") {
-        Some(Form::ExchangeWeak)
-    } else if is(name, b"fetch_add") {
-        Some(Form::Operand(Operation::FetchAdd))
-    } else if is(name, b"fetch_sub") {
-        Some(Form::Operand(Operation::FetchSub))
-    } else if is(name, b"fetch_and") {
-        Some(Form::Operand(Operation::FetchAnd))
-    } else if is(name, b"fetch_or") {
-        Some(Form::Operand(Operation::FetchOr))
-    } else if is(name, b"fetch_xor") {
-        Some(Form::Operand(Operation::FetchXor))
-    } else if is(name, b"fetch_nand") {
-        Some(Form::Operand(Operation::FetchNand))
-    } else if is(name, b"fetch_max") {
-        Some(Form::Operand(Operation::FetchMax))
-    } else if is(name, b"fetch_min") {
-        Some(Form::Operand(Operation::FetchMin))
-    } else if is(name, b"fetch_update") {
-        Some(begins(Call::FetchUpdate))
-    } else {
-        None
-    }
-}
-
-/// The calls of an object.
-fn named_call<T: Copy>(object: Object<T>, name: &[u8]) -> Option<Form<T>>
-    ensures { result ≡ meaning.find name.now (meaning.calls_of object) }
-{
-    match object {
-        Object::Mutex => mutex_call(name),
-        Object::Spin => spin_call(name),
-        Object::Semaphore(_) => semaphore_call(name),
-        Object::ReaderLock | Object::WriterLock => rw_lock_call(name),
-        Object::Barrier(_) => barrier_call(name),
-        Object::Condvar => condvar_call(name),
-        Object::Once => once_call(name),
-        Object::Lazy(_) => lazy_call(name),
-        Object::Atomic(_) => atomic_call(name),
-    }
-}
-
 /// Whether this is a verb that a text knows of the object: one of those of every object, or one of its calls.
 pub fn is_known<T: Copy>(object: Object<T>, name: &[u8]) -> bool
-    ensures { result ≡ is_some (meaning.find {T = T} name.now meaning.verbs) || is_some (meaning.find name.now (meaning.calls_of object)) }
+    ensures { result ≡ is_some (meaning.find {T = T} name.now meaning.verbs) || is_some (call_of_name name.now (listed_calls object)) }
 {
-    verb::<T>(name).is_some() || named_call(object, name).is_some()
+    verb::<T>(name).is_some() || named(name, calls_of(&object)).is_some()
 }
 
 /// As many steps as the number says, or one where none follows.
@@ -330,7 +115,7 @@ fn steps<T>(rest: &[u8]) -> Result<Task<T>, LineFault>
     }
 }
 
-/// The task that a verb asks with the words after it.
+/// The task that a verb of every object asks with the words after it.
 fn with_numbers<T: TextInteger>(form: Form<T>, rest: &[u8]) -> Result<Task<T>, LineFault>
     ensures { result ≡ meaning.task_by T.numerals form (words_of rest.now) }
 {
@@ -344,26 +129,135 @@ fn with_numbers<T: TextInteger>(form: Form<T>, rest: &[u8]) -> Result<Task<T>, L
             let value = only_value(rest)?;
             Ok(Task::Give(Input::Choose(Some(value))))
         }
-        Form::Permits => {
+    }
+}
+
+/// What follows the name of a call.
+#[derive(Clone, Copy)]
+enum Values {
+    Nothing,
+    /// A number of permits.
+    Permits,
+    /// A value.
+    One,
+    /// Two values.
+    Two,
+}
+
+fn values_of(call: Call<()>) -> Values
+    ensures { result ≡ meaning.values_of call }
+{
+    match call {
+        Call::Post(_) => Values::Permits,
+        Call::Store(())
+        | Call::Swap(())
+        | Call::FetchAdd(())
+        | Call::FetchSub(())
+        | Call::FetchAnd(())
+        | Call::FetchOr(())
+        | Call::FetchXor(())
+        | Call::FetchNand(())
+        | Call::FetchMax(())
+        | Call::FetchMin(()) => Values::One,
+        Call::CompareExchange((), ()) | Call::CompareExchangeWeak((), ()) => Values::Two,
+        _ => Values::Nothing,
+    }
+}
+
+/// A call that brings no value.
+fn alone<T>(call: Call<()>) -> Call<T>
+    ensures { result ≡ meaning.alone call }
+{
+    match call {
+        Call::Lock => Call::Lock,
+        Call::TryLock => Call::TryLock,
+        Call::BlockingLock => Call::BlockingLock,
+        Call::Unlock => Call::Unlock,
+        Call::Value => Call::Value,
+        Call::Wait => Call::Wait,
+        Call::TryWait => Call::TryWait,
+        Call::ReadLock => Call::ReadLock,
+        Call::TryReadLock => Call::TryReadLock,
+        Call::WriteLock => Call::WriteLock,
+        Call::TryWriteLock => Call::TryWriteLock,
+        Call::NotifyOne => Call::NotifyOne,
+        Call::NotifyAll => Call::NotifyAll,
+        Call::CallOnce => Call::CallOnce,
+        Call::IsCompleted => Call::IsCompleted,
+        Call::Force => Call::Force,
+        Call::Load => Call::Load,
+        _ => Call::FetchUpdate,
+    }
+}
+
+/// A call that brings one value.
+fn with_one<T>(call: Call<()>, value: T) -> Call<T>
+    ensures { result ≡ meaning.with_one call value }
+{
+    match call {
+        Call::Store(()) => Call::Store(value),
+        Call::Swap(()) => Call::Swap(value),
+        Call::FetchAdd(()) => Call::FetchAdd(value),
+        Call::FetchSub(()) => Call::FetchSub(value),
+        Call::FetchAnd(()) => Call::FetchAnd(value),
+        Call::FetchOr(()) => Call::FetchOr(value),
+        Call::FetchXor(()) => Call::FetchXor(value),
+        Call::FetchNand(()) => Call::FetchNand(value),
+        Call::FetchMax(()) => Call::FetchMax(value),
+        _ => Call::FetchMin(value),
+    }
+}
+
+/// A call that brings two.
+fn with_two<T>(call: Call<()>, from: T, to: T) -> Call<T>
+    ensures { result ≡ meaning.with_two call from to }
+{
+    match call {
+        Call::CompareExchange((), ()) => Call::CompareExchange(from, to),
+        _ => Call::CompareExchangeWeak(from, to),
+    }
+}
+
+/// The call with the values that follow its name.
+fn with_values<T: TextInteger>(call: Call<()>, rest: &[u8]) -> Result<Call<T>, LineFault>
+    ensures { result ≡ meaning.with_values T.numerals call (words_of rest.now) }
+{
+    match values_of(call) {
+        Values::Nothing => {
+            nothing(rest)?;
+            Ok(alone(call))
+        }
+        Values::Permits => {
             let permits = only_number(0, u64::MAX, rest)?;
-            Ok(Task::Give(Input::Begin(Call::Post(permits))))
+            Ok(Call::Post(permits))
         }
-        Form::Operand(operation) => {
+        Values::One => {
             let value = only_value(rest)?;
-            Ok(Task::Give(Input::Begin(operation.with_value(value))))
+            Ok(with_one(call, value))
         }
-        Form::Exchange => {
+        Values::Two => {
             let (from, to) = only_two_values(rest)?;
-            Ok(Task::Give(Input::Begin(Call::CompareExchange(from, to))))
-        }
-        Form::ExchangeWeak => {
-            let (from, to) = only_two_values(rest)?;
-            Ok(Task::Give(Input::Begin(Call::CompareExchangeWeak(from, to))))
+            Ok(with_two(call, from, to))
         }
     }
 }
 
+/// The call of an object that a line names, with its values.
+fn call_named<T: TextInteger>(
+    calls: &[Call<()>],
+    name: &[u8],
+    rest: &[u8],
+) -> Result<Task<T>, LineFault>
+    ensures { result ≡ meaning.call_if T.numerals (call_of_name name.now calls.now) (words_of rest.now) }
+{
+    match named(name, calls) {
+        Some(call) => Ok(Task::Give(Input::Begin(with_values(call, rest)?))),
+        None => Err(LineFault::BadLine),
+    }
+}
+
 /// What the words of a verb and after it ask of the object.
+#[tactic(auto, unfolding(crate::specs::Command::task_of))]
 fn task_of<T: TextInteger>(
     object: Object<T>,
     name: &[u8],
@@ -371,12 +265,9 @@ fn task_of<T: TextInteger>(
 ) -> Result<Task<T>, LineFault>
     ensures { result ≡ meaning.task_of T.numerals object name.now (words_of rest.now) }
 {
-    if let Some(form) = verb(name) {
-        return with_numbers(form, rest);
-    }
-    match named_call(object, name) {
+    match verb(name) {
         Some(form) => with_numbers(form, rest),
-        None => Err(LineFault::BadLine),
+        None => call_named(calls_of(&object), name, rest),
     }
 }
 

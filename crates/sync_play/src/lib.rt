@@ -13,6 +13,7 @@
 //! ([`value_type`]); [`by_value_type!`] calls a function with it.
 #![tactic(auto)]
 
+pub mod call;
 pub mod command;
 pub mod fault;
 pub mod header;

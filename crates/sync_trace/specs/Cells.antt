@@ -21,6 +21,7 @@ use Rattle.steps_events.specs.Past.{hold_of}
 use Rattle.sync_steps.specs.Objects.{table_of}
 use Rattle.sync_steps.specs.Runs.{word_in}
 use Rattle.sync_play.specs.declared.header.Header.{Header}
+use Rattle.sync_play.specs.Call.{name_of}
 use Rattle.sync_play.specs.Numerals.{Numerals}
 use Rattle.sync_play.specs.Print.{answer_words, further_words}
 use Rattle.sync_play.specs.declared.walk.Step.{Step}
@@ -28,43 +29,26 @@ use Rattle.sync_trace.specs.declared.cells.Cells.{Cells}
 
 -- The act.
 
--- a compare-exchange, with what it is from and to
-abbrev pub exchange_words : {T : Type 0} → Numerals T → List ℕ → T → T → List ℕ
-exchange_words numerals name v w = name ++ (codes " " ++ (numerals.decimal_of v ++ (codes " " ++ numerals.decimal_of w)))
+-- the values of a call, each behind a space
+abbrev pub value_words : {T : Type 0} → Numerals T → Call T → List ℕ
+value_words numerals (calls.Post permits) = codes " " ++ decimal permits
+value_words numerals (calls.Store v) = codes " " ++ numerals.decimal_of v
+value_words numerals (calls.Swap v) = codes " " ++ numerals.decimal_of v
+value_words numerals (calls.CompareExchange v w) = codes " " ++ (numerals.decimal_of v ++ (codes " " ++ numerals.decimal_of w))
+value_words numerals (calls.CompareExchangeWeak v w) = codes " " ++ (numerals.decimal_of v ++ (codes " " ++ numerals.decimal_of w))
+value_words numerals (calls.FetchAdd v) = codes " " ++ numerals.decimal_of v
+value_words numerals (calls.FetchSub v) = codes " " ++ numerals.decimal_of v
+value_words numerals (calls.FetchAnd v) = codes " " ++ numerals.decimal_of v
+value_words numerals (calls.FetchOr v) = codes " " ++ numerals.decimal_of v
+value_words numerals (calls.FetchXor v) = codes " " ++ numerals.decimal_of v
+value_words numerals (calls.FetchNand v) = codes " " ++ numerals.decimal_of v
+value_words numerals (calls.FetchMax v) = codes " " ++ numerals.decimal_of v
+value_words numerals (calls.FetchMin v) = codes " " ++ numerals.decimal_of v
+value_words numerals call = []
 
 -- a call, as the text asks for it
 abbrev pub call_words : {T : Type 0} → Numerals T → Call T → List ℕ
-call_words numerals calls.Lock = codes "lock"
-call_words numerals calls.TryLock = codes "try_lock"
-call_words numerals calls.BlockingLock = codes "blocking_lock"
-call_words numerals calls.Unlock = codes "unlock"
-call_words numerals calls.Value = codes "value"
-call_words numerals (calls.Post permits) = codes "post " ++ decimal permits
-call_words numerals calls.Wait = codes "start_wait"
-call_words numerals calls.TryWait = codes "try_wait"
-call_words numerals calls.ReadLock = codes "read_lock"
-call_words numerals calls.TryReadLock = codes "try_read_lock"
-call_words numerals calls.WriteLock = codes "write_lock"
-call_words numerals calls.TryWriteLock = codes "try_write_lock"
-call_words numerals calls.NotifyOne = codes "notify_one"
-call_words numerals calls.NotifyAll = codes "notify_all"
-call_words numerals calls.CallOnce = codes "call_once"
-call_words numerals calls.IsCompleted = codes "is_completed"
-call_words numerals calls.Force = codes "force"
-call_words numerals calls.Load = codes "load"
-call_words numerals (calls.Store v) = codes "store " ++ numerals.decimal_of v
-call_words numerals (calls.Swap v) = codes "swap " ++ numerals.decimal_of v
-call_words numerals (calls.CompareExchange v w) = exchange_words numerals (codes "compare_exchange") v w
-call_words numerals (calls.CompareExchangeWeak v w) = exchange_words numerals (codes "compare_exchange_weak") v w
-call_words numerals (calls.FetchAdd v) = codes "fetch_add " ++ numerals.decimal_of v
-call_words numerals (calls.FetchSub v) = codes "fetch_sub " ++ numerals.decimal_of v
-call_words numerals (calls.FetchAnd v) = codes "fetch_and " ++ numerals.decimal_of v
-call_words numerals (calls.FetchOr v) = codes "fetch_or " ++ numerals.decimal_of v
-call_words numerals (calls.FetchXor v) = codes "fetch_xor " ++ numerals.decimal_of v
-call_words numerals (calls.FetchNand v) = codes "fetch_nand " ++ numerals.decimal_of v
-call_words numerals (calls.FetchMax v) = codes "fetch_max " ++ numerals.decimal_of v
-call_words numerals (calls.FetchMin v) = codes "fetch_min " ++ numerals.decimal_of v
-call_words numerals calls.FetchUpdate = codes "fetch_update"
+call_words numerals call = name_of call ++ value_words numerals call
 
 -- the first word of an object goes without its name
 abbrev pub verb_words : List ℕ → Word → List ℕ

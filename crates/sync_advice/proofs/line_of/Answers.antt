@@ -1,4 +1,4 @@
-use Rattle.std.proofs.Common.{◌-◌, List, drop, ap, sym, ◌∙◌}
+use Rattle.std.proofs.Common.{◌-◌, drop, ap, sym, ◌∙◌}
 use Rattle.sync_play.specs.Lexer.{lines_of}
 use Rattle.sync_advice.specs.Advice.{first_of}
 use Rattle.sync_advice.proofs.Lines.{next_dropped}
