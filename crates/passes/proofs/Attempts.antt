@@ -47,6 +47,15 @@ module _ {F W T : Type 0} (g : Shared F (Bor W × (Bor ℕ × Unit {0})) WaitAct
     again = λ often. gone.before (omega (arith, often));
   }
 
+  -- of a call that had looked so often before
+  pub asked_later : (looks : ℕ) (p q r : Pass T) → (sights_of q).count ≡ (sights_of p).count + looks → HasAsked g wait P 0 q r → HasAsked g wait P looks p r
+  asked_later looks p q r before asked = record {
+    more = asked.more;
+    looked = omega (arith, before, asked.looked);
+    some = asked.some;
+    again = asked.again;
+  }
+
 -- what was told one value was told one of its kind
 pub told_of_its_kind : {F W : Type 0} (g : Shared F (Bor W × (Bor ℕ × Unit {0})) WaitAction) (wait : F) (P : ℕ → Type 0) (action : WaitAction) (seen : ℕ)
     → MayAnswer g wait (λ n. n ≡ seen) action → P seen → MayAnswer g wait P action

@@ -1,14 +1,17 @@
 -- What becomes of what a pass counts over several tries.
-use Rattle.std.proofs.Common.{ℕ, ◌∙◌, sym, subst}
+use Rattle.std.proofs.Common.{ℕ, ◌+◌, ◌≤◌, Bool, true, false, MatchBool, refl, ◌∙◌, sym, subst, arith}
 use Rattle.passes.specs.declared.part.Part.{Part}
 use Rattle.passes.specs.declared.pass.Pass.{Pass}
 use Rattle.passes.specs.Passes.{part_of, sights_of}
 use Rattle.passes.proofs.Attempts.{read_twice, read_and_written}
 use Rattle.playing.specs.declared.played.Played.{Played}
 use Rattle.playing.specs.Passes.{counts_of}
-use Rattle.playing.specs.Counts.{HasOnlySeen, HasMoved}
+use Rattle.playing.specs.Counts.{HasOnlySeen, HasMoved, WasRefused, WasRefusedAt}
 
 module _ {M Q V C : Type 0} where
+  pub seen_none : (p : Pass (Played M Q V C)) → HasOnlySeen p p
+  seen_none p = record { same = (refl, refl); counts = refl; part = refl; saw = record { more = omega arith; still = λ _. refl } }
+
   pub seen_twice : (p q r : Pass (Played M Q V C)) → HasOnlySeen p q → HasOnlySeen q r → HasOnlySeen p r
   seen_twice p q r first second = record {
     same = (second.same.0 ∙ first.same.0, second.same.1 ∙ first.same.1);
@@ -29,3 +32,23 @@ module _ {M Q V C : Type 0} where
     part = moved.part ∙ seen.part;
     saw = read_and_written (sights_of p) (sights_of q) (sights_of r) seen.saw moved.saw;
   }
+
+  -- what a value refused, whichever it was
+  pub refused_by : (P : ℕ → Type 0) (n seen : ℕ) (p q : Pass (Played M Q V C)) → WasRefusedAt P seen n p q → WasRefused P n p q
+  refused_by P n seen p q refused = record {
+    stayed = refused.stayed;
+    looked = record { more = refused.looked.more; refusing = subst P (sym refused.looked.refusing.0) refused.looked.refusing.1 };
+  }
+
+  -- what is refused after nothing was counted but so many sights
+  pub refused_later : (P : ℕ → Type 0) (n : ℕ) (p q r : Pass (Played M Q V C)) → HasOnlySeen p q → (sights_of p).count + n ≤ (sights_of q).count → WasRefused P 1 q r → WasRefused P (n + 1) p r
+  refused_later P n p q r seen more again = record {
+    stayed = seen_twice p q r seen again.stayed;
+    looked = record { more = omega (arith, more, again.looked.more); refusing = again.looked.refusing };
+  }
+
+  pub told_later :
+      (Moves : Part → C → C → ℕ → Type 0) (P : ℕ → Type 0) (n : ℕ) (p q r : Pass (Played M Q V C)) (granted : Bool) → HasOnlySeen p q → (sights_of p).count + n ≤ (sights_of q).count →
+      MatchBool granted (HasMoved Moves q r) (WasRefused P 1 q r) → MatchBool granted (HasMoved Moves p r) (WasRefused P (n + 1) p r)
+  told_later Moves P n p q r true seen more moved = moved_later Moves p q r seen moved
+  told_later Moves P n p q r false seen more again = refused_later P n p q r seen more again

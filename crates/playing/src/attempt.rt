@@ -92,7 +92,6 @@ pub fn ask<
 }
 
 /// Further tries, as many as a call makes by itself, until one is not refused. `seen` is the value that refused the first.
-#[tactic(auto, using(crate::proofs::Attempts::moved_later, crate::proofs::Attempts::seen_twice))]
 fn spin<K, M: Script<K, P, V>, P, V, C, B: Attempt<K, M, P, V, C>, R: Wait>(
     rt: &R,
     by: &B,
@@ -122,7 +121,6 @@ fn spin<K, M: Script<K, P, V>, P, V, C, B: Attempt<K, M, P, V, C>, R: Wait>(
 
 /// The wait closure before each further try, until one is not refused, or is refused after the closure answered `Abort`. The closure
 /// is handed the word, and told the value that refused the try before; `told` is the first of these.
-#[tactic(auto, using(crate::proofs::Attempts::moved_later, crate::proofs::Attempts::seen_twice, passes::proofs::Attempts::not_asked))]
 fn ask_and_try<
     K,
     M: Script<K, P, V>,
@@ -163,7 +161,6 @@ fn ask_and_try<
 
 /// What a call that may wait does once its first try was refused: further tries by itself, and then the wait closure before each.
 /// `seen` is the value that refused the first.
-#[tactic(auto, using(crate::proofs::Attempts::moved_later, crate::proofs::Attempts::seen_twice))]
 pub fn try_again<
     K,
     M: Script<K, P, V>,

@@ -1,7 +1,7 @@
 -- Who reads and writes the data words: only who has the lock, and a writer is alone.
 use Rattle.std.proofs.Common.{◌≡◌, ◌≢◌, ℕ, ◌<◌, ◌==◌, refl, sym, ◌∙◌, ap, subst, Bool, true, false, cond, is_some, List, [], ◌∷◌, Option, Some, None, inl, inr, arith}
 use Rattle.std.specs.Prelude.{MatchOption}
-use Rattle.std.proofs.lemmas.Bool.{eqb-true}
+use Rattle.std.proofs.lemmas.Bool.{eqb-true, false≢true}
 use Rattle.steps_events.specs.declared.event.Word.{Word}
 use Rattle.steps_events.specs.declared.event.Word.TheVariants as words
 use Rattle.steps_events.specs.declared.event.Event.{Event}
@@ -52,9 +52,9 @@ untouched_outside z (places.Leave answer) c at = absurd (let held = at.held in c
 accessed_at :
     {T : Type 0} (z : Arithmetic T) (v : T) (place : AtomicPlace T) (c : PendingCall T) (hold : Option HoldKind) (memory : Word → ℕ) → AtAtomic z place c hold → is_data_access (step_at (atomic_table z v) place hold memory).act ≡ true →
     is_some hold ≡ true
-accessed_at z v places.Look c hold memory at is = absurd cc
-accessed_at z v (places.Enter seen to) c hold memory at is = absurd cc
-accessed_at z v (places.Take call) c hold memory at is = absurd cc
+accessed_at z v places.Look c hold memory at is = absurd (false≢true is)
+accessed_at z v (places.Enter seen to) c hold memory at is = absurd (false≢true is)
+accessed_at z v (places.Take call) c hold memory at is = absurd (false≢true is)
 accessed_at z v (places.Low call) c hold memory at is = ap is_some at.1 ∙ at.2.0
 accessed_at z v (places.High call low) c hold memory at is = ap is_some at.1 ∙ at.2.0
 accessed_at z v (places.Again old) c hold memory at is = ap is_some at.1.held
@@ -65,24 +65,24 @@ accessed_at z v (places.Leave answer) c hold memory at is = at.held
 written_at :
     {T : Type 0} (z : Arithmetic T) (v : T) (place : AtomicPlace T) (c : PendingCall T) (hold : Option HoldKind) (memory : Word → ℕ) → AtAtomic z place c hold → is_data_write (step_at (atomic_table z v) place hold memory).act ≡ true →
     hold ≡ Some kinds.Write
-written_at z v places.Look c hold memory at is = absurd cc
-written_at z v (places.Enter seen to) c hold memory at is = absurd cc
-written_at z v (places.Take call) c hold memory at is = absurd cc
-written_at z v (places.Low call) c hold memory at is = absurd cc
-written_at z v (places.High call low) c hold memory at is = absurd cc
-written_at z v (places.Again old) c hold memory at is = absurd cc
+written_at z v places.Look c hold memory at is = absurd (false≢true is)
+written_at z v (places.Enter seen to) c hold memory at is = absurd (false≢true is)
+written_at z v (places.Take call) c hold memory at is = absurd (false≢true is)
+written_at z v (places.Low call) c hold memory at is = absurd (false≢true is)
+written_at z v (places.High call low) c hold memory at is = absurd (false≢true is)
+written_at z v (places.Again old) c hold memory at is = absurd (false≢true is)
 written_at z v (places.PutLow low high answer) c hold memory at is = at.held
 written_at z v (places.PutHigh high answer) c hold memory at is = at.held
 written_at z v (places.Leave answer) c None memory at is = absurd (let held = at.held in cc)
-written_at z v (places.Leave answer) c (Some kinds.Read) memory at is = absurd cc
-written_at z v (places.Leave answer) c (Some kinds.Write) memory at is = absurd cc
+written_at z v (places.Leave answer) c (Some kinds.Read) memory at is = absurd (false≢true is)
+written_at z v (places.Leave answer) c (Some kinds.Write) memory at is = absurd (false≢true is)
 
 pub accesses : {T : Type 0} (z : Arithmetic T) (v : T) (parties : ℕ) (past : List (Event T)) → IsPast z (atomic_table z v) parties past → AccessesUnderHold z v past
 accesses z v parties [] run = tt
 accesses {T} z v parties (e ∷ past) run =
     let t = atomic_table z v in
     by_move t (call_of e.party past) (hold_of t e.party past) (word_in t past) (λ (k : Option (PendingCall T)) (m : Move T). is_data_access m.act ≡ true → is_some (hold_of t e.party past) ≡ true)
-    run.0.0 (record { act = e.act; outcome = e.then }) (λ call _ is. absurd cc) (λ action _ is. absurd cc) (λ choice _ is. absurd cc)
+    run.0.0 (record { act = e.act; outcome = e.then }) (λ call _ is. absurd (false≢true is)) (λ action _ is. absurd (false≢true is)) (λ choice _ is. absurd (false≢true is))
     (λ c place _ called stage. accessed_at z v place c (hold_of t e.party past) (word_in t past) (here z v parties past run.1 e.party c place called stage))
     run.0.1.moved
 
@@ -135,7 +135,7 @@ writes_alone z v parties [] run = tt
 writes_alone {T} z v parties (e ∷ past) run =
     let t = atomic_table z v in
     by_move t (call_of e.party past) (hold_of t e.party past) (word_in t past) (λ (k : Option (PendingCall T)) (m : Move T). is_data_write m.act ≡ true → IsAlone z v e.party past)
-    run.0.0 (record { act = e.act; outcome = e.then }) (λ call _ is. absurd cc) (λ action _ is. absurd cc) (λ choice _ is. absurd cc)
+    run.0.0 (record { act = e.act; outcome = e.then }) (λ call _ is. absurd (false≢true is)) (λ action _ is. absurd (false≢true is)) (λ choice _ is. absurd (false≢true is))
     (λ c place _ called stage is.
     let held = written_at z v place c (hold_of t e.party past) (word_in t past) (here z v parties past run.1 e.party c place called stage) is in
     record { held = held; untouched = others_untouched z v parties past run.1 e.party held })

@@ -6,7 +6,7 @@ use Rattle.std.specs.Option.{ForSome}
 use Rattle.std.proofs.lemmas.Bool.{lt-ltb, ltb-true}
 use Rattle.std.proofs.lemmas.Bool.Decides.{eqb_tells}
 use Rattle.std.proofs.Math.ListN.{length-set}
-use Rattle.std.proofs.lemmas.List.{length-replicate}
+use Rattle.std.proofs.lemmas.List.{length-replicate, set-get_or}
 use Rattle.std.specs.Prelude.{replicate}
 use Rattle.steps_events.specs.declared.event.Event.{Event}
 use Rattle.steps_events.specs.declared.event.Input.{Input}
@@ -231,27 +231,44 @@ with_party m party after = record { object = m.object; parties = slice_set m.par
 
 -- a turn for which the party was changed in place, and then what its act puts was written
 pub turned_in_place :
-    {T : Type 0} (z : Arithmetic T) (party : ℕ) (input : Input T) (found after : Party T) (act : Act T) (outcome : Then T) (made : Event T) (old new : Configuration T) →
-    party < length old.parties → found ≡ get_or old.parties party found →
-    TurnsTo (turn_at z old.object found (word_at old.words) input) found after (Ok (act, outcome)) →
-    made ≡ event party act outcome → HasWritten act (with_party old party after) new → HasTurned z party input old new made
-turned_in_place z party input found after act outcome made old new within there turned told written =
-    record {
+    {T : Type 0} (z : Arithmetic T) {party : ℕ} {input : Input T} {found : Party T} (after : Party T) {answer : Result (Act T × Then T) StepFault} {act : Act T} {outcome : Then T} {made : Event T} {own old new : Configuration T} →
+    own ≡ old → party < length old.parties → found ≡ get_or own.parties party found →
+    TurnsTo (turn_at z own.object found (word_at own.words) input) found after answer → answer ≡ Ok (act, outcome) →
+    made ≡ event party act outcome → HasWritten act (with_party own party after) new → HasTurned z party input old new made
+turned_in_place {T} z {party} {input} {found} after {answer} {act} {outcome} {made} {own} {old} {new} same within there turned is told written =
+    subst (λ (m : Configuration T). party < length m.parties → HasTurned z party input m new made) same
+    (λ below. record {
       found = found;
-      there = slice_get-get_or old.parties party found within ∙ ap Some (sym there);
+      there = slice_get-get_or own.parties party found below ∙ ap Some (sym there);
       turn = record { act = act; outcome = outcome; party = after };
-      is = turned;
+      is = subst (TurnsTo (turn_at z own.object found (word_at own.words) input) found after) is turned;
       made_is = told;
       applied = record { object = written.object; parties = written.parties; words = written.words; failed = written.failed };
-    }
+    })
+    within
 
 -- a fault in its place
 pub refused_in_place :
-    {T : Type 0} (z : Arithmetic T) (party : ℕ) (input : Input T) (found after : Party T) (fault : StepFault) (old : Configuration T) →
-    party < length old.parties → found ≡ get_or old.parties party found →
-    TurnsTo (turn_at z old.object found (word_at old.words) input) found after (Err fault) → HasRefused z party input old fault
-refused_in_place z party input found after fault old within there turned =
-    record { found = found; there = slice_get-get_or old.parties party found within ∙ ap Some (sym there); is = turned.0 }
+    {T : Type 0} (z : Arithmetic T) {party : ℕ} {input : Input T} {found : Party T} (after : Party T) {answer : Result (Act T × Then T) StepFault} {fault : StepFault} {own old : Configuration T} →
+    own ≡ old → party < length old.parties → found ≡ get_or own.parties party found →
+    TurnsTo (turn_at z own.object found (word_at own.words) input) found after answer → answer ≡ Err fault → HasRefused z party input old fault
+refused_in_place {T} z {party} {input} {found} after {answer} {fault} {own} same within there turned is =
+    subst (λ (m : Configuration T). party < length m.parties → HasRefused z party input m fault) same
+    (λ below. record {
+      found = found;
+      there = slice_get-get_or own.parties party found below ∙ ap Some (sym there);
+      is = (subst (TurnsTo (turn_at z own.object found (word_at own.words) input) found after) is turned).0;
+    })
+    within
+
+-- after which the machine is as before
+pub kept_in_place :
+    {T : Type 0} (party : ℕ) (turn : Result (Turn T) StepFault) {found : Party T} (after : Party T) {answer : Result (Act T × Then T) StepFault} {fault : StepFault} {own old : Configuration T} →
+    own ≡ old → found ≡ get_or own.parties party found → TurnsTo turn found after answer → answer ≡ Err fault → with_party own party after ≡ old
+kept_in_place {T} party turn {found} after {answer} {fault} {own} same there turned is =
+    let kept : after ≡ found = (subst (TurnsTo turn found after) is turned).1 in
+    let parties : slice_set own.parties party after ≡ own.parties = ap (slice_set own.parties party) (kept ∙ there) ∙ set-get_or own.parties party found in
+    ap (λ (xs : List (Party T)). record { object = own.object; parties = xs; words = own.words; failed = own.failed }) parties ∙ same
 
 -- What the machine tells of a hold.
 

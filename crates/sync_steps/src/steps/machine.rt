@@ -152,7 +152,6 @@ impl<T: AtomicInteger, A: Allocator> Machine<T, A> {
 
 impl<T: AtomicInteger, A: Allocator> Machine<T, A> {
     /// A party begins a call.
-    #[tactic(auto, using(crate::proofs::Stands::turned_in_place, crate::proofs::Stands::refused_in_place))]
     #[inline(always)]
     fn begin(&mut self, party: usize, call: Call<T>) -> Result<Event<T>, StepFault>
         requires { party < length self.old.parties }
@@ -167,7 +166,6 @@ impl<T: AtomicInteger, A: Allocator> Machine<T, A> {
     }
 
     /// A party makes the next step of its call. Of all inputs it is the one that comes by the million.
-    #[tactic(auto, using(crate::proofs::Stands::turned_in_place, crate::proofs::Stands::refused_in_place))]
     #[inline(always)]
     fn go(&mut self, party: usize) -> Result<Event<T>, StepFault>
         requires { party < length self.old.parties }
@@ -182,7 +180,6 @@ impl<T: AtomicInteger, A: Allocator> Machine<T, A> {
     }
 
     /// The wait closure of a party answers.
-    #[tactic(auto, using(crate::proofs::Stands::turned_in_place, crate::proofs::Stands::refused_in_place))]
     #[inline(always)]
     fn answer(&mut self, party: usize, action: WaitAction) -> Result<Event<T>, StepFault>
         requires { party < length self.old.parties }
@@ -197,7 +194,6 @@ impl<T: AtomicInteger, A: Allocator> Machine<T, A> {
     }
 
     /// The choice closure of a party answers.
-    #[tactic(auto, using(crate::proofs::Stands::turned_in_place, crate::proofs::Stands::refused_in_place))]
     #[inline(always)]
     fn choose(&mut self, party: usize, choice: Option<T>) -> Result<Event<T>, StepFault>
         requires { party < length self.old.parties }

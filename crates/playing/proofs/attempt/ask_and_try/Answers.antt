@@ -1,11 +1,21 @@
-use Rattle.std.proofs.Common.{◌∙◌}
+use Rattle.std.proofs.Common.{◌∙◌, sym, arith}
+use Rattle.std.proofs.lemmas.Bool.{false≢true}
 use Rattle.steps_events.specs.declared.WaitAction.TheVariants as actions
 use Rattle.steps_events.specs.Rows.{answered}
-use Rattle.passes.proofs.Attempts.{goes_on, has_asked, told_of_its_kind}
+use Rattle.passes.proofs.Attempts.{not_asked, goes_on, has_asked, told_of_its_kind}
 use Rattle.playing.specs.Tries.{spun}
-use Rattle.playing.proofs.Attempts.{seen_twice, still_so}
+use Rattle.playing.proofs.Attempts.{seen_none, seen_twice, still_so, moved_later, refused_by, refused_later}
 use Rattle.playing.proofs.Patience.{tries_on}
 use Rattle.playing.proofs.attempt.ask_and_try.Goals as goal
+
+pub loop-init : goal.loop-init
+loop-init g c = record {
+  own = c.requires.own;
+  stayed = seen_none c.args.pass.now;
+  refused = c.requires.refused;
+  asked = λ _. not_asked _ _ _ c.args.pass.now;
+  at = λ _ stood. stood;
+}
 
 pub ask-requires-clause-stands : goal.ask-requires-clause-stands
 ask-requires-clause-stands g c =
@@ -34,13 +44,36 @@ attempt-requires-in-Abort-clause-comes g c =
       comes = tries_on _ _ _ (g.met.B.Attempt.answers _) actions.Abort c.loop.last _ _ (c.loop.invariant.at c.requires.at.0 c.requires.at.1);
     }
 
+pub returns-in-Ok-clause-told : goal.returns-in-Ok-clause-told
+returns-in-Ok-clause-told g c = moved_later g.B.Attempt.moves c.args.pass.now c.loop.pass c.attempt.new.pass c.loop.invariant.stayed c.in-Ok.ensures.moved
+
+pub returns-in-Ok-clause-aborted : goal.returns-in-Ok-clause-aborted
+returns-in-Ok-clause-aborted g c = λ no. absurd (false≢true (sym no))
+
+pub returns-in-Ok-clause-asked : goal.returns-in-Ok-clause-asked
+returns-in-Ok-clause-asked g c = λ no. absurd (false≢true (sym no))
+
 pub returns-in-Ok-clause-over : goal.returns-in-Ok-clause-over
 returns-in-Ok-clause-over g c =
     λ done stood. c.in-Ok.ensures.granted (answered (spun 10000) actions.Continue) done (tries_on _ _ _ (g.met.B.Attempt.answers _) actions.Continue c.loop.last _ _ (c.loop.invariant.at done stood))
 
+pub returns-in-Ok-attempt-clause-told : goal.returns-in-Ok-attempt-clause-told
+returns-in-Ok-attempt-clause-told g c = moved_later g.B.Attempt.moves c.args.pass.now c.loop.pass c.attempt-in-Abort.new.pass c.loop.invariant.stayed c.in-Ok-attempt.ensures.moved
+
+pub returns-in-Ok-attempt-clause-aborted : goal.returns-in-Ok-attempt-clause-aborted
+returns-in-Ok-attempt-clause-aborted g c = λ no. absurd (false≢true (sym no))
+
+pub returns-in-Ok-attempt-clause-asked : goal.returns-in-Ok-attempt-clause-asked
+returns-in-Ok-attempt-clause-asked g c = λ no. absurd (false≢true (sym no))
+
 pub returns-in-Ok-attempt-clause-over : goal.returns-in-Ok-attempt-clause-over
 returns-in-Ok-attempt-clause-over g c =
     λ done stood. c.in-Ok-attempt.ensures.granted (answered (spun 10000) actions.Abort) done (tries_on _ _ _ (g.met.B.Attempt.answers _) actions.Abort c.loop.last _ _ (c.loop.invariant.at done stood))
+
+pub returns-in-Err-attempt-clause-told : goal.returns-in-Err-attempt-clause-told
+returns-in-Err-attempt-clause-told g c =
+    refused_later g.B.Attempt.refuses 0 c.args.pass.now c.loop.pass c.attempt-in-Abort.new.pass c.loop.invariant.stayed (omega (arith, c.loop.invariant.stayed.saw.more))
+    (refused_by g.B.Attempt.refuses 1 c.in-Err-attempt.field-0 c.loop.pass c.attempt-in-Abort.new.pass c.in-Err-attempt.ensures.refused)
 
 pub returns-in-Err-attempt-clause-over : goal.returns-in-Err-attempt-clause-over
 returns-in-Err-attempt-clause-over g c =

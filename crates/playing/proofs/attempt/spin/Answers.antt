@@ -1,5 +1,6 @@
-use Rattle.std.proofs.Common.{◌+◌}
+use Rattle.std.proofs.Common.{◌+◌, ◌∙◌, arith}
 use Rattle.playing.specs.Tries.{spun}
+use Rattle.playing.proofs.Attempts.{seen_twice, still_so, moved_later}
 use Rattle.playing.proofs.Patience.{spins_on}
 use Rattle.playing.proofs.attempt.spin.Goals as goal
 
@@ -13,3 +14,17 @@ attempt-requires-clause-comes g c =
 
 pub returns-in-Ok-clause-granted : goal.returns-in-Ok-clause-granted
 returns-in-Ok-clause-granted g c = λ done refused. c.in-Ok.ensures.granted (spun (c.loop.counter + 1)) done (spins_on _ _ _ c.loop.counter _ _ _ c.loop-test.true (c.loop.invariant.at done refused))
+
+pub returns-in-Ok-clause-moved : goal.returns-in-Ok-clause-moved
+returns-in-Ok-clause-moved g c = moved_later g.B.Attempt.moves c.args.pass.now c.loop.pass c.attempt.new.pass c.loop.invariant.stayed c.in-Ok.ensures.moved
+
+pub loop-preserved : goal.loop-preserved
+loop-preserved g c = record {
+  own = c.in-Err.ensures.refused.stayed.same.0 ∙ c.loop.invariant.own;
+  stayed = seen_twice c.args.pass.now c.loop.pass c.attempt.new.pass c.loop.invariant.stayed c.in-Err.ensures.refused.stayed;
+  more = omega (arith, c.loop.invariant.more, c.in-Err.ensures.refused.looked.more);
+  last = c.in-Err.ensures.refused.looked.refusing.0;
+  refusing = c.in-Err.ensures.refused.looked.refusing.1;
+  once = λ looks_once. omega (arith, c.loop.invariant.once looks_once, c.in-Err.ensures.once (still_so g.B.Attempt.looks_once c.args.pass.now c.loop.pass c.loop.invariant.stayed looks_once));
+  at = λ done refused. c.in-Err.ensures.failed (spun (c.loop.counter + 1)) done (spins_on _ _ _ c.loop.counter _ _ _ c.loop-test.true (c.loop.invariant.at done refused));
+}
