@@ -68,6 +68,38 @@ fn is_same<T: AtomicInteger>(old: T, current: T) -> bool
     old == current
 }
 
+/// The bits that both have.
+#[inline(always)]
+fn and<T: AtomicInteger>(old: T, value: T) -> T
+    ensures { result ≡ T.arithmetic.and old value }
+{
+    old & value
+}
+
+/// The bits that one has.
+#[inline(always)]
+fn or<T: AtomicInteger>(old: T, value: T) -> T
+    ensures { result ≡ T.arithmetic.or old value }
+{
+    old | value
+}
+
+/// The bits that one has and not both.
+#[inline(always)]
+fn xor<T: AtomicInteger>(old: T, value: T) -> T
+    ensures { result ≡ T.arithmetic.xor old value }
+{
+    old ^ value
+}
+
+/// The bits that it has not.
+#[inline(always)]
+fn inverse<T: AtomicInteger>(value: T) -> T
+    ensures { result ≡ T.arithmetic.inverse value }
+{
+    !value
+}
+
 /// What a call does before it tries again, and how often it has then tried: it spins 10000 times, and from then on yields, so that whoever
 /// has the lock can run.
 #[inline(always)]
@@ -257,7 +289,7 @@ impl<T: AtomicInteger, A: Allocator> Atomic<T, A> {
         let call = Call::FetchAnd(value);
         let words = content(value);
         let old = self.take(rt, &mut pass.pass, &call);
-        let new = old & value;
+        let new = and(old, value);
         let act = AtomicAct::FetchAnd(words);
         self.replace(&mut pass.pass, old, new, &act, &call)
     }
@@ -278,7 +310,7 @@ impl<T: AtomicInteger, A: Allocator> Atomic<T, A> {
         let call = Call::FetchOr(value);
         let words = content(value);
         let old = self.take(rt, &mut pass.pass, &call);
-        let new = old | value;
+        let new = or(old, value);
         let act = AtomicAct::FetchOr(words);
         self.replace(&mut pass.pass, old, new, &act, &call)
     }
@@ -299,7 +331,7 @@ impl<T: AtomicInteger, A: Allocator> Atomic<T, A> {
         let call = Call::FetchXor(value);
         let words = content(value);
         let old = self.take(rt, &mut pass.pass, &call);
-        let new = old ^ value;
+        let new = xor(old, value);
         let act = AtomicAct::FetchXor(words);
         self.replace(&mut pass.pass, old, new, &act, &call)
     }
@@ -320,7 +352,7 @@ impl<T: AtomicInteger, A: Allocator> Atomic<T, A> {
         let call = Call::FetchNand(value);
         let words = content(value);
         let old = self.take(rt, &mut pass.pass, &call);
-        let new = !(old & value);
+        let new = inverse(and(old, value));
         let act = AtomicAct::FetchNand(words);
         self.replace(&mut pass.pass, old, new, &act, &call)
     }

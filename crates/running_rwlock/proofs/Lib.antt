@@ -3,6 +3,7 @@ pub mod RwReaderCounts
 pub mod RwReaderPlays
 pub mod RwWriterKeeps
 pub mod RwWriterCounts
+pub mod RwWriterTries
 pub mod RwWriterPlays
 pub mod RwReaderUnlocks
 pub mod RwReaderJoins

@@ -279,25 +279,3 @@ opens = record { two_words = refl; mark = 0; word_is = omega arith; one_mark = o
 -- at the end the word is what the pass's holds come to, since its flag is down
 pub closes : (words : List ℕ) (t : MarkedHolds) (found : ℕ) → IsMarkedOrHeld words t → get_or words 0 0 ≡ found → t.flags ≡ 0 → found ≡ word_of t
 closes words t found is here down = let word = is.word_is in let flagged = is.flagged in omega (arith, word, flagged, here, down)
-
--- what a writer knows whose exchange from the value that it had just seen found another
-pub missed_it : (p q : Pass PlayedRwWriter) (seen found : ℕ) → IsSamePass p q → HasJustSeen seen p → found ≢ seen → WriterIn seen (counted p) found (counted q) → HasTried 0 p q × HasJustSeen found q × MayGiveUp q
-missed_it p q seen found same just other told =
-    let sight = told.failed other in
-    let sights : sights_of q ≡ seen_instead (sights_of p) seen found = ap (λ (v : View MarkedHolds). v.sights) sight.sees in
-    let tally : counts_of q ≡ flagged sight.flags (counts_of p) = ap (λ (v : View MarkedHolds). v.tally) sight.sees in
-    let flags : (counts_of q).flags ≡ sight.flags = ap (λ (t : MarkedHolds). t.flags) tally in
-    let count : (sights_of q).count ≡ (sights_of p).count + 1 = ap (λ (s : Sights). s.count) sights in
-    let missed : (sights_of q).missed ≡ ((sights_of p).fresh && ((sights_of p).last == seen)) = ap (λ (s : Sights). s.missed) sights in (
-      record {
-        same = same;
-        part = ap (λ (v : View MarkedHolds). v.part) sight.sees;
-        tally = tally ∙ ap (λ (n : ℕ). flagged n (counts_of p)) (sym flags);
-        more = omega (arith, count);
-      },
-      record { last = ap (λ (s : Sights). s.last) sights; fresh = ap (λ (s : Sights). s.fresh) sights; down = λ unset. flags ∙ sight.down unset },
-      inr (missed ∙ both_true ((sights_of p).fresh) ((sights_of p).last) seen just.fresh just.last),
-    )
-  where
-    both_true : (fresh : Bool) (last from : ℕ) → fresh ≡ true → last ≡ from → (fresh && (last == from)) ≡ true
-    both_true fresh last from one is = rw (one, is, eqb_same from) refl

@@ -236,6 +236,9 @@ comes_to_enter patience seen done p free at = when_true calls.WriteLock (lets_wr
 pub may_enter : (patience : Patience) (seen : ℕ) (done : List (Slot ℕ)) (p : Parties ℕ) → WriteGoes (afters.At (places.Enter seen patience)) done p → (put : ℕ) → put ≡ 2 ^ 64 - 1 → TableHas Going 0 (λ w. intents.Exchange w seen put) p
 may_enter patience seen done p at put is = may_exchange Going calls.WriteLock (places.Enter seen patience) done p seen (2 ^ 64 - 1) put is refl at
 
+pub enter_refused : (patience : Patience) (seen : ℕ) (done : List (Slot ℕ)) (p : Parties ℕ) → 2 ≤ seen → WriteGoes (write_look patience seen) done p → WriteGoes (write_refused patience seen) done p
+enter_refused patience seen done p held at = when_false calls.WriteLock (lets_writer_in seen) (afters.At (places.Enter seen patience)) (write_refused patience seen) done p (lt_false seen 2 held) at
+
 enter_so : (patience : Patience) (seen found : ℕ) (done : List (Slot ℕ)) (q : Parties ℕ) → (found == seen) ≡ true → rw_writer_grant {T = ℕ} calls.WriteLock seen (2 ^ 64 - 1) ≡ Some kinds.Write →
     Led rw_writer_model calls.WriteLock (places.Enter seen patience) None found done q → WriteIsGranted done q
 enter_so patience seen found done q test grants led = rw (test, grants) at led

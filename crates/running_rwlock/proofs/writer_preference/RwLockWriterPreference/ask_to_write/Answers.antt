@@ -1,4 +1,4 @@
-use Rattle.std.proofs.Common.{rules, ◌<◌, ◌^◌, ◌∙◌, sym, subst, arith}
+use Rattle.std.proofs.Common.{rules, ◌<◌, ◌^◌, ◌∙◌, refl, sym, subst, arith}
 use Rattle.std.proofs.lemmas.Bool.{MatchBool-at_true, MatchBool-at_false}
 use Rattle.steps_events.specs.declared.WaitAction.TheVariants as actions
 use Rattle.steps_events.specs.declared.row.After.TheVariants as afters
@@ -9,7 +9,9 @@ use Rattle.playing.specs.Passes.{parties_of}
 use Rattle.playing.specs.Tries.{spun}
 use Rattle.running_rwlock.specs.RwWriterSteps.{PlayedRwWriter}
 use Rattle.running_rwlock.specs.RwWriterParties.{WriteGoes, WriteIsGranted}
+use Rattle.running_rwlock.specs.RwWriterShown.{HasEnteredSeenFree}
 use Rattle.running_rwlock.proofs.RwWriterPlays.{stands, goes_on, stands_to_wait, continued, aborted}
+use Rattle.running_rwlock.proofs.RwWriterTries.{unchanged, tried_again, entered_after, ends_after}
 use Rattle.running_rwlock.proofs.writer_preference.RwLockWriterPreference.ask_to_write.Goals as goal
 use Rattle.running_rwlock.proofs.writer_preference.RwLockWriterPreference.ask_to_write.Goals.{then-is_blocked+in-Continue, else-is_blocked}
 
@@ -56,3 +58,21 @@ loop-preserved g c = record {
         (MatchBool-at_false _ _ (sym w.entered-is ∙ c.if-entered.false) (w.enter_or_mark_from-entered.ensures.played 10000 done (goes_on c.load_count-count.result c.look_last-seen.result (spun 10000) done _ (sym c.is_blocked.ensures ∙ w.if-is_blocked.false) (c.look_last-seen.ensures.looked (spun 10000) done (c.load_count-count.ensures.loaded (spun 10000) done (c.loop.invariant.at done at))))))
   ];
 }
+
+pub loop-init : goal.loop-init
+loop-init g c = record { tried = unchanged _ _ (refl, refl) refl; at = λ _ at. at }
+
+pub returns-then-entered-clause-entered : goal.returns-then-entered-clause-entered
+returns-then-entered-clause-entered g c =
+    let tried = tried_again 0 1 _ _ _ (tried_again 0 0 _ _ _ c.loop.invariant.tried (unchanged _ _ c.load_count-count.ensures.same c.load_count-count.ensures.unchanged)) c.look_last-seen.ensures.tried in
+    elim c.if-is_blocked.branch [
+      | then-is_blocked+in-Continue w ↦ subst (λ (p : Pass PlayedRwWriter). HasEnteredSeenFree c.args.pass.now p) (sym w.pass-is)
+          (entered_after 1 _ _ _ tried (MatchBool-at_true _ _ (sym w.entered-is ∙ c.if-entered.true) w.enter_or_mark.ensures.entered))
+      | else-is_blocked w ↦ subst (λ (p : Pass PlayedRwWriter). HasEnteredSeenFree c.args.pass.now p) (sym w.pass-is)
+          (entered_after 1 _ _ _ tried (MatchBool-at_true _ _ (sym w.entered-is ∙ c.if-entered.true) w.enter_or_mark_from-entered.ensures.entered))
+    ]
+
+pub returns-in-Abort-clause-entered : goal.returns-in-Abort-clause-entered
+returns-in-Abort-clause-entered g c = ends_after 1 1 _ _ _ _
+    (tried_again 0 1 _ _ _ (tried_again 0 0 _ _ _ c.loop.invariant.tried (unchanged _ _ c.load_count-count.ensures.same c.load_count-count.ensures.unchanged)) c.look_last-seen.ensures.tried)
+    c.enter_or_give_up.ensures.entered

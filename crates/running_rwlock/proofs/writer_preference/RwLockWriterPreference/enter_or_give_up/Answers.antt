@@ -2,6 +2,7 @@ use Rattle.std.proofs.Common.{refl, inl, inr}
 use Rattle.steps_events.specs.declared.event.Call.TheVariants as calls
 use Rattle.steps_rw_writer.specs.declared.Leaver.TheVariants as leavers
 use Rattle.running_rwlock.specs.RwWriterParties.{given_up}
+use Rattle.running_rwlock.proofs.RwWriterTries.{tried_again, gave_up_after, gave_up_still}
 use Rattle.running_rwlock.proofs.writer_preference.RwLockWriterPreference.enter_or_give_up.Goals as goal
 
 pub look_to_write-seen-requires-clause-comes : goal.look_to_write-seen-requires-clause-comes
@@ -40,3 +41,12 @@ returns-then-take_mark_away-clause-played g c = λ done comes.
 pub returns-else-take_mark_away-clause-played : goal.returns-else-take_mark_away-clause-played
 returns-else-take_mark_away-clause-played g c = λ done comes.
     inl ((c.if-take_mark_away.ensures.played done (c.in-Err.ensures.goes_on given_up done (c.look_to_write-seen.ensures.looked given_up done comes))))
+
+pub take_mark_away-requires-clause-cause : goal.take_mark_away-requires-clause-cause
+take_mark_away-requires-clause-cause g c = c.in-Err.ensures.refused.2
+
+pub returns-else-take_mark_away-clause-entered : goal.returns-else-take_mark_away-clause-entered
+returns-else-take_mark_away-clause-entered g c = gave_up_after 1 0 _ _ _ (tried_again 1 0 _ _ _ c.look_to_write-seen.ensures.tried c.in-Err.ensures.refused.0) c.if-take_mark_away.ensures.gave_up
+
+pub returns-then-take_mark_away-clause-entered : goal.returns-then-take_mark_away-clause-entered
+returns-then-take_mark_away-clause-entered g c = gave_up_still 1 _ _ _ (gave_up_after 1 0 _ _ _ (tried_again 1 0 _ _ _ c.look_to_write-seen.ensures.tried c.in-Err.ensures.refused.0) c.if-take_mark_away.ensures.gave_up) c.count_up.ensures.same c.count_up.ensures.unchanged

@@ -1,6 +1,7 @@
-use Rattle.std.proofs.Common.{rules}
+use Rattle.std.proofs.Common.{ℕ, Result, is_ok, sym, ap, ◌∙◌, rules}
 use Rattle.playing.specs.Tries.{spun}
 use Rattle.running_rwlock.proofs.RwWriterPlays.{marks_none}
+use Rattle.running_rwlock.proofs.RwWriterTries.{marks_some}
 use Rattle.running_rwlock.proofs.writer_preference.RwLockWriterPreference.enter_or_mark_from.Goals as goal
 
 pub enter_if_free-requires-clause-at : goal.enter_if_free-requires-clause-at
@@ -25,3 +26,12 @@ loop-preserved g c = record {
   exact = search rules;
   at = λ n done at. c.in-Err-set_mark.ensures.looks (spun n) done (c.in-Err.ensures.goes_on (spun n) done (c.loop.invariant.at n done at));
 }
+
+pub set_mark-requires-clause-even : goal.set_mark-requires-clause-even
+set_mark-requires-clause-even g c = (marks_some _ _ _ c.marks.ensures.«open» c.marks.ensures.marked c.marks.ensures.full c.in-Some-marks.is).0
+
+pub set_mark-requires-clause-marked : goal.set_mark-requires-clause-marked
+set_mark-requires-clause-marked g c = (marks_some _ _ _ c.marks.ensures.«open» c.marks.ensures.marked c.marks.ensures.full c.in-Some-marks.is).2
+
+pub returns-in_default-clause-exact : goal.returns-in_default-clause-exact
+returns-in_default-clause-exact g c = λ none alone. let at = c.loop.invariant.exact none alone in sym (ap (λ (r : Result Unit ℕ). is_ok r) c.in-Err.is) ∙ c.enter_if_free.ensures.exact at.0 at.1

@@ -2,6 +2,7 @@ use Rattle.playing.specs.Passes.{parties_of, counted}
 use Rattle.running_rwlock.proofs.RwWriterCounts.{load_to_write_counts}
 use Rattle.running_rwlock.proofs.RwWriterKeeps.{loads_to_write}
 use Rattle.running_rwlock.proofs.RwWriterPlays.{may_look_to_write, looked_to_write}
+use Rattle.running_rwlock.proofs.RwWriterTries.{just_seen}
 use Rattle.running_rwlock.proofs.writer_preference.RwLockWriterPreference.look_to_write.Goals as goal
 
 pub load-requires-clause-may : goal.load-requires-clause-may
@@ -15,3 +16,6 @@ load-requires-clause-follow g c = load_to_write_counts g.E.Entry.coming (parties
 
 pub returns-clause-looked : goal.returns-clause-looked
 returns-clause-looked g c = looked_to_write _ _ _ _ c.load.ensures.went
+
+pub returns-clause-just : goal.returns-clause-just
+returns-clause-just g c = just_seen c.args.pass.now _ _ c.load.ensures.told

@@ -3,6 +3,7 @@ use Rattle.playing.specs.Plays.{Going}
 use Rattle.running_rwlock.proofs.RwWriterCounts.{mark_counts}
 use Rattle.running_rwlock.proofs.RwWriterKeeps.{marks_set}
 use Rattle.running_rwlock.proofs.RwWriterPlays.{may_mark, marked, mark_missed}
+use Rattle.running_rwlock.proofs.RwWriterTries.{missed_it}
 use Rattle.running_rwlock.proofs.writer_preference.RwLockWriterPreference.set_mark.Goals as goal
 
 pub exchange-found-requires-clause-may : goal.exchange-found-requires-clause-may
@@ -19,3 +20,6 @@ returns-then-found-seen-clause-spins g c = λ patience done at. marked patience 
 
 pub returns-else-found-seen-clause-looks : goal.returns-else-found-seen-clause-looks
 returns-else-found-seen-clause-looks g c = λ patience done at. mark_missed patience _ _ done _ _ c.requires.even c.requires.other c.if-found-seen.false at c.exchange-found.ensures.went
+
+pub returns-else-found-seen-clause-missed : goal.returns-else-found-seen-clause-missed
+returns-else-found-seen-clause-missed g c = missed_it _ _ _ _ c.exchange-found.ensures.same c.requires.just (c.exchange-found.ensures.told.failed c.if-found-seen.false)

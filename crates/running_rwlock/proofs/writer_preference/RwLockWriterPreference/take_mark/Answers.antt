@@ -3,6 +3,7 @@ use Rattle.playing.specs.Plays.{Going}
 use Rattle.running_rwlock.proofs.RwWriterCounts.{unmark_counts}
 use Rattle.running_rwlock.proofs.RwWriterKeeps.{marks_taken}
 use Rattle.running_rwlock.proofs.RwWriterPlays.{may_unmark, unmarked, unmark_missed}
+use Rattle.running_rwlock.proofs.RwWriterTries.{missed_it}
 use Rattle.running_rwlock.proofs.writer_preference.RwLockWriterPreference.take_mark.Goals as goal
 
 pub exchange-found-requires-clause-may : goal.exchange-found-requires-clause-may
@@ -19,3 +20,6 @@ returns-then-found-seen-clause-counts g c = unmarked _ _ _ _ c.requires.set c.if
 
 pub returns-else-found-seen-clause-looks : goal.returns-else-found-seen-clause-looks
 returns-else-found-seen-clause-looks g c = unmark_missed _ _ _ _ c.requires.set c.if-found-seen.false c.exchange-found.ensures.went
+
+pub returns-else-found-seen-clause-missed : goal.returns-else-found-seen-clause-missed
+returns-else-found-seen-clause-missed g c = missed_it _ _ _ _ c.exchange-found.ensures.same c.requires.just (c.exchange-found.ensures.told.failed c.if-found-seen.false)

@@ -14,3 +14,6 @@ wake_both-requires-clause-wakes g c = record {
   both = refl;
   wakes = unlocking kinds.Write _ _ _ c.requires.has (λ done holding. c.count_up.ensures.counted calls.Unlock leavers.Writer done (c.leave_writing.ensures.played done holding));
 }
+
+pub returns-clause-played : goal.returns-clause-played
+returns-clause-played g c = λ done holding. c.count_up.ensures.counted calls.Unlock leavers.Writer done (c.leave_writing.ensures.played done holding)
