@@ -65,7 +65,11 @@ impl<'t, T: Copy> Clone for Rest<'t, T> {
     ghost is_infallible = { λ _. ⊤ };
 
     fn clone(&self) -> Result<Self, AllocError> {
-        Ok(*self)
+        Ok(Rest {
+            line: self.line,
+            left: self.left.clone()?,
+            lines: self.lines,
+        })
     }
 }
 
