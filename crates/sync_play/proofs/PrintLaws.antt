@@ -1,4 +1,4 @@
--- The last line is printed in three pieces.
+-- Lines are printed in pieces.
 use Rattle.std.proofs.Common.{◌≡◌, ◌∙◌, refl, sym, ap, arith, ℕ, ◌+◌, ◌-◌, ◌^◌, ◌<◌, min, if◌then◌else◌, is_ok, List, ◌∷◌, ◌++◌, Result, Ok, Err, OnOk, append_assoc}
 use Rattle.std.specs.Prelude.{codes}
 use Rattle.std.specs.Fmt.{decimal}
@@ -9,13 +9,31 @@ use Rattle.steps_events.specs.declared.event.Word.TheVariants as words
 use Rattle.steps_events.specs.Arithmetic.{Arithmetic}
 use Rattle.steps_events.specs.Past.{failures_in}
 use Rattle.sync_steps.specs.Runs.{word_in}
-use Rattle.sync_play.specs.Print.{party_words, named, further_words, last_line}
+use Rattle.sync_play.specs.Print.{party_words, party_line, named, further_words, last_line}
 use Rattle.sync_play.specs.Numerals.{Numerals}
 
 -- what is printed, if the last piece is
 printed_all : {A E P Q : Type 0} (result : Result A E) → (P → Q) → OnOk result P → OnOk result Q
 printed_all (Ok a) leads h = leads h
 printed_all (Err e) leads h = tt
+
+-- a text is there, if it could be pushed
+pub pushed : {A E : Type 0} (result : Result A E) (old text new : List ℕ) → new ≡ (if is_ok result then old ++ text else old) → OnOk result (new ≡ old ++ text)
+pushed (Ok a) old text new h = h
+pushed (Err e) old text new h = tt
+
+-- words were printed, and then the last piece
+pub printed_after :
+    {A E : Type 0} (result : Result A E) (words last old front new : List ℕ) → front ≡ old ++ words → OnOk result (new ≡ front ++ last) → OnOk result (new ≡ old ++ (words ++ last))
+printed_after result words last old front new there h = printed_all result (λ is. is ∙ ap (λ (l : List ℕ). l ++ last) there ∙ append_assoc old words last) h
+
+-- a line of a party is its number, and then its words
+pub line_printed :
+    {A E : Type 0} (result : Result A E) (party : ℕ) (words old front new : List ℕ) → front ≡ old ++ party_words party →
+    OnOk result (new ≡ front ++ (words ++ codes "\n")) → OnOk result (new ≡ old ++ party_line party words)
+line_printed result party words old front new number h =
+    let end = words ++ codes "\n" in
+    printed_all result (λ is. is ∙ ap (λ (l : List ℕ). old ++ l) (append_assoc (decimal (party + 1)) (codes " ") end)) (printed_after result (party_words party) end old front new number h)
 
 module _ {T : Type 0} (z : Arithmetic T) (numerals : Numerals T) where
   pub last_printed :

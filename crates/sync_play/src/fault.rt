@@ -34,25 +34,35 @@ pub enum LineFault {
     StepLimit,
 }
 
+impl LineFault {
+    ghost use Rattle.sync_play.specs.Fault.{fault_words};
+
+    fn words(self) -> &'static str
+        ensures { result.now ≡ fault_words self }
+    {
+        match self {
+            LineFault::NoObject => "no object",
+            LineFault::BadLine => "bad line",
+            LineFault::BadNumber => "bad number",
+            LineFault::NoParty => "no party",
+            LineFault::Busy => "busy",
+            LineFault::Holding => "holding",
+            LineFault::NoHold => "no hold",
+            LineFault::Idle => "idle",
+            LineFault::Waiting => "waiting",
+            LineFault::NotWaiting => "not waiting",
+            LineFault::StepLimit => "step limit",
+        }
+    }
+}
+
 impl fmt::Display for LineFault {
     ghost use Rattle.sync_play.specs.Fault.{fault_words};
 
     ghost output = { λ f. Some (fault_words f) };
 
     fn fmt<W: fmt::Write>(&self, f: &mut fmt::Formatter<W>) -> fmt::Result {
-        match self {
-            LineFault::NoObject => write!(f, "no object"),
-            LineFault::BadLine => write!(f, "bad line"),
-            LineFault::BadNumber => write!(f, "bad number"),
-            LineFault::NoParty => write!(f, "no party"),
-            LineFault::Busy => write!(f, "busy"),
-            LineFault::Holding => write!(f, "holding"),
-            LineFault::NoHold => write!(f, "no hold"),
-            LineFault::Idle => write!(f, "idle"),
-            LineFault::Waiting => write!(f, "waiting"),
-            LineFault::NotWaiting => write!(f, "not waiting"),
-            LineFault::StepLimit => write!(f, "step limit"),
-        }
+        f.write_str(self.words())
     }
 }
 

@@ -1,5 +1,6 @@
 //! What the first line names.
-ghost use Rattle.std.specs.Prelude.{◌≡◌, ◌≤◌, true, List, IfOk, ⊤};
+ghost use Rattle.std.specs.Prelude.{◌≡◌, ◌≤◌, true, List, Ok, IfOk, ⊤};
+ghost use Rattle.sync_play.specs.Fault.{◌>>=◌ as ◌and_then◌};
 ghost use Rattle.sync_play.specs.Lexer.{words_of, number_within};
 ghost use Rattle.sync_play.specs.Header as meaning;
 
@@ -78,6 +79,14 @@ fn parties_and_value<T: TextInteger>(rest: &[u8]) -> Result<(usize, T), LineFaul
     }
 }
 
+/// An object that is opened without a value, by its parties.
+fn without_value<T: TextInteger>(object: Object<T>, rest: &[u8]) -> Result<Header<T>, LineFault>
+    ensures { result ≡ meaning.parties_of (words_of rest.now) and_then (λ n. Ok (record { object = object; parties = n })) }
+{
+    let parties = parties(rest)?;
+    Ok(Header { object, parties })
+}
+
 impl<T: TextInteger> Header<T> {
     /// Reads the first line: `<object> <parties>`, and a value where the object is opened with one.
     ///
@@ -91,17 +100,9 @@ impl<T: TextInteger> Header<T> {
             return Err(LineFault::NoObject);
         };
         if is(name, b"mutex") {
-            let parties = parties(rest)?;
-            Ok(Header {
-                object: Object::Mutex,
-                parties,
-            })
+            without_value(Object::Mutex, rest)
         } else if is(name, b"spin") {
-            let parties = parties(rest)?;
-            Ok(Header {
-                object: Object::Spin,
-                parties,
-            })
+            without_value(Object::Spin, rest)
         } else if is(name, b"semaphore") {
             let (parties, initial) = parties_and_number(u64::MAX, rest)?;
             Ok(Header {
@@ -115,29 +116,13 @@ impl<T: TextInteger> Header<T> {
                 parties,
             })
         } else if is(name, b"rwreader") {
-            let parties = parties(rest)?;
-            Ok(Header {
-                object: Object::ReaderLock,
-                parties,
-            })
+            without_value(Object::ReaderLock, rest)
         } else if is(name, b"rwwriter") {
-            let parties = parties(rest)?;
-            Ok(Header {
-                object: Object::WriterLock,
-                parties,
-            })
+            without_value(Object::WriterLock, rest)
         } else if is(name, b"condvar") {
-            let parties = parties(rest)?;
-            Ok(Header {
-                object: Object::Condvar,
-                parties,
-            })
+            without_value(Object::Condvar, rest)
         } else if is(name, b"once") {
-            let parties = parties(rest)?;
-            Ok(Header {
-                object: Object::Once,
-                parties,
-            })
+            without_value(Object::Once, rest)
         } else if is(name, b"lazy") {
             let (parties, value) = parties_and_value(rest)?;
             Ok(Header {

@@ -79,11 +79,12 @@ impl TextInteger for i64 {
     }
 
     fn parse(word: &[u8]) -> Result<Self, LineFault> {
-        match signed_number(word) {
-            Some(number) if i128::from(i64::MIN) <= number && number <= i128::from(i64::MAX) => {
-                Ok(number as i64)
-            }
-            _ => Err(LineFault::BadNumber),
+        let Some(number) = signed_number(word) else {
+            return Err(LineFault::BadNumber);
+        };
+        match i64::try_from(number) {
+            Ok(number) => Ok(number),
+            Err(_) => Err(LineFault::BadNumber),
         }
     }
 
