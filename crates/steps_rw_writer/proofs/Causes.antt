@@ -1,7 +1,7 @@
 -- Each refusal of a writer-preferring lock has its cause, and a `TryWriteLock` is granted exactly where it may be.
 use Rattle.std.proofs.Common.{◌≡◌, ◌≢◌, ℕ, ◌+◌, ◌-◌, ◌%◌, ◌^◌, ◌<◌, ◌≤◌, ◌==◌, refl, sym, ◌∙◌, ap, subst, Bool, true, false, cond, ◌&&◌, length, List, [], ◌∷◌, Option, Some, None, ◌⊎◌, inl, inr, ◌↔◌, arith}
 use Rattle.std.specs.Prelude.{MatchBool, MatchOption, nat_lt, not}
-use Rattle.std.proofs.lemmas.Bool.{eqb-true, eqb-false}
+use Rattle.std.proofs.lemmas.Bool.{eqb-true, eqb-false, false≢true}
 use Rattle.std.proofs.lemmas.Bool.Decides.{nat_tests}
 use Rattle.steps_events.specs.declared.event.Word.TheVariants as words
 use Rattle.steps_events.specs.declared.event.Call.{Call}
@@ -104,17 +104,17 @@ step_missed z parties party past c (places.Mark seen to patience) hold run calle
 step_missed z parties party past c (places.Unmark seen to) hold run called at write fails =
     let w = word_in rw_writer_table past words.State in
     failed_exchange party past seen to w (w == seen) refl fails (kept_or_written z rw_writer_table parties words.State party seen past run c called at.4.0)
-step_missed z parties party past c places.TryReadLook hold run called at write fails = absurd cc
-step_missed z parties party past c (places.ReadLook patience) hold run called at write fails = absurd cc
-step_missed z parties party past c (places.WriteLook patience) hold run called at write fails = absurd cc
-step_missed z parties party past c (places.LoadCounter patience) hold run called at write fails = absurd cc
-step_missed z parties party past c (places.LastLook count patience) hold run called at write fails = absurd cc
-step_missed z parties party past c places.Release None run called at write fails = absurd cc
-step_missed z parties party past c places.Release (Some kinds.Read) run called at write fails = absurd cc
-step_missed z parties party past c places.Release (Some kinds.Write) run called at write fails = absurd cc
-step_missed z parties party past c (places.Count who) hold run called at write fails = absurd cc
-step_missed z parties party past c (places.WakeOne who) hold run called at write fails = absurd cc
-step_missed z parties party past c (places.WakeAll who) hold run called at write fails = absurd cc
+step_missed z parties party past c places.TryReadLook hold run called at write fails = absurd (false≢true fails)
+step_missed z parties party past c (places.ReadLook patience) hold run called at write fails = absurd (false≢true fails)
+step_missed z parties party past c (places.WriteLook patience) hold run called at write fails = absurd (false≢true fails)
+step_missed z parties party past c (places.LoadCounter patience) hold run called at write fails = absurd (false≢true fails)
+step_missed z parties party past c (places.LastLook count patience) hold run called at write fails = absurd (false≢true fails)
+step_missed z parties party past c places.Release None run called at write fails = absurd (false≢true fails)
+step_missed z parties party past c places.Release (Some kinds.Read) run called at write fails = absurd (false≢true fails)
+step_missed z parties party past c places.Release (Some kinds.Write) run called at write fails = absurd (false≢true fails)
+step_missed z parties party past c (places.Count who) hold run called at write fails = absurd (false≢true fails)
+step_missed z parties party past c (places.WakeOne who) hold run called at write fails = absurd (false≢true fails)
+step_missed z parties party past c (places.WakeAll who) hold run called at write fails = absurd (false≢true fails)
 
 event_missed :
     {T : Type 0} (z : Arithmetic T) (parties : ℕ) (past : List (Event T)) (e : Event T) → IsPast z rw_writer_table parties (e ∷ past) → (c : PendingCall T) → call_of e.party past ≡ Some c → c.call ≡ calls.WriteLock →
@@ -122,7 +122,7 @@ event_missed :
 event_missed {T} z parties past e run c called write fails =
     by_move rw_writer_table (call_of e.party past) (hold_of rw_writer_table e.party past) (word_in rw_writer_table past)
     (λ (k : Option (PendingCall T)) (x : Move T). (k ≡ Some c) → (is_sight words.State x.act && is_failure x.act) ≡ true → OtherWroteSinceSight words.State e.party past)
-    run.0.0 (record { act = e.act; outcome = e.then }) (λ call _ is no_sight. absurd cc) (λ action _ is no_sight. absurd cc) (λ choice _ is no_sight. absurd cc)
+    run.0.0 (record { act = e.act; outcome = e.then }) (λ call _ is no_sight. absurd (false≢true no_sight)) (λ action _ is no_sight. absurd (false≢true no_sight)) (λ choice _ is no_sight. absurd (false≢true no_sight))
     (λ d place _ here_called stage is missed.
     let same : d ≡ c = same_call d c is in
     step_missed z parties e.party past d place (hold_of rw_writer_table e.party past) run.1 here_called (here z parties past run.1 e.party d place here_called stage)
