@@ -1,5 +1,5 @@
 -- The steps of a reader-preferring lock are those of its table.
-use Rattle.std.proofs.Common.{◌≡◌, ◌≢◌, ℕ, ◌+◌, ◌-◌, ◌^◌, ◌<◌, ◌≤◌, ◌==◌, Bool, true, false, cond, refl, sym, ap, subst, ◌∙◌, List, [], ◌∷◌, Some, None, arith}
+use Rattle.std.proofs.Common.{◌≡◌, ◌≢◌, ℕ, ◌+◌, ◌-◌, ◌^◌, ◌<◌, ◌≤◌, ◌==◌, Bool, true, false, cond, refl, sym, ap, subst, ◌∙◌, List, [], ◌∷◌, Option, Some, None, arith}
 use Rattle.std.specs.Prelude.{nat_lt, MatchBool}
 use Rattle.std.proofs.lemmas.Bool.{ne_eqb}
 use Rattle.std.proofs.lemmas.Bool.Decides.{nat_tests}
@@ -83,6 +83,17 @@ once_shut : (seen : ℕ) (b : Bool) (done : List (Slot ℕ)) (p : Parties ℕ) �
     HasEnded rw_reader_model calls.TryReadLock answers.Interrupted None done p
 once_shut seen true done p full test at = absurd (grind (arith, nat_tests))
 once_shut seen false done p full test at = at
+
+-- what a look of the model's function means, by whether it answers the next word
+
+pub reads_some : (seen to : ℕ) (answer : Option ℕ) → (seen < 2 ^ 64 - 2 → answer ≡ Some (seen + 1)) → (2 ^ 64 - 2 ≤ seen → answer ≡ None) → answer ≡ Some to → (seen < 2 ^ 64 - 2) × (to ≡ seen + 1)
+reads_some seen to answer one_more full is =
+    let not_full : 2 ^ 64 - 2 ≤ seen → ⊥ = λ above. let no = full above in cc in
+    let room : seen < 2 ^ 64 - 2 = omega (arith, not_full) in
+    (room, let more = one_more room in cc)
+
+pub reads_none : (seen : ℕ) (answer : Option ℕ) → (seen < 2 ^ 64 - 2 → answer ≡ Some (seen + 1)) → answer ≡ None → 2 ^ 64 - 2 ≤ seen
+reads_none seen answer one_more is = let no_room : seen < 2 ^ 64 - 2 → ⊥ = λ room. let more = one_more room in cc in omega (arith, no_room)
 
 pub turned_away : (seen : ℕ) (done : List (Slot ℕ)) (p : Parties ℕ) → 2 ^ 64 - 2 ≤ seen → HasLookedOnce seen done p → HasEnded rw_reader_model calls.TryReadLock answers.Interrupted None done p
 turned_away seen done p full at = once_shut seen (nat_lt seen (2 ^ 64 - 2)) done p full refl at

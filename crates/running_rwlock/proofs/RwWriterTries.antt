@@ -1,6 +1,8 @@
 -- What a writer's sights and tries come to, one after another.
-use Rattle.std.proofs.Common.{◌≡◌, ◌≢◌, ℕ, ◌+◌, ◌-◌, ◌%◌, ◌^◌, ◌<◌, ◌≤◌, ◌==◌, ◌&&◌, not, Bool, true, false, Option, Some, None, ◌⊎◌, refl, sym, ap, subst, ◌∙◌, arith}
+use Rattle.std.proofs.Common.{◌≡◌, ◌≢◌, ℕ, ◌+◌, ◌-◌, ◌%◌, ◌^◌, ◌<◌, ◌≤◌, ◌==◌, ◌&&◌, not, Bool, true, false, Option, Some, None, ◌⊎◌, inl, inr, refl, sym, ap, subst, ◌∙◌, arith}
 use Rattle.std.specs.Prelude.{is_some, MatchBool}
+use mathlib.Core.Logic.{dite}
+use native.Mathlib.Decide.{ℕ_discrete}
 use Rattle.passes.specs.declared.part.Sights.{Sights}
 use Rattle.passes.specs.declared.view.View.{View}
 use Rattle.passes.specs.declared.pass.Pass.{Pass}
@@ -11,7 +13,7 @@ use Rattle.steps_events.proofs.Holds.{eqb_same}
 use Rattle.tallies.specs.declared.rw_writer.MarkedHolds.{MarkedHolds}
 use Rattle.tallies.specs.Held.{read_holds, write_holds}
 use Rattle.tallies.specs.RwReaderRule.{Holds}
-use Rattle.running_rwlock.specs.RwWriterShown.{HasTried, HasJustSeen, HasMissedIt, MayGiveUp, HasGivenUpWriting, HasEnteredSeenFree}
+use Rattle.running_rwlock.specs.RwWriterShown.{IsShut, HasTried, HasJustSeen, HasMissedIt, MayGiveUp, HasGivenUpWriting, HasEnteredSeenFree}
 use Rattle.running_rwlock.specs.RwWriterSteps.{PlayedRwWriter, IsMarked, IsSeenByWriter, LoadedToWrite, Missed, WriterIn, flagged, written}
 
 -- what a function of the lock's model says of a word, by whether it answers another word
@@ -20,6 +22,21 @@ pub not_free : (seen put : ℕ) (entered : Option ℕ) (none : Bool) → (seen <
 not_free seen put entered none free told is =
     let never : seen < 2 → ⊥ = λ low. let clash : true ≡ false = sym (ap is_some (free low)) ∙ told ∙ ap not is in cc in
     omega (arith, never)
+
+pub reads_some : (seen to : ℕ) (answer : Option ℕ) → (seen % 2 ≡ 0 → seen < 2 ^ 64 - 4 → answer ≡ Some (seen + 2)) → (seen % 2 ≡ 1 → answer ≡ None) → (2 ^ 64 - 4 ≤ seen → answer ≡ None) → answer ≡ Some to →
+    (seen % 2 ≡ 0) × (seen < 2 ^ 64 - 4) × (to ≡ seen + 2)
+reads_some seen to answer two_more odd full is =
+    let not_odd : seen % 2 ≡ 1 → ⊥ = λ one. let no = odd one in cc in
+    let not_full : 2 ^ 64 - 4 ≤ seen → ⊥ = λ above. let no = full above in cc in
+    let even : seen % 2 ≡ 0 = omega (arith, not_odd) in
+    let room : seen < 2 ^ 64 - 4 = omega (arith, not_full) in
+    (even, room, let more = two_more even room in cc)
+
+pub reads_none : (seen : ℕ) (answer : Option ℕ) → (seen % 2 ≡ 0 → seen < 2 ^ 64 - 4 → answer ≡ Some (seen + 2)) → answer ≡ None → IsShut seen
+reads_none seen answer two_more is = dite (ℕ_discrete (seen % 2) 1) (λ odd. inl odd)
+    (λ other. let even : seen % 2 ≡ 0 = omega (arith, other) in
+    let no_room : seen < 2 ^ 64 - 4 → ⊥ = λ room. let more = two_more even room in cc in
+    inr (omega (arith, no_room)))
 
 pub marks_some : (seen to : ℕ) (answer : Option ℕ) → (seen % 2 ≡ 0 → seen ≢ 2 ^ 64 - 2 → answer ≡ Some (seen + 1)) → (seen % 2 ≡ 1 → answer ≡ None) → (seen ≡ 2 ^ 64 - 2 → answer ≡ None) → answer ≡ Some to →
     (seen % 2 ≡ 0) × (seen ≢ 2 ^ 64 - 2) × (to ≡ seen + 1)
