@@ -1,730 +1,609 @@
 //! Each public call of the model once, with ample memory; and the word functions at the ends of their types. Every text of the schedule is
 //! tested in `play_tests`.
-ghost use Rattle.std.specs.Prelude.{◌≡◌, ◌≤◌, true, length};
-
 mod atomic;
 mod calls;
 mod ends;
 mod events;
 mod growths;
+mod schedules;
 mod strides;
 
+use Did::{
+    Adds, Begins, Decides, Ends, Exchanges, Fails, Loads, Reads, Stores, Swaps, WakesAll, WakesOne,
+};
+use schedules::{Did, How, Part, Row, Schedule, events_of, plays, reads, told_otherwise};
 use std::alloc::{AllocError, Global};
 use std::test::Fail;
-use steps_events::hold::HoldKind;
+use steps_events::hold::HoldKind::{Read, Write};
 use sync_steps::atomic::internal::AtomicInteger;
+use sync_steps::steps::Answer::{Flag, Interrupted, InterruptedHeld, Number, Success};
+use sync_steps::steps::Input::{Begin, Go};
+use sync_steps::steps::Then::{Answers, GoesOn, Waits};
+use sync_steps::steps::Word::{Counter, State, Value, Waiters};
 use sync_steps::steps::{
-    self, Act, Answer, Call, Event, Input, Machine, Object, PlayFault, StepFault, Then, Wake, Word,
+    self, Act, Answer, Call, Event, Input, Machine, Object, PlayFault, StepFault, Wake,
     at_every_front, play,
 };
 use sync_steps::{SPIN_REPETITIONS, WaitAction};
 
 #[test]
 fn word_functions_at_their_paths(rt: HostRuntime) {
-    assert_eq!(rt; steps::mutex::granted(0), Some(1));
-    assert_eq!(rt; steps::rw_reader::writer_enters(0), Some(u64::MAX));
-    assert_eq!(rt;
-        steps::rw_writer::reader_enters(u64::MAX - 5),
-        Some(u64::MAX - 3)
-    );
-    assert_eq!(rt; steps::rw_writer::reader_leaves(3), Some(1));
-    assert_eq!(rt; steps::rw_writer::writer_enters(1), Some(u64::MAX));
-    assert_eq!(rt; steps::rw_writer::marks(u64::MAX - 3), Some(u64::MAX - 2));
-    assert_eq!(rt; steps::rw_writer::unmarks(3), Some(2));
-    assert_eq!(rt; steps::condvar::permits_for(Wake::One, u64::MAX), 1);
-    assert_eq!(rt; steps::semaphore::taken(u64::MAX), Some(u64::MAX - 1));
-    assert_eq!(rt; steps::semaphore::posted(u64::MAX, 2), 1);
-    assert_eq!(rt; steps::barrier::arrived(1, 2), Some(4294967296));
-    assert_eq!(rt; steps::barrier::opened(18446744069414584321), 0);
-    assert_eq!(rt; steps::once::begun(0), Some(1));
-    assert_eq!(rt; SPIN_REPETITIONS, 10000);
-    assert_eq!(rt; u64::from_words(7, 9), 7);
+    let answers = [
+        ("granted", steps::mutex::granted(0), 1),
+        (
+            "writer_enters",
+            steps::rw_reader::writer_enters(0),
+            u64::MAX,
+        ),
+        (
+            "reader_enters",
+            steps::rw_writer::reader_enters(u64::MAX - 5),
+            u64::MAX - 3,
+        ),
+        ("reader_leaves", steps::rw_writer::reader_leaves(3), 1),
+        (
+            "writer_enters",
+            steps::rw_writer::writer_enters(1),
+            u64::MAX,
+        ),
+        ("marks", steps::rw_writer::marks(u64::MAX - 3), u64::MAX - 2),
+        ("unmarks", steps::rw_writer::unmarks(3), 2),
+        (
+            "permits_for",
+            Some(steps::condvar::permits_for(Wake::One, u64::MAX)),
+            1,
+        ),
+        ("taken", steps::semaphore::taken(u64::MAX), u64::MAX - 1),
+        ("posted", Some(steps::semaphore::posted(u64::MAX, 2)), 1),
+        ("arrived", steps::barrier::arrived(1, 2), 4294967296),
+        (
+            "opened",
+            Some(steps::barrier::opened(18446744069414584321)),
+            0,
+        ),
+        ("begun", steps::once::begun(0), 1),
+        ("SPIN_REPETITIONS", Some(SPIN_REPETITIONS), 10000),
+        ("from_words", Some(u64::from_words(7, 9)), 7),
+    ];
+    for (name, found, wanted) in &answers {
+        assert_eq!(rt; *found, Some(*wanted), "{name}");
+    }
 }
+
+const MUTEX: Schedule<u64> = Schedule {
+    object: Object::Mutex,
+    parties: 2,
+    parts: &[Part {
+        rows: &[
+            (0, Begin(Call::TryLock), 1, Begins, GoesOn),
+            (0, Go, 1, Exchanges(State, 0, 1), Answers(Success)),
+            (1, Begin(Call::TryLock), 1, Begins, GoesOn),
+            (1, Go, 1, Fails(State, 0, 1, 1), Answers(Interrupted)),
+        ],
+        reads: [1, 0, 0, 0, 0, 0, 1],
+        holds: &[(0, Some(Write)), (1, None)],
+        refuses: &[
+            (1, Begin(Call::Unlock), StepFault::NoHold),
+            (2, Go, StepFault::NoParty),
+        ],
+    }],
+};
 
 #[test]
 fn a_mutex_is_locked_and_refused(rt: HostRuntime) -> Result<(), Fail> {
-    let mut machine = Machine::<u64>::new(rt.alloc(), Object::Mutex, 2)?;
-    let schedule = [
-        (0, Input::Begin(Call::TryLock)),
-        (0, Input::Go),
-        (1, Input::Begin(Call::TryLock)),
-        (1, Input::Go),
-    ];
-    let events = play(rt.alloc(), &mut machine, &schedule).map_err(|_| "refused")?;
-    assert_eq!(rt; events.len(), 4);
-    assert!(rt;
-        matches!(
-            events[3],
-            Event {
-                party: 1,
-                act: Act::Exchange {
-                    word: Word::State,
-                    from: 0,
-                    to: 1,
-                    found: 1,
-                    done: false
-                },
-                then: Then::Answers(Answer::Interrupted)
-            }
-        )
-    );
-    assert_eq!(rt; machine.word(), 1);
-    assert_eq!(rt; machine.failed(), 1);
-    assert!(rt;
-        matches!(
-            machine.step(1, Input::Begin(Call::Unlock)),
-            Err(StepFault::NoHold)
-        )
-    );
-    assert!(rt; matches!(machine.step(2, Input::Go), Err(StepFault::NoParty)));
-    Ok(())
+    plays(rt.alloc(), &MUTEX)
 }
+
+/// What `play` did before it was refused.
+const BEFORE: [Row<u64>; 2] = [
+    (0, Begin(Call::Value), 1, Begins, GoesOn),
+    (0, Go, 1, Loads(State, 5), Answers(Number(5))),
+];
 
 #[test]
 fn a_fault_leaves_the_events_before_it(rt: HostRuntime) -> Result<(), Fail> {
     let mut machine = Machine::<u64>::new(rt.alloc(), Object::Semaphore(5), 1)?;
     let schedule = [
-        (0, Input::Begin(Call::Value)),
-        (0, Input::Go),
+        (0, Begin(Call::Value)),
+        (0, Go),
         (0, Input::Answer(WaitAction::Abort)),
-        (0, Input::Go),
+        (0, Go),
     ];
-    match play(rt.alloc(), &mut machine, &schedule) {
-        Err(PlayFault::Step { done, fault }) => {
-            assert_eq!(rt; fault, StepFault::NotWaiting);
-            assert_eq!(rt; done.len(), 2);
-            assert!(rt; matches!(done[1].then, Then::Answers(Answer::Number(5))));
-        }
-        _ => return Err("no fault")?,
-    }
-    assert_eq!(rt; machine.word(), 5);
-    assert_eq!(rt; machine.counter(), 0);
-    assert_eq!(rt; machine.waiters(), 0);
-    assert_eq!(rt; machine.value(), 0);
-    assert_eq!(rt; machine.low_high(), (0, 0));
+    let Err(PlayFault::Step { done, fault }) = play(rt.alloc(), &mut machine, &schedule) else {
+        return Err("no fault")?;
+    };
+    let told = (fault, told_otherwise(&done, &BEFORE), reads(&machine));
+    assert_eq!(rt; told, (StepFault::NotWaiting, None, [5, 0, 0, 0, 0, 0, 0]));
     Ok(())
 }
 
+const NOBODY: Schedule<u64> = Schedule {
+    object: Object::Mutex,
+    parties: 0,
+    parts: &[Part {
+        rows: &[],
+        reads: [0; 7],
+        holds: &[(0, None)],
+        refuses: &[(0, Go, StepFault::NoParty)],
+    }],
+};
+
 #[test]
 fn an_empty_machine_and_the_law(rt: HostRuntime) -> Result<(), Fail> {
-    let mut machine = Machine::<u64>::new(rt.alloc(), Object::Mutex, 0)?;
-    assert!(rt; matches!(machine.step(0, Input::Go), Err(StepFault::NoParty)));
+    plays(rt.alloc(), &NOBODY)?;
     at_every_front::<u64>();
     Ok(())
 }
 
-/// The party of an event, and how its call stood after it.
-fn outcome(events: &[Event<u64>], at: usize) -> Option<(usize, Then<u64>)> {
-    let event = events.get(at)?;
-    Some((event.party, event.then))
-}
-
-fn act_of(events: &[Event<u64>], at: usize) -> Option<Act<u64>> {
-    Some(events.get(at)?.act)
-}
+const THOUSAND: Schedule<u64> = Schedule {
+    object: Object::Mutex,
+    parties: 1000,
+    parts: &[Part {
+        rows: &[
+            (999, Begin(Call::Lock), 1, Begins, GoesOn),
+            (999, Go, 1, Exchanges(State, 0, 1), Answers(Success)),
+            (0, Begin(Call::TryLock), 1, Begins, GoesOn),
+            (0, Go, 1, Fails(State, 0, 1, 1), Answers(Interrupted)),
+        ],
+        reads: [1, 0, 0, 0, 0, 0, 1],
+        holds: &[(999, Some(Write)), (0, None)],
+        refuses: &[
+            (999, Begin(Call::TryLock), StepFault::Holding),
+            (1000, Go, StepFault::NoParty),
+        ],
+    }],
+};
 
 #[test]
 fn the_last_of_a_thousand_parties_locks(rt: HostRuntime) -> Result<(), Fail> {
-    let mut machine = Machine::<u64>::new(rt.alloc(), Object::Mutex, 1000)?;
-    let schedule = [
-        (999, Input::Begin(Call::Lock)),
-        (999, Input::Go),
-        (0, Input::Begin(Call::TryLock)),
-        (0, Input::Go),
-    ];
-    let events = play(rt.alloc(), &mut machine, &schedule).map_err(|_| "refused")?;
-    assert!(rt;
-        matches!(
-            outcome(&events, 1),
-            Some((999, Then::Answers(Answer::Success)))
-        )
-    );
-    assert!(rt;
-        matches!(
-            outcome(&events, 3),
-            Some((0, Then::Answers(Answer::Interrupted)))
-        )
-    );
-    assert!(rt;
-        matches!(
-            machine.step(999, Input::Begin(Call::TryLock)),
-            Err(StepFault::Holding)
-        )
-    );
-    assert!(rt; matches!(machine.step(1000, Input::Go), Err(StepFault::NoParty)));
-    Ok(())
+    plays(rt.alloc(), &THOUSAND)
 }
 
-/// So many rounds of five inputs, in each of which the party locks a mutex and unlocks it.
-fn rounds(alloc: Global, count: usize) -> Result<Vec<(usize, Input<u64>)>, AllocError> {
-    let mut schedule = Vec::new(alloc);
+/// A round, in which the party locks a mutex and unlocks it.
+const ROUND: [Row<u64>; 5] = [
+    (0, Begin(Call::TryLock), 1, Begins, GoesOn),
+    (0, Go, 1, Exchanges(State, 0, 1), Answers(Success)),
+    (0, Begin(Call::Unlock), 1, Begins, GoesOn),
+    (0, Go, 1, Stores(State, 0), GoesOn),
+    (0, Go, 1, WakesOne, Answers(Answer::Done)),
+];
+
+/// So many rounds.
+fn rounds(alloc: Global, count: usize) -> Result<Vec<Row<u64>>, AllocError> {
+    let mut rows = Vec::new(alloc);
     for _ in 0..count {
-        schedule.push((0, Input::Begin(Call::TryLock)))?;
-        schedule.push((0, Input::Go))?;
-        schedule.push((0, Input::Begin(Call::Unlock)))?;
-        schedule.push((0, Input::Go))?;
-        schedule.push((0, Input::Go))?;
+        rows.extend_from_slice(&ROUND)?;
     }
-    Ok(schedule)
+    Ok(rows)
+}
+
+/// In how many rounds of these events the party first tries to lock.
+fn tried_in(events: &[Event<u64>]) -> usize {
+    let mut tried = 0usize;
+    for round in events.chunks(5) {
+        match round {
+            [first, ..] if matches!(first.act, Act::Begun(Call::TryLock)) => {
+                tried = tried.wrapping_add(1);
+            }
+            _ => {}
+        }
+    }
+    tried
+}
+
+/// Plays so many rounds in one call: in how many the party first tries to lock, and how many events they have.
+fn play_rounds(alloc: Global, count: usize) -> Result<(usize, usize), Fail> {
+    let rows = rounds(alloc, count)?;
+    let part = Part {
+        rows: &rows,
+        reads: [0; 7],
+        holds: &[(0, None)],
+        refuses: &[],
+    };
+    let schedule = Schedule {
+        object: Object::Mutex,
+        parties: 1,
+        parts: &[part],
+    };
+    let events = events_of(alloc, &schedule, How::Parted(0))?;
+    Ok((tried_in(&events), events.len()))
 }
 
 #[test]
 fn long_schedules_are_played_in_one_call(rt: HostRuntime) -> Result<(), Fail> {
-    for count in [21, 20000] {
-        let mut machine = Machine::<u64>::new(rt.alloc(), Object::Mutex, 1)?;
-        let schedule = rounds(rt.alloc(), count)?;
-        let events = play(rt.alloc(), &mut machine, &schedule).map_err(|_| "refused")?;
-        assert_eq!(rt; events.len(), schedule.len());
-        assert_eq!(rt; Some(events.len()), count.checked_mul(5));
-        for round in events.chunks(5) {
-            match round {
-                [begun, locked, _, stored, woken] => {
-                    assert!(rt; matches!(begun.act, Act::Begun(Call::TryLock)));
-                    assert!(rt; matches!(locked.then, Then::Answers(Answer::Success)));
-                    assert!(rt;
-                        matches!(
-                            stored.act,
-                            Act::Store {
-                                word: Word::State,
-                                put: 0
-                            }
-                        )
-                    );
-                    assert!(rt; matches!(woken.act, Act::Woke(Wake::One)));
-                    assert!(rt; matches!(woken.then, Then::Answers(Answer::Done)));
-                }
-                _ => return Err("not five events")?,
-            }
-        }
-        assert_eq!(rt; machine.word(), 0);
-        assert_eq!(rt; machine.failed(), 0);
+    for (count, events) in [(21, 105), (20000, 100000)] {
+        assert_eq!(rt; play_rounds(rt.alloc(), count)?, (count, events));
     }
     Ok(())
 }
+
+const GIVES_UP: Schedule<u64> = Schedule {
+    object: Object::Mutex,
+    parties: 2,
+    parts: &[
+        Part {
+            rows: &[
+                (0, Begin(Call::TryLock), 1, Begins, GoesOn),
+                (0, Go, 1, Exchanges(State, 0, 1), Answers(Success)),
+                (1, Begin(Call::Lock), 1, Begins, GoesOn),
+            ],
+            reads: [1, 0, 0, 0, 0, 0, 0],
+            holds: &[(0, Some(Write))],
+            refuses: &[],
+        },
+        Part {
+            rows: &[(1, Go, 10000, Fails(State, 0, 1, 1), GoesOn)],
+            reads: [1, 0, 0, 0, 0, 0, 10000],
+            holds: &[],
+            refuses: &[],
+        },
+        Part {
+            rows: &[
+                (1, Go, 1, Fails(State, 0, 1, 1), Waits(1)),
+                (1, Input::Answer(WaitAction::Continue), 1, Decides, GoesOn),
+                (1, Go, 1, Fails(State, 0, 1, 1), Waits(1)),
+                (1, Input::Answer(WaitAction::Abort), 1, Decides, GoesOn),
+                (1, Go, 1, Fails(State, 0, 1, 1), Answers(Interrupted)),
+            ],
+            reads: [1, 0, 0, 0, 0, 0, 10003],
+            holds: &[(1, None)],
+            refuses: &[],
+        },
+    ],
+};
 
 #[test]
 fn a_lock_that_gives_up_after_two_stands(rt: HostRuntime) -> Result<(), Fail> {
-    let mut machine = Machine::<u64>::new(rt.alloc(), Object::Mutex, 2)?;
-    let begins = [
-        (0, Input::Begin(Call::TryLock)),
-        (0, Input::Go),
-        (1, Input::Begin(Call::Lock)),
-    ];
-    let begun = play(rt.alloc(), &mut machine, &begins).map_err(|_| "refused")?;
-    assert!(rt;
-        matches!(
-            outcome(&begun, 1),
-            Some((0, Then::Answers(Answer::Success)))
-        )
-    );
-
-    let spins = vec![in rt.alloc(); (1, Input::Go); 10000]?;
-    let spun = play(rt.alloc(), &mut machine, &spins).map_err(|_| "refused")?;
-    for event in &spun {
-        assert!(rt; matches!(event.then, Then::GoesOn));
-    }
-    let ends = [
-        (1, Input::Go),
-        (1, Input::Answer(WaitAction::Continue)),
-        (1, Input::Go),
-        (1, Input::Answer(WaitAction::Abort)),
-        (1, Input::Go),
-    ];
-    let ended = play(rt.alloc(), &mut machine, &ends).map_err(|_| "refused")?;
-    assert!(rt; matches!(outcome(&ended, 0), Some((1, Then::Waits(1)))));
-    assert!(rt; matches!(outcome(&ended, 2), Some((1, Then::Waits(1)))));
-    assert!(rt;
-        matches!(
-            outcome(&ended, 4),
-            Some((1, Then::Answers(Answer::Interrupted)))
-        )
-    );
-    assert_eq!(rt; machine.failed(), 10003);
-    assert_eq!(rt; machine.word(), 1);
-    Ok(())
+    plays(rt.alloc(), &GIVES_UP)
 }
+
+const HOLDS: Schedule<u64> = Schedule {
+    object: Object::ReaderLock,
+    parties: 3,
+    parts: &[
+        Part {
+            rows: &[],
+            reads: [0; 7],
+            holds: &[(1, None)],
+            refuses: &[],
+        },
+        Part {
+            rows: &[
+                (1, Begin(Call::ReadLock), 1, Begins, GoesOn),
+                (1, Go, 1, Loads(State, 0), GoesOn),
+                (1, Go, 1, Exchanges(State, 0, 1), Answers(Success)),
+            ],
+            reads: [1, 0, 0, 0, 0, 0, 0],
+            // There is no fourth party.
+            holds: &[(0, None), (1, Some(Read)), (3, None)],
+            refuses: &[],
+        },
+        Part {
+            rows: &[
+                (1, Begin(Call::Unlock), 1, Begins, GoesOn),
+                (1, Go, 1, Adds(State, 1, 0), GoesOn),
+                (1, Go, 1, WakesOne, Answers(Answer::Done)),
+                (2, Begin(Call::TryWriteLock), 1, Begins, GoesOn),
+                (2, Go, 1, Exchanges(State, 0, u64::MAX), Answers(Success)),
+            ],
+            reads: [u64::MAX, 0, 0, 0, 0, 0, 0],
+            holds: &[(1, None), (2, Some(Write))],
+            refuses: &[],
+        },
+    ],
+};
 
 #[test]
 fn a_hold_is_told_of_the_party_that_has_it(rt: HostRuntime) -> Result<(), Fail> {
-    let mut machine = Machine::<u64>::new(rt.alloc(), Object::ReaderLock, 3)?;
-    assert_eq!(rt; machine.hold(1), None);
-    let schedule = [
-        (1, Input::Begin(Call::ReadLock)),
-        (1, Input::Go),
-        (1, Input::Go),
-    ];
-    play(rt.alloc(), &mut machine, &schedule).map_err(|_| "refused")?;
-    assert_eq!(rt; machine.hold(0), None);
-    assert_eq!(rt; machine.hold(1), Some(HoldKind::Read));
-    // There is no fourth party.
-    assert_eq!(rt; machine.hold(3), None);
-    let schedule = [
-        (1, Input::Begin(Call::Unlock)),
-        (1, Input::Go),
-        (1, Input::Go),
-        (2, Input::Begin(Call::TryWriteLock)),
-        (2, Input::Go),
-    ];
-    play(rt.alloc(), &mut machine, &schedule).map_err(|_| "refused")?;
-    assert_eq!(rt; machine.hold(1), None);
-    assert_eq!(rt; machine.hold(2), Some(HoldKind::Write));
-    Ok(())
+    plays(rt.alloc(), &HOLDS)
 }
 
-/// A reader-preferring lock of three parties, of which the first two read.
-fn two_readers(alloc: Global) -> Result<Machine<u64>, Fail> {
-    let mut machine = Machine::<u64>::new(alloc, Object::ReaderLock, 3)?;
-    let schedule = [
-        (0, Input::Begin(Call::ReadLock)),
-        (0, Input::Go),
-        (0, Input::Go),
-        (1, Input::Begin(Call::TryReadLock)),
-        (1, Input::Go),
-        (1, Input::Go),
-    ];
-    let events = play(alloc, &mut machine, &schedule).map_err(|_| "refused")?;
-    match (outcome(&events, 2), outcome(&events, 5)) {
-        (Some((0, Then::Answers(Answer::Success))), Some((1, Then::Answers(Answer::Success)))) =>
-            Ok(machine),
-        _ => Err("no two readers")?,
-    }
-}
+const READERS: Schedule<u64> = Schedule {
+    object: Object::ReaderLock,
+    parties: 3,
+    parts: &[
+        Part {
+            rows: &[
+                (0, Begin(Call::ReadLock), 1, Begins, GoesOn),
+                (0, Go, 1, Loads(State, 0), GoesOn),
+                (0, Go, 1, Exchanges(State, 0, 1), Answers(Success)),
+                (1, Begin(Call::TryReadLock), 1, Begins, GoesOn),
+                (1, Go, 1, Loads(State, 1), GoesOn),
+                (1, Go, 1, Exchanges(State, 1, 2), Answers(Success)),
+            ],
+            reads: [2, 0, 0, 0, 0, 0, 0],
+            holds: &[(0, Some(Read)), (1, Some(Read))],
+            refuses: &[],
+        },
+        Part {
+            rows: &[
+                (2, Begin(Call::TryWriteLock), 1, Begins, GoesOn),
+                (2, Go, 1, Fails(State, 0, u64::MAX, 2), Answers(Interrupted)),
+                (0, Begin(Call::Unlock), 1, Begins, GoesOn),
+                (0, Go, 1, Adds(State, 2, 1), GoesOn),
+                (0, Go, 1, WakesOne, Answers(Answer::Done)),
+                (1, Begin(Call::Unlock), 1, Begins, GoesOn),
+                (1, Go, 1, Adds(State, 1, 0), GoesOn),
+                (1, Go, 1, WakesOne, Answers(Answer::Done)),
+                (2, Begin(Call::WriteLock), 1, Begins, GoesOn),
+                (2, Go, 1, Exchanges(State, 0, u64::MAX), Answers(Success)),
+            ],
+            reads: [u64::MAX, 0, 0, 0, 0, 0, 1],
+            holds: &[(2, Some(Write))],
+            refuses: &[
+                (2, Begin(Call::TryReadLock), StepFault::Holding),
+                (0, Begin(Call::Unlock), StepFault::NoHold),
+                (0, Begin(Call::Lock), StepFault::OtherObject),
+            ],
+        },
+    ],
+};
 
 #[test]
 fn readers_leave_one_by_one_and_a_writer_enters(rt: HostRuntime) -> Result<(), Fail> {
-    let mut machine = two_readers(rt.alloc())?;
-    assert_eq!(rt; machine.word(), 2);
-    let schedule = [
-        (2, Input::Begin(Call::TryWriteLock)),
-        (2, Input::Go),
-        (0, Input::Begin(Call::Unlock)),
-        (0, Input::Go),
-        (0, Input::Go),
-        (1, Input::Begin(Call::Unlock)),
-        (1, Input::Go),
-        (1, Input::Go),
-        (2, Input::Begin(Call::WriteLock)),
-        (2, Input::Go),
-    ];
-    let events = play(rt.alloc(), &mut machine, &schedule).map_err(|_| "refused")?;
-    assert_eq!(rt; events.len(), 10);
-    assert!(rt;
-        matches!(
-            outcome(&events, 1),
-            Some((2, Then::Answers(Answer::Interrupted)))
-        )
-    );
-    assert!(rt;
-        matches!(
-            events[3].act,
-            Act::Add {
-                word: Word::State,
-                old: 2,
-                put: 1
-            }
-        )
-    );
-    assert!(rt; matches!(events[4].act, Act::Woke(Wake::One)));
-    assert!(rt; matches!(outcome(&events, 7), Some((1, Then::Answers(Answer::Done)))));
-    assert!(rt;
-        matches!(
-            outcome(&events, 9),
-            Some((2, Then::Answers(Answer::Success)))
-        )
-    );
-    assert_eq!(rt; machine.word(), u64::MAX);
-    assert_eq!(rt; machine.counter(), 0);
-    assert!(rt;
-        matches!(
-            machine.step(2, Input::Begin(Call::TryReadLock)),
-            Err(StepFault::Holding)
-        )
-    );
-    assert!(rt;
-        matches!(
-            machine.step(0, Input::Begin(Call::Unlock)),
-            Err(StepFault::NoHold)
-        )
-    );
-    assert!(rt;
-        matches!(
-            machine.step(0, Input::Begin(Call::Lock)),
-            Err(StepFault::OtherObject)
-        )
-    );
-    Ok(())
+    plays(rt.alloc(), &READERS)
 }
 
-/// The events of a schedule that is played in two pieces, which part before the input of this number (at 0 the second is all of it);
-/// and the word.
-fn in_two_pieces(
-    alloc: Global,
-    object: Object<u64>,
-    schedule: &[(usize, Input<u64>)],
-    at: usize,
-) -> Result<(Vec<Event<u64>>, u64), Fail>
-    requires within { at ≤ length schedule.now }
-{
-    let mut machine = Machine::<u64>::new(alloc, object, 3)?;
-    let mut parts = play(alloc, &mut machine, &schedule[..at]).map_err(|_| "refused")?;
-    for event in &play(alloc, &mut machine, &schedule[at..]).map_err(|_| "refused")? {
-        parts.push(*event)?;
-    }
-    Ok((parts, machine.word()))
-}
+const BARRIER: Schedule<u64> = Schedule {
+    object: Object::Barrier(2),
+    parties: 3,
+    parts: &[Part {
+        rows: &[
+            (0, Begin(Call::Wait), 1, Begins, GoesOn),
+            (0, Go, 1, Loads(State, 0), GoesOn),
+            (0, Go, 1, Exchanges(State, 0, 1), GoesOn),
+            (0, Go, 1, Loads(State, 1), GoesOn),
+            (2, Begin(Call::Wait), 1, Begins, GoesOn),
+            (2, Go, 1, Loads(State, 1), GoesOn),
+            (2, Go, 1, Exchanges(State, 1, 4294967296), GoesOn),
+            (2, Go, 1, WakesAll, Answers(Answer::Ok)),
+            (0, Go, 1, Loads(State, 4294967296), Answers(Answer::Ok)),
+        ],
+        reads: [4294967296, 0, 0, 0, 0, 0, 0],
+        holds: &[],
+        refuses: &[],
+    }],
+};
 
 #[test]
 fn a_barrier_opens_in_one_piece_and_in_two(rt: HostRuntime) -> Result<(), Fail> {
-    let schedule = [
-        (0, Input::Begin(Call::Wait)),
-        (0, Input::Go),
-        (0, Input::Go),
-        (0, Input::Go),
-        (2, Input::Begin(Call::Wait)),
-        (2, Input::Go),
-        (2, Input::Go),
-        (2, Input::Go),
-        (0, Input::Go),
-    ];
-    for at in 0..9 {
-        let (parts, word) = in_two_pieces(rt.alloc(), Object::Barrier(2), &schedule, at)?;
-        assert!(rt; matches!(outcome(&parts, 3), Some((0, Then::GoesOn))));
-        assert!(rt; matches!(outcome(&parts, 6), Some((2, Then::GoesOn))));
-        assert!(rt; matches!(outcome(&parts, 7), Some((2, Then::Answers(Answer::Ok)))));
-        assert!(rt; matches!(outcome(&parts, 8), Some((0, Then::Answers(Answer::Ok)))));
-        assert_eq!(rt; parts.len(), schedule.len());
-        assert_eq!(rt; word, 4294967296);
-    }
-    Ok(())
+    plays(rt.alloc(), &BARRIER)
 }
+
+const ONCE: Schedule<u64> = Schedule {
+    object: Object::Once,
+    parties: 3,
+    parts: &[Part {
+        rows: &[
+            (1, Begin(Call::CallOnce), 1, Begins, GoesOn),
+            (1, Go, 1, Loads(State, 0), GoesOn),
+            (1, Go, 1, Exchanges(State, 0, 1), GoesOn),
+            (0, Begin(Call::CallOnce), 1, Begins, GoesOn),
+            (0, Go, 1, Loads(State, 1), GoesOn),
+            (0, Go, 1, Fails(State, 0, 1, 1), GoesOn),
+            (1, Go, 1, Ends, GoesOn),
+            (1, Go, 1, Stores(State, 2), Answers(Answer::Done)),
+            (0, Go, 1, Loads(State, 2), Answers(Answer::Done)),
+            (2, Begin(Call::IsCompleted), 1, Begins, GoesOn),
+            (2, Go, 1, Loads(State, 2), Answers(Flag(true))),
+        ],
+        reads: [2, 0, 0, 0, 0, 0, 1],
+        holds: &[],
+        refuses: &[],
+    }],
+};
 
 #[test]
 fn a_once_runs_in_one_piece_and_in_two(rt: HostRuntime) -> Result<(), Fail> {
-    let schedule = [
-        (1, Input::Begin(Call::CallOnce)),
-        (1, Input::Go),
-        (1, Input::Go),
-        (0, Input::Begin(Call::CallOnce)),
-        (0, Input::Go),
-        (0, Input::Go),
-        (1, Input::Go),
-        (1, Input::Go),
-        (0, Input::Go),
-        (2, Input::Begin(Call::IsCompleted)),
-        (2, Input::Go),
-    ];
-    for at in 0..11 {
-        let (parts, word) = in_two_pieces(rt.alloc(), Object::Once, &schedule, at)?;
-        assert!(rt; matches!(outcome(&parts, 5), Some((0, Then::GoesOn))));
-        assert!(rt; matches!(outcome(&parts, 6), Some((1, Then::GoesOn))));
-        assert!(rt; matches!(outcome(&parts, 7), Some((1, Then::Answers(Answer::Done)))));
-        assert!(rt; matches!(outcome(&parts, 8), Some((0, Then::Answers(Answer::Done)))));
-        assert!(rt;
-            matches!(
-                outcome(&parts, 10),
-                Some((2, Then::Answers(Answer::Flag(true))))
-            )
-        );
-        assert_eq!(rt; parts.len(), schedule.len());
-        assert_eq!(rt; word, 2);
-    }
-    Ok(())
+    plays(rt.alloc(), &ONCE)
 }
+
+const SPIN: Schedule<u64> = Schedule {
+    object: Object::Spin,
+    parties: 3,
+    parts: &[Part {
+        rows: &[
+            (1, Begin(Call::BlockingLock), 1, Begins, GoesOn),
+            (1, Go, 1, Swaps(State, 0, 1), Answers(Success)),
+            (0, Begin(Call::Lock), 1, Begins, GoesOn),
+            (0, Go, 1, Swaps(State, 1, 1), GoesOn),
+            (2, Begin(Call::TryLock), 1, Begins, GoesOn),
+            (2, Go, 1, Swaps(State, 1, 1), Answers(Interrupted)),
+            (1, Begin(Call::Unlock), 1, Begins, GoesOn),
+            (1, Go, 1, Stores(State, 0), Answers(Answer::Done)),
+            (0, Go, 1, Swaps(State, 0, 1), Answers(Success)),
+        ],
+        reads: [1, 0, 0, 0, 0, 0, 0],
+        holds: &[(0, Some(Write)), (1, None), (2, None)],
+        refuses: &[],
+    }],
+};
 
 #[test]
 fn a_spin_lock_is_handed_on_in_one_piece_and_in_two(rt: HostRuntime) -> Result<(), Fail> {
-    let schedule = [
-        (1, Input::Begin(Call::BlockingLock)),
-        (1, Input::Go),
-        (0, Input::Begin(Call::Lock)),
-        (0, Input::Go),
-        (2, Input::Begin(Call::TryLock)),
-        (2, Input::Go),
-        (1, Input::Begin(Call::Unlock)),
-        (1, Input::Go),
-        (0, Input::Go),
-    ];
-    for at in 0..9 {
-        let (parts, word) = in_two_pieces(rt.alloc(), Object::Spin, &schedule, at)?;
-        assert!(rt;
-            matches!(
-                outcome(&parts, 1),
-                Some((1, Then::Answers(Answer::Success)))
-            )
-        );
-        assert!(rt; matches!(outcome(&parts, 3), Some((0, Then::GoesOn))));
-        assert!(rt;
-            matches!(
-                outcome(&parts, 5),
-                Some((2, Then::Answers(Answer::Interrupted)))
-            )
-        );
-        assert!(rt; matches!(outcome(&parts, 7), Some((1, Then::Answers(Answer::Done)))));
-        assert!(rt;
-            matches!(
-                outcome(&parts, 8),
-                Some((0, Then::Answers(Answer::Success)))
-            )
-        );
-        assert_eq!(rt; parts.len(), schedule.len());
-        assert_eq!(rt; word, 1);
-    }
-    Ok(())
+    plays(rt.alloc(), &SPIN)
 }
+
+const WRITER_ENTERS: Schedule<u64> = Schedule {
+    object: Object::WriterLock,
+    parties: 3,
+    parts: &[Part {
+        rows: &[
+            (0, Begin(Call::ReadLock), 1, Begins, GoesOn),
+            (0, Go, 1, Loads(State, 0), GoesOn),
+            (0, Go, 1, Exchanges(State, 0, 2), Answers(Success)),
+            (1, Begin(Call::WriteLock), 1, Begins, GoesOn),
+            (1, Go, 1, Loads(State, 2), GoesOn),
+            (1, Go, 1, Exchanges(State, 2, 3), GoesOn),
+            (0, Begin(Call::Unlock), 1, Begins, GoesOn),
+            (0, Go, 1, Adds(State, 3, 1), GoesOn),
+            (0, Go, 1, Adds(Counter, 0, 1), GoesOn),
+            (0, Go, 1, WakesOne, Answers(Answer::Done)),
+            (2, Begin(Call::TryWriteLock), 1, Begins, GoesOn),
+            (2, Go, 1, Fails(State, 0, u64::MAX, 1), Answers(Interrupted)),
+            (1, Go, 1, Loads(State, 1), GoesOn),
+            (1, Go, 1, Exchanges(State, 1, u64::MAX), Answers(Success)),
+        ],
+        reads: [u64::MAX, 1, 0, 0, 0, 0, 1],
+        holds: &[(0, None), (1, Some(Write)), (2, None)],
+        refuses: &[],
+    }],
+};
 
 #[test]
 fn a_waiting_writer_enters_in_one_piece_and_in_two(rt: HostRuntime) -> Result<(), Fail> {
-    let schedule = [
-        (0, Input::Begin(Call::ReadLock)),
-        (0, Input::Go),
-        (0, Input::Go),
-        (1, Input::Begin(Call::WriteLock)),
-        (1, Input::Go),
-        (1, Input::Go),
-        (0, Input::Begin(Call::Unlock)),
-        (0, Input::Go),
-        (0, Input::Go),
-        (0, Input::Go),
-        (2, Input::Begin(Call::TryWriteLock)),
-        (2, Input::Go),
-        (1, Input::Go),
-        (1, Input::Go),
-    ];
-    for at in 0..14 {
-        let (parts, word) = in_two_pieces(rt.alloc(), Object::WriterLock, &schedule, at)?;
-        assert!(rt;
-            matches!(
-                outcome(&parts, 2),
-                Some((0, Then::Answers(Answer::Success)))
-            )
-        );
-        assert!(rt;
-            matches!(
-                act_of(&parts, 5),
-                Some(Act::Exchange {
-                    word: Word::State,
-                    from: 2,
-                    to: 3,
-                    found: 2,
-                    done: true
-                })
-            )
-        );
-        assert!(rt; matches!(outcome(&parts, 5), Some((1, Then::GoesOn))));
-        assert!(rt;
-            matches!(
-                act_of(&parts, 8),
-                Some(Act::Add {
-                    word: Word::Counter,
-                    old: 0,
-                    put: 1
-                })
-            )
-        );
-        assert!(rt; matches!(outcome(&parts, 9), Some((0, Then::Answers(Answer::Done)))));
-        assert!(rt;
-            matches!(
-                outcome(&parts, 11),
-                Some((2, Then::Answers(Answer::Interrupted)))
-            )
-        );
-        assert!(rt;
-            matches!(
-                outcome(&parts, 13),
-                Some((1, Then::Answers(Answer::Success)))
-            )
-        );
-        assert_eq!(rt; parts.len(), schedule.len());
-        assert_eq!(rt; word, u64::MAX);
-    }
-    Ok(())
+    plays(rt.alloc(), &WRITER_ENTERS)
 }
+
+const WRITER_GIVES_UP: Schedule<u64> = Schedule {
+    object: Object::WriterLock,
+    parties: 2,
+    parts: &[
+        Part {
+            rows: &[
+                (0, Begin(Call::TryReadLock), 1, Begins, GoesOn),
+                (0, Go, 1, Loads(State, 0), GoesOn),
+                (0, Go, 1, Exchanges(State, 0, 2), Answers(Success)),
+                (1, Begin(Call::WriteLock), 1, Begins, GoesOn),
+            ],
+            reads: [2, 0, 0, 0, 0, 0, 0],
+            holds: &[(0, Some(Read))],
+            refuses: &[],
+        },
+        Part {
+            rows: &[
+                (1, Go, 1, Loads(State, 2), GoesOn),
+                (1, Go, 1, Exchanges(State, 2, 3), GoesOn),
+                (1, Go, 10000, Loads(State, 3), GoesOn),
+                (1, Go, 1, Loads(Counter, 0), GoesOn),
+                (1, Go, 1, Loads(State, 3), Waits(0)),
+            ],
+            reads: [3, 0, 0, 0, 0, 0, 0],
+            holds: &[],
+            refuses: &[],
+        },
+        Part {
+            rows: &[
+                (1, Input::Answer(WaitAction::Abort), 1, Decides, GoesOn),
+                (1, Go, 1, Loads(State, 3), GoesOn),
+                (1, Go, 1, Exchanges(State, 3, 2), GoesOn),
+                (1, Go, 1, Adds(Counter, 0, 1), GoesOn),
+                (1, Go, 1, WakesOne, GoesOn),
+                (1, Go, 1, WakesAll, Answers(Interrupted)),
+            ],
+            reads: [2, 1, 0, 0, 0, 0, 0],
+            holds: &[(0, Some(Read)), (1, None)],
+            refuses: &[],
+        },
+    ],
+};
 
 #[test]
 fn a_writer_that_gives_up_leaves_no_mark(rt: HostRuntime) -> Result<(), Fail> {
-    let mut machine = Machine::<u64>::new(rt.alloc(), Object::WriterLock, 2)?;
-    let begins = [
-        (0, Input::Begin(Call::TryReadLock)),
-        (0, Input::Go),
-        (0, Input::Go),
-        (1, Input::Begin(Call::WriteLock)),
-    ];
-    play(rt.alloc(), &mut machine, &begins).map_err(|_| "refused")?;
-    // Its look and its mark, 10000 looks, the load of the counter and the last look.
-    let steps = vec![in rt.alloc(); (1, Input::Go); 10004]?;
-    let waits = play(rt.alloc(), &mut machine, &steps).map_err(|_| "refused")?;
-    assert!(rt; matches!(outcome(&waits, 10002), Some((1, Then::GoesOn))));
-    assert!(rt; matches!(outcome(&waits, 10003), Some((1, Then::Waits(0)))));
-    assert_eq!(rt; machine.word(), 3);
-    assert_eq!(rt; machine.counter(), 0);
-
-    let ends = [
-        (1, Input::Answer(WaitAction::Abort)),
-        (1, Input::Go),
-        (1, Input::Go),
-        (1, Input::Go),
-        (1, Input::Go),
-        (1, Input::Go),
-    ];
-    let ended = play(rt.alloc(), &mut machine, &ends).map_err(|_| "refused")?;
-    assert_eq!(rt; ended.len(), 6);
-    assert!(rt; matches!(ended[4].act, Act::Woke(Wake::One)));
-    assert!(rt; matches!(ended[5].act, Act::Woke(Wake::All)));
-    assert!(rt;
-        matches!(
-            outcome(&ended, 5),
-            Some((1, Then::Answers(Answer::Interrupted)))
-        )
-    );
-    assert_eq!(rt; machine.word(), 2);
-    assert_eq!(rt; machine.counter(), 1);
-    assert_eq!(rt; machine.waiters(), 0);
-    assert_eq!(rt; machine.failed(), 0);
-    Ok(())
+    plays(rt.alloc(), &WRITER_GIVES_UP)
 }
+
+const NOTIFIED: Schedule<u64> = Schedule {
+    object: Object::Condvar,
+    parties: 3,
+    parts: &[Part {
+        rows: &[
+            (0, Begin(Call::Lock), 1, Begins, GoesOn),
+            (0, Go, 1, Exchanges(State, 0, 1), Answers(Success)),
+            (0, Begin(Call::Wait), 1, Begins, GoesOn),
+            (0, Go, 1, Adds(Waiters, 0, 1), GoesOn),
+            (0, Go, 1, Stores(State, 0), GoesOn),
+            (0, Go, 1, WakesOne, GoesOn),
+            (1, Begin(Call::NotifyOne), 1, Begins, GoesOn),
+            (1, Go, 1, Loads(Waiters, 1), GoesOn),
+            (1, Go, 1, Adds(Value, 0, 1), GoesOn),
+            (1, Go, 1, WakesOne, Answers(Answer::Done)),
+            (0, Go, 1, Loads(Value, 1), GoesOn),
+            (0, Go, 1, Exchanges(Value, 1, 0), GoesOn),
+            (0, Go, 1, Adds(Waiters, 1, 0), GoesOn),
+            (0, Go, 1, Exchanges(State, 0, 1), Answers(Success)),
+        ],
+        reads: [1, 0, 0, 0, 0, 0, 0],
+        holds: &[(0, Some(Write)), (1, None)],
+        refuses: &[],
+    }],
+};
 
 #[test]
 fn a_notified_wait_succeeds_in_one_piece_and_in_two(rt: HostRuntime) -> Result<(), Fail> {
-    let schedule = [
-        (0, Input::Begin(Call::Lock)),
-        (0, Input::Go),
-        (0, Input::Begin(Call::Wait)),
-        (0, Input::Go),
-        (0, Input::Go),
-        (0, Input::Go),
-        (1, Input::Begin(Call::NotifyOne)),
-        (1, Input::Go),
-        (1, Input::Go),
-        (1, Input::Go),
-        (0, Input::Go),
-        (0, Input::Go),
-        (0, Input::Go),
-        (0, Input::Go),
-    ];
-    for at in 0..14 {
-        let (parts, word) = in_two_pieces(rt.alloc(), Object::Condvar, &schedule, at)?;
-        assert!(rt;
-            matches!(
-                act_of(&parts, 3),
-                Some(Act::Add {
-                    word: Word::Waiters,
-                    old: 0,
-                    put: 1
-                })
-            )
-        );
-        assert!(rt; matches!(act_of(&parts, 5), Some(Act::Woke(Wake::One))));
-        assert!(rt;
-            matches!(
-                act_of(&parts, 8),
-                Some(Act::Add {
-                    word: Word::Value,
-                    old: 0,
-                    put: 1
-                })
-            )
-        );
-        assert!(rt; matches!(outcome(&parts, 9), Some((1, Then::Answers(Answer::Done)))));
-        assert!(rt;
-            matches!(
-                act_of(&parts, 11),
-                Some(Act::Exchange {
-                    word: Word::Value,
-                    from: 1,
-                    to: 0,
-                    found: 1,
-                    done: true
-                })
-            )
-        );
-        assert!(rt;
-            matches!(
-                outcome(&parts, 13),
-                Some((0, Then::Answers(Answer::Success)))
-            )
-        );
-        assert_eq!(rt; parts.len(), schedule.len());
-        assert_eq!(rt; word, 1);
-    }
-    Ok(())
+    plays(rt.alloc(), &NOTIFIED)
 }
+
+const UNSIGNALLED: Schedule<u64> = Schedule {
+    object: Object::Condvar,
+    parties: 1,
+    parts: &[
+        Part {
+            rows: &[
+                (0, Begin(Call::TryLock), 1, Begins, GoesOn),
+                (0, Go, 1, Exchanges(State, 0, 1), Answers(Success)),
+                (0, Begin(Call::Wait), 1, Begins, GoesOn),
+                (0, Go, 1, Adds(Waiters, 0, 1), GoesOn),
+                (0, Go, 1, Stores(State, 0), GoesOn),
+                (0, Go, 1, WakesOne, GoesOn),
+            ],
+            reads: [0, 0, 1, 0, 0, 0, 0],
+            holds: &[(0, None)],
+            refuses: &[],
+        },
+        Part {
+            rows: &[
+                // Looks that see no permit.
+                (0, Go, 10000, Loads(Value, 0), GoesOn),
+                (0, Go, 1, Loads(Value, 0), Waits(0)),
+            ],
+            reads: [0, 0, 1, 0, 0, 0, 0],
+            holds: &[],
+            refuses: &[],
+        },
+        Part {
+            rows: &[
+                (0, Input::Answer(WaitAction::Abort), 1, Decides, GoesOn),
+                (0, Go, 1, Loads(Value, 0), GoesOn),
+                (0, Go, 1, Adds(Waiters, 1, 0), GoesOn),
+                (0, Go, 1, Exchanges(State, 0, 1), Answers(InterruptedHeld)),
+            ],
+            reads: [1, 0, 0, 0, 0, 0, 0],
+            holds: &[(0, Some(Write))],
+            refuses: &[],
+        },
+    ],
+};
 
 #[test]
 fn a_wait_that_gives_up_holds_the_mutex_again(rt: HostRuntime) -> Result<(), Fail> {
-    let mut machine = Machine::<u64>::new(rt.alloc(), Object::Condvar, 1)?;
-    let begins = [
-        (0, Input::Begin(Call::TryLock)),
-        (0, Input::Go),
-        (0, Input::Begin(Call::Wait)),
-        (0, Input::Go),
-        (0, Input::Go),
-        (0, Input::Go),
-    ];
-    play(rt.alloc(), &mut machine, &begins).map_err(|_| "refused")?;
-    assert_eq!(rt; machine.word(), 0);
-    assert_eq!(rt; machine.waiters(), 1);
-    // 10001 looks that see no permit.
-    let steps = vec![in rt.alloc(); (0, Input::Go); 10001]?;
-    let waits = play(rt.alloc(), &mut machine, &steps).map_err(|_| "refused")?;
-    assert!(rt; matches!(outcome(&waits, 9999), Some((0, Then::GoesOn))));
-    assert!(rt; matches!(outcome(&waits, 10000), Some((0, Then::Waits(0)))));
-
-    let ends = [
-        (0, Input::Answer(WaitAction::Abort)),
-        (0, Input::Go),
-        (0, Input::Go),
-        (0, Input::Go),
-    ];
-    let ended = play(rt.alloc(), &mut machine, &ends).map_err(|_| "refused")?;
-    assert!(rt;
-        matches!(
-            outcome(&ended, 3),
-            Some((0, Then::Answers(Answer::InterruptedHeld)))
-        )
-    );
-    assert_eq!(rt; machine.word(), 1);
-    assert_eq!(rt; machine.waiters(), 0);
-    assert_eq!(rt; machine.value(), 0);
-    assert_eq!(rt; machine.failed(), 0);
-    Ok(())
+    plays(rt.alloc(), &UNSIGNALLED)
 }
+
+const LAZY: Schedule<u64> = Schedule {
+    object: Object::Lazy(u64::MAX),
+    parties: 3,
+    parts: &[Part {
+        rows: &[
+            (1, Begin(Call::Force), 1, Begins, GoesOn),
+            (1, Go, 1, Loads(State, 0), GoesOn),
+            (1, Go, 1, Exchanges(State, 0, 1), GoesOn),
+            (0, Begin(Call::Force), 1, Begins, GoesOn),
+            (0, Go, 1, Loads(State, 1), GoesOn),
+            (0, Go, 1, Fails(State, 0, 1, 1), GoesOn),
+            (1, Go, 1, Ends, GoesOn),
+            (1, Go, 1, Stores(State, 2), GoesOn),
+            (0, Go, 1, Loads(State, 2), GoesOn),
+            (0, Go, 1, Reads(u64::MAX), Answers(Answer::Value(u64::MAX))),
+            (1, Go, 1, Reads(u64::MAX), Answers(Answer::Value(u64::MAX))),
+        ],
+        reads: [2, 0, 0, 0, 0, 0, 1],
+        holds: &[],
+        refuses: &[],
+    }],
+};
 
 #[test]
 fn a_lazy_value_is_made_in_one_piece_and_in_two(rt: HostRuntime) -> Result<(), Fail> {
-    let schedule = [
-        (1, Input::Begin(Call::Force)),
-        (1, Input::Go),
-        (1, Input::Go),
-        (0, Input::Begin(Call::Force)),
-        (0, Input::Go),
-        (0, Input::Go),
-        (1, Input::Go),
-        (1, Input::Go),
-        (0, Input::Go),
-        (0, Input::Go),
-        (1, Input::Go),
-    ];
-    let value = u64::MAX;
-    for at in 0..11 {
-        let (parts, word) = in_two_pieces(rt.alloc(), Object::Lazy(value), &schedule, at)?;
-        assert!(rt; matches!(act_of(&parts, 6), Some(Act::Ended)));
-        assert!(rt; matches!(outcome(&parts, 7), Some((1, Then::GoesOn))));
-        assert!(rt; matches!(outcome(&parts, 8), Some((0, Then::GoesOn))));
-        assert!(rt; matches!(act_of(&parts, 9), Some(Act::ReadCell(u64::MAX))));
-        assert!(rt;
-            matches!(
-                outcome(&parts, 9),
-                Some((0, Then::Answers(Answer::Value(u64::MAX))))
-            )
-        );
-        assert!(rt;
-            matches!(
-                outcome(&parts, 10),
-                Some((1, Then::Answers(Answer::Value(u64::MAX))))
-            )
-        );
-        assert_eq!(rt; parts.len(), schedule.len());
-        assert_eq!(rt; word, 2);
-    }
-    Ok(())
+    plays(rt.alloc(), &LAZY)
 }

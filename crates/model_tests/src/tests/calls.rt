@@ -1,7 +1,10 @@
 //! Which calls an object has, and which of them need a hold: a machine refuses just the others. And of which word a wake is.
+use super::growths::refusal;
+use std::alloc::Global;
 use std::test::Fail;
+use sync_steps::atomic::internal::AtomicInteger;
 use sync_steps::steps::place::{has_call, needs_hold, woken_word};
-use sync_steps::steps::{Call, Input, Machine, Object, StepFault, Wake, Word};
+use sync_steps::steps::{Call, Input, Object, StepFault, Wake, Word};
 
 /// Every call.
 const CALLS: [Call<u64>; 31] = [
@@ -52,33 +55,31 @@ const OBJECTS: [(Object<u64>, usize, usize); 10] = [
     (Object::Atomic(7), 14, 0),
 ];
 
+/// How many calls an object has, and how many of them need a hold: a new machine refuses just the others, and just these.
+fn calls_of<T: AtomicInteger>(
+    alloc: Global,
+    object: Object<T>,
+    calls: &[Call<T>],
+) -> Result<(usize, usize), Fail> {
+    let mut has = 0usize;
+    let mut needs = 0usize;
+    for call in calls {
+        let refused = refusal(alloc, object, 1, 0, Input::Begin(*call))?;
+        let is_other = refused == Some(StepFault::OtherObject);
+        let is_held = refused == Some(StepFault::NoHold);
+        if is_other == has_call(&object, call) || is_held != needs_hold(&object, call) {
+            return Err(("otherwise at the call after so many of its own", has))?;
+        }
+        has = has.wrapping_add(usize::from(!is_other));
+        needs = needs.wrapping_add(usize::from(is_held));
+    }
+    Ok((has, needs))
+}
+
 #[test]
 fn a_machine_begins_the_calls_of_its_object(rt: HostRuntime) -> Result<(), Fail> {
-    for (object, has, needs) in OBJECTS {
-        let mut begun = 0usize;
-        let mut without = 0usize;
-        for call in CALLS {
-            let mut machine = Machine::<u64>::new(rt.alloc(), object, 1)?;
-            let refused = match machine.step(0, Input::Begin(call)) {
-                Ok(_) => None,
-                Err(fault) => Some(fault),
-            };
-            assert_eq!(rt;
-                refused != Some(StepFault::OtherObject),
-                has_call(&object, &call)
-            );
-            assert_eq!(rt;
-                refused == Some(StepFault::NoHold),
-                needs_hold(&object, &call)
-            );
-            if refused != Some(StepFault::OtherObject) {
-                begun = begun.wrapping_add(1);
-            }
-            if refused == Some(StepFault::NoHold) {
-                without = without.wrapping_add(1);
-            }
-        }
-        assert_eq!(rt; (begun, without), (has, needs));
+    for (object, has, needs) in &OBJECTS {
+        assert_eq!(rt; calls_of(rt.alloc(), *object, &CALLS)?, (*has, *needs));
     }
     Ok(())
 }
@@ -98,7 +99,7 @@ const WAKES: [(Object<u64>, Call<u64>, Wake, Word); 9] = [
 
 #[test]
 fn a_wake_is_of_a_word(rt: HostRuntime) {
-    for (object, call, wake, word) in WAKES {
-        assert_eq!(rt; woken_word(&object, &call, wake), word);
+    for (object, call, wake, word) in &WAKES {
+        assert_eq!(rt; woken_word(object, call, *wake), *word);
     }
 }

@@ -188,8 +188,8 @@ fn moved(word: u64) -> [Option<u64>; 11] {
 
 #[test]
 fn moves_at_the_ends(rt: HostRuntime) {
-    for (word, wanted) in MOVES {
-        assert_eq!(rt; moved(word), wanted, "at {word}");
+    for (word, wanted) in &MOVES {
+        assert_eq!(rt; moved(*word), *wanted, "at {word}");
     }
 }
 
@@ -213,15 +213,14 @@ const ARRIVALS: [(u64, [Option<u64>; 4], u64); 10] = [
 
 #[test]
 fn arrivals_at_the_ends(rt: HostRuntime) {
-    for (word, wanted, next) in ARRIVALS {
+    for (word, wanted, next) in &ARRIVALS {
         let made = [
-            arrived(word, 0),
-            arrived(word, 1),
-            arrived(word, 2),
-            arrived(word, u32::MAX),
+            arrived(*word, 0),
+            arrived(*word, 1),
+            arrived(*word, 2),
+            arrived(*word, u32::MAX),
         ];
-        assert_eq!(rt; made, wanted, "at {word}");
-        assert_eq!(rt; opened(word), next, "at {word}");
+        assert_eq!(rt; (made, opened(*word)), (*wanted, *next), "at {word}");
     }
 }
 
@@ -237,18 +236,18 @@ const POSTS: [(u64, u64, u64); 6] = [
 
 #[test]
 fn posts_at_the_ends(rt: HostRuntime) {
-    for (word, more, wanted) in POSTS {
-        assert_eq!(rt; posted(word, more), wanted, "at {word} and {more}");
+    for (word, more, wanted) in &POSTS {
+        assert_eq!(rt; posted(*word, *more), *wanted, "at {word} and {more}");
     }
 }
 
 #[test]
 fn a_notify_gives_as_many_as_wait(rt: HostRuntime) {
-    assert_eq!(rt; permits_for(Wake::One, 0), 0);
-    for (waiters, _) in MOVES {
-        assert_eq!(rt; permits_for(Wake::All, waiters), waiters);
-        if waiters > 0 {
-            assert_eq!(rt; permits_for(Wake::One, waiters), 1, "at {waiters}");
-        }
+    for (waiters, _) in &MOVES {
+        let permits = [
+            permits_for(Wake::All, *waiters),
+            permits_for(Wake::One, *waiters),
+        ];
+        assert_eq!(rt; permits, [*waiters, (*waiters).min(1)], "at {waiters}");
     }
 }

@@ -1,7 +1,10 @@
 //! Each growth of `Machine::new` and of `play`, refused in turn: the heap grows from nothing until there is enough, by 16 bytes.
-use super::rounds;
+use super::schedules::{play_all, reads};
 use linked_list_allocator::LocalHeap;
+use std::alloc::{AllocError, Global};
 use std::test::Fail;
+use sync_steps::atomic::internal::AtomicInteger;
+use sync_steps::steps::Input::{Begin, Go};
 use sync_steps::steps::{Call, Input, Machine, Object, PlayFault, StepFault, play};
 
 const OBJECTS: [Object<u64>; 10] = [
@@ -17,85 +20,145 @@ const OBJECTS: [Object<u64>; 10] = [
     Object::Atomic(7),
 ];
 
+/// Whether the heap has room for a machine.
+fn has_room<T: AtomicInteger>(heap: &LocalHeap, object: Object<T>, parties: usize) -> bool {
+    Machine::<T, _>::new(heap, object, parties).is_ok()
+}
+
+/// A heap of nothing has no room, and from some size on each has; afterwards it has all its room again.
+fn finds_room<T: AtomicInteger>(
+    alloc: Global,
+    object: Object<T>,
+    parties: usize,
+) -> Result<bool, Fail> {
+    let mut room = false;
+    for blocks in 0..256usize {
+        let heap = LocalHeap::new(alloc, 16 * blocks)?;
+        let found = has_room(&heap, object, parties);
+        if found < room || found && blocks == 0 || heap.used() != 0 {
+            return Err(("at so many blocks", blocks))?;
+        }
+        room = found;
+    }
+    Ok(room)
+}
+
 #[test]
 fn a_machine_that_finds_no_memory(rt: HostRuntime) -> Result<(), Fail> {
-    for object in OBJECTS {
+    for object in &OBJECTS {
         for parties in [1, 3, 20] {
-            let mut room = false;
-            for blocks in 0..256usize {
-                let heap = LocalHeap::new(rt.alloc(), 16 * blocks)?;
-                let made = Machine::<u64, _>::new(&heap, object, parties);
-                assert!(rt; made.is_ok() || !room);
-                room = made.is_ok();
-                assert!(rt; blocks > 0 || !room);
-                drop(made);
-                assert_eq!(rt; heap.used(), 0);
-            }
-            assert!(rt; room);
+            assert!(rt; finds_room(rt.alloc(), *object, parties)?);
         }
     }
     Ok(())
+}
+
+/// Why a new machine refuses an input, where it does.
+pub fn refusal<T: AtomicInteger>(
+    alloc: Global,
+    object: Object<T>,
+    parties: usize,
+    party: usize,
+    input: Input<T>,
+) -> Result<Option<StepFault>, AllocError> {
+    let mut machine = Machine::<T>::new(alloc, object, parties)?;
+    Ok(machine.step(party, input).err())
+}
+
+/// Why a party that is not there cannot go on, at a machine of nobody; the last of a thousand; and one that comes after them.
+fn refusals<T: AtomicInteger>(
+    alloc: Global,
+    object: Object<T>,
+) -> Result<[Option<StepFault>; 3], AllocError> {
+    Ok([
+        refusal(alloc, object, 0, 0, Go)?,
+        refusal(alloc, object, 1000, 999, Go)?,
+        refusal(alloc, object, 1000, 1000, Go)?,
+    ])
 }
 
 /// A machine of nobody, and one of a thousand, of every object.
 #[test]
 fn machines_of_nobody_and_of_a_thousand(rt: HostRuntime) -> Result<(), Fail> {
-    for object in OBJECTS {
-        let mut nobody = Machine::<u64>::new(rt.alloc(), object, 0)?;
-        assert!(rt; matches!(nobody.step(0, Input::Go), Err(StepFault::NoParty)));
-        let mut many = Machine::<u64>::new(rt.alloc(), object, 1000)?;
-        assert!(rt; matches!(many.step(999, Input::Go), Err(StepFault::Idle)));
-        assert!(rt; matches!(many.step(1000, Input::Go), Err(StepFault::NoParty)));
+    let wanted = [
+        Some(StepFault::NoParty),
+        Some(StepFault::Idle),
+        Some(StepFault::NoParty),
+    ];
+    for object in &OBJECTS {
+        assert_eq!(rt; refusals(rt.alloc(), *object)?, wanted);
     }
     Ok(())
 }
 
-/// What a machine tells of itself.
-fn reads(machine: &Machine<u64>) -> ([u64; 7], bool) {
-    let (low, high) = machine.low_high();
-    let words = [
-        machine.word(),
-        machine.counter(),
-        machine.waiters(),
-        machine.value(),
-        machine.failed(),
-        low,
-        high,
-    ];
-    (words, machine.hold(0).is_some())
+/// Whether the heap has room for the events of the inputs.
+fn has_room_to_play<T: AtomicInteger>(
+    heap: &LocalHeap,
+    machine: &mut Machine<T>,
+    inputs: &[(usize, Input<T>)],
+) -> Result<bool, Fail> {
+    match play(heap, machine, inputs) {
+        Ok(events) => Ok(events.len() == inputs.len()),
+        Err(PlayFault::Memory) => Ok(false),
+        Err(PlayFault::Step { .. }) => Err("it is allowed")?,
+    }
+}
+
+/// How many blocks a heap has that has room for the events. Without room the machine stays as it is.
+fn blocks_to_play<T: AtomicInteger>(
+    alloc: Global,
+    machine: &mut Machine<T>,
+    inputs: &[(usize, Input<T>)],
+) -> Result<usize, Fail> {
+    let before = (reads(machine), machine.hold(0));
+    for blocks in 0..4096usize {
+        let heap = LocalHeap::new(alloc, 16 * blocks)?;
+        if has_room_to_play(&heap, machine, inputs)? {
+            return Ok(blocks);
+        }
+        if heap.used() != 0 || (reads(machine), machine.hold(0)) != before {
+            return Err(("at so many blocks", blocks))?;
+        }
+    }
+    Err("no heap is enough")?
+}
+
+/// The same after these inputs, which leave one exchange failed.
+fn blocks_to_play_after<T: AtomicInteger>(
+    alloc: Global,
+    first: &[(usize, Input<T>)],
+    inputs: &[(usize, Input<T>)],
+) -> Result<usize, Fail> {
+    let mut machine = Machine::<T>::new(alloc, Object::Mutex, 2)?;
+    play_all(alloc, &mut machine, first)?;
+    if machine.failed() != 1 {
+        return Err("no exchange failed")?;
+    }
+    blocks_to_play(alloc, &mut machine, inputs)
 }
 
 #[test]
 fn events_that_find_no_memory(rt: HostRuntime) -> Result<(), Fail> {
-    let mut machine = Machine::<u64>::new(rt.alloc(), Object::Mutex, 2)?;
-    let tried = [
-        (0, Input::Begin(Call::TryLock)),
-        (0, Input::Go),
-        (1, Input::Begin(Call::TryLock)),
-        (1, Input::Go),
-        (0, Input::Begin(Call::Unlock)),
-        (0, Input::Go),
-        (0, Input::Go),
+    let first: [(usize, Input<u64>); 7] = [
+        (0, Begin(Call::TryLock)),
+        (0, Go),
+        (1, Begin(Call::TryLock)),
+        (1, Go),
+        (0, Begin(Call::Unlock)),
+        (0, Go),
+        (0, Go),
     ];
-    for (party, input) in tried {
-        machine.step(party, input).ok().ok_or("it is allowed")?;
+    let round = [
+        (0, Begin(Call::TryLock)),
+        (0, Go),
+        (0, Begin(Call::Unlock)),
+        (0, Go),
+        (0, Go),
+    ];
+    let mut inputs = Vec::new(rt.alloc());
+    for _ in 0..20u64 {
+        inputs.extend_from_slice(&round)?;
     }
-    assert_eq!(rt; machine.failed(), 1);
-    let schedule = rounds(rt.alloc(), 20)?;
-    let before = reads(&machine);
-    for blocks in 0..4096usize {
-        let heap = LocalHeap::new(rt.alloc(), 16 * blocks)?;
-        match play(&heap, &mut machine, &schedule) {
-            Ok(events) => {
-                assert!(rt; blocks > 100);
-                assert_eq!(rt; events.len(), schedule.len());
-                return Ok(());
-            }
-            Err(PlayFault::Memory) => {}
-            Err(PlayFault::Step { .. }) => return Err("it is allowed")?,
-        }
-        assert_eq!(rt; heap.used(), 0);
-        assert_eq!(rt; reads(&machine), before);
-    }
-    Err("no heap is enough")?
+    assert!(rt; blocks_to_play_after(rt.alloc(), &first, &inputs)? > 100);
+    Ok(())
 }

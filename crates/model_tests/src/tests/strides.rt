@@ -1,67 +1,95 @@
 //! A spin is one stride, and ends where its call asks, has what it wants, or may make no more steps.
-ghost use Rattle.std.specs.Prelude.{◌≡◌, true};
-
-use std::alloc::{AllocError, Global};
+use super::schedules::Did::{self, Fails, Swaps};
+use super::schedules::{play_all, reads, tells};
+use std::alloc::Global;
 use std::test::Fail;
-use sync_steps::steps::{Act, Call, Input, Machine, Object, StepFault, Then, Word};
+use sync_steps::atomic::internal::AtomicInteger;
+use sync_steps::steps::Input::{Begin, Go};
+use sync_steps::steps::Then::{GoesOn, Waits};
+use sync_steps::steps::Word::State;
+use sync_steps::steps::{Call, Input, Machine, Object, StepFault, Then};
 
-/// A machine of two parties, of which the first holds its lock and the second has begun a call.
-fn contended(alloc: Global, object: Object<u64>, call: Call<u64>) -> Result<Machine<u64>, Fail> {
-    let mut machine = Machine::<u64>::new(alloc, object, 2)?;
-    for input in [Input::Begin(Call::TryLock), Input::Go] {
-        machine.step(0, input).ok().ok_or("it is allowed")?;
+/// A stride: how many steps it may make, how many it makes, what each does, how the call then stands, and how many exchanges have failed.
+type Row<T> = (u64, u64, Did, Then<T>, u64);
+
+/// The first party takes the lock, and the second begins a call for it.
+const BEGINS: [(usize, Input<u64>); 3] = [
+    (0, Begin(Call::TryLock)),
+    (0, Go),
+    (1, Begin(Call::Lock)),
+];
+
+/// Whether the second party makes this stride.
+fn makes<T: AtomicInteger>(machine: &mut Machine<T>, row: &Row<T>) -> bool {
+    let (limit, times, did, then, failed) = row;
+    if *limit == 0 {
+        return false;
     }
-    machine
-        .step(1, Input::Begin(call))
-        .ok()
-        .ok_or("it is allowed")?;
-    Ok(machine)
+    match machine.stride(1, *limit) {
+        Ok(made) => {
+            made.times == *times && tells(&made.event, 1, did, then) && machine.failed() == *failed
+        }
+        Err(_) => false,
+    }
+}
+
+/// Why a stride of a party is refused, where it is.
+fn refusal<T: AtomicInteger>(machine: &mut Machine<T>, party: usize) -> Option<StepFault> {
+    machine.stride(party, 20000).err()
+}
+
+/// Strides of the second party after these inputs, as the rows say. What the machine then reads, and why it refuses a further stride of
+/// this party, and one of a party that is not there.
+fn strides<T: AtomicInteger>(
+    alloc: Global,
+    object: Object<T>,
+    begins: &[(usize, Input<T>)],
+    rows: &[Row<T>],
+) -> Result<([u64; 7], [Option<StepFault>; 2]), Fail> {
+    let mut machine = Machine::<T>::new(alloc, object, 2)?;
+    play_all(alloc, &mut machine, begins)?;
+    for row in rows {
+        if !makes(&mut machine, row) {
+            return Err(("it tells otherwise, of steps at most", row.0))?;
+        }
+    }
+    let read = reads(&machine);
+    Ok((read, [refusal(&mut machine, 1), refusal(&mut machine, 2)]))
 }
 
 #[test]
 fn a_spin_is_one_stride(rt: HostRuntime) -> Result<(), Fail> {
-    let mut machine = contended(rt.alloc(), Object::Mutex, Call::Lock)?;
-    let spin = machine.stride(1, 20000).ok().ok_or("it spins")?;
-    assert_eq!(rt; spin.times, 10000);
-    assert!(rt; matches!(spin.event.then, Then::GoesOn));
-    assert_eq!(rt; machine.failed(), 10000);
-    let last = machine.stride(1, 20000).ok().ok_or("it asks")?;
-    assert_eq!(rt; last.times, 1);
-    assert!(rt; matches!(last.event.then, Then::Waits(1)));
-    assert!(rt; matches!(&machine.stride(1, 20000), Err(StepFault::WaitingForAnswer)));
-    assert!(rt; matches!(&machine.stride(2, 20000), Err(StepFault::NoParty)));
+    let rows = [
+        (20000, 10000, Fails(State, 0, 1, 1), GoesOn, 10000),
+        (20000, 1, Fails(State, 0, 1, 1), Waits(1), 10001),
+    ];
+    let (read, refused) = strides(rt.alloc(), Object::Mutex, &BEGINS, &rows)?;
+    assert_eq!(rt; read, [1, 0, 0, 0, 0, 0, 10001]);
+    assert_eq!(rt;
+        refused,
+        [Some(StepFault::WaitingForAnswer), Some(StepFault::NoParty)]
+    );
     Ok(())
 }
 
 #[test]
 fn a_stride_makes_no_more_steps_than_it_may(rt: HostRuntime) -> Result<(), Fail> {
-    let mut machine = contended(rt.alloc(), Object::Mutex, Call::Lock)?;
-    let one = machine.stride(1, 1).ok().ok_or("it spins")?;
-    assert_eq!(rt; one.times, 1);
-    let three = machine.stride(1, 3).ok().ok_or("it spins")?;
-    assert_eq!(rt; three.times, 3);
-    assert_eq!(rt; machine.failed(), 4);
-    let others = machine.stride(1, 20000).ok().ok_or("it spins")?;
-    assert_eq!(rt; others.times, 9996);
+    let rows = [
+        (1, 1, Fails(State, 0, 1, 1), GoesOn, 1),
+        (3, 3, Fails(State, 0, 1, 1), GoesOn, 4),
+        (20000, 9996, Fails(State, 0, 1, 1), GoesOn, 10000),
+    ];
+    let (read, refused) = strides(rt.alloc(), Object::Mutex, &BEGINS, &rows)?;
+    assert_eq!(rt; read, [1, 0, 0, 0, 0, 0, 10000]);
+    assert_eq!(rt; refused, [None, Some(StepFault::NoParty)]);
     Ok(())
 }
 
 #[test]
 fn swaps_are_one_stride(rt: HostRuntime) -> Result<(), Fail> {
-    let mut machine = contended(rt.alloc(), Object::Spin, Call::Lock)?;
-    let spin = machine.stride(1, 100000).ok().ok_or("it spins")?;
-    assert_eq!(rt; spin.times, 100000);
-    assert!(rt;
-        matches!(
-            spin.event.act,
-            Act::Swap {
-                word: Word::State,
-                old: 1,
-                put: 1,
-            }
-        )
-    );
-    assert_eq!(rt; machine.word(), 1);
-    assert_eq!(rt; machine.failed(), 0);
+    let rows = [(100000, 100000, Swaps(State, 1, 1), GoesOn, 0)];
+    let (read, refused) = strides(rt.alloc(), Object::Spin, &BEGINS, &rows)?;
+    assert_eq!(rt; read, [1, 0, 0, 0, 0, 0, 0]);
+    assert_eq!(rt; refused, [None, Some(StepFault::NoParty)]);
     Ok(())
 }
