@@ -10,6 +10,7 @@ use Rattle.steps_events.specs.declared.event.Call.{Call}
 use Rattle.sync_play.specs.Call.{name_of, calls_of, named}
 use Rattle.sync_play.specs.Command.{find, verbs}
 use Rattle.sync_play.specs.Lexer.{words_of, number_within}
+use Rattle.sync_play.specs.ValueTypes.{object_of_name}
 
 -- a line, counted from 1; empty where there is none
 abbrev pub first_of : List (List ℕ) → List ℕ
@@ -19,30 +20,13 @@ first_of (line ∷ lines) = line
 abbrev pub line_of : ℕ → List (List ℕ) → List ℕ
 line_of number lines = first_of (drop (number - 1) lines)
 
--- The object that a text names; what it is opened with stays open, and is 0 here.
+-- The object that a text names; what it is opened with stays open.
 
-abbrev pub is_atomic : List ℕ → Bool
-is_atomic name = (((bytes_eq name (codes "atomic_u64")) || (bytes_eq name (codes "atomic_u128"))) || (bytes_eq name (codes "atomic_i64"))) || (bytes_eq name (codes "atomic_i128"))
-
-abbrev pub object_named : List ℕ → Option (Object ℕ)
-object_named name =
-    if bytes_eq name (codes "mutex") then Some objects.Mutex
-    else (if bytes_eq name (codes "spin") then Some objects.Spin
-    else (if bytes_eq name (codes "semaphore") then Some (objects.Semaphore 0)
-    else (if bytes_eq name (codes "barrier") then Some (objects.Barrier 0)
-    else (if bytes_eq name (codes "rwreader") then Some objects.ReaderLock
-    else (if bytes_eq name (codes "rwwriter") then Some objects.WriterLock
-    else (if bytes_eq name (codes "condvar") then Some objects.Condvar
-    else (if bytes_eq name (codes "once") then Some objects.Once
-    else (if bytes_eq name (codes "lazy") then Some (objects.Lazy 0)
-    else (if is_atomic name then Some (objects.Atomic 0)
-    else None)))))))))
-
-abbrev pub object_by_words : List (List ℕ) → Option (Object ℕ)
+abbrev pub object_by_words : List (List ℕ) → Option (Object Unit)
 object_by_words [] = None
-object_by_words (name ∷ words) = object_named name
+object_by_words (name ∷ words) = object_of_name name
 
-abbrev pub object_of : List (List ℕ) → Option (Object ℕ)
+abbrev pub object_of : List (List ℕ) → Option (Object Unit)
 object_of lines = object_by_words (words_of (first_of lines))
 
 -- the names of calls, as a list in words: a text can begin these and no others
@@ -53,7 +37,7 @@ listed (call ∷ next ∷ calls) = name_of call ++ (codes ", " ++ listed (next �
 
 -- What is said of each object.
 
-abbrev pub has_no_call : Object ℕ → List ℕ
+abbrev pub has_no_call : Object Unit → List ℕ
 has_no_call objects.Mutex = codes "a mutex has no call `"
 has_no_call objects.Spin = codes "a spin lock has no call `"
 has_no_call (objects.Semaphore initial) = codes "a semaphore has no call `"
@@ -65,7 +49,7 @@ has_no_call objects.Once = codes "a once has no call `"
 has_no_call (objects.Lazy v) = codes "a lazy value has no call `"
 has_no_call (objects.Atomic v) = codes "an atomic has no call `"
 
-abbrev pub first_line : Object ℕ → List ℕ
+abbrev pub first_line : Object Unit → List ℕ
 first_line objects.Mutex = codes "a mutex's first line has a number of parties, and no value: mutex 2"
 first_line objects.Spin = codes "a spin lock's first line has a number of parties, and no value: spin 2"
 first_line (objects.Semaphore initial) = codes "a semaphore's first line has a number of parties, and a value: semaphore 2 5"
@@ -77,7 +61,7 @@ first_line objects.Once = codes "a once's first line has a number of parties, an
 first_line (objects.Lazy v) = codes "a lazy value's first line has a number of parties, and the value that its closure gives: lazy 2 5"
 first_line (objects.Atomic v) = codes "an atomic's first line has a number of parties, and a value: atomic_u64 2 5"
 
-abbrev pub first_numbers : Object ℕ → List ℕ
+abbrev pub first_numbers : Object Unit → List ℕ
 first_numbers (objects.Barrier n) = codes "there are 1 to 64 parties, and 0 to 4294967295 arrivals open a round, in decimal digits"
 first_numbers (objects.Semaphore initial) = codes "there are 1 to 64 parties, and the value is 0 to 18446744073709551615, in decimal digits"
 first_numbers (objects.Lazy v) = codes "there are 1 to 64 parties, and the value is 0 to 18446744073709551615, in decimal digits"
@@ -89,21 +73,21 @@ first_numbers objects.WriterLock = codes "there are 1 to 64 parties, in decimal 
 first_numbers objects.Condvar = codes "there are 1 to 64 parties, in decimal digits"
 first_numbers objects.Once = codes "there are 1 to 64 parties, in decimal digits"
 
-abbrev pub numbers_after : Object ℕ → List ℕ
+abbrev pub numbers_after : Object Unit → List ℕ
 numbers_after (objects.Semaphore initial) = codes "a number follows `post`, and may follow `go`, and none follows the others"
 numbers_after (objects.Atomic v) = codes "two values follow `compare_exchange`, one follows `some` and each call but `load` and `fetch_update`, and a number may follow `go`"
 numbers_after other = codes "a number may follow `go`, and none follows the others"
 
-abbrev pub numbers_within : Object ℕ → List ℕ
+abbrev pub numbers_within : Object Unit → List ℕ
 numbers_within (objects.Semaphore initial) = codes "`go` makes 1 to 100000 steps, and `post` gives 0 to 18446744073709551615 permits"
 numbers_within (objects.Atomic v) = codes "`go` makes 1 to 100000 steps, and a value is one of the atomic's type, in decimal digits"
 numbers_within other = codes "`go` makes 1 to 100000 steps"
 
-abbrev pub answers : Object ℕ → List ℕ
+abbrev pub answers : Object Unit → List ℕ
 answers (objects.Atomic v) = codes "the call stands at its closure, which answers `some` and a value, or `none`"
 answers other = codes "the call stands at its closure, which answers `wait` or `abort`"
 
-abbrev pub has_start_wait : Object ℕ → Bool
+abbrev pub has_start_wait : Object Unit → Bool
 has_start_wait o = is_some (named (codes "start_wait") (calls_of o))
 
 -- The sentence.
@@ -117,42 +101,42 @@ abbrev pub is_marked : List ℕ → Bool
 is_marked (first ∷ second ∷ third ∷ bytes) = (first == 239) && ((second == 187) && (third == 191))
 is_marked other = false
 
-abbrev pub has_two : Object ℕ → List ℕ
+abbrev pub has_two : Object Unit → List ℕ
 has_two o = codes "a line has a party and what it does: " ++ listed (calls_of o)
 
-abbrev pub of_unknown : Object ℕ → List ℕ → List ℕ
+abbrev pub of_unknown : Object Unit → List ℕ → List ℕ
 of_unknown o name = has_no_call o ++ (name ++ (codes "`: " ++ listed (calls_of o)))
 
-abbrev pub of_verb : Object ℕ → List ℕ → List ℕ
-of_verb o name = if (is_some (find {T = ℕ} name verbs) || is_some (named name (calls_of o))) then numbers_after o else of_unknown o name
+abbrev pub of_verb : Object Unit → List ℕ → List ℕ
+of_verb o name = if (is_some (find {T = Unit} name verbs) || is_some (named name (calls_of o))) then numbers_after o else of_unknown o name
 
-abbrev pub after_party : Object ℕ → List (List ℕ) → List ℕ
+abbrev pub after_party : Object Unit → List (List ℕ) → List ℕ
 after_party o [] = has_two o
 after_party o (name ∷ words) = of_verb o name
 
-abbrev pub of_words : Object ℕ → List ℕ → List (List ℕ) → List ℕ
+abbrev pub of_words : Object Unit → List ℕ → List (List ℕ) → List ℕ
 of_words o party words =
     if is_comment party then codes "a text has no comments"
     else (if is_err (number_within 0 (2 ^ 64 - 1) party)
     then codes "a line begins with the number of a party, and then says what it does: " ++ listed (calls_of o)
     else after_party o words)
 
-abbrev pub of_bad_line : Object ℕ → List (List ℕ) → List ℕ
+abbrev pub of_bad_line : Object Unit → List (List ℕ) → List ℕ
 of_bad_line o [] = has_two o
 of_bad_line o (party ∷ words) = of_words o party words
 
-abbrev pub means_to_begin : Object ℕ → List (List ℕ) → Bool
+abbrev pub means_to_begin : Object Unit → List (List ℕ) → Bool
 means_to_begin o (party ∷ name ∷ words) = (bytes_eq name (codes "wait")) && has_start_wait o
 means_to_begin o other = false
 
-abbrev pub of_early_answer : Object ℕ → List (List ℕ) → List ℕ
+abbrev pub of_early_answer : Object Unit → List (List ℕ) → List ℕ
 of_early_answer o words = if means_to_begin o words then codes "to begin the call, write start_wait" else codes "no closure waits for this answer: `go` and `run` move a call on"
 
-abbrev pub of_first_line : Object ℕ → LineFault → List ℕ
+abbrev pub of_first_line : Object Unit → LineFault → List ℕ
 of_first_line o faults.BadNumber = first_numbers o
 of_first_line o other = first_line o
 
-abbrev pub of_line : Object ℕ → List ℕ → LineFault → List ℕ
+abbrev pub of_line : Object Unit → List ℕ → LineFault → List ℕ
 of_line o line faults.NoObject = of_bad_line o (words_of line)
 of_line o line faults.BadLine = of_bad_line o (words_of line)
 of_line o line faults.BadNumber = numbers_within o
@@ -170,7 +154,7 @@ of_no_object line =
     if is_marked line then codes "the first line has a byte-order mark"
     else codes "a text begins with its object: mutex, spin, semaphore, barrier, rwreader, rwwriter, condvar, once, lazy, atomic_u64, atomic_u128, atomic_i64, atomic_i128"
 
-abbrev pub sentence_of : Option (Object ℕ) → List ℕ → FaultyLine → List ℕ
+abbrev pub sentence_of : Option (Object Unit) → List ℕ → FaultyLine → List ℕ
 sentence_of None line found = of_no_object line
 sentence_of (Some o) line found = if found.line == 1 then of_first_line o found.fault else of_line o line found.fault
 

@@ -11,11 +11,11 @@ ghost use Rattle.std.specs.Prelude.{◌≡◌, IfOk};
 ghost use Rattle.sync_play.specs.Lexer.{lines_of};
 ghost use Rattle.sync_advice.specs.Advice as meaning;
 
-use crate::objects::object_named;
 use crate::sentence::say;
 use std::alloc::{AllocError, Global};
 use sync_play::fault::FaultyLine;
 use sync_play::lexer::{next_line, next_word};
+use sync_play::value_type::object_named;
 use sync_steps::steps::Object;
 
 /// A line of a text, counted from 1, without its end. Empty where the text has no such line.
@@ -36,7 +36,7 @@ fn line_of(text: &[u8], number: u64) -> &[u8]
 }
 
 /// The object that the first line of a text names.
-fn object_of(text: &[u8]) -> Option<Object<u64>>
+fn object_of(text: &[u8]) -> Option<Object<()>>
     ensures { result ≡ meaning.object_of (lines_of text.now) }
 {
     let (line, _) = next_line(text)?;

@@ -1,52 +1,12 @@
-//! What each object is called, and how it is opened.
+//! What is said of each object.
 ghost use Rattle.std.specs.Prelude.{◌≡◌};
 ghost use Rattle.sync_advice.specs.Advice as meaning;
 
 use sync_play::call::{calls_of, named};
-use sync_play::lexer::is;
 use sync_steps::steps::Object;
 
-/// The object of this name; what it is opened with stays open, and is 0 here.
-pub fn object_named(name: &[u8]) -> Option<Object<u64>>
-    ensures { result ≡ meaning.object_named name.now }
-{
-    if is(name, b"mutex") {
-        Some(Object::Mutex)
-    } else if is(name, b"spin") {
-        Some(Object::Spin)
-    } else if is(name, b"semaphore") {
-        Some(Object::Semaphore(0))
-    } else if is(name, b"barrier") {
-        Some(Object::Barrier(0))
-    } else if is(name, b"rwreader") {
-        Some(Object::ReaderLock)
-    } else if is(name, b"rwwriter") {
-        Some(Object::WriterLock)
-    } else if is(name, b"condvar") {
-        Some(Object::Condvar)
-    } else if is(name, b"once") {
-        Some(Object::Once)
-    } else if is(name, b"lazy") {
-        Some(Object::Lazy(0))
-    } else if is_atomic(name) {
-        Some(Object::Atomic(0))
-    } else {
-        None
-    }
-}
-
-/// Whether this names an atomic.
-fn is_atomic(name: &[u8]) -> bool
-    ensures { result ≡ meaning.is_atomic name.now }
-{
-    is(name, b"atomic_u64")
-        || is(name, b"atomic_u128")
-        || is(name, b"atomic_i64")
-        || is(name, b"atomic_i128")
-}
-
 /// That it has no call of a name, up to the name.
-pub fn has_no_call(object: Object<u64>) -> &'static [u8]
+pub fn has_no_call(object: Object<()>) -> &'static [u8]
     ensures { result.now ≡ meaning.has_no_call object }
 {
     match object {
@@ -63,7 +23,7 @@ pub fn has_no_call(object: Object<u64>) -> &'static [u8]
 }
 
 /// How it is opened.
-pub fn first_line(object: Object<u64>) -> &'static [u8]
+pub fn first_line(object: Object<()>) -> &'static [u8]
     ensures { result.now ≡ meaning.first_line object }
 {
     match object {
@@ -92,7 +52,7 @@ pub fn first_line(object: Object<u64>) -> &'static [u8]
 }
 
 /// Which numbers its first line may have.
-pub fn first_numbers(object: Object<u64>) -> &'static [u8]
+pub fn first_numbers(object: Object<()>) -> &'static [u8]
     ensures { result.now ≡ meaning.first_numbers object }
 {
     match object {
@@ -115,7 +75,7 @@ pub fn first_numbers(object: Object<u64>) -> &'static [u8]
 }
 
 /// Which numbers follow its verbs.
-pub fn numbers_after(object: Object<u64>) -> &'static [u8]
+pub fn numbers_after(object: Object<()>) -> &'static [u8]
     ensures { result.now ≡ meaning.numbers_after object }
 {
     match object {
@@ -130,7 +90,7 @@ pub fn numbers_after(object: Object<u64>) -> &'static [u8]
 }
 
 /// The range of the numbers that follow.
-pub fn numbers_within(object: Object<u64>) -> &'static [u8]
+pub fn numbers_within(object: Object<()>) -> &'static [u8]
     ensures { result.now ≡ meaning.numbers_within object }
 {
     match object {
@@ -145,7 +105,7 @@ pub fn numbers_within(object: Object<u64>) -> &'static [u8]
 }
 
 /// How its closure is answered.
-pub fn answers(object: Object<u64>) -> &'static [u8]
+pub fn answers(object: Object<()>) -> &'static [u8]
     ensures { result.now ≡ meaning.answers object }
 {
     match object {
@@ -157,7 +117,7 @@ pub fn answers(object: Object<u64>) -> &'static [u8]
 }
 
 /// Whether it has a call that is written `start_wait`.
-pub fn has_start_wait(object: Object<u64>) -> bool
+pub fn has_start_wait(object: Object<()>) -> bool
     ensures { result ≡ meaning.has_start_wait object }
 {
     named(b"start_wait", calls_of(&object)).is_some()

@@ -30,7 +30,7 @@ fn add_names(out: &mut Vec<u8>, calls: &[Call<()>]) -> Result<(), AllocError>
 }
 
 /// Adds words, and then the names of all calls of the object.
-fn list_calls(out: &mut Vec<u8>, words: &[u8], object: Object<u64>) -> Result<(), AllocError>
+fn list_calls(out: &mut Vec<u8>, words: &[u8], object: Object<()>) -> Result<(), AllocError>
     ensures { OnOk result (out.new.items ≡ out.old.items ++ (words.now ++ meaning.listed (listed_calls object))) }
 {
     out.extend_from_slice(words)?;
@@ -38,7 +38,7 @@ fn list_calls(out: &mut Vec<u8>, words: &[u8], object: Object<u64>) -> Result<()
 }
 
 /// Adds that the object has no call of this name, and which it has.
-fn refuse_name(out: &mut Vec<u8>, object: Object<u64>, name: &[u8]) -> Result<(), AllocError>
+fn refuse_name(out: &mut Vec<u8>, object: Object<()>, name: &[u8]) -> Result<(), AllocError>
     ensures { OnOk result (out.new.items ≡ out.old.items ++ meaning.of_unknown object name.now) }
 {
     out.extend_from_slice(has_no_call(object))?;
@@ -64,7 +64,7 @@ fn is_marked(line: &[u8]) -> bool
 }
 
 /// Of a line with this verb, whose words are no command of the object.
-fn of_verb(out: &mut Vec<u8>, object: Object<u64>, name: &[u8]) -> Result<(), AllocError>
+fn of_verb(out: &mut Vec<u8>, object: Object<()>, name: &[u8]) -> Result<(), AllocError>
     ensures { OnOk result (out.new.items ≡ out.old.items ++ meaning.of_verb object name.now) }
 {
     if is_known(object, name) {
@@ -77,7 +77,7 @@ fn of_verb(out: &mut Vec<u8>, object: Object<u64>, name: &[u8]) -> Result<(), Al
 /// Of a line with this first word, whose words are no command of the object.
 fn of_words(
     out: &mut Vec<u8>,
-    object: Object<u64>,
+    object: Object<()>,
     party: &[u8],
     rest: &[u8],
 ) -> Result<(), AllocError>
@@ -100,7 +100,7 @@ fn of_words(
 }
 
 /// Of a line whose words are no command of the object.
-fn of_bad_line(out: &mut Vec<u8>, object: Object<u64>, line: &[u8]) -> Result<(), AllocError>
+fn of_bad_line(out: &mut Vec<u8>, object: Object<()>, line: &[u8]) -> Result<(), AllocError>
     ensures { OnOk result (out.new.items ≡ out.old.items ++ meaning.of_bad_line object (words_of line.now)) }
 {
     match next_word(line) {
@@ -110,7 +110,7 @@ fn of_bad_line(out: &mut Vec<u8>, object: Object<u64>, line: &[u8]) -> Result<()
 }
 
 /// Whether a line answers `wait` at an object that has a call of this name in Rust, which a text begins by another.
-fn means_to_begin(object: Object<u64>, line: &[u8]) -> bool
+fn means_to_begin(object: Object<()>, line: &[u8]) -> bool
     ensures { result ≡ meaning.means_to_begin object (words_of line.now) }
 {
     let Some((_, rest)) = next_word(line) else {
@@ -123,7 +123,7 @@ fn means_to_begin(object: Object<u64>, line: &[u8]) -> bool
 }
 
 /// Of a line that answers a closure where none waits for an answer of this kind.
-fn of_early_answer(out: &mut Vec<u8>, object: Object<u64>, line: &[u8]) -> Result<(), AllocError>
+fn of_early_answer(out: &mut Vec<u8>, object: Object<()>, line: &[u8]) -> Result<(), AllocError>
     ensures { OnOk result (out.new.items ≡ out.old.items ++ meaning.of_early_answer object (words_of line.now)) }
 {
     if means_to_begin(object, line) {
@@ -134,7 +134,7 @@ fn of_early_answer(out: &mut Vec<u8>, object: Object<u64>, line: &[u8]) -> Resul
 }
 
 /// Of a first line that names this object.
-fn of_first_line(out: &mut Vec<u8>, object: Object<u64>, fault: LineFault) -> Result<(), AllocError>
+fn of_first_line(out: &mut Vec<u8>, object: Object<()>, fault: LineFault) -> Result<(), AllocError>
     ensures { OnOk result (out.new.items ≡ out.old.items ++ meaning.of_first_line object fault) }
 {
     match fault {
@@ -146,7 +146,7 @@ fn of_first_line(out: &mut Vec<u8>, object: Object<u64>, fault: LineFault) -> Re
 /// Of a line after the first.
 fn of_line(
     out: &mut Vec<u8>,
-    object: Object<u64>,
+    object: Object<()>,
     line: &[u8],
     fault: LineFault,
 ) -> Result<(), AllocError>
@@ -196,7 +196,7 @@ fn of_no_object(out: &mut Vec<u8>, line: &[u8]) -> Result<(), AllocError>
 /// Adds what would be right in the place of a line with this fault, of a text of this object.
 pub fn say(
     out: &mut Vec<u8>,
-    object: Option<Object<u64>>,
+    object: Option<Object<()>>,
     line: &[u8],
     found: FaultyLine,
 ) -> Result<(), AllocError>

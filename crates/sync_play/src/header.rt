@@ -81,10 +81,81 @@ fn parties_and_value<T: TextInteger>(rest: &[u8]) -> Result<(usize, T), LineFaul
 
 /// An object that is opened without a value, by its parties.
 fn without_value<T: TextInteger>(object: Object<T>, rest: &[u8]) -> Result<Header<T>, LineFault>
-    ensures { result ≡ meaning.parties_of (words_of rest.now) and_then (λ n. Ok (record { object = object; parties = n })) }
+    ensures { result ≡ meaning.without_value object (words_of rest.now) }
 {
     let parties = parties(rest)?;
     Ok(Header { object, parties })
+}
+
+/// The object of this name, where the values of a text are of this type. It brings no values here: it stands for all of its name.
+pub(crate) fn object_named<T: TextInteger>(name: &[u8]) -> Option<Object<()>>
+    ensures { result ≡ meaning.object_named T.numerals name.now }
+{
+    if is(name, b"mutex") {
+        Some(Object::Mutex)
+    } else if is(name, b"spin") {
+        Some(Object::Spin)
+    } else if is(name, b"semaphore") {
+        Some(Object::Semaphore(0))
+    } else if is(name, b"barrier") {
+        Some(Object::Barrier(0))
+    } else if is(name, b"rwreader") {
+        Some(Object::ReaderLock)
+    } else if is(name, b"rwwriter") {
+        Some(Object::WriterLock)
+    } else if is(name, b"condvar") {
+        Some(Object::Condvar)
+    } else if is(name, b"once") {
+        Some(Object::Once)
+    } else if is(name, b"lazy") {
+        Some(Object::Lazy(()))
+    } else if T::is_atomic(name) {
+        Some(Object::Atomic(()))
+    } else {
+        None
+    }
+}
+
+/// An object, as it is opened by the words after its name.
+fn opened<T: TextInteger>(object: Object<()>, rest: &[u8]) -> Result<Header<T>, LineFault>
+    ensures { result ≡ meaning.opened_with T.numerals (words_of rest.now) object }
+{
+    match object {
+        Object::Mutex => without_value(Object::Mutex, rest),
+        Object::Spin => without_value(Object::Spin, rest),
+        Object::Semaphore(_) => {
+            let (parties, initial) = parties_and_number(u64::MAX, rest)?;
+            Ok(Header {
+                object: Object::Semaphore(initial),
+                parties,
+            })
+        }
+        Object::Barrier(_) => {
+            let (parties, number_of_waiters) = parties_and_number(u64::from(u32::MAX), rest)?;
+            Ok(Header {
+                object: Object::Barrier(number_of_waiters as u32),
+                parties,
+            })
+        }
+        Object::ReaderLock => without_value(Object::ReaderLock, rest),
+        Object::WriterLock => without_value(Object::WriterLock, rest),
+        Object::Condvar => without_value(Object::Condvar, rest),
+        Object::Once => without_value(Object::Once, rest),
+        Object::Lazy(_) => {
+            let (parties, value) = parties_and_value(rest)?;
+            Ok(Header {
+                object: Object::Lazy(value),
+                parties,
+            })
+        }
+        Object::Atomic(_) => {
+            let (parties, value) = parties_and_value(rest)?;
+            Ok(Header {
+                object: Object::Atomic(value),
+                parties,
+            })
+        }
+    }
 }
 
 impl<T: TextInteger> Header<T> {
@@ -99,44 +170,9 @@ impl<T: TextInteger> Header<T> {
         let Some((name, rest)) = next_word(line) else {
             return Err(LineFault::NoObject);
         };
-        if is(name, b"mutex") {
-            without_value(Object::Mutex, rest)
-        } else if is(name, b"spin") {
-            without_value(Object::Spin, rest)
-        } else if is(name, b"semaphore") {
-            let (parties, initial) = parties_and_number(u64::MAX, rest)?;
-            Ok(Header {
-                object: Object::Semaphore(initial),
-                parties,
-            })
-        } else if is(name, b"barrier") {
-            let (parties, number_of_waiters) = parties_and_number(u64::from(u32::MAX), rest)?;
-            Ok(Header {
-                object: Object::Barrier(number_of_waiters as u32),
-                parties,
-            })
-        } else if is(name, b"rwreader") {
-            without_value(Object::ReaderLock, rest)
-        } else if is(name, b"rwwriter") {
-            without_value(Object::WriterLock, rest)
-        } else if is(name, b"condvar") {
-            without_value(Object::Condvar, rest)
-        } else if is(name, b"once") {
-            without_value(Object::Once, rest)
-        } else if is(name, b"lazy") {
-            let (parties, value) = parties_and_value(rest)?;
-            Ok(Header {
-                object: Object::Lazy(value),
-                parties,
-            })
-        } else if T::is_atomic(name) {
-            let (parties, value) = parties_and_value(rest)?;
-            Ok(Header {
-                object: Object::Atomic(value),
-                parties,
-            })
-        } else {
-            Err(LineFault::NoObject)
+        match object_named::<T>(name) {
+            None => Err(LineFault::NoObject),
+            Some(object) => opened(object, rest),
         }
     }
 }

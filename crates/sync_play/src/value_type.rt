@@ -3,8 +3,10 @@ ghost use Rattle.std.specs.Prelude.{◌≡◌};
 ghost use Rattle.sync_play.specs.Lexer.{lines_of};
 ghost use Rattle.sync_play.specs.ValueTypes as meaning;
 
+use crate::header;
 use crate::integer::TextInteger;
 use crate::lexer::{next_line, next_word};
+use sync_steps::steps::Object;
 
 /// An integer type that the values of a text may be.
 #[derive(Clone, Copy)]
@@ -27,6 +29,18 @@ fn type_named(name: &[u8]) -> ValueType
         ValueType::I128
     } else {
         ValueType::U64
+    }
+}
+
+/// The object of this name, of whichever type its values are. It brings no values here: it stands for all of its name.
+pub fn object_named(name: &[u8]) -> Option<Object<()>>
+    ensures { result ≡ meaning.object_of_name name.now }
+{
+    match type_named(name) {
+        ValueType::U64 => header::object_named::<u64>(name),
+        ValueType::U128 => header::object_named::<u128>(name),
+        ValueType::I64 => header::object_named::<i64>(name),
+        ValueType::I128 => header::object_named::<i128>(name),
     }
 }
 
