@@ -1,4 +1,4 @@
-use super::{played, text};
+use super::{other_fault, other_output, played};
 use std::alloc::{AllocError, Global};
 use std::test::Fail;
 
@@ -63,11 +63,8 @@ const TEXTS: [(&str, &str); 13] = [
 
 #[test]
 fn every_call_answers_as_the_register(rt: HostRuntime) -> Result<(), Fail> {
-    for (lines, want) in &TEXTS {
-        let text = text(rt.alloc(), lines, "\n")?;
-        let output = played(rt.alloc(), text.as_bytes())?;
-        assert_eq!(rt; output.as_str(), *want, "of {lines}");
-    }
+    let other = other_output(rt.alloc(), &TEXTS)?;
+    assert_eq!(rt; other.as_str(), "");
     Ok(())
 }
 
@@ -124,12 +121,8 @@ const FAULTS: [(&str, &str); 26] = [
 
 #[test]
 fn faults_of_numbers_and_calls(rt: HostRuntime) -> Result<(), Fail> {
-    for (lines, fault) in &FAULTS {
-        let text = text(rt.alloc(), lines, "\n")?;
-        let output = played(rt.alloc(), text.as_bytes())?;
-        let want = format!(in rt.alloc(); "{fault}, status 2, 0 written")?;
-        assert_eq!(rt; output.as_str(), want.as_str(), "of {lines}");
-    }
+    let other = other_fault(rt.alloc(), &FAULTS)?;
+    assert_eq!(rt; other.as_str(), "");
     Ok(())
 }
 

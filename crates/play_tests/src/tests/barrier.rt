@@ -1,4 +1,4 @@
-use super::{played, text};
+use super::other_output;
 use std::test::Fail;
 
 /// Texts of a barrier, their lines parted by ` / `, with what each prints.
@@ -54,10 +54,7 @@ const TEXTS: [(&str, &str); 10] = [
 
 #[test]
 fn rounds_are_filled_and_passed(rt: HostRuntime) -> Result<(), Fail> {
-    for (lines, want) in &TEXTS {
-        let text = text(rt.alloc(), lines, "\n")?;
-        let output = played(rt.alloc(), text.as_bytes())?;
-        assert_eq!(rt; output.as_str(), *want, "of {lines}");
-    }
+    let other = other_output(rt.alloc(), &TEXTS)?;
+    assert_eq!(rt; other.as_str(), "");
     Ok(())
 }

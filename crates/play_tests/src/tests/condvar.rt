@@ -1,4 +1,4 @@
-use super::{played, text};
+use super::{other_fault, other_output};
 use std::test::Fail;
 
 /// Texts of a condition variable, their lines parted by ` / `, with what each prints.
@@ -67,11 +67,8 @@ const TEXTS: [(&str, &str); 12] = [
 
 #[test]
 fn a_wait_is_signalled_or_gives_up(rt: HostRuntime) -> Result<(), Fail> {
-    for (lines, want) in &TEXTS {
-        let text = text(rt.alloc(), lines, "\n")?;
-        let output = played(rt.alloc(), text.as_bytes())?;
-        assert_eq!(rt; output.as_str(), *want, "of {lines}");
-    }
+    let other = other_output(rt.alloc(), &TEXTS)?;
+    assert_eq!(rt; other.as_str(), "");
     Ok(())
 }
 
@@ -92,11 +89,7 @@ const FAULTS: [(&str, &str); 7] = [
 
 #[test]
 fn faults_of_a_condition_variable(rt: HostRuntime) -> Result<(), Fail> {
-    for (lines, fault) in &FAULTS {
-        let text = text(rt.alloc(), lines, "\n")?;
-        let output = played(rt.alloc(), text.as_bytes())?;
-        let want = format!(in rt.alloc(); "{fault}, status 2, 0 written")?;
-        assert_eq!(rt; output.as_str(), want.as_str(), "of {lines}");
-    }
+    let other = other_fault(rt.alloc(), &FAULTS)?;
+    assert_eq!(rt; other.as_str(), "");
     Ok(())
 }

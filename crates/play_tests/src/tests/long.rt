@@ -1,10 +1,9 @@
 //! Texts that are longer than any buffer, and outputs too.
-use super::shown_fault;
 use super::streams::{Fails, Gives, Takes};
+use super::{played, told};
 use std::alloc::{AllocError, Global};
 use std::io::ErrorKind;
 use std::test::Fail;
-use sync_play::run::run;
 
 /// How often a long text asks for its semaphore's value.
 const TIMES: u64 = 15000;
@@ -47,9 +46,9 @@ fn a_long_text_in_pieces(rt: HostRuntime) -> Result<(), Fail> {
             limit: 1000000,
             kind: ErrorKind::Other,
         };
-        let played = run(rt.alloc(), &mut reader, &mut writer);
-        assert!(rt; played.is_ok());
-        assert!(rt; writer.held.as_slice() == want.as_bytes());
+        let told = told(rt.alloc(), &mut reader, &mut writer)?;
+        let is_whole = writer.held.as_slice() == want.as_bytes();
+        assert_eq!(rt; (told.as_str(), is_whole), ("played", true));
     }
     Ok(())
 }
@@ -66,15 +65,12 @@ fn a_late_write_fails(rt: HostRuntime) -> Result<(), Fail> {
             limit,
             kind: ErrorKind::Other,
         };
-        let fault = run(rt.alloc(), &mut reader, &mut writer)
-            .err()
-            .ok_or("the write failed")?;
+        let told = told(rt.alloc(), &mut reader, &mut writer)?;
+        let is_front = Some(writer.held.as_slice()) == want.as_bytes().get(..limit);
         assert_eq!(rt;
-            shown_fault(rt.alloc(), fault)?.as_str(),
-            "writing failed, status 1"
+            (told.as_str(), is_front),
+            ("writing failed, status 1", true)
         );
-        assert_eq!(rt; writer.held.len(), limit);
-        assert!(rt; limit < want.len() && writer.held.as_slice() == &want.as_bytes()[..limit]);
     }
     Ok(())
 }
@@ -87,14 +83,11 @@ fn a_late_read_fails(rt: HostRuntime) -> Result<(), Fail> {
         kind: ErrorKind::Other,
     };
     let mut written: Vec<u8> = Vec::new(rt.alloc());
-    let fault = run(rt.alloc(), &mut reader, &mut written)
-        .err()
-        .ok_or("the read failed")?;
+    let told = told(rt.alloc(), &mut reader, &mut written)?;
     assert_eq!(rt;
-        shown_fault(rt.alloc(), fault)?.as_str(),
-        "reading failed, status 1"
+        (told.as_str(), written.len()),
+        ("reading failed, status 1", 0)
     );
-    assert_eq!(rt; written.len(), 0);
     Ok(())
 }
 
@@ -102,15 +95,10 @@ fn a_late_read_fails(rt: HostRuntime) -> Result<(), Fail> {
 fn a_late_line_is_refused(rt: HostRuntime) -> Result<(), Fail> {
     let mut text = long_text(rt.alloc())?;
     text.push_str("1 unlock\n")?;
-    let mut reader = text.as_bytes();
-    let mut written: Vec<u8> = Vec::new(rt.alloc());
-    let fault = run(rt.alloc(), &mut reader, &mut written)
-        .err()
-        .ok_or("the last line is refused")?;
+    let output = played(rt.alloc(), text.as_bytes())?;
     assert_eq!(rt;
-        shown_fault(rt.alloc(), fault)?.as_str(),
-        "line 30002: bad line, status 2"
+        output.as_str(),
+        "line 30002: bad line, status 2, 0 written"
     );
-    assert_eq!(rt; written.len(), 0);
     Ok(())
 }

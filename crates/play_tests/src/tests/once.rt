@@ -1,8 +1,7 @@
-use super::{played, run_meanwhile, text};
-use std::alloc::Global;
+use super::{other_output, run_meanwhile};
+use std::alloc::{AllocError, Global};
 use std::test::Fail;
-use sync_play::fault::LineFault;
-use sync_steps::steps::{Answer, Call, Input, Object, Then};
+use sync_steps::steps::{Call, Input, Object};
 
 /// Texts of a once, their lines parted by ` / `, with what each prints.
 const TEXTS: [(&str, &str); 5] = [
@@ -32,16 +31,13 @@ const TEXTS: [(&str, &str); 5] = [
 
 #[test]
 fn one_closure_runs(rt: HostRuntime) -> Result<(), Fail> {
-    for (lines, want) in &TEXTS {
-        let text = text(rt.alloc(), lines, "\n")?;
-        let output = played(rt.alloc(), text.as_bytes())?;
-        assert_eq!(rt; output.as_str(), *want, "of {lines}");
-    }
+    let other = other_output(rt.alloc(), &TEXTS)?;
+    assert_eq!(rt; other.as_str(), "");
     Ok(())
 }
 
 /// Party 2 runs while the closure of party 1 does. After so many of its steps party 1 ends: how the next step of party 2 goes.
-fn step_after(alloc: Global, steps: u64) -> Result<Result<Option<Then<u64>>, LineFault>, Fail> {
+fn step_after(alloc: Global, steps: u64) -> Result<&'static str, AllocError> {
     let begun = [
         (0, Input::Begin(Call::CallOnce)),
         (0, Input::Go),
@@ -54,18 +50,8 @@ fn step_after(alloc: Global, steps: u64) -> Result<Result<Option<Then<u64>>, Lin
 
 #[test]
 fn a_run_ends_at_its_limit(rt: HostRuntime) -> Result<(), Fail> {
-    assert!(rt;
-        matches!(
-            step_after(rt.alloc(), 99998)?,
-            Ok(Some(Then::Answers(Answer::Done)))
-        )
-    );
-    assert!(rt;
-        matches!(
-            step_after(rt.alloc(), 99999)?,
-            Ok(Some(Then::Answers(Answer::Done)))
-        )
-    );
-    assert!(rt; matches!(step_after(rt.alloc(), 100000)?, Err(LineFault::StepLimit)));
+    for (steps, next) in [(99998, "done"), (99999, "done"), (100000, "step limit")] {
+        assert_eq!(rt; step_after(rt.alloc(), steps)?, next);
+    }
     Ok(())
 }

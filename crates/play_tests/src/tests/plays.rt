@@ -1,38 +1,28 @@
-use super::{played, text};
+use super::{other_output, played};
 use std::test::Fail;
 
-/// A mutex that party 1 holds, where party 2 stands at its wait closure.
-const WAITS: &str = "mutex 2 / 1 try_lock / 1 run / 2 lock / 2 run";
+/// A waiter at a mutex, its lines parted by ` / `, with what each text prints.
+const WAITERS: [(&str, &str); 3] = [
+    (
+        "mutex 2 / 1 try_lock / 1 run / 2 lock / 2 run / 2 abort / 2 run",
+        "1 success / 2 waits 1 / 2 interrupted / word 1 failed 10002 / ",
+    ),
+    // Success after `Abort`.
+    (
+        "mutex 2 / 1 try_lock / 1 run / 2 lock / 2 run / 1 unlock / 1 run / 2 abort / 2 run",
+        "1 success / 2 waits 1 / 1 wakes one / 1 done / 2 success / word 1 failed 10001 / ",
+    ),
+    // It asks again.
+    (
+        "mutex 2 / 1 try_lock / 1 run / 2 lock / 2 run / 2 wait / 2 run / 2 abort / 2 go",
+        "1 success / 2 waits 1 / 2 waits 1 / 2 interrupted / word 1 failed 10003 / ",
+    ),
+];
 
 #[test]
-fn a_waiter_aborts(rt: HostRuntime) -> Result<(), Fail> {
-    let lines = format!(in rt.alloc(); "{WAITS} / 2 abort / 2 run")?;
-    let text = text(rt.alloc(), lines.as_str(), "\n")?;
-    let output = played(rt.alloc(), text.as_bytes())?;
-    assert_eq!(rt;
-        output.as_str(),
-        "1 success / 2 waits 1 / 2 interrupted / word 1 failed 10002 / "
-    );
-    Ok(())
-}
-
-#[test]
-fn success_after_abort(rt: HostRuntime) -> Result<(), Fail> {
-    let lines = format!(in rt.alloc(); "{WAITS} / 1 unlock / 1 run / 2 abort / 2 run")?;
-    let text = text(rt.alloc(), lines.as_str(), "\n")?;
-    let output = played(rt.alloc(), text.as_bytes())?;
-    let want = "1 success / 2 waits 1 / 1 wakes one / 1 done / 2 success / word 1 failed 10001 / ";
-    assert_eq!(rt; output.as_str(), want);
-    Ok(())
-}
-
-#[test]
-fn a_waiter_asks_again(rt: HostRuntime) -> Result<(), Fail> {
-    let lines = format!(in rt.alloc(); "{WAITS} / 2 wait / 2 run / 2 abort / 2 go")?;
-    let text = text(rt.alloc(), lines.as_str(), "\n")?;
-    let output = played(rt.alloc(), text.as_bytes())?;
-    let want = "1 success / 2 waits 1 / 2 waits 1 / 2 interrupted / word 1 failed 10003 / ";
-    assert_eq!(rt; output.as_str(), want);
+fn a_waiter_aborts_or_asks_again(rt: HostRuntime) -> Result<(), Fail> {
+    let other = other_output(rt.alloc(), &WAITERS)?;
+    assert_eq!(rt; other.as_str(), "");
     Ok(())
 }
 
@@ -89,35 +79,66 @@ fn forms_of_a_text(rt: HostRuntime) -> Result<(), Fail> {
     Ok(())
 }
 
-#[test]
-fn many_steps_in_a_line(rt: HostRuntime) -> Result<(), Fail> {
-    // Of the exchanges of a `lock`, 10000 fail and spin, so `go` may make as many.
-    for (steps, want) in [
-        ("99", 99),
-        ("100", 100),
-        ("101", 101),
-        ("9950", 9950),
-        ("10000", 10000),
-    ] {
-        let text = format!(in rt.alloc(); "mutex 2\n1 lock\n1 run\n2 lock\n2 go {steps}\n")?;
-        let output = played(rt.alloc(), text.as_str().as_bytes())?;
-        let want = format!(in rt.alloc(); "1 success / word 1 failed {want} / ")?;
-        assert_eq!(rt; output.as_str(), want.as_str());
-    }
-    Ok(())
-}
+/// Steps of a `lock`, of whose exchanges 10000 fail and spin, so that `go` may make as many. It stands after its 10001st, and `run` makes
+/// what `go` left.
+const STEPS: [(&str, &str); 13] = [
+    (
+        "mutex 2 / 1 lock / 1 run / 2 lock / 2 go 99",
+        "1 success / word 1 failed 99 / ",
+    ),
+    (
+        "mutex 2 / 1 lock / 1 run / 2 lock / 2 go 100",
+        "1 success / word 1 failed 100 / ",
+    ),
+    (
+        "mutex 2 / 1 lock / 1 run / 2 lock / 2 go 101",
+        "1 success / word 1 failed 101 / ",
+    ),
+    (
+        "mutex 2 / 1 lock / 1 run / 2 lock / 2 go 9950",
+        "1 success / word 1 failed 9950 / ",
+    ),
+    (
+        "mutex 2 / 1 lock / 1 run / 2 lock / 2 go 10000",
+        "1 success / word 1 failed 10000 / ",
+    ),
+    (
+        "mutex 2 / 1 lock / 1 run / 2 lock / 2 go 1 / 2 run",
+        "1 success / 2 waits 1 / word 1 failed 10001 / ",
+    ),
+    (
+        "mutex 2 / 1 lock / 1 run / 2 lock / 2 go 2 / 2 run",
+        "1 success / 2 waits 1 / word 1 failed 10001 / ",
+    ),
+    (
+        "mutex 2 / 1 lock / 1 run / 2 lock / 2 go 100 / 2 run",
+        "1 success / 2 waits 1 / word 1 failed 10001 / ",
+    ),
+    (
+        "mutex 2 / 1 lock / 1 run / 2 lock / 2 go 101 / 2 run",
+        "1 success / 2 waits 1 / word 1 failed 10001 / ",
+    ),
+    (
+        "mutex 2 / 1 lock / 1 run / 2 lock / 2 go 9901 / 2 run",
+        "1 success / 2 waits 1 / word 1 failed 10001 / ",
+    ),
+    (
+        "mutex 2 / 1 lock / 1 run / 2 lock / 2 go 9902 / 2 run",
+        "1 success / 2 waits 1 / word 1 failed 10001 / ",
+    ),
+    (
+        "mutex 2 / 1 lock / 1 run / 2 lock / 2 go 9999 / 2 run",
+        "1 success / 2 waits 1 / word 1 failed 10001 / ",
+    ),
+    (
+        "mutex 2 / 1 lock / 1 run / 2 lock / 2 go 10000 / 2 run",
+        "1 success / 2 waits 1 / word 1 failed 10001 / ",
+    ),
+];
 
 #[test]
-fn runs_of_any_length(rt: HostRuntime) -> Result<(), Fail> {
-    // The call stands after its 10001st exchange, and `run` makes what `go` left.
-    for steps in [1, 2, 100, 101, 9901, 9902, 9999, 10000] {
-        let text = format!(in rt.alloc(); "mutex 2\n1 lock\n1 run\n2 lock\n2 go {steps}\n2 run\n")?;
-        let output = played(rt.alloc(), text.as_str().as_bytes())?;
-        assert_eq!(rt;
-            output.as_str(),
-            "1 success / 2 waits 1 / word 1 failed 10001 / ",
-            "after {steps}"
-        );
-    }
+fn steps_and_runs_of_any_length(rt: HostRuntime) -> Result<(), Fail> {
+    let other = other_output(rt.alloc(), &STEPS)?;
+    assert_eq!(rt; other.as_str(), "");
     Ok(())
 }

@@ -1,4 +1,4 @@
-use super::{played, text};
+use super::{other_fault, other_output};
 use std::test::Fail;
 
 /// Texts of a reader-preferring lock, their lines parted by ` / `, with what each prints.
@@ -52,11 +52,8 @@ const TEXTS: [(&str, &str); 9] = [
 
 #[test]
 fn readers_and_writers_come_and_go(rt: HostRuntime) -> Result<(), Fail> {
-    for (lines, want) in &TEXTS {
-        let text = text(rt.alloc(), lines, "\n")?;
-        let output = played(rt.alloc(), text.as_bytes())?;
-        assert_eq!(rt; output.as_str(), *want, "of {lines}");
-    }
+    let other = other_output(rt.alloc(), &TEXTS)?;
+    assert_eq!(rt; other.as_str(), "");
     Ok(())
 }
 
@@ -79,11 +76,7 @@ const FAULTS: [(&str, &str); 7] = [
 
 #[test]
 fn faults_of_a_reader_writer_lock(rt: HostRuntime) -> Result<(), Fail> {
-    for (lines, fault) in &FAULTS {
-        let text = text(rt.alloc(), lines, "\n")?;
-        let output = played(rt.alloc(), text.as_bytes())?;
-        let want = format!(in rt.alloc(); "{fault}, status 2, 0 written")?;
-        assert_eq!(rt; output.as_str(), want.as_str(), "of {lines}");
-    }
+    let other = other_fault(rt.alloc(), &FAULTS)?;
+    assert_eq!(rt; other.as_str(), "");
     Ok(())
 }

@@ -1,4 +1,4 @@
-use super::{played, text};
+use super::{other_fault, other_output, played};
 use std::alloc::{AllocError, Global};
 use std::test::Fail;
 
@@ -88,11 +88,8 @@ const TEXTS: [(&str, &str); 16] = [
 
 #[test]
 fn a_waiting_writer_goes_before_readers(rt: HostRuntime) -> Result<(), Fail> {
-    for (lines, want) in &TEXTS {
-        let text = text(rt.alloc(), lines, "\n")?;
-        let output = played(rt.alloc(), text.as_bytes())?;
-        assert_eq!(rt; output.as_str(), *want, "of {lines}");
-    }
+    let other = other_output(rt.alloc(), &TEXTS)?;
+    assert_eq!(rt; other.as_str(), "");
     Ok(())
 }
 
@@ -156,11 +153,7 @@ const FAULTS: [(&str, &str); 8] = [
 
 #[test]
 fn faults_of_a_writer_preferring_lock(rt: HostRuntime) -> Result<(), Fail> {
-    for (lines, fault) in &FAULTS {
-        let text = text(rt.alloc(), lines, "\n")?;
-        let output = played(rt.alloc(), text.as_bytes())?;
-        let want = format!(in rt.alloc(); "{fault}, status 2, 0 written")?;
-        assert_eq!(rt; output.as_str(), want.as_str(), "of {lines}");
-    }
+    let other = other_fault(rt.alloc(), &FAULTS)?;
+    assert_eq!(rt; other.as_str(), "");
     Ok(())
 }

@@ -1,8 +1,7 @@
-use super::{played, run_meanwhile, text};
-use std::alloc::Global;
+use super::{other_fault, other_output, run_meanwhile};
+use std::alloc::{AllocError, Global};
 use std::test::Fail;
-use sync_play::fault::LineFault;
-use sync_steps::steps::{Answer, Call, Input, Object, Then};
+use sync_steps::steps::{Call, Input, Object};
 
 /// Texts of a spin lock, their lines parted by ` / `, with what each prints.
 const TEXTS: [(&str, &str); 6] = [
@@ -39,27 +38,32 @@ const TEXTS: [(&str, &str); 6] = [
 
 #[test]
 fn who_waits_only_spins(rt: HostRuntime) -> Result<(), Fail> {
-    for (lines, want) in &TEXTS {
-        let text = text(rt.alloc(), lines, "\n")?;
-        let output = played(rt.alloc(), text.as_bytes())?;
-        assert_eq!(rt; output.as_str(), *want, "of {lines}");
-    }
+    let other = other_output(rt.alloc(), &TEXTS)?;
+    assert_eq!(rt; other.as_str(), "");
     Ok(())
 }
 
+/// Runs that nobody lets end, with the fault of each.
+const ENDLESS: [(&str, &str); 2] = [
+    (
+        "spin 2 / 1 lock / 1 run / 2 lock / 2 run",
+        "line 5: step limit",
+    ),
+    (
+        "spin 2 / 1 lock / 1 run / 2 blocking_lock / 2 run",
+        "line 5: step limit",
+    ),
+];
+
 #[test]
 fn a_run_that_nobody_lets_end(rt: HostRuntime) -> Result<(), Fail> {
-    for call in ["lock", "blocking_lock"] {
-        let lines = format!(in rt.alloc(); "spin 2 / 1 lock / 1 run / 2 {call} / 2 run")?;
-        let text = text(rt.alloc(), &lines, "\n")?;
-        let output = played(rt.alloc(), text.as_bytes())?;
-        assert_eq!(rt; output.as_str(), "line 5: step limit, status 2, 0 written");
-    }
+    let other = other_fault(rt.alloc(), &ENDLESS)?;
+    assert_eq!(rt; other.as_str(), "");
     Ok(())
 }
 
 /// Party 2 runs while party 1 has the lock. After so many of its swaps party 1 unlocks: how the next swap goes.
-fn swap_after(alloc: Global, swaps: u64) -> Result<Result<Option<Then<u64>>, LineFault>, Fail> {
+fn swap_after(alloc: Global, swaps: u64) -> Result<&'static str, AllocError> {
     let held = [
         (0, Input::Begin(Call::Lock)),
         (0, Input::Go),
@@ -71,18 +75,8 @@ fn swap_after(alloc: Global, swaps: u64) -> Result<Result<Option<Then<u64>>, Lin
 
 #[test]
 fn a_run_ends_at_its_limit(rt: HostRuntime) -> Result<(), Fail> {
-    assert!(rt;
-        matches!(
-            swap_after(rt.alloc(), 0)?,
-            Ok(Some(Then::Answers(Answer::Success)))
-        )
-    );
-    assert!(rt;
-        matches!(
-            swap_after(rt.alloc(), 99999)?,
-            Ok(Some(Then::Answers(Answer::Success)))
-        )
-    );
-    assert!(rt; matches!(swap_after(rt.alloc(), 100000)?, Err(LineFault::StepLimit)));
+    for (swaps, next) in [(0, "success"), (99999, "success"), (100000, "step limit")] {
+        assert_eq!(rt; swap_after(rt.alloc(), swaps)?, next);
+    }
     Ok(())
 }

@@ -1,11 +1,9 @@
+use super::told;
 use std::io;
 use std::io::{ErrorKind, Read, Write};
 use std::test::Fail;
-use sync_play::run::run;
 
 const TEXT: &[u8] = b"mutex 1\n1 try_lock\n1 run\n";
-
-const OUTPUT: &[u8] = b"1 success\nword 1 failed 0\n";
 
 /// A reader that fails after some bytes.
 #[derive(Drop)]
@@ -66,42 +64,36 @@ fn a_failed_read_ends_it(rt: HostRuntime) -> Result<(), Fail> {
     for kind in [ErrorKind::Interrupted, ErrorKind::Other] {
         let mut reader = Fails { before: TEXT, kind };
         let mut written: Vec<u8> = Vec::new(rt.alloc());
-        let fault = run(rt.alloc(), &mut reader, &mut written)
-            .err()
-            .ok_or("the read failed")?;
-        let told = format!(in rt.alloc(); "{fault}")?;
-        assert_eq!(rt; told.as_str(), "reading failed");
-        assert_eq!(rt; fault.status(), 1);
-        assert_eq!(rt; written.len(), 0);
+        let told = told(rt.alloc(), &mut reader, &mut written)?;
+        assert_eq!(rt;
+            (told.as_str(), written.len()),
+            ("reading failed, status 1", 0)
+        );
     }
     Ok(())
 }
 
-/// Writers, by how many bytes each takes at once, and at which length it fails, with how much of the output it then holds.
-const WRITERS: [(usize, usize, usize); 4] = [(3, 100, 26), (0, 100, 0), (4, 8, 8), (100, 0, 0)];
+/// Writers, by how many bytes each takes at once, and at which length it fails, with what it then holds, and how the run ended.
+const WRITERS: [(usize, usize, &[u8], &str); 4] = [
+    (3, 100, b"1 success\nword 1 failed 0\n", "played"),
+    (0, 100, b"", "writing failed, status 1"),
+    (4, 8, b"1 succes", "writing failed, status 1"),
+    (100, 0, b"", "writing failed, status 1"),
+];
 
 #[test]
 fn a_writer_may_take_less_or_fail(rt: HostRuntime) -> Result<(), Fail> {
-    for (at_once, limit, held) in WRITERS {
+    for (at_once, limit, held, ended) in &WRITERS {
         for kind in [ErrorKind::Interrupted, ErrorKind::Other] {
             let mut reader = TEXT;
             let mut writer = Takes {
                 held: Vec::new(rt.alloc()),
-                at_once,
-                limit,
+                at_once: *at_once,
+                limit: *limit,
                 kind,
             };
-            match run(rt.alloc(), &mut reader, &mut writer) {
-                Ok(()) => assert_eq!(rt; held, OUTPUT.len()),
-                Err(fault) => {
-                    let told = format!(in rt.alloc(); "{fault}")?;
-                    assert_eq!(rt; told.as_str(), "writing failed");
-                    assert_eq!(rt; fault.status(), 1);
-                    assert!(rt; held < OUTPUT.len());
-                }
-            }
-            assert!(rt; held <= OUTPUT.len());
-            assert_eq!(rt; writer.held.as_slice(), &OUTPUT[..held]);
+            let told = told(rt.alloc(), &mut reader, &mut writer)?;
+            assert_eq!(rt; (told.as_str(), writer.held.as_slice()), (*ended, *held));
         }
     }
     Ok(())
