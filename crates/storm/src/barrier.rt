@@ -1,68 +1,36 @@
 //! A storm at a barrier for 4, by four threads.
-ghost use Rattle.std.specs.Prelude.{◌≡◌};
-ghost use Rattle.running_barrier.specs.BarrierShown.{IsBarrierPass, waiters_of};
 
-use crate::crowd::{Object, four};
-use crate::tally::{Outcome, Tally};
-use iceoryx2_pal_concurrency_sync::strategy::barrier::{Barrier, BarrierPass};
+use crate::crowd::Object;
+use crate::tally::Tally;
+use iceoryx2_pal_concurrency_sync::strategy::barrier::{Barrier, BarrierFull, BarrierPass};
+use iceoryx2_pal_concurrency_sync::{WaitAction, WaitWord, wake_nobody};
 use std::alloc::{AllocError, Global};
 use std::sync::Wait;
 use std::thread;
-use std::thread::Threads;
 
-#[derive(Drop)]
-struct Crowded {
-    barrier: Barrier,
-    tally: Tally,
-    ghost for_four: { waiters_of barrier ≡ 4 },
-}
-
-impl Object for Crowded {
-    type Pass = BarrierPass;
-
-    ghost fits = { λ this pass. IsBarrierPass this.barrier pass };
-
-    fn part(&self, pass: BarrierPass) -> (BarrierPass, BarrierPass) {
-        let Ok(parts) = pass.split(&self.barrier) else {
-            unreachable!()
-        };
-        parts
+impl Object<BarrierPass> for Barrier {
+    fn make(alloc: Global) -> Result<(Self, BarrierPass), AllocError> {
+        Barrier::new(alloc, 4)
     }
 
-    fn whole(&self, one: BarrierPass, two: BarrierPass) -> BarrierPass {
-        let Ok(pass) = BarrierPass::join(one, two, &self.barrier) else {
-            unreachable!()
-        };
-        pass
+    /// It does not ask: a wait at a barrier ends with the round alone.
+    fn turn<R: Wait, W: Fn(&WaitWord, &u64) -> WaitAction + Copy>(
+        &self,
+        rt: &R,
+        pass: &mut BarrierPass,
+        tally: &Tally,
+        _number: u64,
+        turn: u64,
+        _answer: W,
+    ) {
+        tally.arrive();
+        match self.wait(rt, pass, |_, _| thread::yield_now(), wake_nobody) {
+            Ok(()) => tally.depart(turn),
+            Err(BarrierFull) => tally.saw_torn(),
+        }
     }
 
-    fn turns(&self) -> u64 {
-        self.tally.turns
+    fn end<R: Wait>(self, _rt: &R, _pass: BarrierPass, _tally: &Tally) -> (u64, Option<u64>) {
+        (0, None)
     }
-
-    fn turn<R: Wait>(&self, rt: &R, pass: BarrierPass, _number: u64, turn: u64) -> BarrierPass {
-        let mut pass = pass;
-        self.tally.arrive();
-        let Ok(()) = self
-            .barrier
-            .wait(rt, &mut pass, |_, _| thread::yield_now(), |_| ())
-        else {
-            unreachable!()
-        };
-        self.tally.depart(turn);
-        pass
-    }
-}
-
-/// What the storm came to.
-pub fn storm<R: Threads + Wait + Sync>(
-    rt: &R,
-    alloc: Global,
-    turns: u64,
-) -> Result<Outcome, AllocError> {
-    let (barrier, pass) = Barrier::new(alloc, 4)?;
-    let tally = Tally::new(turns);
-    let crowded = Crowded { barrier, tally };
-    let _pass = four(rt, &crowded, pass, 0);
-    Ok(crowded.tally.outcome("barrier for 4", 4, 0, None))
 }

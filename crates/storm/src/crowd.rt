@@ -1,114 +1,76 @@
-//! Eight threads at one object.
+//! A crowd of threads at one object.
+ghost use Rattle.std.specs.Prelude.{◌≡◌, IfOk};
+ghost use Rattle.passes.specs.Parts.{IsWhole};
 
+use crate::tally::{Outcome, Tally};
+use iceoryx2_pal_concurrency_sync::{Shares, WaitAction, WaitWord, in_threads};
+use std::alloc::{AllocError, Global};
 use std::sync::Wait;
-use std::thread;
 use std::thread::Threads;
 
-/// An object that a crowd calls, with what the crowd counts.
-pub trait Object: Sync {
-    /// The right to call it.
-    type Pass: Drop + Send;
+/// An object that a crowd calls, each of it with a part of this pass.
+pub trait Object<P: Shares<Self>>: Sized {
+    /// The object, and the pass that is whole.
+    fn make(alloc: Global) -> Result<(Self, P), AllocError>
+        ensures idle { IfOk result (λ made. P.idle made.0 made.1) }
+        ensures whole { IfOk result (λ made. IsWhole (P.part made.1)) };
 
-    // The passes of it whose owners hold nothing.
-    ghost fits: { Self → Self.Pass → Type 0 };
+    /// One turn of one of the crowd. Each has a number, 0, 1 and so on, and counts its turns from 0. Whoever waits asks `answer`.
+    fn turn<R: Wait, W: Fn(&WaitWord, &u64) -> WaitAction + Copy>(
+        &self,
+        rt: &R,
+        pass: &mut P,
+        tally: &Tally,
+        number: u64,
+        turn: u64,
+        answer: W,
+    )
+        requires idle { P.idle self.now pass.old }
+        requires may { W.IsAlwaysCallable answer }
+        ensures idle { P.idle self.now pass.new }
+        ensures same { P.part pass.new ≡ P.part pass.old };
 
-    /// Two passes of one.
-    fn part(&self, pass: Self::Pass) -> (Self::Pass, Self::Pass)
-        requires { fits self.now pass }
-        ensures { fits self.now result.0 × fits self.now result.1 };
-
-    /// One pass of two.
-    fn whole(&self, one: Self::Pass, two: Self::Pass) -> Self::Pass
-        requires { fits self.now one × fits self.now two }
-        ensures { fits self.now result };
-
-    /// How many turns each of the crowd has.
-    fn turns(&self) -> u64;
-
-    /// One turn of one of the crowd, whose number is 0 to 7. Turns are counted from 0.
-    fn turn<R: Wait>(&self, rt: &R, pass: Self::Pass, number: u64, turn: u64) -> Self::Pass
-        requires { fits self.now pass }
-        ensures { fits self.now result };
+    /// Ends the object: how much was lost, and its word where it has a `close`.
+    fn end<R: Wait>(self, rt: &R, pass: P, tally: &Tally) -> (u64, Option<u64>)
+        requires idle { P.idle self pass }
+        requires whole { IsWhole (P.part pass) };
 }
 
-/// Eight play, each in a thread of its own.
-pub fn eight<O: Object, R: Threads + Wait + Sync>(rt: &R, object: &O, pass: O::Pass) -> O::Pass
-    requires { O.fits object.now pass }
-    ensures { O.fits object.now result }
-{
-    let (one, two) = object.part(pass);
-    let (one, two) = thread::join(
+/// What the storm of so many threads at an object came to.
+pub fn storm<O: Object<P> + Sync + Drop, P: Shares<O> + Send + Drop, R: Threads + Wait + Sync>(
+    rt: &R,
+    alloc: Global,
+    name: &'static str,
+    crowd: usize,
+    turns: u64,
+) -> Result<Outcome, AllocError> {
+    let (object, pass) = O::make(alloc)?;
+    let tally = Tally::new(turns);
+    let pass = in_threads(
         rt,
-        || -> O::Pass
-            requires { O.fits object.now one }
-            ensures { O.fits object.entry.now result }
-        { four(rt, object, one, 0) },
-        || -> O::Pass
-            requires { O.fits object.now two }
-            ensures { O.fits object.entry.now result }
-        { four(rt, object, two, 4) },
+        &object,
+        pass,
+        crowd,
+        &|pass| { take_turns(rt, &object, pass, &tally) },
     );
-    object.whole(one, two)
+    let (lost, word) = object.end(rt, pass, &tally);
+    Ok(tally.outcome(name, crowd, lost, word))
 }
 
-/// Four of them, from this number on.
-pub fn four<O: Object, R: Threads + Wait + Sync>(
+/// One of the crowd takes its turns.
+fn take_turns<O: Object<P>, P: Shares<O> + Drop, R: Wait>(
     rt: &R,
     object: &O,
-    pass: O::Pass,
-    first: u64,
-) -> O::Pass
-    requires { O.fits object.now pass }
-    ensures { O.fits object.now result }
+    mut pass: P,
+    tally: &Tally,
+) -> P
+    requires idle { P.idle object.now pass }
+    ensures idle { P.idle object.now result }
+    ensures same { P.part result ≡ P.part pass }
 {
-    let (one, two) = object.part(pass);
-    let (one, two) = thread::join(
-        rt,
-        || -> O::Pass
-            requires { O.fits object.now one }
-            ensures { O.fits object.entry.now result }
-        { pair(rt, object, one, first) },
-        || -> O::Pass
-            requires { O.fits object.now two }
-            ensures { O.fits object.entry.now result }
-        { pair(rt, object, two, first.wrapping_add(2)) },
-    );
-    object.whole(one, two)
-}
-
-/// Two of them, from this number on.
-fn pair<O: Object, R: Threads + Wait + Sync>(
-    rt: &R,
-    object: &O,
-    pass: O::Pass,
-    first: u64,
-) -> O::Pass
-    requires { O.fits object.now pass }
-    ensures { O.fits object.now result }
-{
-    let (one, two) = object.part(pass);
-    let (one, two) = thread::join(
-        rt,
-        || -> O::Pass
-            requires { O.fits object.now one }
-            ensures { O.fits object.entry.now result }
-        { alone(rt, object, one, first) },
-        || -> O::Pass
-            requires { O.fits object.now two }
-            ensures { O.fits object.entry.now result }
-        { alone(rt, object, two, first.wrapping_add(1)) },
-    );
-    object.whole(one, two)
-}
-
-/// One of them takes its turns.
-fn alone<O: Object, R: Wait>(rt: &R, object: &O, pass: O::Pass, number: u64) -> O::Pass
-    requires { O.fits object.now pass }
-    ensures { O.fits object.now result }
-{
-    let mut pass = pass;
-    for turn in 0..object.turns() {
-        pass = object.turn(rt, pass, number, turn);
+    let number = tally.number();
+    for turn in 0..tally.turns {
+        object.turn(rt, &mut pass, tally, number, turn, |_, _| tally.answer());
     }
     pass
 }

@@ -1,89 +1,41 @@
 //! A storm at a guarded value and a condition variable: two put in, and notify; six wait, and take out.
-ghost use Rattle.running_guarded.specs.GuardedShown.{IsGuardedPass};
+ghost use Rattle.std.specs.Prelude.{◌≡◌};
+ghost use Rattle.running_guarded.specs.GuardedShown.{IsGuardedPass, part_of, HasStayed};
 ghost use Rattle.running_mutex.specs.CondShown.{IsCondPass};
 
-use crate::crowd::{Object, eight};
-use crate::tally::{Outcome, Tally};
-use iceoryx2_pal_concurrency_sync::WaitResult;
+use crate::crowd::Object;
+use crate::tally::Tally;
 use iceoryx2_pal_concurrency_sync::strategy::condition_variable::{CondPass, ConditionVariable};
-use running_guarded::{Guarded, GuardedPass};
+use iceoryx2_pal_concurrency_sync::{Shares, WaitAction, WaitResult, WaitWord, wake_nobody};
+use running_guarded::{Guarded, GuardedPass, GuardedWord};
 use std::alloc::{AllocError, Global};
 use std::sync::Wait;
 use std::sync::atomic::{AtomicU64, Ordering};
-use std::thread::Threads;
 
+/// A number that is guarded, and where those wait who want it to be more.
 #[derive(Drop)]
-struct Crowded {
+pub struct Stock {
     value: Guarded<u64>,
     more: ConditionVariable,
-    tally: Tally,
 }
 
 /// The right to both.
 #[derive(Drop)]
-struct Passes {
+pub struct Passes {
     value: GuardedPass,
     more: CondPass,
 }
 
-impl Crowded {
-    /// Puts three in, and notifies for each.
-    fn put<R: Wait>(&self, rt: &R, value: &mut GuardedPass, more: &mut CondPass)
-        requires own { IsGuardedPass self.now.value value.old × IsCondPass self.now.more more.old }
-        ensures own { IsGuardedPass self.now.value value.new × IsCondPass self.now.more more.new }
-    {
-        let put = self.value.with(
-            rt,
-            value,
-            |_, _| self.tally.answer(),
-            |_| (),
-            |number| *number = number.wrapping_add(3),
-        );
-        match put {
-            WaitResult::Success(()) => {
-                self.tally.put(3);
-                self.more.notify_all(more, |_| ());
-            }
-            WaitResult::Interrupted => {}
-        }
-    }
+impl Shares<Stock> for Passes {
+    ghost idle = { λ stock p. IsGuardedPass stock.value p.value × IsCondPass stock.more p.more };
 
-    /// Waits until there is one to take out.
-    fn take<R: Wait>(&self, rt: &R, value: &mut GuardedPass, more: &mut CondPass)
-        requires own { IsGuardedPass self.now.value value.old × IsCondPass self.now.more more.old }
-        ensures own { IsGuardedPass self.now.value value.new × IsCondPass self.now.more more.new }
-    {
-        let taken = self.value.when(
-            rt,
-            value,
-            |_| (),
-            &self.more,
-            more,
-            |_, _| self.tally.answer(),
-            |number| {
-                let rest = number.checked_sub(1)?;
-                *number = rest;
-                Some(())
-            },
-        );
-        match taken {
-            WaitResult::Success(()) => self.tally.take(1),
-            WaitResult::Interrupted => {}
-        }
-    }
-}
+    ghost part = { λ p. part_of p.value };
 
-impl Object for Crowded {
-    type Pass = Passes;
-
-    ghost fits = { λ this pass. IsGuardedPass this.value pass.value × IsCondPass this.more pass.more };
-
-    fn part(&self, pass: Passes) -> (Passes, Passes) {
-        let Passes { value, more } = pass;
-        let Ok((value, other_value)) = value.split(&self.value) else {
+    fn cut(self, of: &Stock) -> (Passes, Passes) {
+        let Ok((value, other_value)) = self.value.split(&of.value) else {
             unreachable!()
         };
-        let Ok((more, other_more)) = more.split(&self.more) else {
+        let Ok((more, other_more)) = self.more.split(&of.more) else {
             unreachable!()
         };
         let other = Passes {
@@ -93,33 +45,133 @@ impl Object for Crowded {
         (Passes { value, more }, other)
     }
 
-    fn whole(&self, one: Passes, two: Passes) -> Passes {
-        let Ok(value) = GuardedPass::join(one.value, two.value, &self.value) else {
+    fn mend(one: Passes, other: Passes, of: &Stock) -> Passes {
+        let Ok(value) = GuardedPass::join(one.value, other.value, &of.value) else {
             unreachable!()
         };
-        let Ok(more) = CondPass::join(one.more, two.more, &self.more) else {
+        let Ok(more) = CondPass::join(one.more, other.more, &of.more) else {
             unreachable!()
         };
-        Passes { value, more }
-    }
-
-    fn turns(&self) -> u64 {
-        self.tally.turns
-    }
-
-    fn turn<R: Wait>(&self, rt: &R, pass: Passes, number: u64, _turn: u64) -> Passes {
-        let Passes {
-            mut value,
-            mut more,
-        } = pass;
-        if number < 2 {
-            self.put(rt, &mut value, &mut more);
-        } else {
-            self.take(rt, &mut value, &mut more);
-        }
         Passes { value, more }
     }
 }
+
+impl Object<Passes> for Stock {
+    fn make(alloc: Global) -> Result<(Self, Passes), AllocError> {
+        let (more, more_pass) = ConditionVariable::new(alloc)?;
+        match Guarded::new(alloc, 0u64) {
+            Ok((value, value_pass)) => Ok((
+                Stock { value, more },
+                Passes {
+                    value: value_pass,
+                    more: more_pass,
+                },
+            )),
+            Err((error, _)) => Err(error),
+        }
+    }
+
+    /// The first two put in, and the others take out.
+    fn turn<R: Wait, W: Fn(&WaitWord, &u64) -> WaitAction + Copy>(
+        &self,
+        rt: &R,
+        pass: &mut Passes,
+        tally: &Tally,
+        number: u64,
+        _turn: u64,
+        answer: W,
+    ) {
+        if number < 2 {
+            self.put(rt, pass, tally);
+        } else {
+            self.take(rt, pass, tally, answer);
+        }
+    }
+
+    /// What was put in and not taken out has to be there, and nobody is counted as waiting any more.
+    fn end<R: Wait>(self, rt: &R, mut pass: Passes, tally: &Tally) -> (u64, Option<u64>) {
+        let lost = match self.add(rt, &mut pass.value, tally, 0) {
+            WaitResult::Success(left) => left.abs_diff(tally.rest()),
+            WaitResult::Interrupted => u64::MAX,
+        };
+        let still = still_counted(&self.more, &mut pass.more);
+        (lost.saturating_add(still), None)
+    }
+}
+
+impl Stock {
+    /// Adds so much to the number, which is then this.
+    fn add<R: Wait>(
+        &self,
+        rt: &R,
+        pass: &mut GuardedPass,
+        tally: &Tally,
+        amount: u64,
+    ) -> WaitResult<u64>
+        requires own { IsGuardedPass self.now.value pass.old }
+        ensures stayed { HasStayed pass.old pass.new }
+    {
+        self.value.with(
+            rt,
+            pass,
+            |_, _| tally.answer(),
+            unlock_silently,
+            |number| {
+                *number = number.wrapping_add(amount);
+                *number
+            },
+        )
+    }
+
+    /// Puts three in, and notifies all.
+    fn put<R: Wait>(&self, rt: &R, pass: &mut Passes, tally: &Tally)
+        requires own { IsGuardedPass self.now.value pass.old.value × IsCondPass self.now.more pass.old.more }
+        ensures own { IsGuardedPass self.now.value pass.new.value × IsCondPass self.now.more pass.new.more }
+        ensures same { part_of pass.new.value ≡ part_of pass.old.value }
+    {
+        match self.add(rt, &mut pass.value, tally, 3) {
+            WaitResult::Success(_) => {
+                tally.put(3);
+                self.more.notify_all(&mut pass.more, wake_nobody);
+            }
+            WaitResult::Interrupted => {}
+        }
+    }
+
+    /// Waits until there is one to take out.
+    fn take<R: Wait, W: Fn(&WaitWord, &u64) -> WaitAction>(
+        &self,
+        rt: &R,
+        pass: &mut Passes,
+        tally: &Tally,
+        answer: W,
+    )
+        requires own { IsGuardedPass self.now.value pass.old.value × IsCondPass self.now.more pass.old.more }
+        requires may { W.IsAlwaysCallable answer }
+        ensures own { IsGuardedPass self.now.value pass.new.value × IsCondPass self.now.more pass.new.more }
+        ensures same { part_of pass.new.value ≡ part_of pass.old.value }
+    {
+        let taken = self.value.when(
+            rt,
+            &mut pass.value,
+            unlock_silently,
+            &self.more,
+            &mut pass.more,
+            answer,
+            |number| {
+                *number = number.checked_sub(1)?;
+                Some(())
+            },
+        );
+        match taken {
+            WaitResult::Success(()) => tally.take(1),
+            WaitResult::Interrupted => {}
+        }
+    }
+}
+
+/// A wake closure of the guarded value: wakes nobody, since who waits yields.
+fn unlock_silently(_word: &GuardedWord<'_, u64>) {}
 
 /// How many the condition variable counts as waiting. A notify gives a permit for each of them, so the second of two tells by how much the
 /// permits have grown.
@@ -138,44 +190,4 @@ fn permits_after_a_notify(more: &ConditionVariable, pass: &mut CondPass) -> u64
     let permits = AtomicU64::new(0);
     more.notify_all(pass, |word| permits.store(word.load(), Ordering::SeqCst));
     permits.load(Ordering::SeqCst)
-}
-
-/// What the storm came to. What was put in and not taken out has to be there, and nobody is counted as waiting any more.
-pub fn storm<R: Threads + Wait + Sync>(
-    rt: &R,
-    alloc: Global,
-    turns: u64,
-) -> Result<Outcome, AllocError> {
-    let (value, value_pass) = match Guarded::new(alloc, 0u64) {
-        Ok(made) => made,
-        Err((error, _)) => return Err(error),
-    };
-    let (more, more_pass) = ConditionVariable::new(alloc)?;
-    let crowded = Crowded {
-        value,
-        more,
-        tally: Tally::new(turns),
-    };
-    let passes = Passes {
-        value: value_pass,
-        more: more_pass,
-    };
-    let Passes {
-        mut value,
-        mut more,
-    } = eight(rt, &crowded, passes);
-    let tally = &crowded.tally;
-    let seen = crowded.value.with(
-        rt,
-        &mut value,
-        |_, _| tally.answer(),
-        |_| (),
-        |number| *number,
-    );
-    let lost = match seen {
-        WaitResult::Success(left) => left.abs_diff(tally.rest()),
-        WaitResult::Interrupted => u64::MAX,
-    };
-    let faults = lost.saturating_add(still_counted(&crowded.more, &mut more));
-    Ok(tally.outcome("guarded value and condition variable", 8, faults, None))
 }

@@ -14,6 +14,13 @@ mod rwwriter;
 mod semaphore;
 mod tally;
 
+use crowd::storm;
+use guarded::Stock;
+use iceoryx2_pal_concurrency_sync::strategy::barrier::Barrier;
+use iceoryx2_pal_concurrency_sync::strategy::rwlock::{
+    RwLockReaderPreference, RwLockWriterPreference,
+};
+use iceoryx2_pal_concurrency_sync::strategy::semaphore::Semaphore;
 use std::alloc::{AllocError, Global};
 use std::io;
 use std::io::Read;
@@ -26,26 +33,29 @@ use tally::Outcome;
 const MOST: u64 = 1_000_000;
 
 fn main(rt: HostRuntime) -> io::Result<ExitCode> {
-    let mut text = String::new(rt.alloc());
-    rt.stdin().read_to_string(&mut text)?;
-    let turns = match text.trim().parse::<u64>() {
-        Ok(turns) if turns <= MOST => turns,
-        _ => {
-            eprintln!(rt; "bad number of turns")?;
-            return Ok(ExitCode::from(2));
-        }
+    let Some(turns) = read_turns(&rt)? else {
+        eprintln!(rt; "bad number of turns")?;
+        return Ok(ExitCode::from(2));
     };
-    let outcomes = storms(&rt, rt.alloc(), turns)?;
-    let mut faults = 0u64;
-    for outcome in outcomes.iter() {
-        faults = faults.saturating_add(outcome.faults);
-        println!(rt; "{outcome}")?;
-    }
-    if faults == 0 {
+    let Outcomes { all } = storms(&rt, rt.alloc(), turns)?;
+    if report(&rt, &all)? == 0 {
         Ok(ExitCode::SUCCESS)
     } else {
         Ok(ExitCode::from(1))
     }
+}
+
+/// How many turns the input asks for; `None` where it is no number, or too many.
+fn read_turns(rt: &HostRuntime) -> io::Result<Option<u64>> {
+    let mut text = String::new(rt.alloc());
+    rt.stdin().read_to_string(&mut text)?;
+    let turns = text.trim().parse::<u64>().ok();
+    Ok(turns.filter(|turns| *turns <= MOST))
+}
+
+/// What the storm at each object came to.
+struct Outcomes {
+    all: [Outcome; 6],
 }
 
 /// All storms, one after the other.
@@ -53,13 +63,24 @@ fn storms<R: Threads + Wait + Sync>(
     rt: &R,
     alloc: Global,
     turns: u64,
-) -> Result<Vec<Outcome, Global>, AllocError> {
-    let mut outcomes = Vec::new(alloc);
-    outcomes.push(rwreader::storm(rt, alloc, turns)?)?;
-    outcomes.push(rwwriter::storm(rt, alloc, turns)?)?;
-    outcomes.push(semaphore::storm(rt, alloc, turns)?)?;
-    outcomes.push(barrier::storm(rt, alloc, turns)?)?;
-    outcomes.push(guarded::storm(rt, alloc, turns)?)?;
-    outcomes.push(queue::storm(rt, alloc, turns)?)?;
-    Ok(outcomes)
+) -> Result<Outcomes, AllocError> {
+    let all = [
+        storm::<RwLockReaderPreference, _, R>(rt, alloc, "reader-preferring lock", 8, turns)?,
+        storm::<RwLockWriterPreference, _, R>(rt, alloc, "writer-preferring lock", 8, turns)?,
+        storm::<Semaphore, _, R>(rt, alloc, "semaphore of 3", 8, turns)?,
+        storm::<Barrier, _, R>(rt, alloc, "barrier for 4", 4, turns)?,
+        storm::<Stock, _, R>(rt, alloc, "guarded value and condition variable", 8, turns)?,
+        queue::storm(rt, alloc, turns)?,
+    ];
+    Ok(Outcomes { all })
+}
+
+/// Writes a line for each storm: how many faults there were.
+fn report(rt: &HostRuntime, outcomes: &[Outcome]) -> io::Result<u64> {
+    let mut faults = 0u64;
+    for outcome in outcomes {
+        faults = faults.saturating_add(outcome.faults);
+        println!(rt; "{outcome}")?;
+    }
+    Ok(faults)
 }

@@ -1,86 +1,82 @@
 //! A storm at the reader-preferring lock: four writers and four readers.
-ghost use Rattle.std.specs.Prelude.{◌≡◌};
-ghost use Rattle.running_rwlock.specs.RwReaderShown.{IsRwReaderPass, IsAlone, HasStayed, reads_of, writes_of};
+ghost use Rattle.std.specs.Prelude.{◌≡◌, Some};
+ghost use Rattle.running_rwlock.specs.RwReaderShown.{IsRwReaderPass, IsAlone, HasStayed};
 
-use crate::tally::{Outcome, Tally};
+use crate::crowd::Object;
+use crate::tally::Tally;
 use iceoryx2_pal_concurrency_sync::strategy::rwlock::{RwLockReaderPreference, RwReaderPass};
-use iceoryx2_pal_concurrency_sync::{WaitResult, in_threads};
+use iceoryx2_pal_concurrency_sync::{WaitAction, WaitResult, WaitWord, wake_nobody};
 use std::alloc::{AllocError, Global};
 use std::sync::Wait;
-use std::thread::Threads;
 
-/// One of the crowd takes its turns: the first four write, and the others read.
-fn take_turns<R: Wait>(
+impl Object<RwReaderPass> for RwLockReaderPreference {
+    fn make(alloc: Global) -> Result<(Self, RwReaderPass), AllocError> {
+        RwLockReaderPreference::new(alloc)
+    }
+
+    /// The first four write, and the others read.
+    fn turn<R: Wait, W: Fn(&WaitWord, &u64) -> WaitAction + Copy>(
+        &self,
+        rt: &R,
+        pass: &mut RwReaderPass,
+        tally: &Tally,
+        number: u64,
+        _turn: u64,
+        answer: W,
+    ) {
+        if number < 4 {
+            write(rt, self, pass, tally, answer);
+        } else {
+            read(rt, self, pass, tally, answer);
+        }
+    }
+
+    /// With the whole pass, which has no hold, its word is 0.
+    fn end<R: Wait>(self, _rt: &R, pass: RwReaderPass, tally: &Tally) -> (u64, Option<u64>)
+        requires own { IsRwReaderPass self pass }
+        requires alone { IsAlone pass }
+        ensures free { result.1 ≡ Some 0 }
+    {
+        (tally.lost(), Some(self.close(pass)))
+    }
+}
+
+fn write<R: Wait, W: Fn(&WaitWord, &u64) -> WaitAction>(
     rt: &R,
     lock: &RwLockReaderPreference,
-    mut pass: RwReaderPass,
+    pass: &mut RwReaderPass,
     tally: &Tally,
-) -> RwReaderPass
-    requires own { IsRwReaderPass lock.now pass }
-    requires off { (reads_of pass ≡ 0) × (writes_of pass ≡ 0) }
-    ensures stayed { HasStayed pass result }
-{
-    let writes = tally.number() < 4;
-    for _ in 0..tally.turns {
-        if writes {
-            write(rt, lock, &mut pass, tally);
-        } else {
-            read(rt, lock, &mut pass, tally);
-        }
-    }
-    pass
-}
-
-fn write<R: Wait>(rt: &R, lock: &RwLockReaderPreference, pass: &mut RwReaderPass, tally: &Tally)
+    answer: W,
+)
     requires own { IsRwReaderPass lock.now pass.old }
+    requires may { W.IsAlwaysCallable answer }
     ensures stayed { HasStayed pass.old pass.new }
 {
-    match RwLockReaderPreference::write_lock(pass, lock, rt, |_, _| tally.answer()) {
+    match RwLockReaderPreference::write_lock(pass, lock, rt, answer) {
         WaitResult::Success(hold) => {
             tally.change();
-            lock.unlock(hold, |_| ());
+            lock.unlock(hold, wake_nobody);
         }
         WaitResult::Interrupted => {}
     }
 }
 
-fn read<R: Wait>(rt: &R, lock: &RwLockReaderPreference, pass: &mut RwReaderPass, tally: &Tally)
+fn read<R: Wait, W: Fn(&WaitWord, &u64) -> WaitAction>(
+    rt: &R,
+    lock: &RwLockReaderPreference,
+    pass: &mut RwReaderPass,
+    tally: &Tally,
+    answer: W,
+)
     requires own { IsRwReaderPass lock.now pass.old }
+    requires may { W.IsAlwaysCallable answer }
     ensures stayed { HasStayed pass.old pass.new }
 {
-    match RwLockReaderPreference::read_lock(pass, lock, rt, |_, _| tally.answer()) {
+    match RwLockReaderPreference::read_lock(pass, lock, rt, answer) {
         WaitResult::Success(hold) => {
             tally.look();
-            lock.unlock(hold, |_| ());
+            lock.unlock(hold, wake_nobody);
         }
         WaitResult::Interrupted => {}
     }
-}
-
-/// Ends the lock, with the whole pass: its word is 0 then.
-fn close(lock: RwLockReaderPreference, pass: RwReaderPass) -> u64
-    requires own { IsRwReaderPass lock pass }
-    requires alone { IsAlone pass }
-    ensures free { result ≡ 0 }
-{
-    lock.close(pass)
-}
-
-/// What the storm came to.
-pub fn storm<R: Threads + Wait + Sync>(
-    rt: &R,
-    alloc: Global,
-    turns: u64,
-) -> Result<Outcome, AllocError> {
-    let (lock, pass) = RwLockReaderPreference::new(alloc)?;
-    let tally = Tally::new(turns);
-    let pass = in_threads(
-        rt,
-        &lock,
-        pass,
-        8,
-        &|pass| { take_turns(rt, &lock, pass, &tally) },
-    );
-    let word = close(lock, pass);
-    Ok(tally.outcome("reader-preferring lock", 8, tally.lost(), Some(word)))
 }

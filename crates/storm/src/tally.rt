@@ -1,8 +1,8 @@
 //! What a crowd counts beside its object, and what a storm came to.
 
+use iceoryx2_pal_concurrency_sync::WaitAction;
 use std::sync::atomic::{AtomicU64, Ordering};
 use std::{fmt, thread};
-use steps_events::WaitAction;
 
 const ORDER: Ordering = Ordering::SeqCst;
 
@@ -10,7 +10,7 @@ const ORDER: Ordering = Ordering::SeqCst;
 const STAY: u64 = 100;
 
 /// What a storm came to.
-#[derive(Drop)]
+#[derive(Clone, Copy)]
 pub struct Outcome {
     /// Of which object.
     pub name: &'static str,
@@ -85,7 +85,8 @@ impl Tally {
         }
     }
 
-    fn saw_torn(&self) {
+    /// Something was seen that cannot be.
+    pub fn saw_torn(&self) {
         self.torn.fetch_add(1, ORDER);
     }
 
@@ -165,10 +166,16 @@ impl Tally {
     }
 
     /// The outcome of the storm: what was torn, and what was lost.
-    pub fn outcome(&self, name: &'static str, crowd: u64, lost: u64, word: Option<u64>) -> Outcome {
+    pub fn outcome(
+        &self,
+        name: &'static str,
+        crowd: usize,
+        lost: u64,
+        word: Option<u64>,
+    ) -> Outcome {
         Outcome {
             name,
-            calls: crowd.saturating_mul(self.turns),
+            calls: self.turns.saturating_mul(crowd as u64),
             faults: self.torn.load(ORDER).saturating_add(lost),
             word,
         }

@@ -1,5 +1,0 @@
-use Rattle.running_rwlock.specs.RwReaderShown.{HasStayed}
-use Rattle.storm.proofs.rwreader.take_turns.Given as goal
-
-abbrev pub invariant-loop : goal.invariant-loop
-invariant-loop g l = HasStayed l.fn.pass l.pass
