@@ -4,8 +4,8 @@
 //! each at a condition variable of its own; at last the buffer is closed, and the workers leave once it is empty.
 #![tactic(auto)]
 
-ghost use Rattle.running_guarded.specs.GuardedShown.{IsGuardedPass};
-ghost use Rattle.running_mutex.specs.CondShown.{IsCondPass};
+ghost use Rattle.std.specs.Prelude.{IfOk};
+ghost use Rattle.waiting_pool.specs.Passes.{IsOf};
 
 use circular_buffer::HeapCircularBuffer;
 use closures::{wake_nobody, yield_and_go_on};
@@ -14,6 +14,7 @@ use running_guarded::{Guarded, GuardedPass};
 use running_mutex::condition_variable::{CondPass, ConditionVariable};
 use std::alloc::{AllocError, Global};
 use std::sync::Wait;
+use std::thread::Threads;
 use std::{io, thread};
 
 const NUMBERS: u64 = 1000;
@@ -85,14 +86,20 @@ enum Role {
     Works,
 }
 
+/// The right to call the pool.
+#[derive(Drop)]
+struct Passes {
+    numbers: GuardedPass,
+    room: CondPass,
+    some: CondPass,
+}
+
 /// A party of the pool, which goes to a thread of its own.
 #[derive(Drop)]
 struct Party<'p> {
     pool: &'p Pool,
-    numbers: GuardedPass,
-    room: CondPass,
-    some: CondPass,
-    ghost own: { IsGuardedPass pool.now.numbers numbers × IsCondPass pool.now.room room × IsCondPass pool.now.some some },
+    passes: Passes,
+    ghost own: { IsOf pool.now passes },
 }
 
 impl Party<'_> {
@@ -101,15 +108,15 @@ impl Party<'_> {
         let pool = self.pool;
         let put = pool.numbers.when(
             rt,
-            &mut self.numbers,
+            &mut self.passes.numbers,
             |_| (),
             &pool.room,
-            &mut self.room,
+            &mut self.passes.room,
             yield_and_go_on,
             |numbers| numbers.put(number),
         );
         match put {
-            WaitResult::Success(()) => pool.some.notify_one(&mut self.some, wake_nobody),
+            WaitResult::Success(()) => pool.some.notify_one(&mut self.passes.some, wake_nobody),
             WaitResult::Interrupted => unreachable!(),
         }
     }
@@ -119,16 +126,16 @@ impl Party<'_> {
         let pool = self.pool;
         let taken = pool.numbers.when(
             rt,
-            &mut self.numbers,
+            &mut self.passes.numbers,
             |_| (),
             &pool.some,
-            &mut self.some,
+            &mut self.passes.some,
             yield_and_go_on,
             |numbers| numbers.take(),
         );
         match taken {
             WaitResult::Success(taken) => {
-                pool.room.notify_one(&mut self.room, wake_nobody);
+                pool.room.notify_one(&mut self.passes.room, wake_nobody);
                 taken
             }
             WaitResult::Interrupted => unreachable!(),
@@ -140,10 +147,10 @@ impl Party<'_> {
         let pool = self.pool;
         pool.numbers.change(
             rt,
-            &mut self.numbers,
+            &mut self.passes.numbers,
             |_| (),
             &pool.some,
-            &mut self.some,
+            &mut self.passes.some,
             wake_nobody,
             |numbers| numbers.closed = true,
         );
@@ -151,44 +158,64 @@ impl Party<'_> {
 }
 
 fn main(rt: HostRuntime) -> io::Result<()> {
-    let waiting = HeapCircularBuffer::with_capacity(rt.alloc(), PLACES)?;
+    let (pool, passes) = new_pool(rt.alloc())?;
+    let squares = square_all(&rt, rt.alloc(), &pool, passes)?;
+    println!(rt; "{} squares, {} in all", squares.how_many, squares.sum)
+}
+
+/// A pool without a number, and its whole passes.
+fn new_pool(alloc: Global) -> Result<(Pool, Passes), AllocError>
+    ensures own { IfOk result (λ made. IsOf made.0 made.1) }
+{
+    let (room, room_pass) = ConditionVariable::new(alloc)?;
+    let (some, some_pass) = ConditionVariable::new(alloc)?;
+    let waiting = HeapCircularBuffer::with_capacity(alloc, PLACES)?;
     let numbers = Numbers {
         waiting,
         closed: false,
     };
-    let (numbers, pass) = match Guarded::new(rt.alloc(), numbers) {
-        Ok(made) => made,
-        Err((error, _)) => return Err(error)?,
-    };
-    let (room, room_pass) = ConditionVariable::new(rt.alloc())?;
-    let (some, some_pass) = ConditionVariable::new(rt.alloc())?;
-    let pool = Pool {
-        numbers,
-        room,
-        some,
-    };
-    let first = Party {
-        pool: &pool,
-        numbers: pass,
-        room: room_pass,
-        some: some_pass,
-    };
-    let parties = parties(rt.alloc(), first)?;
+    match Guarded::new(alloc, numbers) {
+        Ok((numbers, pass)) => Ok((
+            Pool {
+                numbers,
+                room,
+                some,
+            },
+            Passes {
+                numbers: pass,
+                room: room_pass,
+                some: some_pass,
+            },
+        )),
+        Err((error, _)) => Err(error),
+    }
+}
+
+/// What all parties have squared.
+fn square_all<R: Threads + Wait + Sync>(
+    rt: &R,
+    alloc: Global,
+    pool: &Pool,
+    passes: Passes,
+) -> Result<Squares, AllocError>
+    requires own { IsOf pool.now passes }
+{
+    let parties = parties(alloc, Party { pool, passes })?;
     let mut squares = Squares::none();
-    for part in thread::map_vec(&rt, parties, &|party| play(&rt, party))? {
+    for part in thread::map_vec(rt, parties, &|party| play(rt, party))? {
         squares.add(part.how_many, part.sum);
     }
-    println!(rt; "{} squares, {} in all", squares.how_many, squares.sum)
+    Ok(squares)
 }
 
 /// Two parties, each with a part of each pass.
 fn part(party: Party) -> (Party, Party) {
-    let Party {
-        pool,
+    let Party { pool, passes } = party;
+    let Passes {
         numbers,
         room,
         some,
-    } = party;
+    } = passes;
     let Ok((numbers, other_numbers)) = numbers.split(&pool.numbers) else {
         unreachable!()
     };
@@ -198,19 +225,23 @@ fn part(party: Party) -> (Party, Party) {
     let Ok((some, other_some)) = some.split(&pool.some) else {
         unreachable!()
     };
-    let other = Party {
-        pool,
+    let other = Passes {
         numbers: other_numbers,
         room: other_room,
         some: other_some,
     };
-    let party = Party {
-        pool,
+    let passes = Passes {
         numbers,
         room,
         some,
     };
-    (party, other)
+    (
+        Party { pool, passes },
+        Party {
+            pool,
+            passes: other,
+        },
+    )
 }
 
 /// One that puts, and four workers.

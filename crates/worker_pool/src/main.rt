@@ -10,6 +10,7 @@ use closures::{wake_nobody, yield_and_go_on};
 use job_queue::{JobQueue, PutFault, QueuePass, Taken};
 use std::alloc::{AllocError, Global};
 use std::sync::Wait;
+use std::thread::Threads;
 use std::{io, thread};
 
 const NUMBERS: u64 = 1000;
@@ -37,17 +38,40 @@ struct Party<'q> {
 
 fn main(rt: HostRuntime) -> io::Result<()> {
     let (queue, pass) = JobQueue::new(rt.alloc(), PLACES)?;
-    let parties = parties(rt.alloc(), &queue, pass)?;
-    let mut squares = Vec::new(rt.alloc());
-    for done in thread::map_vec(&rt, parties, &|party| play(&rt, rt.alloc(), party))? {
-        squares.append(&mut done?)?;
-    }
-    squares.sort()?;
+    let squares = square_all(&rt, rt.alloc(), &queue, pass)?;
     let wrong = (0u64..)
         .zip(squares.iter())
         .filter(|(number, done)| **done != (*number, square(*number)))
         .count();
     println!(rt; "{} squares, {wrong} of them wrong", squares.len())
+}
+
+/// What all parties have squared, in order.
+fn square_all<R: Threads + Wait + Sync>(
+    rt: &R,
+    alloc: Global,
+    queue: &JobQueue<u64>,
+    pass: QueuePass,
+) -> Result<Squares, AllocError>
+    requires own { IsQueuePass queue.now pass }
+{
+    let parties = parties(alloc, queue, pass)?;
+    let parts = thread::map_vec(rt, parties, &|party| play(rt, alloc, party))?;
+    let mut squares = Vec::new(alloc);
+    collect(parts, &mut squares)?;
+    squares.sort()?;
+    Ok(squares)
+}
+
+/// Appends what each party has squared.
+fn collect(
+    parts: Vec<Result<Squares, AllocError>, Global>,
+    squares: &mut Squares,
+) -> Result<(), AllocError> {
+    for part in parts {
+        squares.append(&mut part?)?;
+    }
+    Ok(())
 }
 
 /// One that puts, and four workers.
