@@ -2,7 +2,7 @@
 //!
 //! The columns of a line are parted by one tab: its name, the median, the lower and the upper tenth of the nanoseconds that
 //! an operation took. A figure has two decimals.
-ghost use Rattle.std.specs.Prelude.{◌≡◌, ◌++◌, OnOk, string_bytes};
+ghost use Rattle.std.specs.Prelude.{◌≡◌, ◌++◌, OnOk, codes, string_bytes};
 ghost use Rattle.std.specs.List.{All};
 ghost use Rattle.bench_table.specs.Columns.{shape, shapes, IsFilled, IsInOrder};
 ghost use Rattle.bench_table.specs.Table.{figure_words, tenths_words, column_words, columns_words};
@@ -35,6 +35,15 @@ fn print_tenths(out: &mut String, tenths: Tenths) -> Result<(), AllocError>
     print_figure(out, tenths.upper)
 }
 
+/// Prints the line of the table of this name.
+fn print_line(out: &mut String, name: &str, tenths: Tenths) -> Result<(), AllocError>
+    ensures { OnOk result (string_bytes out.new ≡ string_bytes out.old ++ (name.now ++ (codes "\t" ++ (tenths_words tenths ++ codes "\n")))) }
+{
+    write!(out, "{name}\t")?;
+    print_tenths(out, tenths)?;
+    writeln!(out)
+}
+
 /// Prints the line of the table for a column, whose figures it puts in order.
 fn print_column(out: &mut String, column: &mut Column) -> Result<(), AllocError>
     requires { IsFilled column.old }
@@ -43,10 +52,7 @@ fn print_column(out: &mut String, column: &mut Column) -> Result<(), AllocError>
     ensures words { OnOk result (string_bytes out.new ≡ string_bytes out.old ++ column_words column.new) }
 {
     let tenths = Tenths::of(&mut column.figures);
-    let name = column.line.name();
-    write!(out, "{name}\t")?;
-    print_tenths(out, tenths)?;
-    writeln!(out)
+    print_line(out, column.line.name(), tenths)
 }
 
 /// Prints the lines of the table, one for each column, and puts the figures of each in order.
