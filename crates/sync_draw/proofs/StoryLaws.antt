@@ -24,7 +24,7 @@ use Rattle.sync_trace.specs.Rows.{Entry, entry_of, entries}
 use Rattle.sync_trace.specs.Trace.{HasAdded, HasPlayed, RowsAndFault, rows_of}
 use Rattle.sync_trace.proofs.TraceLaws.{rows_read}
 use Rattle.sync_draw.specs.declared.story.Step.{Step}
-use Rattle.sync_draw.specs.Story.{Shown, shown_of, shown_at, number_at_end, left_out, HasOutput}
+use Rattle.sync_draw.specs.Story.{Shown, shown_of, shown_at, kept, number_at_end, left_out, HasOutput}
 use Rattle.sync_draw.specs.Title.{title_words}
 
 -- one more of what is made of a list
@@ -39,6 +39,9 @@ has_output output last ends = (ends.0 ++ last, ends.1)
 
 module _ {T : Type 0} where
   -- The rows that are kept.
+
+  pub keeps : (rows kept : List (Row T)) → kept ≡ take 2000 rows → entries kept ≡ take 2000 (entries rows)
+  keeps rows kept cut = ap entries cut ∙ sym (take-map entry_of 2000 rows)
 
   pub kept_fits : (rows kept : List (Row T)) → kept ≡ take 2000 rows → length kept ≤ 2000
   kept_fits rows kept is = let most : length kept ≡ min 2000 (length rows) = ap length is ∙ length-take 2000 rows in omega (arith, most)
@@ -66,8 +69,7 @@ module _ {T : Type 0} where
 
   pub leaves_out : (rows kept : List (Row T)) (all some : ℕ) → kept ≡ take 2000 rows → all ≡ number_at_end (entries rows) → some ≡ number_at_end (entries kept) → all - some ≡ left_out (entries rows)
   leaves_out rows kept all some cut e f =
-      let same : entries kept ≡ take 2000 (entries rows) = ap entries cut ∙ sym (take-map entry_of 2000 rows) in
-      rw (e, f, same) refl
+      rw (e, f, keeps rows kept cut) refl
 
   -- The titles of steps that are drawn as these rows are.
   pub titles_told : (steps : List (Step T)) (rows : List (Entry T)) → map shown_of steps ≡ map shown_at rows → map (λ (s : Step T). string_bytes s.title) steps ≡ map title_words rows
@@ -84,14 +86,14 @@ module _ {T : Type 0} (z : Arithmetic T) (numerals : Numerals T) where
       text_walk z numerals lines header rest is line left ∙ ap (λ (f : Option FaultyLine). output_unless f bytes) (sym added.1 ∙ some)
 
   -- the last line of the output
-  pub ends_output : (lines : List (List ℕ)) (header : Header T) (rest : Rest T) (old new : List (Row T)) (machine : Configuration T) (none last : List ℕ) → opened numerals (lines) ≡ Ok (header, lines_of rest.lines.now) → rest.line ≡ 1 → rest.left ≡ nothing →
-      (told : Option FaultyLine) → told ≡ None → HasAdded z numerals header [] (rest_walk z numerals header.object header.parties [] rest) old new told → HasPlayed z header [] (rest_walk z numerals header.object header.parties [] rest) machine told → none ≡ [] →
-      ((o : Object T) (parties : ℕ) (past : List (Event T)) → StandsAt z o parties past machine → last ≡ none ++ last_line z numerals o past) → (front : List ℕ) × (typed_output z numerals lines ≡ Ok (front ++ last))
-  ends_output lines header rest old new machine none last is line left told absent added plays empty prints =
+  pub ends_output : (lines : List (List ℕ)) (header : Header T) (rest : Rest T) (old new : List (Row T)) (machine : Configuration T) (last : List ℕ) → opened numerals (lines) ≡ Ok (header, lines_of rest.lines.now) → rest.line ≡ 1 → rest.left ≡ nothing →
+      (told : Option FaultyLine) → told ≡ None → HasAdded z numerals header [] (rest_walk z numerals header.object header.parties [] rest) old new told → HasPlayed z header [] (rest_walk z numerals header.object header.parties [] rest) machine told →
+      ((o : Object T) (parties : ℕ) (past : List (Event T)) → StandsAt z o parties past machine → last ≡ last_line z numerals o past) → (front : List ℕ) × (typed_output z numerals lines ≡ Ok (front ++ last))
+  ends_output lines header rest old new machine last is line left told absent added plays prints =
       let walk = rest_walk z numerals header.object header.parties [] rest in
       let front = printed numerals (events_in walk.steps) in
       let played = subst (λ (f : Option FaultyLine). HasPlayed z header [] walk machine f) absent plays in
-      let line_is : last ≡ last_line z numerals header.object (after (events_in walk.steps) []) = prints header.object header.parties _ played ∙ ap (λ (l : List ℕ). l ++ last_line z numerals header.object (after (events_in walk.steps) [])) empty in (
+      let line_is : last ≡ last_line z numerals header.object (after (events_in walk.steps) []) = prints header.object header.parties _ played in (
         front,
         text_walk z numerals lines header rest is line left ∙ ap (λ (f : Option FaultyLine). output_unless f (front ++ last_line z numerals header.object (after (events_in walk.steps) []))) (sym added.1 ∙ absent)
             ∙ ap (λ (l : List ℕ). Ok (front ++ l)) (sym line_is),
@@ -104,9 +106,8 @@ module _ {T : Type 0} (z : Arithmetic T) (numerals : Numerals T) where
       ap entries same ∙ ap (λ (r : RowsAndFault T). r.rows) (rows_read z numerals lines header rest none rows told is line left empty added)
 
   -- the steps that are drawn
-  pub tells : (lines : List (List ℕ)) (header : Header T) (rest : Rest T) (none rows all kept : List (Row T)) (steps : List (Step T)) → opened numerals (lines) ≡ Ok (header, lines_of rest.lines.now) → rest.line ≡ 1 → rest.left ≡ nothing → none ≡ [] →
-      (told : Option FaultyLine) → told ≡ None → HasAdded z numerals header [] (rest_walk z numerals header.object header.parties [] rest) none rows told → all ≡ rows → kept ≡ take 2000 all → map shown_of steps ≡ map shown_at (entries kept) →
-      map shown_of steps ≡ map shown_at (take 2000 (rows_of z numerals lines).rows)
-  tells lines header rest none rows all kept steps is line left empty told absent added same cut shown =
-      let read : entries rows ≡ (rows_of z numerals lines).rows = ap (λ (r : RowsAndFault T). r.rows) (rows_read z numerals lines header rest none rows told is line left empty added) in
-      shown ∙ ap (λ (l : List (Row T)). map shown_at (entries l)) cut ∙ ap (map shown_at) (sym (take-map entry_of 2000 all) ∙ ap (λ (l : List (Row T)). take 2000 (entries l)) same ∙ ap (take 2000) read)
+  pub tells : (lines : List (List ℕ)) (header : Header T) (rest : Rest T) (none rows all : List (Row T)) (steps : List (Step T)) → opened numerals (lines) ≡ Ok (header, lines_of rest.lines.now) → rest.line ≡ 1 → rest.left ≡ nothing → none ≡ [] →
+      (told : Option FaultyLine) → HasAdded z numerals header [] (rest_walk z numerals header.object header.parties [] rest) none rows told → all ≡ rows → map shown_of steps ≡ map shown_at (kept (entries all)) →
+      map shown_of steps ≡ map shown_at (kept (rows_of z numerals lines).rows)
+  tells lines header rest none rows all steps is line left empty told added same shown =
+      shown ∙ ap (λ (l : List (Entry T)). map shown_at (kept l)) (rows_are lines header rest none rows all is line left empty told added same)

@@ -127,18 +127,9 @@ fn say_act<T: TextInteger>(
 ) -> Result<(), AllocError> {
     match *act {
         Act::Begun(_) => Ok(()),
-        Act::Load { word, seen } => {
-            write!(out, "sees ")?;
-            say_seen(out, object, word, seen)
-        }
-        Act::Store { word, put } => {
-            write!(out, "stores ")?;
-            say_seen(out, object, word, put)
-        }
-        Act::Swap { word, old, put } if old == put => {
-            write!(out, "found ")?;
-            say_seen(out, object, word, old)
-        }
+        Act::Load { word, seen } => say_doing(out, "sees ", object, word, seen),
+        Act::Store { word, put } => say_doing(out, "stores ", object, word, put),
+        Act::Swap { word, old, put } if old == put => say_doing(out, "found ", object, word, old),
         Act::Swap { word, old, put } | Act::Add { word, old, put } => {
             say_change(out, object, word, old, put)
         }
@@ -149,27 +140,37 @@ fn say_act<T: TextInteger>(
             done: true,
             ..
         } => say_change(out, object, word, from, to),
-        Act::Exchange { word, found, .. } => {
-            write!(out, "found ")?;
-            say_seen(out, object, word, found)
-        }
-        Act::Woke(Wake::One) => write!(out, "wakes one"),
-        Act::Woke(Wake::All) => write!(out, "wakes all"),
-        Act::Answered(WaitAction::Continue) => write!(out, "Continue"),
-        Act::Answered(WaitAction::Abort) => write!(out, "Abort"),
-        Act::Chosen(Some(value)) => {
-            write!(out, "chooses ")?;
-            value.print(out)
-        }
-        Act::Chosen(None) => write!(out, "chooses none"),
-        Act::Ended => write!(out, "its closure ends"),
-        Act::ReadCell(value) => {
-            write!(out, "reads ")?;
-            value.print(out)
-        }
+        Act::Exchange { word, found, .. } => say_doing(out, "found ", object, word, found),
+        Act::Woke(Wake::One) => out.push_str("wakes one"),
+        Act::Woke(Wake::All) => out.push_str("wakes all"),
+        Act::Answered(WaitAction::Continue) => out.push_str("Continue"),
+        Act::Answered(WaitAction::Abort) => out.push_str("Abort"),
+        Act::Chosen(Some(value)) => say_choice(out, "chooses ", value),
+        Act::Chosen(None) => out.push_str("chooses none"),
+        Act::Ended => out.push_str("its closure ends"),
+        Act::ReadCell(value) => say_choice(out, "reads ", value),
     }
 }
 
+/// Says what is done with a value of a word.
+fn say_doing<T: Copy>(
+    out: &mut String,
+    verb: &str,
+    object: &Object<T>,
+    word: Word,
+    value: u64,
+) -> Result<(), AllocError> {
+    out.push_str(verb)?;
+    say_seen(out, object, word, value)
+}
+
+/// Says what is done with a value of a closure or of a cell.
+fn say_choice<T: TextInteger>(out: &mut String, verb: &str, value: T) -> Result<(), AllocError> {
+    out.push_str(verb)?;
+    value.print(out)
+}
+
+/// Says what a word had, and what is put there.
 fn say_change<T: Copy>(
     out: &mut String,
     object: &Object<T>,
@@ -182,6 +183,39 @@ fn say_change<T: Copy>(
     say_value(out, object, word, put)
 }
 
+/// Says the value of an atomic, where a step is on the second of its two data words.
+fn say_whole_value<T: TextInteger>(
+    out: &mut String,
+    story: &Story<T>,
+    step: &Step<T>,
+) -> Result<(), AllocError> {
+    if !ends_a_value(&step.event.act) {
+        return Ok(());
+    }
+    let value: T = DataWords::after(story, step.row).value();
+    say_choice(out, ": value ", value)
+}
+
+/// Says how often a step was made, where it was more than once.
+fn say_times(out: &mut String, count: u64) -> Result<(), AllocError> {
+    if count <= 1 {
+        return Ok(());
+    }
+    out.push_str(" × ")?;
+    say_count(out, count)
+}
+
+/// Says what a step did, and how often.
+fn say_step<T: TextInteger>(
+    out: &mut String,
+    story: &Story<T>,
+    step: &Step<T>,
+) -> Result<(), AllocError> {
+    say_act(out, &story.object, &step.event.act)?;
+    say_whole_value(out, story, step)?;
+    say_times(out, step.count)
+}
+
 /// What a step did, and how often; of the second of two data words also the value.
 pub fn label_of<T: TextInteger>(
     alloc: Global,
@@ -189,16 +223,7 @@ pub fn label_of<T: TextInteger>(
     step: &Step<T>,
 ) -> Result<String, AllocError> {
     let mut out = String::new(alloc);
-    say_act(&mut out, &story.object, &step.event.act)?;
-    if ends_a_value(&step.event.act) {
-        write!(out, ": value ")?;
-        let value: T = DataWords::after(story, step.row).value();
-        value.print(&mut out)?;
-    }
-    if step.count > 1 {
-        write!(out, " × ")?;
-        say_count(&mut out, step.count)?;
-    }
+    say_step(&mut out, story, step)?;
     Ok(out)
 }
 

@@ -2,7 +2,7 @@
 //!
 //! A row is 24 pixels high and has one step. The lines of the schedule stand on the left, then comes a band for each word, and then a
 //! lane for each party that makes a step.
-ghost use Rattle.std.specs.Prelude.{◌<◌, ◌^◌};
+ghost use Rattle.std.specs.Prelude.{◌<◌, ◌^◌, IfOk};
 
 use crate::label::{Tone, label_of, outcome_of, reach_of, tone_of};
 use crate::story::{Step, Story};
@@ -181,48 +181,65 @@ fn put_of<T: Copy>(act: &Act<T>, word: Word) -> Option<u64> {
     }
 }
 
-/// A value of a word.
-fn word_segment<T: Copy>(
+/// Says the value of an atomic; while only its low word is written it is none yet.
+fn say_words<T: TextInteger>(out: &mut String, words: DataWords) -> Result<(), AllocError> {
+    if words.is_half {
+        return out.push_str("half written");
+    }
+    let value: T = words.value();
+    value.print(out)
+}
+
+/// Adds what a band shows from a row on; what it shows last before ends there.
+fn add_segment(
+    segments: &mut Vec<Segment>,
+    row: Option<u32>,
+    title: String,
+    term: String,
+    colour: Colour,
+) -> Result<(), AllocError> {
+    if let Some(last) = segments.last_mut() {
+        last.next = row;
+    }
+    segments.push(Segment {
+        row,
+        next: None,
+        title,
+        term,
+        colour,
+    })?;
+    Ok(())
+}
+
+/// Adds a value of a word.
+fn add_word<T: Copy>(
     alloc: Global,
+    segments: &mut Vec<Segment>,
     object: &Object<T>,
     row: Option<u32>,
     word: Word,
     value: u64,
     colour: Colour,
-) -> Result<Segment, AllocError> {
+) -> Result<(), AllocError> {
     let mut term = String::new(alloc);
     say_value(&mut term, object, word, value)?;
-    Ok(Segment {
-        row,
-        next: None,
-        title: format!(in alloc; "{value}")?,
-        term,
-        colour,
-    })
+    let title = format!(in alloc; "{value}")?;
+    add_segment(segments, row, title, term, colour)
 }
 
-/// A value of an atomic; while only its low word is written it is none yet.
-fn value_segment<T: TextInteger>(
+/// Adds a value of an atomic.
+fn add_value<T: TextInteger>(
     alloc: Global,
+    segments: &mut Vec<Segment>,
     row: Option<u32>,
     words: DataWords,
     colour: Colour,
-) -> Result<Segment, AllocError> {
-    let DataWords { low, high, is_half } = words;
+) -> Result<(), AllocError> {
+    let DataWords { low, high, .. } = words;
     let mut term = String::new(alloc);
-    if is_half {
-        write!(term, "half written")?;
-    } else {
-        let value: T = words.value();
-        value.print(&mut term)?;
-    }
-    Ok(Segment {
-        row,
-        next: None,
-        title: format!(in alloc; "low half {low}, high half {high}")?,
-        term,
-        colour,
-    })
+    say_words::<T>(&mut term, words)?;
+    let title = format!(in alloc; "low half {low}, high half {high}")?;
+    add_segment(segments, row, title, term, colour)
 }
 
 /// What a word held, from the opening on.
@@ -234,14 +251,12 @@ fn segments_of<T: Copy>(
     let value = story.opening.get(word);
     let mut segments = Vec::new(alloc);
     let mut last = colour_of(value, None);
-    segments.push(word_segment(alloc, &story.object, None, word, value, last)?)?;
+    add_word(alloc, &mut segments, &story.object, None, word, value, last)?;
     for step in &story.steps {
         if let Some(value) = put_of(&step.event.act, word) {
-            if let Some(segment) = segments.last_mut() {
-                segment.next = Some(step.row);
-            }
             last = colour_of(value, Some(last));
-            segments.push(word_segment(alloc, &story.object, Some(step.row), word, value, last)?)?;
+            let row = Some(step.row);
+            add_word(alloc, &mut segments, &story.object, row, word, value, last)?;
         }
     }
     Ok(segments)
@@ -252,12 +267,9 @@ fn values_of<T: TextInteger>(alloc: Global, story: &Story<T>) -> Result<Vec<Segm
     let mut words = DataWords::before(story);
     let mut segments = Vec::new(alloc);
     let mut last = colour_of(words.low | words.high, None);
-    segments.push(value_segment::<T>(alloc, None, words, last)?)?;
+    add_value::<T>(alloc, &mut segments, None, words, last)?;
     for step in &story.steps {
         if let Some(written) = words.written_by(&step.event.act) {
-            if let Some(segment) = segments.last_mut() {
-                segment.next = Some(step.row);
-            }
             words = written;
             let colour = if words.is_half {
                 Colour::Half
@@ -265,7 +277,7 @@ fn values_of<T: TextInteger>(alloc: Global, story: &Story<T>) -> Result<Vec<Segm
                 last = colour_of(words.low | words.high, Some(last));
                 last
             };
-            segments.push(value_segment::<T>(alloc, Some(step.row), words, colour)?)?;
+            add_value::<T>(alloc, &mut segments, Some(step.row), words, colour)?;
         }
     }
     Ok(segments)
@@ -280,6 +292,26 @@ fn band_width(name: &str, segments: &[Segment]) -> u32 {
     LEAST_BAND.max(widest.saturating_add(16))
 }
 
+/// A band, from this place on.
+fn band_of<T: TextInteger>(
+    alloc: Global,
+    story: &Story<T>,
+    shown: Shown,
+    left: u32,
+) -> Result<Band, AllocError> {
+    let segments = match shown {
+        Shown::Word(word) => segments_of(alloc, story, word)?,
+        Shown::Value => values_of(alloc, story)?,
+    };
+    let width = band_width(band_name(&story.object, shown), &segments);
+    Ok(Band {
+        shown,
+        left,
+        width,
+        segments,
+    })
+}
+
 /// The bands, from this place on.
 fn bands_of<T: TextInteger>(
     alloc: Global,
@@ -289,18 +321,9 @@ fn bands_of<T: TextInteger>(
     let mut bands = Vec::new(alloc);
     let mut left = left;
     for shown in shown_of(&story.object) {
-        let segments = match *shown {
-            Shown::Word(word) => segments_of(alloc, story, word)?,
-            Shown::Value => values_of(alloc, story)?,
-        };
-        let width = band_width(band_name(&story.object, *shown), &segments);
-        bands.push(Band {
-            shown: *shown,
-            left,
-            width,
-            segments,
-        })?;
-        left = left.saturating_add(width).saturating_add(10);
+        let band = band_of(alloc, story, *shown, left)?;
+        left = left.saturating_add(band.width).saturating_add(10);
+        bands.push(band)?;
     }
     Ok(bands)
 }
@@ -311,17 +334,33 @@ fn step_width<T: TextInteger>(
     story: &Story<T>,
     step: &Step<T>,
 ) -> Result<u32, AllocError> {
-    let outcome = outcome_of(alloc, &step.event.then)?;
-    let outcome_width = text_width(&outcome);
+    let outcome_width = outcome_width(alloc, &step.event.then)?;
     let said_width = match (&step.event.act, &step.line) {
         // The call's name stands on the left, and its party on the right.
         (Act::Begun(_), Some(line)) => text_width(&line.words) + 70,
-        _ => {
-            let label = label_of(alloc, story, step)?;
-            text_width(&label) + 46
-        }
+        _ => label_width(alloc, story, step)? + 46,
     };
     Ok(said_width + outcome_width + 12)
+}
+
+/// How wide the words of what became of a call are.
+fn outcome_width<T: TextInteger>(alloc: Global, then: &Then<T>) -> Result<u32, AllocError>
+    ensures { IfOk result (λ width. width < 8000) }
+{
+    let outcome = outcome_of(alloc, then)?;
+    Ok(text_width(&outcome))
+}
+
+/// How wide the words of what a step did are.
+fn label_width<T: TextInteger>(
+    alloc: Global,
+    story: &Story<T>,
+    step: &Step<T>,
+) -> Result<u32, AllocError>
+    ensures { IfOk result (λ width. width < 8000) }
+{
+    let label = label_of(alloc, story, step)?;
+    Ok(text_width(&label))
 }
 
 /// How wide the boxes of a party are. `None` where it makes no step.
@@ -462,7 +501,7 @@ fn sights_of<T: Copy>(
     Ok(sights)
 }
 
-/// The lane of a party, from this place on.
+/// The lane of a party whose boxes are this wide, from this place on.
 fn lane_of<T: Copy>(
     alloc: Global,
     steps: &[Step<T>],
@@ -481,6 +520,21 @@ fn lane_of<T: Copy>(
     })
 }
 
+/// Adds the lane of a party that makes a step, from this place on, and tells where the next one begins.
+fn add_lane<T: TextInteger>(
+    alloc: Global,
+    lanes: &mut Vec<Lane>,
+    story: &Story<T>,
+    party: usize,
+    left: u32,
+) -> Result<u32, AllocError> {
+    let Some(width) = box_width(alloc, story, party)? else {
+        return Ok(left);
+    };
+    lanes.push(lane_of(alloc, &story.steps, party, left, width)?)?;
+    Ok(left.saturating_add(width).saturating_add(28))
+}
+
 /// The lanes, from this place on: one for each party that makes a step.
 fn lanes_of<T: TextInteger>(
     alloc: Global,
@@ -490,10 +544,7 @@ fn lanes_of<T: TextInteger>(
     let mut lanes = Vec::new(alloc);
     let mut left = left;
     for party in 0..story.parties {
-        if let Some(width) = box_width(alloc, story, party)? {
-            lanes.push(lane_of(alloc, &story.steps, party, left, width)?)?;
-            left = left.saturating_add(width).saturating_add(28);
-        }
+        left = add_lane(alloc, &mut lanes, story, party, left)?;
     }
     Ok(lanes)
 }

@@ -3,6 +3,7 @@ ghost use Rattle.std.specs.Prelude.{◌<◌, ◌^◌};
 
 use crate::shape::{circle, line, path, put, rect, text};
 use markup::markup::Markup;
+use markup::opening::Opening;
 use std::alloc::{AllocError, Global};
 
 /// A sign that a legend explains.
@@ -61,32 +62,30 @@ fn meaning(sign: Sign) -> &'static str {
 }
 
 /// The sign, 16 wide and 12 high.
-fn drawn(alloc: Global, sign: Sign, left: u64, top: u64) -> Result<Markup, AllocError>
+fn drawn(alloc: Global, sign: Sign, left: u64, top: u64) -> Result<Opening, AllocError>
     requires left_fits { left < 2 ^ 40 }
     requires top_fits { top < 2 ^ 42 }
 {
     let middle = top + 6;
     match sign {
-        Sign::Read => line(alloc, "read", (left, middle), (left + 16, middle))?.empty(),
-        Sign::Write | Sign::Wake => {
-            line(alloc, "write", (left, middle), (left + 16, middle))?.empty()
-        }
-        Sign::Look => circle(alloc, "look", left + 8, middle, 5)?.empty(),
-        Sign::Done => circle(alloc, "done", left + 8, middle, 5)?.empty(),
+        Sign::Read => line(alloc, "read", (left, middle), (left + 16, middle)),
+        Sign::Write | Sign::Wake => line(alloc, "write", (left, middle), (left + 16, middle)),
+        Sign::Look => circle(alloc, "look", left + 8, middle, 5),
+        Sign::Done => circle(alloc, "done", left + 8, middle, 5),
         Sign::Failed => cross(alloc, left + 8, middle),
-        Sign::Written => rect(alloc, "done", left + 3, top + 1, 10, 10)?.empty(),
-        Sign::Stand => rect(alloc, "stand", left, top, 16, 12)?.empty(),
-        Sign::WriteHold => rect(alloc, "writer", left + 5, top, 5, 12)?.empty(),
-        Sign::ReadHold => rect(alloc, "reader", left + 5, top, 5, 12)?.empty(),
-        Sign::Sight => circle(alloc, "last", left + 8, middle, 7)?.empty(),
-        Sign::Open => rect(alloc, "open", left, top, 16, 12)?.empty(),
+        Sign::Written => rect(alloc, "done", left + 3, top + 1, 10, 10),
+        Sign::Stand => rect(alloc, "stand", left, top, 16, 12),
+        Sign::WriteHold => rect(alloc, "writer", left + 5, top, 5, 12),
+        Sign::ReadHold => rect(alloc, "reader", left + 5, top, 5, 12),
+        Sign::Sight => circle(alloc, "last", left + 8, middle, 7),
+        Sign::Open => rect(alloc, "open", left, top, 16, 12),
     }
 }
 
 /// The cross of an exchange that failed, round a place.
-pub fn cross(alloc: Global, x: u64, y: u64) -> Result<Markup, AllocError> {
+pub fn cross(alloc: Global, x: u64, y: u64) -> Result<Opening, AllocError> {
     let outline = format!(in alloc; "M{x},{y}m-4,-4l8,8m0,-8l-8,8")?;
-    path(alloc, "failed", outline.as_str())?.empty()
+    path(alloc, "failed", outline.as_str())
 }
 
 /// Draws a sign and what it means.
@@ -100,10 +99,9 @@ fn draw_entry(
     requires left_fits { left < 2 ^ 40 }
     requires top_fits { top < 2 ^ 42 }
 {
-    let sign_drawn = drawn(alloc, sign, left, top)?;
-    put(picture, &sign_drawn)?;
+    put(picture, drawn(alloc, sign, left, top)?.empty()?)?;
     let words = text(alloc, "soft", left + 26, top + 10, meaning(sign))?;
-    put(picture, &words)
+    put(picture, words)
 }
 
 /// Draws the legend.

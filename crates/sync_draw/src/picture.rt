@@ -37,23 +37,44 @@ fn draw_line(
     row: u32,
 ) -> Result<(), AllocError> {
     let top = top_of(row);
-    let right = u64::from(layout.bands_left);
     if row > 0 {
-        let rule = line(alloc, "rule", (12, top), (right.saturating_sub(8), top))?.empty()?;
-        put(picture, &rule)?;
+        draw_rule(alloc, picture, layout, top)?;
     }
-    let number = line_of_text.number;
+    let baseline = top + 12;
+    draw_number(alloc, picture, line_of_text.number, baseline)?;
+    let words = line_of_text.words.as_str();
+    put(
+        picture,
+        text(alloc, "", u64::from(SCHEDULE), baseline, words)?,
+    )
+}
+
+/// Draws the rule above a line of the schedule.
+fn draw_rule(
+    alloc: Global,
+    picture: &mut Markup,
+    layout: &Layout,
+    top: u64,
+) -> Result<(), AllocError> {
+    let right = u64::from(layout.bands_left).saturating_sub(8);
+    put(
+        picture,
+        line(alloc, "rule", (12, top), (right, top))?.empty()?,
+    )
+}
+
+/// Draws the number of a line.
+fn draw_number(
+    alloc: Global,
+    picture: &mut Markup,
+    number: u64,
+    baseline: u64,
+) -> Result<(), AllocError> {
     let digits = format!(in alloc; "{number}")?;
-    let number = text(alloc, "soft end", 46, top + 12, digits.as_str())?;
-    put(picture, &number)?;
-    let words = text(
-        alloc,
-        "",
-        u64::from(SCHEDULE),
-        top + 12,
-        line_of_text.words.as_str(),
-    )?;
-    put(picture, &words)
+    put(
+        picture,
+        text(alloc, "soft end", 46, baseline, digits.as_str())?,
+    )
 }
 
 /// Draws the lines of the schedule.
@@ -104,7 +125,7 @@ fn draw_segment(
     let class = colour_class(segment.colour);
     let area = rect(alloc, class, left, top, width, bottom.saturating_sub(top))?;
     let area = titled(alloc, area, segment.title.as_str())?;
-    put(picture, &area)?;
+    put(picture, area)?;
     let words = text(
         alloc,
         "mid",
@@ -112,7 +133,7 @@ fn draw_segment(
         top + 15,
         segment.term.as_str(),
     )?;
-    put(picture, &words)
+    put(picture, words)
 }
 
 /// Draws a band.
@@ -125,8 +146,7 @@ fn draw_band<T: TextInteger>(
 ) -> Result<(), AllocError> {
     let middle = u64::from(band.left) + u64::from(band.width) / 2;
     let name = band_name(&story.object, band.shown);
-    let name = text(alloc, "soft mid", middle, 22, name)?;
-    put(picture, &name)?;
+    put(picture, text(alloc, "soft mid", middle, 22, name)?)?;
     for segment in &band.segments {
         draw_segment(alloc, picture, layout, band, segment)?;
     }
@@ -155,7 +175,7 @@ fn draw_call(
     )?
     .at(Key::Rounding, 6)?
     .empty()?;
-    put(picture, &area)
+    put(picture, area)
 }
 
 /// Draws a stand at a closure.
@@ -176,8 +196,7 @@ fn draw_stand(
         20,
         bottom.saturating_sub(top),
     )?;
-    let area = titled(alloc, area, "stands at its closure")?;
-    put(picture, &area)
+    put(picture, titled(alloc, area, "stands at its closure")?)
 }
 
 /// Draws a hold.
@@ -196,8 +215,7 @@ fn draw_hold(
     let bottom = layout.bottom_of(&hold.span, 8);
     let height = bottom.saturating_sub(top);
     let bar = rect(alloc, class, u64::from(lane.left), top, 5, height)?.at(Key::Rounding, 2)?;
-    let bar = titled(alloc, bar, title)?;
-    put(picture, &bar)
+    put(picture, titled(alloc, bar, title)?)
 }
 
 /// Draws the mark of a step, round its place.
@@ -205,10 +223,10 @@ fn draw_mark(alloc: Global, mark: Mark, x: u64, y: u64) -> Result<Markup, AllocE
     requires x_fits { x < 2 ^ 40 }
     requires y_fits { y < 2 ^ 42 }
 {
-    match mark {
-        Mark::None => Ok(Markup::new(alloc)),
-        Mark::Look => circle(alloc, "look", x, y, 5)?.empty(),
-        Mark::Done => circle(alloc, "done", x, y, 5)?.empty(),
+    let drawn = match mark {
+        Mark::None => return Ok(Markup::new(alloc)),
+        Mark::Look => circle(alloc, "look", x, y, 5),
+        Mark::Done => circle(alloc, "done", x, y, 5),
         Mark::Failed => cross(alloc, x, y),
         Mark::Written => rect(
             alloc,
@@ -217,10 +235,10 @@ fn draw_mark(alloc: Global, mark: Mark, x: u64, y: u64) -> Result<Markup, AllocE
             y.saturating_sub(5),
             10,
             10,
-        )?
-        .empty(),
-        Mark::Wake => line(alloc, "wake", (x, y), (x + 20, y))?.empty(),
-    }
+        ),
+        Mark::Wake => line(alloc, "wake", (x, y), (x + 20, y)),
+    };
+    drawn?.empty()
 }
 
 /// Draws the way from a step to the word that it reads or writes.
@@ -236,8 +254,7 @@ fn draw_reach(
 {
     let class = if reach.writes { "write" } else { "read" };
     let to = layout.right_of(reach.word) + 2;
-    let way = line(alloc, class, (x, y), (to, y))?.empty()?;
-    put(picture, &way)
+    put(picture, line(alloc, class, (x, y), (to, y))?.empty()?)
 }
 
 fn tone_class(tone: Option<Tone>) -> &'static str {
@@ -249,8 +266,8 @@ fn tone_class(tone: Option<Tone>) -> &'static str {
     }
 }
 
-/// Draws what a step says: what it did, and what became of the call.
-fn draw_words<T: TextInteger>(
+/// Draws what a step did.
+fn draw_label<T: TextInteger>(
     alloc: Global,
     picture: &mut Markup,
     story: &Story<T>,
@@ -258,15 +275,25 @@ fn draw_words<T: TextInteger>(
     step: &Step<T>,
 ) -> Result<(), AllocError> {
     let baseline = top_of(step.row) + 12;
-    let label = label_of(alloc, story, step)?;
     // A wake's arrow is longer than a mark.
     let indent = if mark_of(&step.event.act) == Mark::Wake {
         40
     } else {
         28
     };
+    let label = label_of(alloc, story, step)?;
     let words = text(alloc, "", lane.start() + indent, baseline, label.as_str())?;
-    put(picture, &words)?;
+    put(picture, words)
+}
+
+/// Draws what became of a step's call.
+fn draw_outcome<T: TextInteger>(
+    alloc: Global,
+    picture: &mut Markup,
+    lane: &Lane,
+    step: &Step<T>,
+) -> Result<(), AllocError> {
+    let baseline = top_of(step.row) + 12;
     let outcome = outcome_of(alloc, &step.event.then)?;
     if outcome.is_empty() {
         return Ok(());
@@ -279,7 +306,7 @@ fn draw_words<T: TextInteger>(
         baseline,
         outcome.as_str(),
     )?;
-    put(picture, &words)
+    put(picture, words)
 }
 
 /// Draws the head of a call: its words in the text, without the party's number, and the party.
@@ -293,19 +320,27 @@ fn draw_head<T: TextInteger>(
     if let Some(line) = &step.line
         && let Some((_, call)) = line.words.as_str().split_once(' ')
     {
-        let words = text(alloc, "head", lane.start() + 10, baseline, call)?;
-        put(picture, &words)?;
+        put(
+            picture,
+            text(alloc, "head", lane.start() + 10, baseline, call)?,
+        )?;
     }
+    let right = lane.end().saturating_sub(8);
+    draw_party(alloc, picture, lane, "soft end", right, baseline)
+}
+
+/// Draws which party a lane is of.
+fn draw_party(
+    alloc: Global,
+    picture: &mut Markup,
+    lane: &Lane,
+    class: &str,
+    x: u64,
+    baseline: u64,
+) -> Result<(), AllocError> {
     let party = lane.party as u128 + 1;
-    let party = format!(in alloc; "party {party}")?;
-    let words = text(
-        alloc,
-        "soft end",
-        lane.end().saturating_sub(8),
-        baseline,
-        party.as_str(),
-    )?;
-    put(picture, &words)
+    let name = format!(in alloc; "party {party}")?;
+    put(picture, text(alloc, class, x, baseline, name.as_str())?)
 }
 
 /// Draws a step in the lane of its party: the head of a call, or the way to a word, a mark and words.
@@ -325,9 +360,9 @@ fn draw_in_lane<T: TextInteger>(
     if let Some(reach) = reach_of(&step.event.act) {
         draw_reach(alloc, picture, layout, reach, x, y)?;
     }
-    let mark = draw_mark(alloc, mark_of(&step.event.act), x, y)?;
-    put(picture, &mark)?;
-    draw_words(alloc, picture, story, lane, step)
+    put(picture, draw_mark(alloc, mark_of(&step.event.act), x, y)?)?;
+    draw_label(alloc, picture, story, lane, step)?;
+    draw_outcome(alloc, picture, lane, step)
 }
 
 /// Draws a step, with the row of the trace as its title.
@@ -373,16 +408,25 @@ fn draw_lane(
     layout: &Layout,
     lane: &Lane,
 ) -> Result<(), AllocError> {
+    draw_party(alloc, picture, lane, "head", lane.start() + 10, 22)?;
     let x = lane.middle();
-    let party = lane.party as u128 + 1;
-    let name = format!(in alloc; "party {party}")?;
-    let name = text(alloc, "head", lane.start() + 10, 22, name.as_str())?;
-    put(picture, &name)?;
     let way = line(alloc, "lane", (x, 30), (x, layout.bottom()))?.empty()?;
-    put(picture, &way)
+    put(picture, way)
 }
 
-/// Draws a party's calls, stands and holds.
+/// Draws a ring round what a refused call saw last.
+fn draw_sight(
+    alloc: Global,
+    picture: &mut Markup,
+    lane: &Lane,
+    row: u32,
+) -> Result<(), AllocError> {
+    let ring = circle(alloc, "last", lane.middle(), top_of(row) + 8, 8)?;
+    let ring = titled(alloc, ring, "what the call saw last before it was refused")?;
+    put(picture, ring)
+}
+
+/// Draws a party's calls, stands, holds and sights.
 fn draw_spans(
     alloc: Global,
     picture: &mut Markup,
@@ -399,10 +443,7 @@ fn draw_spans(
         draw_hold(alloc, picture, layout, lane, hold)?;
     }
     for row in &lane.sights {
-        let x = lane.middle();
-        let ring = circle(alloc, "last", x, top_of(*row) + 8, 8)?;
-        let ring = titled(alloc, ring, "what the call saw last before it was refused")?;
-        put(picture, &ring)?;
+        draw_sight(alloc, picture, lane, *row)?;
     }
     Ok(())
 }
@@ -412,6 +453,28 @@ fn idle_count<T: TextInteger>(story: &Story<T>, layout: &Layout) -> usize {
     story.parties.saturating_sub(layout.lanes.len())
 }
 
+/// Says how many parties have no lane, where there are some.
+fn say_idle(note: &mut String, idle: usize) -> Result<(), AllocError> {
+    if idle == 0 {
+        return Ok(());
+    }
+    write!(
+        note,
+        "Without a step, and so without a lane: {idle} of the parties. "
+    )
+}
+
+/// Says how many steps are not drawn, where there are some.
+fn say_undrawn(note: &mut String, count: u64) -> Result<(), AllocError> {
+    if count == 0 {
+        return Ok(());
+    }
+    write!(
+        note,
+        "Not drawn: {count} steps after the first {MOST_STEPS} rows."
+    )
+}
+
 /// What the picture leaves out; nothing where it leaves nothing out.
 fn left_out<T: TextInteger>(
     alloc: Global,
@@ -419,20 +482,8 @@ fn left_out<T: TextInteger>(
     layout: &Layout,
 ) -> Result<String, AllocError> {
     let mut note = String::new(alloc);
-    let idle = idle_count(story, layout);
-    if idle > 0 {
-        write!(
-            note,
-            "Without a step, and so without a lane: {idle} of the parties. "
-        )?;
-    }
-    if story.left_out > 0 {
-        let count = story.left_out;
-        write!(
-            note,
-            "Not drawn: {count} steps after the first {MOST_STEPS} rows."
-        )?;
-    }
+    say_idle(&mut note, idle_count(story, layout))?;
+    say_undrawn(&mut note, story.left_out)?;
     Ok(note)
 }
 
@@ -451,13 +502,70 @@ fn draw_notes<T: TextInteger>(
         bottom + 26,
         story.last.as_str().trim_end(),
     )?;
-    put(picture, &words)?;
+    put(picture, words)?;
     let note = left_out(alloc, story, layout)?;
     if note.is_empty() {
         return Ok(());
     }
     let words = text(alloc, "waiting", 12, bottom + 46, note.as_str())?;
-    put(picture, &words)
+    put(picture, words)
+}
+
+/// Draws the name of the picture, which a browser shows, and what all else refers to.
+fn draw_name(alloc: Global, picture: &mut Markup, title: &str) -> Result<(), AllocError> {
+    picture.say("\n")?;
+    let name = Opening::new(alloc, Tag::Title)?.saying(title)?;
+    put(picture, name)?;
+    draw_style(alloc, picture)
+}
+
+/// Draws the paper, and the first line of the text on it.
+fn draw_paper(
+    alloc: Global,
+    picture: &mut Markup,
+    title: &str,
+    layout: &Layout,
+) -> Result<(), AllocError> {
+    let width = u64::from(layout.width);
+    let paper = rect(alloc, "paper", 0, 0, width, height_of(layout))?.empty()?;
+    put(picture, paper)?;
+    put(picture, text(alloc, "head", 12, 22, title)?)
+}
+
+/// Draws the lanes, and on them what the parties did.
+fn draw_lanes(alloc: Global, picture: &mut Markup, layout: &Layout) -> Result<(), AllocError> {
+    for lane in &layout.lanes {
+        draw_lane(alloc, picture, layout, lane)?;
+    }
+    for lane in &layout.lanes {
+        draw_spans(alloc, picture, layout, lane)?;
+    }
+    Ok(())
+}
+
+/// Draws the bands.
+fn draw_bands<T: TextInteger>(
+    alloc: Global,
+    picture: &mut Markup,
+    story: &Story<T>,
+    layout: &Layout,
+) -> Result<(), AllocError> {
+    for band in &layout.bands {
+        draw_band(alloc, picture, story, layout, band)?;
+    }
+    Ok(())
+}
+
+/// Draws the columns: the schedule, the lanes and the bands.
+fn draw_columns<T: TextInteger>(
+    alloc: Global,
+    picture: &mut Markup,
+    story: &Story<T>,
+    layout: &Layout,
+) -> Result<(), AllocError> {
+    draw_schedule(alloc, picture, story, layout)?;
+    draw_lanes(alloc, picture, layout)?;
+    draw_bands(alloc, picture, story, layout)
 }
 
 /// Draws what the steps stand on.
@@ -467,32 +575,9 @@ fn draw_ground<T: TextInteger>(
     layout: &Layout,
 ) -> Result<Markup, AllocError> {
     let mut picture = Markup::new(alloc);
-    picture.say("\n")?;
-    let name = Opening::new(alloc, Tag::Title)?.saying(story.title.as_str())?;
-    put(&mut picture, &name)?;
-    draw_style(alloc, &mut picture)?;
-    let paper = rect(
-        alloc,
-        "paper",
-        0,
-        0,
-        u64::from(layout.width),
-        height_of(layout),
-    )?
-    .empty()?;
-    put(&mut picture, &paper)?;
-    let title = text(alloc, "head", 12, 22, story.title.as_str())?;
-    put(&mut picture, &title)?;
-    draw_schedule(alloc, &mut picture, story, layout)?;
-    for lane in &layout.lanes {
-        draw_lane(alloc, &mut picture, layout, lane)?;
-    }
-    for lane in &layout.lanes {
-        draw_spans(alloc, &mut picture, layout, lane)?;
-    }
-    for band in &layout.bands {
-        draw_band(alloc, &mut picture, story, layout, band)?;
-    }
+    draw_name(alloc, &mut picture, story.title.as_str())?;
+    draw_paper(alloc, &mut picture, story.title.as_str(), layout)?;
+    draw_columns(alloc, &mut picture, story, layout)?;
     Ok(picture)
 }
 
@@ -535,11 +620,21 @@ pub fn draw<T: TextInteger>(alloc: Global, story: &Story<T>) -> Result<Vec<u8>, 
     ensures { IfOk result (λ bytes. IsPicture (step_titles story.now.steps.items) bytes.items) }
 {
     let layout = Layout::of(alloc, story)?;
-    let ground = draw_ground(alloc, story, &layout)?;
-    let steps = draw_steps(alloc, story, &layout)?;
-    let foot = draw_foot(alloc, story, &layout)?;
-    let picture = frame(alloc, &layout)?;
-    document(picture, &ground, &steps, &foot)
+    draw_by(alloc, story, &layout)
+}
+
+/// The picture of a story, by its layout.
+fn draw_by<T: TextInteger>(
+    alloc: Global,
+    story: &Story<T>,
+    layout: &Layout,
+) -> Result<Vec<u8>, AllocError>
+    ensures { IfOk result (λ bytes. IsPicture (step_titles story.now.steps.items) bytes.items) }
+{
+    let steps = draw_steps(alloc, story, layout)?;
+    let ground = draw_ground(alloc, story, layout)?;
+    let foot = draw_foot(alloc, story, layout)?;
+    document(frame(alloc, layout)?, &ground, &steps, &foot)
 }
 
 /// The bytes of a whole picture.

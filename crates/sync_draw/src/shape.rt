@@ -74,7 +74,7 @@ pub fn titled(alloc: Global, opening: Opening, title: &str) -> Result<Markup, Al
 }
 
 /// An element more, on a line of its own.
-pub fn put(picture: &mut Markup, element: &Markup) -> Result<(), AllocError> {
-    picture.add(element)?;
+pub fn put(picture: &mut Markup, element: Markup) -> Result<(), AllocError> {
+    picture.add(&element)?;
     picture.say("\n")
 }

@@ -31,37 +31,34 @@ fn style(alloc: Global) -> Result<Markup, AllocError> {
 
 /// The hatch of a stand.
 fn hatch(alloc: Global) -> Result<Markup, AllocError> {
-    let stroke = line(alloc, "hatch", (0, 0), (0, 6))?.empty()?;
-    Opening::new(alloc, Tag::Pattern)?
+    let pattern = Opening::new(alloc, Tag::Pattern)?
         .with(Key::Id, "hatch")?
         .at(Key::Width, 6)?
         .at(Key::Height, 6)?
         .with(Key::Units, "userSpaceOnUse")?
-        .with(Key::Transform, "rotate(45)")?
-        .around(&stroke)
+        .with(Key::Transform, "rotate(45)")?;
+    let stroke = line(alloc, "hatch", (0, 0), (0, 6))?.empty()?;
+    pattern.around(&stroke)
 }
 
 /// The tip of an arrow.
 fn tip(alloc: Global) -> Result<Markup, AllocError> {
-    let outline = path(alloc, "tip", "M0,0L8,4L0,8z")?.empty()?;
-    Opening::new(alloc, Tag::Marker)?
+    let marker = Opening::new(alloc, Tag::Marker)?
         .with(Key::Id, "tip")?
         .with(Key::ViewBox, "0 0 8 8")?
         .at(Key::RefX, 7)?
         .at(Key::RefY, 4)?
         .at(Key::MarkerWidth, 7)?
         .at(Key::MarkerHeight, 7)?
-        .with(Key::Orient, "auto")?
-        .around(&outline)
+        .with(Key::Orient, "auto")?;
+    let outline = path(alloc, "tip", "M0,0L8,4L0,8z")?.empty()?;
+    marker.around(&outline)
 }
 
 /// Draws what all else refers to.
 pub fn draw_style(alloc: Global, picture: &mut Markup) -> Result<(), AllocError> {
-    let style = style(alloc)?;
-    put(picture, &style)?;
+    put(picture, style(alloc)?)?;
     let mut both = hatch(alloc)?;
-    let tip = tip(alloc)?;
-    both.add(&tip)?;
-    let definitions = Opening::new(alloc, Tag::Defs)?.around(&both)?;
-    put(picture, &definitions)
+    both.add(&tip(alloc)?)?;
+    put(picture, Opening::new(alloc, Tag::Defs)?.around(&both)?)
 }
