@@ -227,19 +227,23 @@ pub fn label_of<T: TextInteger>(
     Ok(out)
 }
 
+/// Says how the call of a step then stands, or what it answers.
+fn say_outcome<T: TextInteger>(out: &mut String, then: &Then<T>) -> Result<(), AllocError> {
+    match *then {
+        Then::GoesOn => Ok(()),
+        Then::Waits(_) | Then::Chooses(_) => out.push_str("stands"),
+        Then::Answers(answer) => {
+            if tone_of(then) == Some(Tone::Refused) {
+                out.push_str("✕ ")?;
+            }
+            print_answer(out, answer)
+        }
+    }
+}
+
 /// How the call of a step then stands, or what it answers; nothing where it goes on.
 pub fn outcome_of<T: TextInteger>(alloc: Global, then: &Then<T>) -> Result<String, AllocError> {
     let mut out = String::new(alloc);
-    match *then {
-        Then::GoesOn => {}
-        Then::Waits(_) | Then::Chooses(_) => write!(out, "stands")?,
-        Then::Answers(answer) => {
-            match tone_of(then) {
-                Some(Tone::Refused) => write!(out, "✕ ")?,
-                Some(Tone::Granted) | Some(Tone::Waiting) | None => {}
-            }
-            print_answer(&mut out, answer)?;
-        }
-    }
+    say_outcome(&mut out, then)?;
     Ok(out)
 }

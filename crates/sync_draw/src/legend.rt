@@ -1,7 +1,7 @@
 //! What the signs of a picture mean.
 ghost use Rattle.std.specs.Prelude.{◌<◌, ◌^◌};
 
-use crate::shape::{circle, line, path, put, rect, text};
+use crate::shape::{circle, line, path, put_shape, put_text, rect};
 use markup::markup::Markup;
 use markup::opening::Opening;
 use std::alloc::{AllocError, Global};
@@ -99,9 +99,8 @@ fn draw_entry(
     requires left_fits { left < 2 ^ 40 }
     requires top_fits { top < 2 ^ 42 }
 {
-    put(picture, drawn(alloc, sign, left, top)?.empty()?)?;
-    let words = text(alloc, "soft", left + 26, top + 10, meaning(sign))?;
-    put(picture, words)
+    put_shape(picture, drawn(alloc, sign, left, top)?)?;
+    put_text(alloc, picture, "soft", left + 26, top + 10, meaning(sign))
 }
 
 /// Draws the legend.

@@ -10,7 +10,7 @@ ghost use Rattle.sync_draw.specs.Picture.{step_titles, IsPicture, IsTypedPicture
 use crate::label::{Mark, Reach, Tone, label_of, mark_of, outcome_of, reach_of, tone_of};
 use crate::layout::{Band, Colour, Hold, Lane, Layout, SCHEDULE, Segment, Span, top_of};
 use crate::legend::{LEGEND_HEIGHT, cross, draw_legend};
-use crate::shape::{circle, line, put, rect, text, titled};
+use crate::shape::{circle, line, put, put_shape, put_text, put_titled, rect};
 use crate::story::{Line, MOST_STEPS, Step, Story, play};
 use crate::style::draw_style;
 use crate::terms::band_name;
@@ -37,30 +37,14 @@ fn draw_line(
     row: u32,
 ) -> Result<(), AllocError> {
     let top = top_of(row);
+    let right = u64::from(layout.bands_left).saturating_sub(8);
     if row > 0 {
-        draw_rule(alloc, picture, layout, top)?;
+        put_shape(picture, line(alloc, "rule", (12, top), (right, top))?)?;
     }
     let baseline = top + 12;
     draw_number(alloc, picture, line_of_text.number, baseline)?;
     let words = line_of_text.words.as_str();
-    put(
-        picture,
-        text(alloc, "", u64::from(SCHEDULE), baseline, words)?,
-    )
-}
-
-/// Draws the rule above a line of the schedule.
-fn draw_rule(
-    alloc: Global,
-    picture: &mut Markup,
-    layout: &Layout,
-    top: u64,
-) -> Result<(), AllocError> {
-    let right = u64::from(layout.bands_left).saturating_sub(8);
-    put(
-        picture,
-        line(alloc, "rule", (12, top), (right, top))?.empty()?,
-    )
+    put_text(alloc, picture, "", u64::from(SCHEDULE), baseline, words)
 }
 
 /// Draws the number of a line.
@@ -71,10 +55,7 @@ fn draw_number(
     baseline: u64,
 ) -> Result<(), AllocError> {
     let digits = format!(in alloc; "{number}")?;
-    put(
-        picture,
-        text(alloc, "soft end", 46, baseline, digits.as_str())?,
-    )
+    put_text(alloc, picture, "soft end", 46, baseline, digits.as_str())
 }
 
 /// Draws the lines of the schedule.
@@ -124,16 +105,9 @@ fn draw_segment(
     let width = u64::from(band.width);
     let class = colour_class(segment.colour);
     let area = rect(alloc, class, left, top, width, bottom.saturating_sub(top))?;
-    let area = titled(alloc, area, segment.title.as_str())?;
-    put(picture, area)?;
-    let words = text(
-        alloc,
-        "mid",
-        left + width / 2,
-        top + 15,
-        segment.term.as_str(),
-    )?;
-    put(picture, words)
+    put_titled(alloc, picture, area, segment.title.as_str())?;
+    let term = segment.term.as_str();
+    put_text(alloc, picture, "mid", left + width / 2, top + 15, term)
 }
 
 /// Draws a band.
@@ -146,7 +120,7 @@ fn draw_band<T: TextInteger>(
 ) -> Result<(), AllocError> {
     let middle = u64::from(band.left) + u64::from(band.width) / 2;
     let name = band_name(&story.object, band.shown);
-    put(picture, text(alloc, "soft mid", middle, 22, name)?)?;
+    put_text(alloc, picture, "soft mid", middle, 22, name)?;
     for segment in &band.segments {
         draw_segment(alloc, picture, layout, band, segment)?;
     }
@@ -173,9 +147,8 @@ fn draw_call(
         u64::from(lane.width),
         height,
     )?
-    .at(Key::Rounding, 6)?
-    .empty()?;
-    put(picture, area)
+    .at(Key::Rounding, 6)?;
+    put_shape(picture, area)
 }
 
 /// Draws a stand at a closure.
@@ -196,7 +169,7 @@ fn draw_stand(
         20,
         bottom.saturating_sub(top),
     )?;
-    put(picture, titled(alloc, area, "stands at its closure")?)
+    put_titled(alloc, picture, area, "stands at its closure")
 }
 
 /// Draws a hold.
@@ -215,16 +188,22 @@ fn draw_hold(
     let bottom = layout.bottom_of(&hold.span, 8);
     let height = bottom.saturating_sub(top);
     let bar = rect(alloc, class, u64::from(lane.left), top, 5, height)?.at(Key::Rounding, 2)?;
-    put(picture, titled(alloc, bar, title)?)
+    put_titled(alloc, picture, bar, title)
 }
 
 /// Draws the mark of a step, round its place.
-fn draw_mark(alloc: Global, mark: Mark, x: u64, y: u64) -> Result<Markup, AllocError>
+fn draw_mark(
+    alloc: Global,
+    picture: &mut Markup,
+    mark: Mark,
+    x: u64,
+    y: u64,
+) -> Result<(), AllocError>
     requires x_fits { x < 2 ^ 40 }
     requires y_fits { y < 2 ^ 42 }
 {
     let drawn = match mark {
-        Mark::None => return Ok(Markup::new(alloc)),
+        Mark::None => return Ok(()),
         Mark::Look => circle(alloc, "look", x, y, 5),
         Mark::Done => circle(alloc, "done", x, y, 5),
         Mark::Failed => cross(alloc, x, y),
@@ -238,7 +217,7 @@ fn draw_mark(alloc: Global, mark: Mark, x: u64, y: u64) -> Result<Markup, AllocE
         ),
         Mark::Wake => line(alloc, "wake", (x, y), (x + 20, y)),
     };
-    drawn?.empty()
+    put_shape(picture, drawn?)
 }
 
 /// Draws the way from a step to the word that it reads or writes.
@@ -254,7 +233,7 @@ fn draw_reach(
 {
     let class = if reach.writes { "write" } else { "read" };
     let to = layout.right_of(reach.word) + 2;
-    put(picture, line(alloc, class, (x, y), (to, y))?.empty()?)
+    put_shape(picture, line(alloc, class, (x, y), (to, y))?)
 }
 
 fn tone_class(tone: Option<Tone>) -> &'static str {
@@ -282,8 +261,8 @@ fn draw_label<T: TextInteger>(
         28
     };
     let label = label_of(alloc, story, step)?;
-    let words = text(alloc, "", lane.start() + indent, baseline, label.as_str())?;
-    put(picture, words)
+    let x = lane.start() + indent;
+    put_text(alloc, picture, "", x, baseline, label.as_str())
 }
 
 /// Draws what became of a step's call.
@@ -299,14 +278,8 @@ fn draw_outcome<T: TextInteger>(
         return Ok(());
     }
     let class = tone_class(tone_of(&step.event.then));
-    let words = text(
-        alloc,
-        class,
-        lane.end().saturating_sub(8),
-        baseline,
-        outcome.as_str(),
-    )?;
-    put(picture, words)
+    let right = lane.end().saturating_sub(8);
+    put_text(alloc, picture, class, right, baseline, outcome.as_str())
 }
 
 /// Draws the head of a call: its words in the text, without the party's number, and the party.
@@ -320,10 +293,7 @@ fn draw_head<T: TextInteger>(
     if let Some(line) = &step.line
         && let Some((_, call)) = line.words.as_str().split_once(' ')
     {
-        put(
-            picture,
-            text(alloc, "head", lane.start() + 10, baseline, call)?,
-        )?;
+        put_text(alloc, picture, "head", lane.start() + 10, baseline, call)?;
     }
     let right = lane.end().saturating_sub(8);
     draw_party(alloc, picture, lane, "soft end", right, baseline)
@@ -340,7 +310,7 @@ fn draw_party(
 ) -> Result<(), AllocError> {
     let party = lane.party as u128 + 1;
     let name = format!(in alloc; "party {party}")?;
-    put(picture, text(alloc, class, x, baseline, name.as_str())?)
+    put_text(alloc, picture, class, x, baseline, name.as_str())
 }
 
 /// Draws a step in the lane of its party: the head of a call, or the way to a word, a mark and words.
@@ -360,9 +330,24 @@ fn draw_in_lane<T: TextInteger>(
     if let Some(reach) = reach_of(&step.event.act) {
         draw_reach(alloc, picture, layout, reach, x, y)?;
     }
-    put(picture, draw_mark(alloc, mark_of(&step.event.act), x, y)?)?;
+    draw_mark(alloc, picture, mark_of(&step.event.act), x, y)?;
     draw_label(alloc, picture, story, lane, step)?;
     draw_outcome(alloc, picture, lane, step)
+}
+
+/// Draws all that a step's group has inside.
+fn draw_inside<T: TextInteger>(
+    alloc: Global,
+    inside: &mut Markup,
+    story: &Story<T>,
+    layout: &Layout,
+    step: &Step<T>,
+) -> Result<(), AllocError> {
+    inside.say("\n")?;
+    match layout.lane_of(step.event.party) {
+        Some(lane) => draw_in_lane(alloc, inside, story, layout, lane, step),
+        None => Ok(()),
+    }
 }
 
 /// Draws a step, with the row of the trace as its title.
@@ -375,10 +360,7 @@ fn draw_step<'s, T: TextInteger>(
     ensures { IfOk result (λ group. group.title.now ≡ string_bytes step.now.title) }
 {
     let mut inside = Markup::new(alloc);
-    inside.say("\n")?;
-    if let Some(lane) = layout.lane_of(step.event.party) {
-        draw_in_lane(alloc, &mut inside, story, layout, lane, step)?;
-    }
+    draw_inside(alloc, &mut inside, story, layout, step)?;
     Ok(Group {
         title: step.title.as_str(),
         inside,
@@ -410,8 +392,8 @@ fn draw_lane(
 ) -> Result<(), AllocError> {
     draw_party(alloc, picture, lane, "head", lane.start() + 10, 22)?;
     let x = lane.middle();
-    let way = line(alloc, "lane", (x, 30), (x, layout.bottom()))?.empty()?;
-    put(picture, way)
+    let way = line(alloc, "lane", (x, 30), (x, layout.bottom()))?;
+    put_shape(picture, way)
 }
 
 /// Draws a ring round what a refused call saw last.
@@ -422,8 +404,8 @@ fn draw_sight(
     row: u32,
 ) -> Result<(), AllocError> {
     let ring = circle(alloc, "last", lane.middle(), top_of(row) + 8, 8)?;
-    let ring = titled(alloc, ring, "what the call saw last before it was refused")?;
-    put(picture, ring)
+    let title = "what the call saw last before it was refused";
+    put_titled(alloc, picture, ring, title)
 }
 
 /// Draws a party's calls, stands, holds and sights.
@@ -495,20 +477,13 @@ fn draw_notes<T: TextInteger>(
     layout: &Layout,
 ) -> Result<(), AllocError> {
     let bottom = layout.bottom();
-    let words = text(
-        alloc,
-        "soft",
-        12,
-        bottom + 26,
-        story.last.as_str().trim_end(),
-    )?;
-    put(picture, words)?;
+    let last = story.last.as_str().trim_end();
+    put_text(alloc, picture, "soft", 12, bottom + 26, last)?;
     let note = left_out(alloc, story, layout)?;
     if note.is_empty() {
         return Ok(());
     }
-    let words = text(alloc, "waiting", 12, bottom + 46, note.as_str())?;
-    put(picture, words)
+    put_text(alloc, picture, "waiting", 12, bottom + 46, note.as_str())
 }
 
 /// Draws the name of the picture, which a browser shows, and what all else refers to.
@@ -527,9 +502,9 @@ fn draw_paper(
     layout: &Layout,
 ) -> Result<(), AllocError> {
     let width = u64::from(layout.width);
-    let paper = rect(alloc, "paper", 0, 0, width, height_of(layout))?.empty()?;
-    put(picture, paper)?;
-    put(picture, text(alloc, "head", 12, 22, title)?)
+    let paper = rect(alloc, "paper", 0, 0, width, height_of(layout))?;
+    put_shape(picture, paper)?;
+    put_text(alloc, picture, "head", 12, 22, title)
 }
 
 /// Draws the lanes, and on them what the parties did.

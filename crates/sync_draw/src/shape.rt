@@ -59,22 +59,43 @@ pub fn path(alloc: Global, class: &str, outline: &str) -> Result<Opening, AllocE
 }
 
 /// Words at a place.
-pub fn text(alloc: Global, class: &str, x: u64, y: u64, words: &str) -> Result<Markup, AllocError> {
+fn text(alloc: Global, class: &str, x: u64, y: u64) -> Result<Opening, AllocError> {
     Opening::new(alloc, Tag::Text)?
         .with(Key::Class, class)?
         .at(Key::X, x)?
-        .at(Key::Y, y)?
-        .saying(words)
+        .at(Key::Y, y)
 }
 
-/// An element with a title, which a browser shows where one points at it.
-pub fn titled(alloc: Global, opening: Opening, title: &str) -> Result<Markup, AllocError> {
-    let title = Opening::new(alloc, Tag::Title)?.saying(title)?;
-    opening.around(&title)
-}
-
-/// An element more, on a line of its own.
+/// Puts an element into a picture, on a line of its own.
 pub fn put(picture: &mut Markup, element: Markup) -> Result<(), AllocError> {
     picture.add(&element)?;
     picture.say("\n")
+}
+
+/// Puts an element with nothing inside into a picture.
+pub fn put_shape(picture: &mut Markup, shape: Opening) -> Result<(), AllocError> {
+    put(picture, shape.empty()?)
+}
+
+/// Puts an element with a title into a picture, which a browser shows where one points at it.
+pub fn put_titled(
+    alloc: Global,
+    picture: &mut Markup,
+    shape: Opening,
+    title: &str,
+) -> Result<(), AllocError> {
+    let title = Opening::new(alloc, Tag::Title)?.saying(title)?;
+    put(picture, shape.around(&title)?)
+}
+
+/// Puts words at a place of a picture.
+pub fn put_text(
+    alloc: Global,
+    picture: &mut Markup,
+    class: &str,
+    x: u64,
+    y: u64,
+    words: &str,
+) -> Result<(), AllocError> {
+    put(picture, text(alloc, class, x, y)?.saying(words)?)
 }

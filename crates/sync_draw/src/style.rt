@@ -55,10 +55,15 @@ fn tip(alloc: Global) -> Result<Markup, AllocError> {
     marker.around(&outline)
 }
 
+/// The hatch and the tip, which other elements name.
+fn definitions(alloc: Global) -> Result<Markup, AllocError> {
+    let mut both = hatch(alloc)?;
+    both.add(&tip(alloc)?)?;
+    Opening::new(alloc, Tag::Defs)?.around(&both)
+}
+
 /// Draws what all else refers to.
 pub fn draw_style(alloc: Global, picture: &mut Markup) -> Result<(), AllocError> {
     put(picture, style(alloc)?)?;
-    let mut both = hatch(alloc)?;
-    both.add(&tip(alloc)?)?;
-    put(picture, Opening::new(alloc, Tag::Defs)?.around(&both)?)
+    put(picture, definitions(alloc)?)
 }
