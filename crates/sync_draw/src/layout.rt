@@ -105,6 +105,7 @@ pub enum Colour {
 #[derive(Drop)]
 pub struct Band {
     pub shown: Shown,
+    pub name: &'static str,
     pub left: u32,
     pub width: u32,
     pub segments: Vec<Segment>,
@@ -303,9 +304,11 @@ fn band_of<T: TextInteger>(
         Shown::Word(word) => segments_of(alloc, story, word)?,
         Shown::Value => values_of(alloc, story)?,
     };
-    let width = band_width(band_name(&story.object, shown), &segments);
+    let name = band_name(&story.object, shown);
+    let width = band_width(name, &segments);
     Ok(Band {
         shown,
+        name,
         left,
         width,
         segments,
@@ -550,7 +553,7 @@ fn lanes_of<T: TextInteger>(
 }
 
 /// How wide the words of the schedule's lines are.
-fn schedule_width<T: Copy>(story: &Story<T>) -> u32 {
+fn schedule_width<T>(story: &Story<T>) -> u32 {
     let mut widest = 0;
     for step in &story.steps {
         if let Some(line) = &step.line {

@@ -13,7 +13,6 @@ use crate::legend::{LEGEND_HEIGHT, cross, draw_legend};
 use crate::shape::{circle, line, put, put_shape, put_text, put_titled, rect};
 use crate::story::{Line, MOST_STEPS, Step, Story, play};
 use crate::style::draw_style;
-use crate::terms::band_name;
 use markup::group::Group;
 use markup::markup::Markup;
 use markup::name::{Key, Tag};
@@ -59,7 +58,7 @@ fn draw_number(
 }
 
 /// Draws the lines of the schedule.
-fn draw_schedule<T: TextInteger>(
+fn draw_schedule<T>(
     alloc: Global,
     picture: &mut Markup,
     story: &Story<T>,
@@ -111,16 +110,14 @@ fn draw_segment(
 }
 
 /// Draws a band.
-fn draw_band<T: TextInteger>(
+fn draw_band(
     alloc: Global,
     picture: &mut Markup,
-    story: &Story<T>,
     layout: &Layout,
     band: &Band,
 ) -> Result<(), AllocError> {
     let middle = u64::from(band.left) + u64::from(band.width) / 2;
-    let name = band_name(&story.object, band.shown);
-    put_text(alloc, picture, "soft mid", middle, 22, name)?;
+    put_text(alloc, picture, "soft mid", middle, 22, band.name)?;
     for segment in &band.segments {
         draw_segment(alloc, picture, layout, band, segment)?;
     }
@@ -283,7 +280,7 @@ fn draw_outcome<T: TextInteger>(
 }
 
 /// Draws the head of a call: its words in the text, without the party's number, and the party.
-fn draw_head<T: TextInteger>(
+fn draw_head<T>(
     alloc: Global,
     picture: &mut Markup,
     lane: &Lane,
@@ -431,7 +428,7 @@ fn draw_spans(
 }
 
 /// How many parties make no step.
-fn idle_count<T: TextInteger>(story: &Story<T>, layout: &Layout) -> usize {
+fn idle_count<T>(story: &Story<T>, layout: &Layout) -> usize {
     story.parties.saturating_sub(layout.lanes.len())
 }
 
@@ -458,11 +455,7 @@ fn say_undrawn(note: &mut String, count: u64) -> Result<(), AllocError> {
 }
 
 /// What the picture leaves out; nothing where it leaves nothing out.
-fn left_out<T: TextInteger>(
-    alloc: Global,
-    story: &Story<T>,
-    layout: &Layout,
-) -> Result<String, AllocError> {
+fn left_out<T>(alloc: Global, story: &Story<T>, layout: &Layout) -> Result<String, AllocError> {
     let mut note = String::new(alloc);
     say_idle(&mut note, idle_count(story, layout))?;
     say_undrawn(&mut note, story.left_out)?;
@@ -470,7 +463,7 @@ fn left_out<T: TextInteger>(
 }
 
 /// Draws what the run has left, and what the picture leaves out.
-fn draw_notes<T: TextInteger>(
+fn draw_notes<T>(
     alloc: Global,
     picture: &mut Markup,
     story: &Story<T>,
@@ -519,20 +512,15 @@ fn draw_lanes(alloc: Global, picture: &mut Markup, layout: &Layout) -> Result<()
 }
 
 /// Draws the bands.
-fn draw_bands<T: TextInteger>(
-    alloc: Global,
-    picture: &mut Markup,
-    story: &Story<T>,
-    layout: &Layout,
-) -> Result<(), AllocError> {
+fn draw_bands(alloc: Global, picture: &mut Markup, layout: &Layout) -> Result<(), AllocError> {
     for band in &layout.bands {
-        draw_band(alloc, picture, story, layout, band)?;
+        draw_band(alloc, picture, layout, band)?;
     }
     Ok(())
 }
 
 /// Draws the columns: the schedule, the lanes and the bands.
-fn draw_columns<T: TextInteger>(
+fn draw_columns<T>(
     alloc: Global,
     picture: &mut Markup,
     story: &Story<T>,
@@ -540,15 +528,11 @@ fn draw_columns<T: TextInteger>(
 ) -> Result<(), AllocError> {
     draw_schedule(alloc, picture, story, layout)?;
     draw_lanes(alloc, picture, layout)?;
-    draw_bands(alloc, picture, story, layout)
+    draw_bands(alloc, picture, layout)
 }
 
 /// Draws what the steps stand on.
-fn draw_ground<T: TextInteger>(
-    alloc: Global,
-    story: &Story<T>,
-    layout: &Layout,
-) -> Result<Markup, AllocError> {
+fn draw_ground<T>(alloc: Global, story: &Story<T>, layout: &Layout) -> Result<Markup, AllocError> {
     let mut picture = Markup::new(alloc);
     draw_name(alloc, &mut picture, story.title.as_str())?;
     draw_paper(alloc, &mut picture, story.title.as_str(), layout)?;
@@ -557,11 +541,7 @@ fn draw_ground<T: TextInteger>(
 }
 
 /// Draws what stands below the steps.
-fn draw_foot<T: TextInteger>(
-    alloc: Global,
-    story: &Story<T>,
-    layout: &Layout,
-) -> Result<Markup, AllocError> {
+fn draw_foot<T>(alloc: Global, story: &Story<T>, layout: &Layout) -> Result<Markup, AllocError> {
     let mut picture = Markup::new(alloc);
     draw_notes(alloc, &mut picture, story, layout)?;
     draw_legend(alloc, &mut picture, layout.bottom() + NOTES_HEIGHT)?;
