@@ -1,5 +1,5 @@
 -- What a step's row says, cell by cell.
-use Rattle.std.specs.Prelude.{ℕ, zero, suc, ◌+◌, Bool, true, false, List, [], ◌∷◌, ◌++◌, Option, Some, None, codes, string_bytes}
+use Rattle.std.specs.Prelude.{◌≡◌, ℕ, zero, suc, ◌+◌, Bool, true, false, List, [], ◌∷◌, ◌++◌, Option, Some, None, codes, string_bytes}
 use Rattle.std.specs.Fmt.{decimal}
 use Rattle.steps_events.specs.declared.WaitAction.TheVariants as actions
 use Rattle.steps_events.specs.declared.event.Act.{Act}
@@ -208,6 +208,16 @@ texts_of cells =
       holds = string_bytes cells.holds;
       call = string_bytes cells.call;
     }
+
+-- the step is there, and no text yet
+pub record IsBlank {T : Type 0} (step : Step T) (cells : Cells T) : Type 0 where
+  pub step_is : cells.step ≡ step
+  pub line : string_bytes cells.line ≡ []
+  pub party : string_bytes cells.party ≡ []
+  pub act : string_bytes cells.act ≡ []
+  pub words : string_bytes cells.words ≡ []
+  pub holds : string_bytes cells.holds ≡ []
+  pub call : string_bytes cells.call ≡ []
 
 -- those of a step, after which the events are these
 abbrev pub cells_at : {T : Type 0} → Arithmetic T → Numerals T → Header T → List (Event T) → Step T → Texts T
