@@ -5,6 +5,7 @@
 mod condition_variable;
 mod condition_variable_parts;
 mod mutex;
+mod party;
 mod rwreader;
 mod rwwriter;
 mod sleepers;

@@ -2,6 +2,8 @@
 ghost use Rattle.std.specs.Prelude.{◌≡◌, ◌+◌};
 ghost use Rattle.running_guarded.specs.GuardedShown.{IsGuardedPass, IsSamePass};
 
+use super::party::in_two_parts;
+use super::wake_nobody_at_number;
 use passes::WaitResult;
 use running_guarded::{Guarded, GuardedPass};
 use signal::{Meeting, Notes};
@@ -13,12 +15,13 @@ use steps_events::WaitAction;
 
 /// Whether `try_lock` is refused now.
 pub(super) fn is_refused(guarded: &Guarded<u64>, pass: &mut GuardedPass) -> bool
-    requires { IsGuardedPass guarded.now pass.old }
-    ensures { IsSamePass pass.old pass.new }
+    requires own { IsGuardedPass guarded.now pass.old }
+    ensures own { IsGuardedPass guarded.now pass.new }
+    ensures same { IsSamePass pass.old pass.new }
 {
     match Guarded::try_lock(pass, guarded) {
         WaitResult::Success(guard) => {
-            Guarded::unlock(guard, |_| ());
+            Guarded::unlock(guard, wake_nobody_at_number);
             false
         }
         WaitResult::Interrupted => true,
@@ -41,7 +44,7 @@ fn lock_and_abort<R: Wait>(
     });
     let interrupted = match locked {
         WaitResult::Success(guard) => {
-            Guarded::unlock(guard, |_| ());
+            Guarded::unlock(guard, wake_nobody_at_number);
             false
         }
         WaitResult::Interrupted => true,
@@ -63,7 +66,7 @@ fn while_held<R: Wait>(
         WaitResult::Success(guard) => {
             let refused = is_refused(guarded, two);
             let aborted = lock_and_abort(rt, guarded, two);
-            Guarded::unlock(guard, |_| ());
+            Guarded::unlock(guard, wake_nobody_at_number);
             Some((refused, aborted))
         }
         WaitResult::Interrupted => None,
@@ -72,18 +75,14 @@ fn while_held<R: Wait>(
 
 #[test]
 fn one_holder_at_a_time(rt: HostRuntime) -> Result<(), Fail> {
-    let Ok((guarded, pass)) = Guarded::new(rt.alloc(), 0u64) else {
-        return Err("no memory")?;
-    };
-    let Ok((mut one, mut two)) = pass.split(&guarded) else {
-        unreachable!()
-    };
+    let (guarded, mut one, mut two) = in_two_parts(rt.alloc(), 0)?;
+    let held = while_held(&rt, &guarded, &mut one, &mut two);
+    let refused = is_refused(&guarded, &mut two);
+    let free = lock_and_abort(&rt, &guarded, &mut one);
     assert_eq!(rt;
-        while_held(&rt, &guarded, &mut one, &mut two),
-        Some((true, (true, (1, 1, 1))))
+        (held, refused, free),
+        (Some((true, (true, (1, 1, 1)))), false, (false, (0, 0, 0)))
     );
-    assert!(rt; !is_refused(&guarded, &mut two));
-    assert_eq!(rt; lock_and_abort(&rt, &guarded, &mut one), (false, (0, 0, 0)));
     Ok(())
 }
 
@@ -130,7 +129,7 @@ fn lock_after_unlock<R: Wait>(
     let found = match answer {
         WaitResult::Success(guard) => {
             let found = *guard;
-            Guarded::unlock(guard, |_| ());
+            Guarded::unlock(guard, wake_nobody_at_number);
             found
         }
         WaitResult::Interrupted => return None,
@@ -143,20 +142,14 @@ fn lock_after_unlock<R: Wait>(
 #[test]
 fn a_call_that_was_to_give_up_succeeds(rt: HostRuntime) -> Result<(), Fail> {
     for action in [WaitAction::Abort, WaitAction::Continue] {
-        let Ok((guarded, pass)) = Guarded::new(rt.alloc(), 0u64) else {
-            return Err("no memory")?;
-        };
-        let Ok((mut one, mut two)) = pass.split(&guarded) else {
-            unreachable!()
-        };
+        let (guarded, mut one, mut two) = in_two_parts(rt.alloc(), 0)?;
         let meeting = Meeting::of(2);
-        let (met, found) = thread::join(
+        let met_and_found = thread::join(
             &rt,
             || hold_until_asked(&guarded, &mut one, &meeting),
             || lock_after_unlock(&rt, &guarded, &mut two, &meeting, action),
         );
-        assert!(rt; met);
-        assert_eq!(rt; found, Some((7, (1, 1, 1))));
+        assert_eq!(rt; met_and_found, (true, Some((7, (1, 1, 1)))));
     }
     Ok(())
 }

@@ -1,7 +1,8 @@
 //! Threads that meet at the value.
-ghost use Rattle.passes.specs.Parts.{IsAgain};
+ghost use Rattle.passes.specs.Parts.{IsAgain, IsWhole};
 ghost use Rattle.running_guarded.specs.GuardedShown.{IsGuardedPass, HasStayed, part_of};
 
+use super::wake_nobody_at_number;
 use passes::WaitResult;
 use running_guarded::{Guarded, GuardedPass};
 use std::alloc::AllocError;
@@ -43,32 +44,44 @@ fn extend(list: &mut Vec<u64>, numbers: &[u64]) -> Result<(), AllocError> {
     Ok(())
 }
 
+/// Two threads push 1, and 2 and 3, with the parts of this pass: what the vector then has, and whether there was memory.
+fn push_by_two<R: Threads + Wait + Sync>(
+    rt: &R,
+    guarded: Guarded<Vec<u64>>,
+    pass: GuardedPass,
+) -> (Vec<u64>, bool)
+    requires own { IsGuardedPass guarded pass }
+    requires whole { IsWhole (part_of pass) }
+{
+    let Ok((one, two)) = pass.split(&guarded) else {
+        unreachable!()
+    };
+    let ((one, first), (two, second)) = thread::join(
+        rt,
+        || -> (GuardedPass, bool)
+            requires { IsGuardedPass guarded one }
+            ensures { HasStayed one result.0 }
+        { push_all(rt, &guarded, one, &[1]) },
+        || -> (GuardedPass, bool)
+            requires { IsGuardedPass guarded two }
+            ensures { HasStayed two result.0 }
+        { push_all(rt, &guarded, two, &[2, 3]) },
+    );
+    let Ok(pass) = GuardedPass::join(one, two, &guarded) else {
+        unreachable!()
+    };
+    (guarded.into_inner(pass), first && second)
+}
+
 #[test]
 fn two_threads_push_to_one_vector(rt: HostRuntime) -> Result<(), Fail> {
     let Ok((guarded, pass)) = Guarded::new(rt.alloc(), Vec::new(rt.alloc())) else {
         return Err("no memory")?;
     };
-    let Ok((one, two)) = pass.split(&guarded) else {
-        unreachable!()
-    };
-    let ((one, first), (two, second)) = thread::join(
-        &rt,
-        || -> (GuardedPass, bool)
-            requires { IsGuardedPass guarded one }
-            ensures { HasStayed one result.0 }
-        { push_all(&rt, &guarded, one, &[1]) },
-        || -> (GuardedPass, bool)
-            requires { IsGuardedPass guarded two }
-            ensures { HasStayed two result.0 }
-        { push_all(&rt, &guarded, two, &[2, 3]) },
-    );
-    assert!(rt; first && second);
-    let Ok(pass) = GuardedPass::join(one, two, &guarded) else {
-        unreachable!()
-    };
-    let list = guarded.into_inner(pass);
+    let (list, had_memory) = push_by_two(&rt, guarded, pass);
     let list = list.as_slice();
-    assert!(rt; list == [1, 2, 3].as_slice() || list == [2, 3, 1].as_slice());
+    let in_order = list == [1, 2, 3].as_slice() || list == [2, 3, 1].as_slice();
+    assert!(rt; had_memory && in_order);
     Ok(())
 }
 
@@ -90,7 +103,7 @@ fn count_up<R: Wait>(
                 thread::yield_now();
                 WaitAction::Continue
             },
-            |_| (),
+            wake_nobody_at_number,
             |number| *number = number.wrapping_add(1),
         );
         match counted {

@@ -1,14 +1,16 @@
 //! A bounded buffer, whole; and a call that gives up.
-ghost use Rattle.std.specs.Prelude.{◌≡◌};
-ghost use Rattle.steps_events.specs.declared.WaitAction.TheVariants as actions;
-ghost use Rattle.running_mutex.specs.CondShown.{IsCondPass, HasStayed as HasWaitedAtMost};
-ghost use Rattle.running_guarded.specs.GuardedShown.{IsGuardedPass, HasStayed};
+ghost use Rattle.std.specs.Prelude.{IfOk};
+ghost use Rattle.running_mutex.specs.CondShown.{IsCondPass};
+ghost use Rattle.running_guarded.specs.GuardedShown.{IsGuardedPass};
 
+use super::party::{Party, Shared};
+use super::wake_nobody_at_number;
 use circular_buffer::HeapCircularBuffer;
+use closures::{wake_nobody, yield_and_go_on};
 use passes::WaitResult;
 use running_guarded::{Guarded, GuardedPass};
 use running_mutex::condition_variable::{CondPass, ConditionVariable};
-use std::alloc::Global;
+use std::alloc::{AllocError, Global};
 use std::sync::Wait;
 use std::sync::atomic::{AtomicU64, Ordering};
 use std::test::Fail;
@@ -24,98 +26,126 @@ struct Buffer {
     some: ConditionVariable,
 }
 
-/// The answer of a wait that always goes on.
-fn go_on() -> WaitAction
-    ensures { result ≡ actions.Continue }
-{
-    thread::yield_now();
-    WaitAction::Continue
-}
-
-/// Puts the number, once there is room.
-fn put<R: Wait>(
-    rt: &R,
-    buffer: &Buffer,
-    pass: &mut GuardedPass,
-    room: &mut CondPass,
-    some: &mut CondPass,
-    number: u64,
-)
-    requires own { IsGuardedPass buffer.now.numbers pass.old × IsCondPass buffer.now.room room.old × IsCondPass buffer.now.some some.old }
-    ensures stayed { HasStayed pass.old pass.new × HasWaitedAtMost room.old room.new × HasWaitedAtMost some.old some.new }
-{
-    let put = buffer.numbers.when(
-        rt,
-        pass,
-        |_| (),
-        &buffer.room,
-        room,
-        |_, _| go_on(),
-        |numbers| numbers.try_push_back(number).ok(),
-    );
-    match put {
-        WaitResult::Success(()) => buffer.some.notify_one(some, |_| ()),
-        WaitResult::Interrupted => unreachable!(),
+impl Buffer {
+    /// A buffer with room for so many, and the pass of each part.
+    fn new(
+        alloc: Global,
+        room: usize,
+    ) -> Result<(Buffer, GuardedPass, CondPass, CondPass), AllocError>
+        ensures own { IfOk result (λ made. IsGuardedPass made.0.numbers made.1 × IsCondPass made.0.room made.2 × IsCondPass made.0.some made.3) }
+    {
+        let ring = HeapCircularBuffer::with_capacity(alloc, room)?;
+        let (numbers, pass) = match Guarded::new(alloc, ring) {
+            Ok(made) => made,
+            Err((error, _)) => return Err(error),
+        };
+        let (room, room_pass) = ConditionVariable::new(alloc)?;
+        let (some, some_pass) = ConditionVariable::new(alloc)?;
+        let buffer = Buffer {
+            numbers,
+            room,
+            some,
+        };
+        Ok((buffer, pass, room_pass, some_pass))
     }
 }
 
-/// Takes the oldest number, once there is one.
-fn take<R: Wait>(
-    rt: &R,
-    buffer: &Buffer,
-    pass: &mut GuardedPass,
-    room: &mut CondPass,
-    some: &mut CondPass,
-) -> u64
-    requires own { IsGuardedPass buffer.now.numbers pass.old × IsCondPass buffer.now.room room.old × IsCondPass buffer.now.some some.old }
-    ensures stayed { HasStayed pass.old pass.new × HasWaitedAtMost room.old room.new × HasWaitedAtMost some.old some.new }
-{
-    let taken = buffer.numbers.when(
-        rt,
-        pass,
-        |_| (),
-        &buffer.some,
-        some,
-        |_, _| go_on(),
-        |numbers| numbers.pop_front(),
-    );
-    match taken {
-        WaitResult::Success(number) => {
-            buffer.room.notify_one(room, |_| ());
-            number
+/// One that puts into the buffer, or takes out of it.
+#[derive(Drop)]
+struct User<'b> {
+    buffer: &'b Buffer,
+    numbers: GuardedPass,
+    room: CondPass,
+    some: CondPass,
+    ghost own: { IsGuardedPass buffer.now.numbers numbers × IsCondPass buffer.now.room room × IsCondPass buffer.now.some some },
+}
+
+impl User<'_> {
+    /// Puts the number, once there is room.
+    fn put<R: Wait>(&mut self, rt: &R, number: u64) {
+        let buffer = self.buffer;
+        let put = buffer.numbers.when(
+            rt,
+            &mut self.numbers,
+            |_| (),
+            &buffer.room,
+            &mut self.room,
+            yield_and_go_on,
+            |numbers| numbers.try_push_back(number).ok(),
+        );
+        match put {
+            WaitResult::Success(()) => buffer.some.notify_one(&mut self.some, wake_nobody),
+            WaitResult::Interrupted => unreachable!(),
         }
-        WaitResult::Interrupted => unreachable!(),
     }
+
+    /// Takes the oldest number, once there is one.
+    fn take<R: Wait>(&mut self, rt: &R) -> u64 {
+        let buffer = self.buffer;
+        let taken = buffer.numbers.when(
+            rt,
+            &mut self.numbers,
+            |_| (),
+            &buffer.some,
+            &mut self.some,
+            yield_and_go_on,
+            |numbers| numbers.pop_front(),
+        );
+        match taken {
+            WaitResult::Success(number) => {
+                buffer.room.notify_one(&mut self.room, wake_nobody);
+                number
+            }
+            WaitResult::Interrupted => unreachable!(),
+        }
+    }
+}
+
+/// Two users of the buffer, with parts of these passes.
+fn two_users(
+    buffer: &Buffer,
+    numbers: GuardedPass,
+    room: CondPass,
+    some: CondPass,
+) -> (User<'_>, User<'_>)
+    requires own { IsGuardedPass buffer.now.numbers numbers × IsCondPass buffer.now.room room × IsCondPass buffer.now.some some }
+{
+    let Ok((numbers, other_numbers)) = numbers.split(&buffer.numbers) else {
+        unreachable!()
+    };
+    let Ok((room, other_room)) = room.split(&buffer.room) else {
+        unreachable!()
+    };
+    let Ok((some, other_some)) = some.split(&buffer.some) else {
+        unreachable!()
+    };
+    let other = User {
+        buffer,
+        numbers: other_numbers,
+        room: other_room,
+        some: other_some,
+    };
+    let user = User {
+        buffer,
+        numbers,
+        room,
+        some,
+    };
+    (user, other)
 }
 
 const NUMBERS: u64 = 500;
 
-fn put_all<R: Wait>(
-    rt: &R,
-    buffer: &Buffer,
-    mut pass: GuardedPass,
-    mut room: CondPass,
-    mut some: CondPass,
-)
-    requires own { IsGuardedPass buffer.now.numbers pass × IsCondPass buffer.now.room room × IsCondPass buffer.now.some some }
-{
+fn put_all<R: Wait>(rt: &R, mut user: User<'_>) {
     for number in 0..NUMBERS {
-        put(rt, buffer, &mut pass, &mut room, &mut some, number);
+        user.put(rt, number);
     }
 }
 
 /// Whether they came in their order.
-fn take_all<R: Wait>(
-    rt: &R,
-    buffer: &Buffer,
-    mut pass: GuardedPass,
-    mut room: CondPass,
-    mut some: CondPass,
-) -> bool
-    requires own { IsGuardedPass buffer.now.numbers pass × IsCondPass buffer.now.room room × IsCondPass buffer.now.some some }
-{
+fn take_all<R: Wait>(rt: &R, mut user: User<'_>) -> bool {
     for number in 0..NUMBERS {
-        if take(rt, buffer, &mut pass, &mut room, &mut some) != number {
+        if user.take(rt) != number {
             return false;
         }
     }
@@ -125,53 +155,24 @@ fn take_all<R: Wait>(
 /// Far more numbers than the buffer has room for.
 #[test]
 fn a_bounded_buffer_keeps_its_order(rt: HostRuntime) -> Result<(), Fail> {
-    let ring = HeapCircularBuffer::with_capacity(rt.alloc(), 4)?;
-    let (room, room_pass) = ConditionVariable::new(rt.alloc())?;
-    let (some, some_pass) = ConditionVariable::new(rt.alloc())?;
-    let Ok((numbers, pass)) = Guarded::new(rt.alloc(), ring) else {
-        return Err("no memory")?;
-    };
-    let buffer = Buffer {
-        numbers,
-        room,
-        some,
-    };
-    let Ok((one, two)) = pass.split(&buffer.numbers) else {
-        unreachable!()
-    };
-    let Ok((one_room, two_room)) = room_pass.split(&buffer.room) else {
-        unreachable!()
-    };
-    let Ok((one_some, two_some)) = some_pass.split(&buffer.some) else {
-        unreachable!()
-    };
-    let ((), in_order) = thread::join(
-        &rt,
-        || put_all(&rt, &buffer, one, one_room, one_some),
-        || take_all(&rt, &buffer, two, two_room, two_some),
-    );
+    let (buffer, numbers, room, some) = Buffer::new(rt.alloc(), 4)?;
+    let (one, two) = two_users(&buffer, numbers, room, some);
+    let ((), in_order) = thread::join(&rt, || put_all(&rt, one), || take_all(&rt, two));
     assert!(rt; in_order);
     Ok(())
 }
 
 /// How often a call asked that never can act, and how often it tried to, where its wait closure answers `Abort` at once.
-fn wait_for_nothing<R: Wait>(
-    rt: &R,
-    guarded: &Guarded<u64>,
-    pass: &mut GuardedPass,
-    changed: &ConditionVariable,
-    changed_pass: &mut CondPass,
-) -> Option<(u64, u64)>
-    requires own { IsGuardedPass guarded.now pass.old × IsCondPass changed.now changed_pass.old }
-{
+fn wait_for_nothing<R: Wait>(rt: &R, party: &mut Party<'_>) -> Option<(u64, u64)> {
     let asked = AtomicU64::new(0);
     let tried = AtomicU64::new(0);
-    let answer: WaitResult<u64> = guarded.when(
+    let shared = party.shared;
+    let answer: WaitResult<u64> = shared.number.when(
         rt,
-        pass,
-        |_| (),
-        changed,
-        changed_pass,
+        &mut party.number,
+        wake_nobody_at_number,
+        &shared.changed,
+        &mut party.changed,
         |_, _| {
             asked.fetch_add(1, Ordering::SeqCst);
             WaitAction::Abort
@@ -192,35 +193,22 @@ fn wait_for_nothing<R: Wait>(
 
 #[test]
 fn a_call_that_cannot_act_gives_up(rt: HostRuntime) -> Result<(), Fail> {
-    let (changed, mut changed_pass) = ConditionVariable::new(rt.alloc())?;
-    let Ok((guarded, mut pass)) = Guarded::new(rt.alloc(), 7u64) else {
-        return Err("no memory")?;
-    };
-    assert_eq!(rt;
-        wait_for_nothing(&rt, &guarded, &mut pass, &changed, &mut changed_pass),
-        Some((1, 2))
-    );
+    let (shared, pass, changed) = Shared::new(rt.alloc(), 7)?;
+    let mut party = shared.party(pass, changed);
+    assert_eq!(rt; wait_for_nothing(&rt, &mut party), Some((1, 2)));
     Ok(())
 }
 
 /// Waits until the number is this, and answers it.
-fn wait_for<R: Wait>(
-    rt: &R,
-    guarded: &Guarded<u64>,
-    mut pass: GuardedPass,
-    changed: &ConditionVariable,
-    mut changed_pass: CondPass,
-    wanted: u64,
-) -> u64
-    requires own { IsGuardedPass guarded.now pass × IsCondPass changed.now changed_pass }
-{
-    let looked = guarded.when(
+fn wait_for<R: Wait>(rt: &R, party: &mut Party<'_>, wanted: u64) -> u64 {
+    let shared = party.shared;
+    let looked = shared.number.when(
         rt,
-        &mut pass,
-        |_| (),
-        changed,
-        &mut changed_pass,
-        |_, _| go_on(),
+        &mut party.number,
+        wake_nobody_at_number,
+        &shared.changed,
+        &mut party.changed,
+        yield_and_go_on,
         |number| (*number == wanted).then_some(wanted),
     );
     match looked {
@@ -230,24 +218,14 @@ fn wait_for<R: Wait>(
 }
 
 /// Changes the number to this, and answers what it was.
-fn change_to<R: Wait>(
-    rt: &R,
-    guarded: &Guarded<u64>,
-    pass: &mut GuardedPass,
-    changed: &ConditionVariable,
-    changed_pass: &mut CondPass,
-    woken: &AtomicU64,
-    number: u64,
-) -> u64
-    requires own { IsGuardedPass guarded.now pass.old × IsCondPass changed.now changed_pass.old }
-    ensures own { IsGuardedPass guarded.now pass.new × IsCondPass changed.now changed_pass.new }
-{
-    guarded.change(
+fn change_to<R: Wait>(rt: &R, party: &mut Party<'_>, woken: &AtomicU64, number: u64) -> u64 {
+    let shared = party.shared;
+    shared.number.change(
         rt,
-        pass,
-        |_| (),
-        changed,
-        changed_pass,
+        &mut party.number,
+        wake_nobody_at_number,
+        &shared.changed,
+        &mut party.changed,
         |_| {
             woken.fetch_add(1, Ordering::SeqCst);
         },
@@ -256,79 +234,34 @@ fn change_to<R: Wait>(
 }
 
 /// Changes the number to 1 and then to 2: what it was before each, and how often the closure that wakes all was called.
-fn change_twice<R: Wait>(
-    rt: &R,
-    guarded: &Guarded<u64>,
-    mut pass: GuardedPass,
-    changed: &ConditionVariable,
-    mut changed_pass: CondPass,
-) -> (u64, u64, u64)
-    requires own { IsGuardedPass guarded.now pass × IsCondPass changed.now changed_pass }
-{
+fn change_twice<R: Wait>(rt: &R, mut party: Party<'_>) -> (u64, u64, u64) {
     let woken = AtomicU64::new(0);
-    let first = change_to(
-        rt,
-        guarded,
-        &mut pass,
-        changed,
-        &mut changed_pass,
-        &woken,
-        1,
-    );
-    let second = change_to(
-        rt,
-        guarded,
-        &mut pass,
-        changed,
-        &mut changed_pass,
-        &woken,
-        2,
-    );
+    let first = change_to(rt, &mut party, &woken, 1);
+    let second = change_to(rt, &mut party, &woken, 2);
     (first, second, woken.load(Ordering::SeqCst))
 }
 
-/// Two threads wait for 2, with parts of these passes.
-fn wait_by_two<R: Threads + Wait + Sync>(
-    rt: &R,
-    guarded: &Guarded<u64>,
-    pass: GuardedPass,
-    changed: &ConditionVariable,
-    changed_pass: CondPass,
-) -> (u64, u64)
-    requires own { IsGuardedPass guarded.now pass × IsCondPass changed.now changed_pass }
-{
-    let Ok((one, two)) = pass.split(guarded) else {
-        unreachable!()
-    };
-    let Ok((one_changed, two_changed)) = changed_pass.split(changed) else {
-        unreachable!()
-    };
+/// Two threads wait for 2, with parts of this party's passes.
+fn wait_by_two<R: Threads + Wait + Sync>(rt: &R, party: Party<'_>) -> (u64, u64) {
+    let Party {
+        shared,
+        number,
+        changed,
+    } = party;
+    let (mut one, mut two) = shared.two_parties(number, changed);
     thread::join(
         rt,
-        || wait_for(rt, guarded, one, changed, one_changed, 2),
-        || wait_for(rt, guarded, two, changed, two_changed, 2),
+        || wait_for(rt, &mut one, 2),
+        || wait_for(rt, &mut two, 2),
     )
 }
 
 /// Two threads wait for the second of two changes. Each may be woken by the first, and take the permit that was for the other.
 #[test]
 fn a_change_is_seen_by_all_that_wait(rt: HostRuntime) -> Result<(), Fail> {
-    let (changed, changed_pass) = ConditionVariable::new(rt.alloc())?;
-    let Ok((guarded, pass)) = Guarded::new(rt.alloc(), 0u64) else {
-        return Err("no memory")?;
-    };
-    let Ok((one, two)) = pass.split(&guarded) else {
-        unreachable!()
-    };
-    let Ok((one_changed, two_changed)) = changed_pass.split(&changed) else {
-        unreachable!()
-    };
-    let (seen, told) = thread::join(
-        &rt,
-        || wait_by_two(&rt, &guarded, one, &changed, one_changed),
-        || change_twice(&rt, &guarded, two, &changed, two_changed),
-    );
-    assert_eq!(rt; seen, (2, 2));
-    assert_eq!(rt; told, (0, 1, 2));
+    let (shared, pass, changed) = Shared::new(rt.alloc(), 0)?;
+    let (one, two) = shared.two_parties(pass, changed);
+    let seen_and_told = thread::join(&rt, || wait_by_two(&rt, one), || change_twice(&rt, two));
+    assert_eq!(rt; seen_and_told, ((2, 2), (0, 1, 2)));
     Ok(())
 }

@@ -1,15 +1,17 @@
 //! The running mutex.
 ghost use Rattle.std.specs.Prelude.{◌≡◌, ◌+◌, false, IfOk};
-ghost use Rattle.passes.specs.Passes.{IsSamePass, sights_of};
+ghost use Rattle.passes.specs.Passes.{sights_of};
 ghost use Rattle.running_mutex.specs.MutexShown.{IsMutexPass, IsAlone, HasStayed, grants_of};
 
 use super::give_up;
+use super::party::{self, Party};
 use iceoryx2_pal_concurrency_sync::strategy::mutex::{Mutex, MutexPass};
-use iceoryx2_pal_concurrency_sync::{WaitAction, WaitResult, wake_nobody, yield_and_go_on};
-use signal::{Gathering, Meeting, Notes, Signal};
+use iceoryx2_pal_concurrency_sync::{
+    WaitAction, WaitResult, WaitWord, wake_nobody, yield_and_go_on,
+};
+use signal::Gathering;
 use std::alloc::{AllocError, Global};
 use std::sync::Wait;
-use std::sync::atomic::{AtomicU64, Ordering};
 use std::test::Fail;
 use std::thread;
 use std::thread::Threads;
@@ -92,33 +94,69 @@ fn two_threads_lock_in_turn(rt: HostRuntime) -> Result<(), Fail> {
     Ok(())
 }
 
-/// Whether `try_lock` is refused now.
-fn is_refused(mutex: &Mutex, pass: &mut MutexPass) -> bool
-    requires { IsMutexPass mutex.now pass.old }
-    ensures { IsSamePass pass.old pass.new }
-{
-    match Mutex::try_lock(pass, mutex) {
-        WaitResult::Success(hold) => {
-            mutex.unlock(hold, wake_nobody);
-            false
-        }
-        WaitResult::Interrupted => true,
+/// A party at a mutex.
+#[derive(Drop)]
+struct MutexParty<'m> {
+    mutex: &'m Mutex,
+    pass: MutexPass,
+    ghost own: { IsMutexPass mutex.now pass },
+}
+
+impl Party for MutexParty<'_> {
+    fn try_to<T, F: FnOnce() -> T>(&mut self, wakes: &Gathering, act: F) -> Option<T> {
+        try_to(self.mutex, &mut self.pass, wakes, act)
+    }
+
+    fn wait_to<T, R: Wait, W: Fn(&WaitWord, &u64) -> WaitAction, F: FnOnce() -> T>(
+        &mut self,
+        rt: &R,
+        wait: W,
+        wakes: &Gathering,
+        act: F,
+    ) -> Option<T> {
+        wait_to(rt, self.mutex, &mut self.pass, wait, wakes, act)
     }
 }
 
-/// Whether `two` is refused while `one` has the hold, and whether it is afterwards.
-fn refused_while_held(
+/// Tries to lock, acts while it has the hold, and unlocks: a party's `try_to`.
+fn try_to<T, F: FnOnce() -> T>(
     mutex: &Mutex,
-    one: &mut MutexPass,
-    two: &mut MutexPass,
-) -> Option<(bool, bool)>
-    requires { IsMutexPass mutex.now one.old × IsMutexPass mutex.now two.old }
+    pass: &mut MutexPass,
+    wakes: &Gathering,
+    act: F,
+) -> Option<T>
+    requires own { IsMutexPass mutex.now pass.old }
+    requires may { F.IsAlwaysCallable act }
+    ensures stayed { HasStayed pass.old pass.new }
 {
-    match Mutex::try_lock(one, mutex) {
+    match Mutex::try_lock(pass, mutex) {
         WaitResult::Success(hold) => {
-            let held = is_refused(mutex, two);
-            mutex.unlock(hold, wake_nobody);
-            Some((held, is_refused(mutex, two)))
+            let acted = act();
+            mutex.unlock(hold, |word| wakes.wake_one(word.load()));
+            Some(acted)
+        }
+        WaitResult::Interrupted => None,
+    }
+}
+
+/// The same by `lock`.
+fn wait_to<T, R: Wait, W: Fn(&WaitWord, &u64) -> WaitAction, F: FnOnce() -> T>(
+    rt: &R,
+    mutex: &Mutex,
+    pass: &mut MutexPass,
+    wait: W,
+    wakes: &Gathering,
+    act: F,
+) -> Option<T>
+    requires own { IsMutexPass mutex.now pass.old }
+    requires may { W.IsAlwaysCallable wait × F.IsAlwaysCallable act }
+    ensures stayed { HasStayed pass.old pass.new }
+{
+    match Mutex::lock(pass, mutex, rt, wait) {
+        WaitResult::Success(hold) => {
+            let acted = act();
+            mutex.unlock(hold, |word| wakes.wake_one(word.load()));
+            Some(acted)
         }
         WaitResult::Interrupted => None,
     }
@@ -126,60 +164,30 @@ fn refused_while_held(
 
 #[test]
 fn one_holder_at_a_time(rt: HostRuntime) -> Result<(), Fail> {
-    let (mutex, mut one, mut two) = in_two_parts(rt.alloc())?;
-    assert_eq!(rt;
-        refused_while_held(&mutex, &mut one, &mut two),
-        Some((true, false))
-    );
+    let (mutex, one, two) = in_two_parts(rt.alloc())?;
+    let mut holder = MutexParty {
+        mutex: &mutex,
+        pass: one,
+    };
+    let mut other = MutexParty {
+        mutex: &mutex,
+        pass: two,
+    };
+    let answers = party::refused_beside(&rt, &mut holder, &mut other);
+    assert_eq!(rt; answers, Some((true, (true, (1, 1, 1)), false)));
     Ok(())
 }
 
-/// A `lock` whose wait closure answers `Abort` at once: whether it was interrupted, and what the closure noted.
-fn lock_and_abort<R: Wait>(rt: &R, mutex: &Mutex, pass: &mut MutexPass) -> (bool, (u64, u64, u64))
-    requires { IsMutexPass mutex.now pass.old }
-    ensures { IsSamePass pass.old pass.new }
-{
-    let notes = Notes::new();
-    let locked = Mutex::lock(pass, mutex, rt, |word, seen| {
-        notes.note(word.load(), *seen);
-        WaitAction::Abort
-    });
-    let interrupted = match locked {
-        WaitResult::Success(hold) => {
-            mutex.unlock(hold, wake_nobody);
-            false
-        }
-        WaitResult::Interrupted => true,
-    };
-    (interrupted, notes.noted())
-}
-
-/// The same while `one` has the hold.
-fn abort_while_held<R: Wait>(
-    rt: &R,
-    mutex: &Mutex,
-    one: &mut MutexPass,
-    two: &mut MutexPass,
-) -> Option<(bool, (u64, u64, u64))>
-    requires { IsMutexPass mutex.now one.old × IsMutexPass mutex.now two.old }
-    ensures { IsSamePass one.old one.new × IsSamePass two.old two.new }
-{
-    match Mutex::try_lock(one, mutex) {
-        WaitResult::Success(hold) => {
-            let answers = lock_and_abort(rt, mutex, two);
-            mutex.unlock(hold, wake_nobody);
-            Some(answers)
-        }
-        WaitResult::Interrupted => None,
-    }
-}
-
 #[test]
-fn a_waiter_aborts(rt: HostRuntime) -> Result<(), Fail> {
-    let (mutex, mut one, mut two) = in_two_parts(rt.alloc())?;
-    let held = abort_while_held(&rt, &mutex, &mut one, &mut two);
-    let free = lock_and_abort(&rt, &mutex, &mut two);
-    assert_eq!(rt; (held, free), (Some((true, (1, 1, 1))), (false, (0, 0, 0))));
+fn a_free_mutex_is_granted_unasked(rt: HostRuntime) -> Result<(), Fail> {
+    let (mutex, pass) = Mutex::new(rt.alloc())?;
+    let mut alone = MutexParty {
+        mutex: &mutex,
+        pass,
+    };
+    let wakes = Gathering::new();
+    let waited = party::wait_and_abort(&rt, &mut alone, &wakes);
+    assert_eq!(rt; (waited, wakes.gathered()), ((false, (0, 0, 0)), (2, 0)));
     Ok(())
 }
 
@@ -224,151 +232,47 @@ fn gives_up_after_10002_looks(rt: HostRuntime) -> Result<(), Fail> {
     Ok(())
 }
 
-/// Holds the mutex until the other thread's call is over, or asks again.
-fn hold_until_over(mutex: &Mutex, pass: &mut MutexPass, locked: &Signal, over: &Signal) -> bool
-    requires { IsMutexPass mutex.now pass.old }
-{
-    match Mutex::try_lock(pass, mutex) {
-        WaitResult::Success(hold) => {
-            locked.give();
-            let was_over = over.awaited();
-            mutex.unlock(hold, wake_nobody);
-            was_over
-        }
-        WaitResult::Interrupted => false,
-    }
-}
-
-/// Locks with a closure that answers `Abort` at once, and says so should it be asked again. How often it was asked, if the call gave
-/// up.
-fn lock_until_over<R: Wait>(
-    rt: &R,
-    mutex: &Mutex,
-    pass: &mut MutexPass,
-    locked: &Signal,
-    over: &Signal,
-) -> Option<u64>
-    requires { IsMutexPass mutex.now pass.old }
-{
-    let calls = AtomicU64::new(0);
-    locked.awaited();
-    let answer = Mutex::lock(pass, mutex, rt, |_, _| {
-        if calls.fetch_add(1, Ordering::SeqCst) > 0 {
-            over.give();
-        }
-        WaitAction::Abort
-    });
-    over.give();
-    match answer {
-        WaitResult::Success(hold) => {
-            mutex.unlock(hold, wake_nobody);
-            None
-        }
-        WaitResult::Interrupted => Some(calls.load(Ordering::SeqCst)),
-    }
-}
-
 /// A call that went on after `Abort` would lock the mutex once the other thread lets it go.
 #[test]
 fn an_abort_is_obeyed(rt: HostRuntime) -> Result<(), Fail> {
-    let (mutex, mut one, mut two) = in_two_parts(rt.alloc())?;
-    let (locked, over) = (Signal::new(), Signal::new());
-    let over_and_asked = thread::join(
-        &rt,
-        || hold_until_over(&mutex, &mut one, &locked, &over),
-        || lock_until_over(&rt, &mutex, &mut two, &locked, &over),
-    );
-    assert_eq!(rt; over_and_asked, (true, Some(1)));
+    let (mutex, one, two) = in_two_parts(rt.alloc())?;
+    let mut holder = MutexParty {
+        mutex: &mutex,
+        pass: one,
+    };
+    let mut other = MutexParty {
+        mutex: &mutex,
+        pass: two,
+    };
+    let over_and_asked = party::aborts_beside(&rt, &mut holder, &mut other);
+    assert_eq!(rt; over_and_asked, (Some(true), Some(1)));
     Ok(())
-}
-
-/// What the wake closure of an `unlock` was told.
-fn unlock_gathered(mutex: &Mutex, pass: &mut MutexPass) -> Option<(u64, u64)>
-    requires { IsMutexPass mutex.now pass.old }
-{
-    let gathering = Gathering::new();
-    match Mutex::try_lock(pass, mutex) {
-        WaitResult::Success(hold) => {
-            mutex.unlock(hold, |word| gathering.wake_one(word.load()));
-            Some(gathering.gathered())
-        }
-        WaitResult::Interrupted => None,
-    }
 }
 
 #[test]
 fn unlock_wakes_once_after_its_store(rt: HostRuntime) -> Result<(), Fail> {
-    let (mutex, mut pass) = Mutex::new(rt.alloc())?;
-    assert_eq!(rt; unlock_gathered(&mutex, &mut pass), Some((2, 0)));
+    let (mutex, pass) = Mutex::new(rt.alloc())?;
+    let mut alone = MutexParty {
+        mutex: &mutex,
+        pass,
+    };
+    assert_eq!(rt; party::woken(&mut alone), Some((2, 0)));
     Ok(())
 }
 
-/// Locks, and unlocks only once the other thread asks. Whether that came.
-fn unlock_when_asked(mutex: &Mutex, pass: &mut MutexPass, meeting: &Meeting) -> bool
-    requires { IsMutexPass mutex.now pass.old }
-{
-    match Mutex::try_lock(pass, mutex) {
-        WaitResult::Success(hold) => {
-            let was_asked = meeting.meet() && meeting.meet();
-            mutex.unlock(hold, wake_nobody);
-            was_asked && meeting.meet()
-        }
-        WaitResult::Interrupted => false,
-    }
-}
-
-/// Locks once the other thread has the mutex, with a closure that answers so once that has unlocked it. What the closure noted, if the call
-/// succeeded.
-fn lock_after_unlock<R: Wait>(
-    rt: &R,
-    mutex: &Mutex,
-    pass: &mut MutexPass,
-    meeting: &Meeting,
-    action: WaitAction,
-) -> Option<(u64, u64, u64)>
-    requires { IsMutexPass mutex.now pass.old }
-{
-    let notes = Notes::new();
-    let is_locked = meeting.meet();
-    let answer = Mutex::lock(pass, mutex, rt, |word, seen| {
-        notes.note(word.load(), *seen);
-        if meeting.meet() && meeting.meet() {
-            action
-        } else {
-            WaitAction::Abort
-        }
-    });
-    match answer {
-        WaitResult::Success(hold) => {
-            mutex.unlock(hold, wake_nobody);
-            is_locked.then_some(notes.noted())
-        }
-        WaitResult::Interrupted => None,
-    }
-}
-
-/// One thread holds a new mutex, and another locks it with a closure that answers so: whether the holder was asked to let go, and what
-/// the closure noted.
-fn lock_beside_a_holder<R: Threads + Wait + Sync>(
-    rt: &R,
-    alloc: Global,
-    action: WaitAction,
-) -> Result<(bool, Option<(u64, u64, u64)>), AllocError> {
-    let (mutex, mut one, mut two) = in_two_parts(alloc)?;
-    let meeting = Meeting::of(2);
-    Ok(thread::join(
-        rt,
-        || unlock_when_asked(&mutex, &mut one, &meeting),
-        || lock_after_unlock(rt, &mutex, &mut two, &meeting, action),
-    ))
-}
-
-/// The holder lets go only after the other call has asked its closure, so both calls are under way at once; and that call looks
-/// once more, whatever its closure answers then.
 #[test]
 fn two_calls_meet_and_success_after_abort(rt: HostRuntime) -> Result<(), Fail> {
     for action in [WaitAction::Abort, WaitAction::Continue] {
-        let met_and_noted = lock_beside_a_holder(&rt, rt.alloc(), action)?;
+        let (mutex, one, two) = in_two_parts(rt.alloc())?;
+        let mut holder = MutexParty {
+            mutex: &mutex,
+            pass: one,
+        };
+        let mut other = MutexParty {
+            mutex: &mutex,
+            pass: two,
+        };
+        let met_and_noted = party::let_in_beside(&rt, &mut holder, &mut other, action);
         assert_eq!(rt; met_and_noted, (true, Some((1, 1, 1))));
     }
     Ok(())
@@ -405,8 +309,12 @@ fn part_and_join(mutex: &Mutex, pass: MutexPass) -> MutexPass
 #[test]
 fn parts_are_the_whole_again(rt: HostRuntime) -> Result<(), Fail> {
     let (mutex, pass) = Mutex::new(rt.alloc())?;
-    let mut pass = part_and_join(&mutex, pass);
-    assert!(rt; !is_refused(&mutex, &mut pass));
+    let pass = part_and_join(&mutex, pass);
+    let mut whole = MutexParty {
+        mutex: &mutex,
+        pass,
+    };
+    assert!(rt; !party::is_refused(&mut whole));
     Ok(())
 }
 
@@ -441,8 +349,12 @@ fn part_in_four_and_join(mutex: &Mutex, pass: MutexPass) -> MutexPass
 #[test]
 fn four_parts_are_the_whole_from_left_to_right(rt: HostRuntime) -> Result<(), Fail> {
     let (mutex, pass) = Mutex::new(rt.alloc())?;
-    let mut pass = part_in_four_and_join(&mutex, pass);
-    assert!(rt; !is_refused(&mutex, &mut pass));
+    let pass = part_in_four_and_join(&mutex, pass);
+    let mut whole = MutexParty {
+        mutex: &mutex,
+        pass,
+    };
+    assert!(rt; !party::is_refused(&mut whole));
     Ok(())
 }
 
@@ -491,28 +403,15 @@ fn locks_within_a_method(rt: HostRuntime) -> Result<(), Fail> {
     Ok(())
 }
 
-/// What `try_lock` of another pass answers under `with_lock`.
-fn is_refused_under_the_lock<R: Wait>(
-    rt: &R,
-    mutex: &Mutex,
-    one: &mut MutexPass,
-    two: &mut MutexPass,
-) -> WaitResult<bool>
-    requires { IsMutexPass mutex.now one.old × IsMutexPass mutex.now two.old }
-{
-    mutex.with_lock(
-        rt,
-        one,
-        yield_and_go_on,
-        wake_nobody,
-        || is_refused(mutex, two),
-    )
-}
-
 #[test]
 fn acts_while_the_mutex_is_locked(rt: HostRuntime) -> Result<(), Fail> {
-    let (mutex, mut one, mut two) = in_two_parts(rt.alloc())?;
-    let inside = is_refused_under_the_lock(&rt, &mutex, &mut one, &mut two);
+    let (mutex, mut one, two) = in_two_parts(rt.alloc())?;
+    let mut other = MutexParty {
+        mutex: &mutex,
+        pass: two,
+    };
+    let act = || party::is_refused(&mut other);
+    let inside = mutex.with_lock(&rt, &mut one, yield_and_go_on, wake_nobody, act);
     assert_eq!(rt; matches!(inside, WaitResult::Success(true)), true);
     Ok(())
 }

@@ -1,29 +1,20 @@
 //! The running reader-preferring lock.
 ghost use Rattle.std.specs.Prelude.{◌≡◌, ◌+◌, false, IfOk};
 ghost use Rattle.passes.specs.Passes.{IsSamePass, sights_of};
-ghost use Rattle.running_rwlock.specs.RwShown.{pass_of, borrow_of};
 ghost use Rattle.running_rwlock.specs.RwReaderShown.{IsRwReaderPass, IsAlone, HasStayed, reads_of, writes_of};
 
 use super::give_up;
-use iceoryx2_pal_concurrency_sync::strategy::rwlock::{
-    ReadHold, RwHold, RwLockReaderPreference, RwReaderPass, WriteHold,
-};
+use super::party::{self, Kind, Noted, Party};
+use iceoryx2_pal_concurrency_sync::strategy::rwlock::{RwLockReaderPreference, RwReaderPass};
 use iceoryx2_pal_concurrency_sync::{
     WaitAction, WaitResult, WaitWord, wake_nobody, yield_and_go_on,
 };
-use signal::{Gathering, Meeting, Notes};
+use signal::{Gathering, Meeting};
 use std::alloc::{AllocError, Global};
 use std::sync::Wait;
 use std::test::Fail;
 use std::thread;
 use std::thread::Threads;
-
-/// Which lock is asked for.
-#[derive(Clone, Copy)]
-enum Kind {
-    Read,
-    Write,
-}
 
 /// A new lock, and two parts of its pass.
 fn in_two_parts(
@@ -142,119 +133,173 @@ fn two_threads_read_and_write_in_turn(rt: HostRuntime) -> Result<(), Fail> {
     Ok(())
 }
 
-/// Whether `try_read_lock` is refused now.
-fn is_refused_to_read(lock: &RwLockReaderPreference, pass: &mut RwReaderPass) -> bool
-    requires { IsRwReaderPass lock.now pass.old }
-    ensures { IsSamePass pass.old pass.new }
-{
-    match RwLockReaderPreference::try_read_lock(pass, lock) {
-        WaitResult::Success(hold) => {
-            lock.unlock(hold, wake_nobody);
-            false
-        }
-        WaitResult::Interrupted => true,
+/// A party at a lock, which reads or writes.
+#[derive(Drop)]
+struct ReaderLockParty<'l> {
+    lock: &'l RwLockReaderPreference,
+    pass: RwReaderPass,
+    kind: Kind,
+    ghost own: { IsRwReaderPass lock.now pass },
+}
+
+impl Party for ReaderLockParty<'_> {
+    fn try_to<T, F: FnOnce() -> T>(&mut self, wakes: &Gathering, act: F) -> Option<T> {
+        try_to(self.lock, &mut self.pass, self.kind, wakes, act)
+    }
+
+    fn wait_to<T, R: Wait, W: Fn(&WaitWord, &u64) -> WaitAction, F: FnOnce() -> T>(
+        &mut self,
+        rt: &R,
+        wait: W,
+        wakes: &Gathering,
+        act: F,
+    ) -> Option<T> {
+        wait_to(rt, self.lock, &mut self.pass, self.kind, wait, wakes, act)
     }
 }
 
-/// Whether `try_write_lock` is refused now.
-fn is_refused_to_write(lock: &RwLockReaderPreference, pass: &mut RwReaderPass) -> bool
-    requires { IsRwReaderPass lock.now pass.old }
-    ensures { IsSamePass pass.old pass.new }
-{
-    match RwLockReaderPreference::try_write_lock(pass, lock) {
-        WaitResult::Success(hold) => {
-            lock.unlock(hold, wake_nobody);
-            false
-        }
-        WaitResult::Interrupted => true,
-    }
-}
-
-/// While both passes have a read hold: what a third is told that waits to write, and what its closure loads, and whether it reads. Then
-/// whether it is refused to write after one has left, and after both have.
-fn refused_beside_two_readers<R: Wait>(
-    rt: &R,
+/// Tries to lock, acts while it has the hold, and unlocks: a party's `try_to`.
+fn try_to<T, F: FnOnce() -> T>(
     lock: &RwLockReaderPreference,
-    one: &mut RwReaderPass,
-    two: &mut RwReaderPass,
-    three: &mut RwReaderPass,
-) -> Option<((bool, (u64, u64, u64)), bool, bool, bool)>
-    requires { IsRwReaderPass lock.now one.old × IsRwReaderPass lock.now two.old × IsRwReaderPass lock.now three.old }
+    pass: &mut RwReaderPass,
+    kind: Kind,
+    wakes: &Gathering,
+    act: F,
+) -> Option<T>
+    requires own { IsRwReaderPass lock.now pass.old }
+    requires may { F.IsAlwaysCallable act }
+    ensures stayed { HasStayed pass.old pass.new }
 {
-    match RwLockReaderPreference::try_read_lock(one, lock) {
-        WaitResult::Success(first) => {
-            match RwLockReaderPreference::try_read_lock(two, lock) {
-                WaitResult::Success(second) => {
-                    let waited = write_and_abort(rt, lock, three);
-                    let reads = !is_refused_to_read(lock, three);
-                    lock.unlock(first, wake_nobody);
-                    let beside_one = is_refused_to_write(lock, three);
-                    lock.unlock(second, wake_nobody);
-                    Some((waited, reads, beside_one, is_refused_to_write(lock, three)))
+    let wake = |word: &WaitWord| wakes.wake_one(word.load());
+    match kind {
+        Kind::Read => {
+            match RwLockReaderPreference::try_read_lock(pass, lock) {
+                WaitResult::Success(hold) => {
+                    let acted = act();
+                    lock.unlock(hold, wake);
+                    Some(acted)
                 }
-                WaitResult::Interrupted => {
-                    lock.unlock(first, wake_nobody);
-                    None
-                }
+                WaitResult::Interrupted => None,
             }
         }
-        WaitResult::Interrupted => None,
+        Kind::Write => {
+            match RwLockReaderPreference::try_write_lock(pass, lock) {
+                WaitResult::Success(hold) => {
+                    let acted = act();
+                    lock.unlock(hold, wake);
+                    Some(acted)
+                }
+                WaitResult::Interrupted => None,
+            }
+        }
     }
 }
 
-/// A `write_lock` whose wait closure answers `Abort` at once: whether it was interrupted, and what the closure noted.
-fn write_and_abort<R: Wait>(
+/// The same by `read_lock` and `write_lock`.
+fn wait_to<T, R: Wait, W: Fn(&WaitWord, &u64) -> WaitAction, F: FnOnce() -> T>(
     rt: &R,
     lock: &RwLockReaderPreference,
     pass: &mut RwReaderPass,
-) -> (bool, (u64, u64, u64))
-    requires { IsRwReaderPass lock.now pass.old }
-    ensures { IsSamePass pass.old pass.new }
+    kind: Kind,
+    wait: W,
+    wakes: &Gathering,
+    act: F,
+) -> Option<T>
+    requires own { IsRwReaderPass lock.now pass.old }
+    requires may { W.IsAlwaysCallable wait × F.IsAlwaysCallable act }
+    ensures stayed { HasStayed pass.old pass.new }
 {
-    let notes = Notes::new();
-    let locked = RwLockReaderPreference::write_lock(pass, lock, rt, |word, seen| {
-        notes.note(word.load(), *seen);
-        WaitAction::Abort
-    });
-    let interrupted = match locked {
-        WaitResult::Success(hold) => {
-            lock.unlock(hold, wake_nobody);
-            false
+    let wake = |word: &WaitWord| wakes.wake_one(word.load());
+    match kind {
+        Kind::Read => {
+            match RwLockReaderPreference::read_lock(pass, lock, rt, wait) {
+                WaitResult::Success(hold) => {
+                    let acted = act();
+                    lock.unlock(hold, wake);
+                    Some(acted)
+                }
+                WaitResult::Interrupted => None,
+            }
         }
-        WaitResult::Interrupted => true,
-    };
-    (interrupted, notes.noted())
+        Kind::Write => {
+            match RwLockReaderPreference::write_lock(pass, lock, rt, wait) {
+                WaitResult::Success(hold) => {
+                    let acted = act();
+                    lock.unlock(hold, wake);
+                    Some(acted)
+                }
+                WaitResult::Interrupted => None,
+            }
+        }
+    }
 }
 
-/// The same of a `read_lock`.
-fn read_and_abort<R: Wait>(
-    rt: &R,
-    lock: &RwLockReaderPreference,
-    pass: &mut RwReaderPass,
-) -> (bool, (u64, u64, u64))
-    requires { IsRwReaderPass lock.now pass.old }
-    ensures { IsSamePass pass.old pass.new }
+/// A party at this lock with this pass.
+fn party_of(lock: &RwLockReaderPreference, pass: RwReaderPass, kind: Kind) -> ReaderLockParty<'_>
+    requires own { IsRwReaderPass lock.now pass }
 {
-    let notes = Notes::new();
-    let locked = RwLockReaderPreference::read_lock(pass, lock, rt, |word, seen| {
-        notes.note(word.load(), *seen);
-        WaitAction::Abort
-    });
-    let interrupted = match locked {
-        WaitResult::Success(hold) => {
-            lock.unlock(hold, wake_nobody);
-            false
-        }
-        WaitResult::Interrupted => true,
-    };
-    (interrupted, notes.noted())
+    ReaderLockParty { lock, pass, kind }
+}
+
+/// Who meets, and what the other is told there: a reader beside a reader enters, and nobody else beside anybody.
+#[test]
+fn only_readers_enter_together(rt: HostRuntime) -> Result<(), Fail> {
+    let let_in = (false, (false, (0, 0, 0)), false);
+    for (held, asked, answers) in [
+        (Kind::Read, Kind::Read, let_in),
+        (Kind::Read, Kind::Write, (true, (true, (1, 1, 1)), false)),
+        (
+            Kind::Write,
+            Kind::Read,
+            (true, (true, (1, u64::MAX, u64::MAX)), false),
+        ),
+        (
+            Kind::Write,
+            Kind::Write,
+            (true, (true, (1, u64::MAX, u64::MAX)), false),
+        ),
+    ] {
+        let (lock, one, two) = in_two_parts(rt.alloc())?;
+        let mut holder = party_of(&lock, one, held);
+        let mut other = party_of(&lock, two, asked);
+        let seen = party::refused_beside(&rt, &mut holder, &mut other);
+        assert_eq!(rt; seen, Some(answers));
+    }
+    Ok(())
+}
+
+/// While two read: what a third is told that waits to write, and whether it is refused to read. Then whether it is refused to write after
+/// one has left, and after both have.
+fn beside_two_readers<R: Wait>(
+    rt: &R,
+    one: &mut ReaderLockParty<'_>,
+    two: &mut ReaderLockParty<'_>,
+    three: &mut ReaderLockParty<'_>,
+) -> Option<(Option<((bool, Noted), bool)>, bool, bool)> {
+    let wakes = Gathering::new();
+    let (beside_both, beside_one) = one.try_to(&wakes, || {
+        let beside_both = two.try_to(&wakes, || {
+            let waited = party::wait_and_abort(rt, three, &wakes);
+            three.kind = Kind::Read;
+            (waited, party::is_refused(three))
+        });
+        three.kind = Kind::Write;
+        (beside_both, party::is_refused(three))
+    })?;
+    Some((beside_both, beside_one, party::is_refused(three)))
 }
 
 #[test]
 fn a_writer_enters_after_both_readers_left(rt: HostRuntime) -> Result<(), Fail> {
-    let (lock, mut one, mut two, mut three) = in_three_parts(rt.alloc())?;
-    let answers = refused_beside_two_readers(&rt, &lock, &mut one, &mut two, &mut three);
-    assert_eq!(rt; answers, Some(((true, (1, 2, 2)), true, true, false)));
+    let (lock, one, two, three) = in_three_parts(rt.alloc())?;
+    let mut one = party_of(&lock, one, Kind::Read);
+    let mut two = party_of(&lock, two, Kind::Read);
+    let mut three = party_of(&lock, three, Kind::Write);
+    let answers = beside_two_readers(&rt, &mut one, &mut two, &mut three);
+    assert_eq!(rt;
+        answers,
+        Some((Some(((true, (1, 2, 2)), false)), true, false))
+    );
     Ok(())
 }
 
@@ -305,154 +350,19 @@ fn gives_up_writing_after_10002_looks(rt: HostRuntime) -> Result<(), Fail> {
     Ok(())
 }
 
-/// What a `read_lock` of `two` did while `one` reads, and whether `two` is refused to write then.
-fn beside_a_reader<R: Wait>(
-    rt: &R,
-    lock: &RwLockReaderPreference,
-    one: &mut RwReaderPass,
-    two: &mut RwReaderPass,
-) -> Option<((bool, (u64, u64, u64)), bool)>
-    requires { IsRwReaderPass lock.now one.old × IsRwReaderPass lock.now two.old }
-{
-    match RwLockReaderPreference::try_read_lock(one, lock) {
-        WaitResult::Success(hold) => {
-            let read = read_and_abort(rt, lock, two);
-            let is_refused = is_refused_to_write(lock, two);
-            lock.unlock(hold, wake_nobody);
-            Some((read, is_refused))
-        }
-        WaitResult::Interrupted => None,
-    }
-}
-
-/// A second reader comes in while the first is in, and is not asked.
-#[test]
-fn readers_lock_together(rt: HostRuntime) -> Result<(), Fail> {
-    let (lock, mut one, mut two) = in_two_parts(rt.alloc())?;
-    let answers = beside_a_reader(&rt, &lock, &mut one, &mut two);
-    assert_eq!(rt; answers, Some(((false, (0, 0, 0)), true)));
-    Ok(())
-}
-
-/// Whether `two` is refused to read and to write while `one` writes, and what it is told that waits to read.
-fn refused_beside_a_writer<R: Wait>(
-    rt: &R,
-    lock: &RwLockReaderPreference,
-    one: &mut RwReaderPass,
-    two: &mut RwReaderPass,
-) -> Option<(bool, bool, (bool, (u64, u64, u64)))>
-    requires { IsRwReaderPass lock.now one.old × IsRwReaderPass lock.now two.old }
-{
-    match RwLockReaderPreference::try_write_lock(one, lock) {
-        WaitResult::Success(hold) => {
-            let reads = is_refused_to_read(lock, two);
-            let writes = is_refused_to_write(lock, two);
-            let waited = read_and_abort(rt, lock, two);
-            lock.unlock(hold, wake_nobody);
-            Some((reads, writes, waited))
-        }
-        WaitResult::Interrupted => None,
-    }
-}
-
-#[test]
-fn nobody_enters_beside_a_writer(rt: HostRuntime) -> Result<(), Fail> {
-    let (lock, mut one, mut two) = in_two_parts(rt.alloc())?;
-    let word = 18446744073709551615;
-    assert_eq!(rt;
-        refused_beside_a_writer(&rt, &lock, &mut one, &mut two),
-        Some((true, true, (true, (1, word, word))))
-    );
-    Ok(())
-}
-
+/// Asked for with a closure that would give up, a free lock is granted. Each unlock wakes once, after its write, and leaves 0.
 #[test]
 fn a_free_lock_is_granted_unasked(rt: HostRuntime) -> Result<(), Fail> {
-    let (lock, mut pass) = RwLockReaderPreference::new(rt.alloc())?;
-    let read = read_and_abort(&rt, &lock, &mut pass);
-    let written = write_and_abort(&rt, &lock, &mut pass);
+    let (lock, one, two) = in_two_parts(rt.alloc())?;
+    let mut reader = party_of(&lock, one, Kind::Read);
+    let mut writer = party_of(&lock, two, Kind::Write);
+    let wakes = Gathering::new();
+    let read = party::wait_and_abort(&rt, &mut reader, &wakes);
+    let written = party::wait_and_abort(&rt, &mut writer, &wakes);
     let unasked = (false, (0, 0, 0));
-    assert_eq!(rt; (read, written, lock.close(pass)), (unasked, unasked, 0));
-    Ok(())
-}
-
-/// Unlocks; the wake closure is gathered.
-fn unlock_gathered<'p>(
-    lock: &RwLockReaderPreference,
-    hold: RwHold<'p, RwReaderPass>,
-    gathering: &Gathering,
-) -> &'p mut RwReaderPass
-    requires own { IsRwReaderPass lock.now (pass_of hold) }
-    ensures same_borrow { result.ghost_name ≡ borrow_of hold.entry }
-    ensures same { IsSamePass (pass_of hold.entry) result.now }
-{
-    lock.unlock(hold, |word| gathering.wake_one(word.load()))
-}
-
-/// Locks for reading and unlocks. Whether the lock was granted; the wake closure is gathered.
-fn read_and_wake(
-    lock: &RwLockReaderPreference,
-    pass: &mut RwReaderPass,
-    gathering: &Gathering,
-) -> bool
-    requires { IsRwReaderPass lock.now pass.old }
-    ensures { IsSamePass pass.old pass.new }
-{
-    match RwLockReaderPreference::try_read_lock(pass, lock) {
-        WaitResult::Success(hold) => {
-            unlock_gathered(lock, hold, gathering);
-            true
-        }
-        WaitResult::Interrupted => false,
-    }
-}
-
-/// The same for writing.
-fn write_and_wake(
-    lock: &RwLockReaderPreference,
-    pass: &mut RwReaderPass,
-    gathering: &Gathering,
-) -> bool
-    requires { IsRwReaderPass lock.now pass.old }
-    ensures { IsSamePass pass.old pass.new }
-{
-    match RwLockReaderPreference::try_write_lock(pass, lock) {
-        WaitResult::Success(hold) => {
-            unlock_gathered(lock, hold, gathering);
-            true
-        }
-        WaitResult::Interrupted => false,
-    }
-}
-
-/// While `one` reads: `two` reads and unlocks.
-fn read_and_wake_beside_a_reader(
-    lock: &RwLockReaderPreference,
-    one: &mut RwReaderPass,
-    two: &mut RwReaderPass,
-    gathering: &Gathering,
-) -> bool
-    requires { IsRwReaderPass lock.now one.old × IsRwReaderPass lock.now two.old }
-{
-    match RwLockReaderPreference::try_read_lock(one, lock) {
-        WaitResult::Success(hold) => {
-            let granted = read_and_wake(lock, two, gathering);
-            lock.unlock(hold, wake_nobody);
-            granted
-        }
-        WaitResult::Interrupted => false,
-    }
-}
-
-#[test]
-fn each_unlock_wakes_once_after_its_write(rt: HostRuntime) -> Result<(), Fail> {
-    let (lock, mut pass) = RwLockReaderPreference::new(rt.alloc())?;
-    let gathering = Gathering::new();
-    let read = read_and_wake(&lock, &mut pass, &gathering);
-    let written = write_and_wake(&lock, &mut pass, &gathering);
     assert_eq!(rt;
-        (read, written, gathering.gathered()),
-        (true, true, (22, 0))
+        (read, written, wakes.gathered()),
+        (unasked, unasked, (22, 0))
     );
     Ok(())
 }
@@ -460,84 +370,14 @@ fn each_unlock_wakes_once_after_its_write(rt: HostRuntime) -> Result<(), Fail> {
 /// The first of two readers to leave wakes too, and leaves the word at 1.
 #[test]
 fn a_reader_that_is_not_the_last_wakes(rt: HostRuntime) -> Result<(), Fail> {
-    let (lock, mut one, mut two) = in_two_parts(rt.alloc())?;
-    let gathering = Gathering::new();
-    let read = read_and_wake_beside_a_reader(&lock, &mut one, &mut two, &gathering);
-    assert_eq!(rt; (read, gathering.gathered()), (true, (2, 1)));
+    let (lock, one, two) = in_two_parts(rt.alloc())?;
+    let mut first = party_of(&lock, one, Kind::Read);
+    let mut second = party_of(&lock, two, Kind::Read);
+    let woken = first.try_to(&Gathering::new(), || party::woken(&mut second));
+    assert_eq!(rt; woken, Some(Some((2, 1))));
     Ok(())
 }
 
-/// Locks for writing, and unlocks only once the other thread asks. Whether that came.
-fn unlock_when_asked(
-    lock: &RwLockReaderPreference,
-    pass: &mut RwReaderPass,
-    meeting: &Meeting,
-) -> bool
-    requires { IsRwReaderPass lock.now pass.old }
-{
-    match RwLockReaderPreference::try_write_lock(pass, lock) {
-        WaitResult::Success(hold) => {
-            let was_asked = meeting.meet() && meeting.meet();
-            lock.unlock(hold, wake_nobody);
-            was_asked && meeting.meet()
-        }
-        WaitResult::Interrupted => false,
-    }
-}
-
-/// Locks once the other thread writes, with a closure that answers so once that has unlocked. What the closure noted, if the call succeeded.
-fn lock_after_unlock<R: Wait>(
-    rt: &R,
-    lock: &RwLockReaderPreference,
-    pass: &mut RwReaderPass,
-    meeting: &Meeting,
-    kind: Kind,
-    action: WaitAction,
-) -> Option<(u64, u64, u64)>
-    requires { IsRwReaderPass lock.now pass.old }
-{
-    let notes = Notes::new();
-    let is_locked = meeting.meet();
-    let wait = |word: &WaitWord, seen: &u64| {
-        notes.note(word.load(), *seen);
-        if meeting.meet() && meeting.meet() {
-            action
-        } else {
-            WaitAction::Abort
-        }
-    };
-    let answer = match kind {
-        Kind::Read => RwLockReaderPreference::read_lock(pass, lock, rt, wait),
-        Kind::Write => RwLockReaderPreference::write_lock(pass, lock, rt, wait),
-    };
-    match answer {
-        WaitResult::Success(hold) => {
-            lock.unlock(hold, wake_nobody);
-            is_locked.then_some(notes.noted())
-        }
-        WaitResult::Interrupted => None,
-    }
-}
-
-/// One thread writes at a new lock, and another asks for it with a closure that answers so: whether the writer was asked to let go, and
-/// what the closure noted.
-fn lock_beside_a_writer<R: Threads + Wait + Sync>(
-    rt: &R,
-    alloc: Global,
-    kind: Kind,
-    action: WaitAction,
-) -> Result<(bool, Option<(u64, u64, u64)>), AllocError> {
-    let (lock, mut one, mut two) = in_two_parts(alloc)?;
-    let meeting = Meeting::of(2);
-    Ok(thread::join(
-        rt,
-        || unlock_when_asked(&lock, &mut one, &meeting),
-        || lock_after_unlock(rt, &lock, &mut two, &meeting, kind, action),
-    ))
-}
-
-/// The writer lets go only after the other call has asked its closure, so both calls are under way at once; and that call looks once
-/// more, whatever its closure answers then.
 #[test]
 fn two_calls_meet_and_success_after_abort(rt: HostRuntime) -> Result<(), Fail> {
     for (kind, action) in [
@@ -546,7 +386,10 @@ fn two_calls_meet_and_success_after_abort(rt: HostRuntime) -> Result<(), Fail> {
         (Kind::Read, WaitAction::Continue),
         (Kind::Write, WaitAction::Continue),
     ] {
-        let met_and_noted = lock_beside_a_writer(&rt, rt.alloc(), kind, action)?;
+        let (lock, one, two) = in_two_parts(rt.alloc())?;
+        let mut holder = party_of(&lock, one, Kind::Write);
+        let mut other = party_of(&lock, two, kind);
+        let met_and_noted = party::let_in_beside(&rt, &mut holder, &mut other, action);
         assert_eq!(rt; met_and_noted, (true, Some((1, u64::MAX, u64::MAX))));
     }
     Ok(())
@@ -554,80 +397,54 @@ fn two_calls_meet_and_success_after_abort(rt: HostRuntime) -> Result<(), Fail> {
 
 /// Two readers, of which the second leaves once the writer asks, and the first when the writer's call is over. Whether that came.
 fn leave_one_by_one(
-    lock: &RwLockReaderPreference,
-    one: &mut RwReaderPass,
-    three: &mut RwReaderPass,
+    first: &mut ReaderLockParty<'_>,
+    second: &mut ReaderLockParty<'_>,
     meeting: &Meeting,
-) -> bool
-    requires { IsRwReaderPass lock.now one.old × IsRwReaderPass lock.now three.old }
-{
-    match RwLockReaderPreference::try_read_lock(one, lock) {
-        WaitResult::Success(hold) => {
-            let was_over = read_until_asked(lock, three, meeting) && meeting.meet();
-            lock.unlock(hold, wake_nobody);
-            was_over
-        }
-        WaitResult::Interrupted => false,
-    }
-}
-
-/// Locks for reading, and unlocks once the writer asks. Whether it does.
-fn read_until_asked(
-    lock: &RwLockReaderPreference,
-    pass: &mut RwReaderPass,
-    meeting: &Meeting,
-) -> bool
-    requires { IsRwReaderPass lock.now pass.old }
-{
-    match RwLockReaderPreference::try_read_lock(pass, lock) {
-        WaitResult::Success(hold) => {
-            let was_asked = meeting.meet() && meeting.meet();
-            lock.unlock(hold, wake_nobody);
-            was_asked && meeting.meet()
-        }
-        WaitResult::Interrupted => false,
-    }
+) -> Option<bool> {
+    let wakes = Gathering::new();
+    first.try_to(&wakes, || {
+        party::hold_until_asked(second, &wakes, meeting) && meeting.meet()
+    })
 }
 
 /// What the closure of a `write_lock` that gives up is told at all of its calls. It goes on from the first, once a reader has left.
 fn write_until_told_one<R: Wait>(
     rt: &R,
-    lock: &RwLockReaderPreference,
-    pass: &mut RwReaderPass,
+    writer: &mut ReaderLockParty<'_>,
     meeting: &Meeting,
-) -> Option<(u64, u64)>
-    requires { IsRwReaderPass lock.now pass.old }
-{
+) -> Option<(u64, u64)> {
     let gathering = Gathering::new();
     let are_reading = meeting.meet();
-    let answer = RwLockReaderPreference::write_lock(pass, lock, rt, |_, seen| {
-        gathering.wait(*seen);
-        if *seen == 2 && meeting.meet() && meeting.meet() {
-            WaitAction::Continue
-        } else {
-            WaitAction::Abort
-        }
-    });
+    let waited = writer.wait_to(
+        rt,
+        |_, seen| {
+            gathering.wait(*seen);
+            if *seen == 2 && meeting.meet() && meeting.meet() {
+                WaitAction::Continue
+            } else {
+                WaitAction::Abort
+            }
+        },
+        &Gathering::new(),
+        || (),
+    );
     let is_over = meeting.meet();
-    match answer {
-        WaitResult::Success(hold) => {
-            lock.unlock(hold, wake_nobody);
-            None
-        }
-        WaitResult::Interrupted => (are_reading && is_over).then_some(gathering.gathered()),
-    }
+    (waited.is_none() && are_reading && is_over).then_some(gathering.gathered())
 }
 
 /// Of two readers one leaves while the writer waits: its closure is told 2, and then 1.
 #[test]
 fn a_waiting_writer_is_told_what_refused_it_last(rt: HostRuntime) -> Result<(), Fail> {
-    let (lock, mut one, mut two, mut three) = in_three_parts(rt.alloc())?;
+    let (lock, one, two, three) = in_three_parts(rt.alloc())?;
+    let mut first = party_of(&lock, one, Kind::Read);
+    let mut second = party_of(&lock, two, Kind::Read);
+    let mut writer = party_of(&lock, three, Kind::Write);
     let meeting = Meeting::of(2);
     let left_and_told = thread::join(
         &rt,
-        || leave_one_by_one(&lock, &mut one, &mut three, &meeting),
-        || write_until_told_one(&rt, &lock, &mut two, &meeting),
+        || leave_one_by_one(&mut first, &mut second, &meeting),
+        || write_until_told_one(&rt, &mut writer, &meeting),
     );
-    assert_eq!(rt; left_and_told, (true, Some((11, 21))));
+    assert_eq!(rt; left_and_told, (Some(true), Some((11, 21))));
     Ok(())
 }

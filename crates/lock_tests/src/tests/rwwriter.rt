@@ -1,30 +1,21 @@
 //! The running writer-preferring lock.
 ghost use Rattle.std.specs.Prelude.{◌≡◌, IfOk};
 ghost use Rattle.passes.specs.Parts.{IsAgain};
-ghost use Rattle.passes.specs.Passes.{IsSamePass, object_of};
-ghost use Rattle.running_rwlock.specs.RwShown.{pass_of, borrow_of};
+ghost use Rattle.passes.specs.Passes.{object_of};
 ghost use Rattle.running_rwlock.specs.RwWriterShown.{IsRwWriterPass, IsAlone, HasStayed, pass_in, part_in, reads_of, writes_of};
 
-use iceoryx2_pal_concurrency_sync::strategy::rwlock::{
-    RwHold, RwLockWriterPreference, RwWriterPass,
-};
+use super::party::{self, Kind, Noted, Party};
+use iceoryx2_pal_concurrency_sync::strategy::rwlock::{RwLockWriterPreference, RwWriterPass};
 use iceoryx2_pal_concurrency_sync::{
     WaitAction, WaitResult, WaitWord, wake_nobody, yield_and_go_on,
 };
-use signal::{Gathering, Meeting, Notes};
+use signal::{Gathering, Meeting};
 use std::alloc::{AllocError, Global};
 use std::sync::Wait;
 use std::sync::atomic::{AtomicU64, Ordering};
 use std::test::Fail;
 use std::thread;
 use std::thread::Threads;
-
-/// Which lock is asked for.
-#[derive(Clone, Copy)]
-enum Kind {
-    Read,
-    Write,
-}
 
 /// A new lock, and two parts of its pass.
 fn in_two_parts(
@@ -239,417 +230,208 @@ fn a_storm_leaves_no_mark(rt: HostRuntime) -> Result<(), Fail> {
     Ok(())
 }
 
-/// Locks for writing with a closure that answers `Abort`, and unlocks. Whether it was interrupted; its closures are gathered.
-fn write_and_abort<R: Wait>(
+/// A party at a lock, which reads or writes.
+#[derive(Drop)]
+struct WriterLockParty<'l> {
+    lock: &'l RwLockWriterPreference,
+    pass: RwWriterPass,
+    kind: Kind,
+    ghost own: { IsRwWriterPass lock.now pass },
+}
+
+impl Party for WriterLockParty<'_> {
+    fn try_to<T, F: FnOnce() -> T>(&mut self, wakes: &Gathering, act: F) -> Option<T> {
+        try_to(self.lock, &mut self.pass, self.kind, wakes, act)
+    }
+
+    fn wait_to<T, R: Wait, W: Fn(&WaitWord, &u64) -> WaitAction, F: FnOnce() -> T>(
+        &mut self,
+        rt: &R,
+        wait: W,
+        wakes: &Gathering,
+        act: F,
+    ) -> Option<T> {
+        wait_to(rt, self.lock, &mut self.pass, self.kind, wait, wakes, act)
+    }
+}
+
+/// Tries to lock, acts while it has the hold, and unlocks: a party's `try_to`.
+fn try_to<T, F: FnOnce() -> T>(
+    lock: &RwLockWriterPreference,
+    pass: &mut RwWriterPass,
+    kind: Kind,
+    wakes: &Gathering,
+    act: F,
+) -> Option<T>
+    requires own { IsRwWriterPass lock.now pass.old }
+    requires may { F.IsAlwaysCallable act }
+    ensures stayed { HasStayed pass.old pass.new }
+{
+    let wake_one = |counter: &WaitWord| wakes.wake_one(counter.load());
+    let wake_all = |word: &WaitWord| wakes.wake_all(word.load());
+    match kind {
+        Kind::Read => {
+            match RwLockWriterPreference::try_read_lock(pass, lock) {
+                WaitResult::Success(hold) => {
+                    let acted = act();
+                    lock.unlock(hold, wake_one, wake_all);
+                    Some(acted)
+                }
+                WaitResult::Interrupted => None,
+            }
+        }
+        Kind::Write => {
+            match RwLockWriterPreference::try_write_lock(pass, lock) {
+                WaitResult::Success(hold) => {
+                    let acted = act();
+                    lock.unlock(hold, wake_one, wake_all);
+                    Some(acted)
+                }
+                WaitResult::Interrupted => None,
+            }
+        }
+    }
+}
+
+/// The same by `read_lock` and `write_lock`.
+fn wait_to<T, R: Wait, W: Fn(&WaitWord, &u64) -> WaitAction, F: FnOnce() -> T>(
     rt: &R,
     lock: &RwLockWriterPreference,
     pass: &mut RwWriterPass,
-    gathering: &Gathering,
-) -> bool
-    requires { IsRwWriterPass lock.now pass.old }
-    ensures { IsSamePass (pass_in pass.old) (pass_in pass.new) }
+    kind: Kind,
+    wait: W,
+    wakes: &Gathering,
+    act: F,
+) -> Option<T>
+    requires own { IsRwWriterPass lock.now pass.old }
+    requires may { W.IsAlwaysCallable wait × F.IsAlwaysCallable act }
+    ensures stayed { HasStayed pass.old pass.new }
 {
-    let locked = RwLockWriterPreference::write_lock(
-        pass,
-        lock,
-        rt,
-        |_, seen| {
-            gathering.wait(*seen);
-            WaitAction::Abort
-        },
-        |counter| gathering.wake_one(counter.load()),
-        |word| gathering.wake_all(word.load()),
-    );
-    match locked {
-        WaitResult::Success(hold) => {
-            lock.unlock(hold, wake_nobody, wake_nobody);
-            false
+    let wake_one = |counter: &WaitWord| wakes.wake_one(counter.load());
+    let wake_all = |word: &WaitWord| wakes.wake_all(word.load());
+    match kind {
+        Kind::Read => {
+            match RwLockWriterPreference::read_lock(pass, lock, rt, wait) {
+                WaitResult::Success(hold) => {
+                    let acted = act();
+                    lock.unlock(hold, wake_one, wake_all);
+                    Some(acted)
+                }
+                WaitResult::Interrupted => None,
+            }
         }
-        WaitResult::Interrupted => true,
+        Kind::Write => {
+            let locked = RwLockWriterPreference::write_lock(
+                pass, lock, rt, wait, wake_one, wake_all,
+            );
+            match locked {
+                WaitResult::Success(hold) => {
+                    let acted = act();
+                    lock.unlock(hold, wake_one, wake_all);
+                    Some(acted)
+                }
+                WaitResult::Interrupted => None,
+            }
+        }
     }
 }
 
-/// Whether `try_read_lock` is refused now.
-fn is_refused_to_read(lock: &RwLockWriterPreference, pass: &mut RwWriterPass) -> bool
-    requires { IsRwWriterPass lock.now pass.old }
-    ensures { IsSamePass (pass_in pass.old) (pass_in pass.new) }
+/// A party at this lock with this pass.
+fn party_of(lock: &RwLockWriterPreference, pass: RwWriterPass, kind: Kind) -> WriterLockParty<'_>
+    requires own { IsRwWriterPass lock.now pass }
 {
-    match RwLockWriterPreference::try_read_lock(pass, lock) {
-        WaitResult::Success(hold) => {
-            lock.unlock(hold, wake_nobody, wake_nobody);
-            false
-        }
-        WaitResult::Interrupted => true,
-    }
+    WriterLockParty { lock, pass, kind }
 }
 
-/// Whether `try_write_lock` is refused now.
-fn is_refused_to_write(lock: &RwLockWriterPreference, pass: &mut RwWriterPass) -> bool
-    requires { IsRwWriterPass lock.now pass.old }
-    ensures { IsSamePass (pass_in pass.old) (pass_in pass.new) }
-{
-    match RwLockWriterPreference::try_write_lock(pass, lock) {
-        WaitResult::Success(hold) => {
-            lock.unlock(hold, wake_nobody, wake_nobody);
-            false
-        }
-        WaitResult::Interrupted => true,
-    }
-}
-
-/// While `one` reads: whether a writer that aborts is interrupted, and whether its pass is then refused to read.
-fn give_up_beside_a_reader<R: Wait>(
-    rt: &R,
-    lock: &RwLockWriterPreference,
-    one: &mut RwWriterPass,
-    two: &mut RwWriterPass,
-    gathering: &Gathering,
-) -> Option<(bool, bool)>
-    requires { IsRwWriterPass lock.now one.old × IsRwWriterPass lock.now two.old }
-    ensures { IsSamePass (pass_in one.old) (pass_in one.new) × IsSamePass (pass_in two.old) (pass_in two.new) }
-{
-    match RwLockWriterPreference::try_read_lock(one, lock) {
-        WaitResult::Success(hold) => {
-            let interrupted = write_and_abort(rt, lock, two, gathering);
-            let refused = is_refused_to_read(lock, two);
-            lock.unlock(hold, wake_nobody, wake_nobody);
-            Some((interrupted, refused))
-        }
-        WaitResult::Interrupted => None,
-    }
-}
-
-/// A writer beside a reader gives up: it asks once, takes its mark away, wakes one and then all. So a reader enters, and once the passes
-/// are joined the word is 0.
+/// Who meets, and what the other is told there: a reader beside a reader enters, and nobody else beside anybody. A writer is told the
+/// count, and not the word.
 #[test]
-fn abort_wakes(rt: HostRuntime) -> Result<(), Fail> {
-    let (lock, mut one, mut two) = in_two_parts(rt.alloc())?;
-    let gathering = Gathering::new();
-    let answers = give_up_beside_a_reader(&rt, &lock, &mut one, &mut two, &gathering);
-    let Ok(pass) = RwWriterPass::join(one, two, &lock) else {
-        unreachable!()
-    };
-    assert_eq!(rt;
-        (answers, gathering.gathered(), lock.close(pass)),
-        (Some((true, false)), (123, 12), 0)
-    );
+fn only_readers_enter_together(rt: HostRuntime) -> Result<(), Fail> {
+    let let_in = (false, (false, (0, 0, 0)), false);
+    for (held, asked, answers) in [
+        (Kind::Read, Kind::Read, let_in),
+        (Kind::Read, Kind::Write, (true, (true, (1, 0, 0)), false)),
+        (
+            Kind::Write,
+            Kind::Read,
+            (true, (true, (1, u64::MAX, u64::MAX)), false),
+        ),
+        (Kind::Write, Kind::Write, (true, (true, (1, 0, 0)), false)),
+    ] {
+        let (lock, one, two) = in_two_parts(rt.alloc())?;
+        let mut holder = party_of(&lock, one, held);
+        let mut other = party_of(&lock, two, asked);
+        let seen = party::refused_beside(&rt, &mut holder, &mut other);
+        assert_eq!(rt; seen, Some(answers));
+    }
     Ok(())
 }
 
-/// Whether `two` is refused to read and to write while `one` writes, and whether it is interrupted that waits to write.
-fn refused_beside_a_writer<R: Wait>(
+/// While one has the lock: what a writer is told that gives up, and whether its pass is then refused to read.
+fn give_up_beside<R: Wait>(
     rt: &R,
-    lock: &RwLockWriterPreference,
-    one: &mut RwWriterPass,
-    two: &mut RwWriterPass,
-    gathering: &Gathering,
-) -> Option<(bool, bool, bool)>
-    requires { IsRwWriterPass lock.now one.old × IsRwWriterPass lock.now two.old }
-{
-    match RwLockWriterPreference::try_write_lock(one, lock) {
-        WaitResult::Success(hold) => {
-            let reads = is_refused_to_read(lock, two);
-            let writes = is_refused_to_write(lock, two);
-            let waited = write_and_abort(rt, lock, two, gathering);
-            lock.unlock(hold, wake_nobody, wake_nobody);
-            Some((reads, writes, waited))
-        }
-        WaitResult::Interrupted => None,
+    holder: &mut WriterLockParty<'_>,
+    writer: &mut WriterLockParty<'_>,
+    wakes: &Gathering,
+) -> Option<((bool, Noted), bool)> {
+    holder.try_to(&Gathering::new(), || {
+        let waited = party::wait_and_abort(rt, writer, wakes);
+        writer.kind = Kind::Read;
+        let refused = party::is_refused(writer);
+        writer.kind = Kind::Write;
+        (waited, refused)
+    })
+}
+
+/// A writer beside a reader gives up: it takes its mark away, wakes one and then all. So a reader enters, and a writer once the first has
+/// left. A writer that waits is told the count: the first 0, and one that comes after one has given up and another has left 2.
+#[test]
+fn abort_wakes_and_counts(rt: HostRuntime) -> Result<(), Fail> {
+    let (lock, one, two) = in_two_parts(rt.alloc())?;
+    let mut reader = party_of(&lock, one, Kind::Read);
+    let mut writer = party_of(&lock, two, Kind::Write);
+    for (told, woken) in [(0, (23, 12)), (2, (23, 32))] {
+        let wakes = Gathering::new();
+        let answers = give_up_beside(&rt, &mut reader, &mut writer, &wakes);
+        let gave_up = ((true, (1, told, told)), false);
+        assert_eq!(rt; (answers, wakes.gathered()), (Some(gave_up), woken));
+        assert!(rt; !party::is_refused(&mut writer));
     }
+    Ok(())
 }
 
 /// A writer that gives up beside a writer sets no mark, and so wakes nobody.
 #[test]
-fn nobody_enters_beside_a_writer(rt: HostRuntime) -> Result<(), Fail> {
-    let (lock, mut one, mut two) = in_two_parts(rt.alloc())?;
-    let gathering = Gathering::new();
-    let answers = refused_beside_a_writer(&rt, &lock, &mut one, &mut two, &gathering);
+fn abort_beside_a_writer_wakes_nobody(rt: HostRuntime) -> Result<(), Fail> {
+    let (lock, one, two) = in_two_parts(rt.alloc())?;
+    let mut holder = party_of(&lock, one, Kind::Write);
+    let mut writer = party_of(&lock, two, Kind::Write);
+    let wakes = Gathering::new();
+    let answers = give_up_beside(&rt, &mut holder, &mut writer, &wakes);
     assert_eq!(rt;
-        (answers, gathering.gathered()),
-        (Some((true, true, true)), (1, 0))
+        (answers, wakes.gathered()),
+        (Some(((true, (1, 0, 0)), true)), (0, 0))
     );
     Ok(())
 }
 
-/// Whether `two` reads and is refused to write while `one` reads.
-fn beside_a_reader(
-    lock: &RwLockWriterPreference,
-    one: &mut RwWriterPass,
-    two: &mut RwWriterPass,
-) -> Option<(bool, bool)>
-    requires { IsRwWriterPass lock.now one.old × IsRwWriterPass lock.now two.old }
-    ensures { IsSamePass (pass_in one.old) (pass_in one.new) × IsSamePass (pass_in two.old) (pass_in two.new) }
-{
-    match RwLockWriterPreference::try_read_lock(one, lock) {
-        WaitResult::Success(hold) => {
-            let reads = is_refused_to_read(lock, two);
-            let writes = is_refused_to_write(lock, two);
-            lock.unlock(hold, wake_nobody, wake_nobody);
-            Some((reads, writes))
-        }
-        WaitResult::Interrupted => None,
-    }
-}
-
-#[test]
-fn readers_enter_together(rt: HostRuntime) -> Result<(), Fail> {
-    let (lock, mut one, mut two) = in_two_parts(rt.alloc())?;
-    let beside = beside_a_reader(&lock, &mut one, &mut two);
-    let refused_after = is_refused_to_write(&lock, &mut two);
-    assert_eq!(rt; (beside, refused_after), (Some((false, true)), false));
-    Ok(())
-}
-
-/// Locks for reading with a closure that answers `Abort`, and unlocks. Whether it was interrupted, and how often it was asked.
-fn read_and_abort<R: Wait>(
-    rt: &R,
-    lock: &RwLockWriterPreference,
-    pass: &mut RwWriterPass,
-) -> (bool, u64)
-    requires { IsRwWriterPass lock.now pass.old }
-{
-    let asked = AtomicU64::new(0);
-    let locked = RwLockWriterPreference::read_lock(pass, lock, rt, |_, _| {
-        asked.fetch_add(1, Ordering::SeqCst);
-        WaitAction::Abort
-    });
-    let is_interrupted = match locked {
-        WaitResult::Success(hold) => {
-            lock.unlock(hold, wake_nobody, wake_nobody);
-            false
-        }
-        WaitResult::Interrupted => true,
-    };
-    (is_interrupted, asked.load(Ordering::SeqCst))
-}
-
-/// What a `read_lock` of `two` did while `one` reads.
-fn lock_beside_a_reader<R: Wait>(
-    rt: &R,
-    lock: &RwLockWriterPreference,
-    one: &mut RwWriterPass,
-    two: &mut RwWriterPass,
-) -> Option<(bool, u64)>
-    requires { IsRwWriterPass lock.now one.old × IsRwWriterPass lock.now two.old }
-{
-    match RwLockWriterPreference::try_read_lock(one, lock) {
-        WaitResult::Success(hold) => {
-            let read = read_and_abort(rt, lock, two);
-            lock.unlock(hold, wake_nobody, wake_nobody);
-            Some(read)
-        }
-        WaitResult::Interrupted => None,
-    }
-}
-
-/// A second reader comes in while the first is in, and is not asked.
-#[test]
-fn readers_lock_together(rt: HostRuntime) -> Result<(), Fail> {
-    let (lock, mut one, mut two) = in_two_parts(rt.alloc())?;
-    let answer = lock_beside_a_reader(&rt, &lock, &mut one, &mut two);
-    assert_eq!(rt; answer, Some((false, 0)));
-    Ok(())
-}
-
+/// Asked for with a closure that would give up, a free lock is granted. A reader wakes nobody where no mark is set. A writer wakes one, and
+/// then all, after its store of 0 and its count.
 #[test]
 fn a_free_lock_is_granted_unasked(rt: HostRuntime) -> Result<(), Fail> {
-    let (lock, mut pass) = RwLockWriterPreference::new(rt.alloc())?;
-    let gathering = Gathering::new();
-    let interrupted = write_and_abort(&rt, &lock, &mut pass, &gathering);
-    read_and_unlock(&rt, &lock, &mut pass);
-    assert_eq!(rt;
-        (interrupted, gathering.gathered(), lock.close(pass)),
-        (false, (0, 0), 0)
-    );
+    let (lock, one, two) = in_two_parts(rt.alloc())?;
+    let mut reader = party_of(&lock, one, Kind::Read);
+    let mut writer = party_of(&lock, two, Kind::Write);
+    let (by_reader, by_writer) = (Gathering::new(), Gathering::new());
+    let read = party::wait_and_abort(&rt, &mut reader, &by_reader);
+    let written = party::wait_and_abort(&rt, &mut writer, &by_writer);
+    let unasked = (false, (0, 0, 0));
+    assert_eq!(rt; (read, written), (unasked, unasked));
+    let woken = (by_reader.gathered(), by_writer.gathered());
+    assert_eq!(rt; woken, ((0, 0), (23, 10)));
     Ok(())
 }
 
-/// Unlocks; the wake closures are gathered.
-fn unlock_gathered<'p>(
-    lock: &RwLockWriterPreference,
-    hold: RwHold<'p, RwWriterPass>,
-    gathering: &Gathering,
-) -> &'p mut RwWriterPass
-    requires own { IsRwWriterPass lock.now (pass_of hold) }
-    ensures same_borrow { result.ghost_name ≡ borrow_of hold.entry }
-    ensures same { IsSamePass (pass_in (pass_of hold.entry)) (pass_in result.now) }
-{
-    lock.unlock(
-        hold,
-        |counter| gathering.wake_one(counter.load()),
-        |word| gathering.wake_all(word.load()),
-    )
-}
-
-/// Locks for reading and unlocks. Whether it was granted; the wake closures are gathered.
-fn read_and_wake(
-    lock: &RwLockWriterPreference,
-    pass: &mut RwWriterPass,
-    gathering: &Gathering,
-) -> bool
-    requires { IsRwWriterPass lock.now pass.old }
-    ensures { IsSamePass (pass_in pass.old) (pass_in pass.new) }
-{
-    match RwLockWriterPreference::try_read_lock(pass, lock) {
-        WaitResult::Success(hold) => {
-            unlock_gathered(lock, hold, gathering);
-            true
-        }
-        WaitResult::Interrupted => false,
-    }
-}
-
-/// The same for writing.
-fn write_and_wake(
-    lock: &RwLockWriterPreference,
-    pass: &mut RwWriterPass,
-    gathering: &Gathering,
-) -> bool
-    requires { IsRwWriterPass lock.now pass.old }
-    ensures { IsSamePass (pass_in pass.old) (pass_in pass.new) }
-{
-    match RwLockWriterPreference::try_write_lock(pass, lock) {
-        WaitResult::Success(hold) => {
-            unlock_gathered(lock, hold, gathering);
-            true
-        }
-        WaitResult::Interrupted => false,
-    }
-}
-
-/// A writer that waits is told the count: the first 0, and one that comes after that has given up 1.
-#[test]
-fn a_waiting_writer_is_told_the_count(rt: HostRuntime) -> Result<(), Fail> {
-    let (lock, mut one, mut two) = in_two_parts(rt.alloc())?;
-    let (first, second) = (Gathering::new(), Gathering::new());
-    let one_gave_up = give_up_beside_a_reader(&rt, &lock, &mut one, &mut two, &first);
-    let two_gave_up = give_up_beside_a_reader(&rt, &lock, &mut one, &mut two, &second);
-    let gave_up = Some((true, false));
-    assert_eq!(rt; (one_gave_up, two_gave_up), (gave_up, gave_up));
-    assert_eq!(rt;
-        (first.gathered(), second.gathered()),
-        ((123, 12), (123, 122))
-    );
-    Ok(())
-}
-
-/// A reader wakes nobody where no mark is set. A writer wakes one, and then all, after its store and its count.
-#[test]
-fn a_writer_that_leaves_wakes(rt: HostRuntime) -> Result<(), Fail> {
-    let (lock, mut pass) = RwLockWriterPreference::new(rt.alloc())?;
-    let gathering = Gathering::new();
-    let read = (
-        read_and_wake(&lock, &mut pass, &gathering),
-        gathering.gathered(),
-    );
-    let written = (
-        write_and_wake(&lock, &mut pass, &gathering),
-        gathering.gathered(),
-    );
-    assert_eq!(rt; (read, written), ((true, (0, 0)), (true, (23, 10))));
-    Ok(())
-}
-
-/// Reads until a writer waits in the other thread, and unlocks. Whether `two` was refused to read meanwhile, if the writer came.
-fn read_until_asked(
-    lock: &RwLockWriterPreference,
-    one: &mut RwWriterPass,
-    two: &mut RwWriterPass,
-    gathering: &Gathering,
-    meeting: &Meeting,
-) -> Option<bool>
-    requires { IsRwWriterPass lock.now one.old × IsRwWriterPass lock.now two.old }
-{
-    match RwLockWriterPreference::try_read_lock(one, lock) {
-        WaitResult::Success(hold) => {
-            let was_asked = meeting.meet() && meeting.meet();
-            let refused = is_refused_to_read(lock, two);
-            unlock_gathered(lock, hold, gathering);
-            (was_asked && meeting.meet()).then_some(refused)
-        }
-        WaitResult::Interrupted => None,
-    }
-}
-
-/// Locks for writing, and unlocks only once the other thread asks. Whether that came.
-fn unlock_when_asked(
-    lock: &RwLockWriterPreference,
-    pass: &mut RwWriterPass,
-    meeting: &Meeting,
-) -> bool
-    requires { IsRwWriterPass lock.now pass.old }
-{
-    match RwLockWriterPreference::try_write_lock(pass, lock) {
-        WaitResult::Success(hold) => {
-            let was_asked = meeting.meet() && meeting.meet();
-            lock.unlock(hold, wake_nobody, wake_nobody);
-            was_asked && meeting.meet()
-        }
-        WaitResult::Interrupted => false,
-    }
-}
-
-/// Locks once the other thread has locked, with a closure that answers so once that has unlocked. What the closure noted, if the call
-/// succeeded.
-fn lock_after_unlock<R: Wait>(
-    rt: &R,
-    lock: &RwLockWriterPreference,
-    pass: &mut RwWriterPass,
-    meeting: &Meeting,
-    kind: Kind,
-    action: WaitAction,
-) -> Option<(u64, u64, u64)>
-    requires { IsRwWriterPass lock.now pass.old }
-{
-    let notes = Notes::new();
-    let is_locked = meeting.meet();
-    let wait = |word: &WaitWord, seen: &u64| {
-        notes.note(word.load(), *seen);
-        if meeting.meet() && meeting.meet() {
-            action
-        } else {
-            WaitAction::Abort
-        }
-    };
-    let answer = match kind {
-        Kind::Read => RwLockWriterPreference::read_lock(pass, lock, rt, wait),
-        Kind::Write => RwLockWriterPreference::write_lock(
-            pass,
-            lock,
-            rt,
-            wait,
-            wake_nobody,
-            wake_nobody,
-        ),
-    };
-    match answer {
-        WaitResult::Success(hold) => {
-            lock.unlock(hold, wake_nobody, wake_nobody);
-            is_locked.then_some(notes.noted())
-        }
-        WaitResult::Interrupted => None,
-    }
-}
-
-/// One thread writes at a new lock, and another asks for it with a closure that answers so: whether the writer was asked to let go, and
-/// what the closure noted.
-fn lock_beside_a_writer<R: Threads + Wait + Sync>(
-    rt: &R,
-    alloc: Global,
-    kind: Kind,
-    action: WaitAction,
-) -> Result<(bool, Option<(u64, u64, u64)>), AllocError> {
-    let (lock, mut one, mut two) = in_two_parts(alloc)?;
-    let meeting = Meeting::of(2);
-    Ok(thread::join(
-        rt,
-        || unlock_when_asked(&lock, &mut one, &meeting),
-        || lock_after_unlock(rt, &lock, &mut two, &meeting, kind, action),
-    ))
-}
-
-/// The writer lets go only after the other call has asked its closure, so both calls are under way at once; and that call looks once
-/// more, whatever its closure answers then.
 #[test]
 fn two_calls_meet_and_success_after_abort(rt: HostRuntime) -> Result<(), Fail> {
     for (kind, action, told) in [
@@ -658,38 +440,48 @@ fn two_calls_meet_and_success_after_abort(rt: HostRuntime) -> Result<(), Fail> {
         (Kind::Read, WaitAction::Continue, u64::MAX),
         (Kind::Write, WaitAction::Continue, 0),
     ] {
-        let met_and_noted = lock_beside_a_writer(&rt, rt.alloc(), kind, action)?;
+        let (lock, one, two) = in_two_parts(rt.alloc())?;
+        let mut holder = party_of(&lock, one, Kind::Write);
+        let mut other = party_of(&lock, two, kind);
+        let met_and_noted = party::let_in_beside(&rt, &mut holder, &mut other, action);
         assert_eq!(rt; met_and_noted, (true, Some((1, told, told))));
     }
     Ok(())
 }
 
-/// One thread reads at a new lock until a writer waits in another, whose closure answers so. Whether a reader that came then was refused,
-/// what the writer's closure noted, and what the reader's closures were told.
-fn write_after_a_reader<R: Threads + Wait + Sync>(
-    rt: &R,
-    alloc: Global,
-    action: WaitAction,
-) -> Result<(Option<bool>, Option<(u64, u64, u64)>, (u64, u64)), AllocError> {
-    let (lock, mut one, mut two, mut three) = in_three_parts(alloc)?;
-    let gathering = Gathering::new();
-    let meeting = Meeting::of(2);
-    let (refused, noted) = thread::join(
-        rt,
-        || read_until_asked(&lock, &mut one, &mut three, &gathering, &meeting),
-        || lock_after_unlock(rt, &lock, &mut two, &meeting, Kind::Write, action),
-    );
-    Ok((refused, noted, gathering.gathered()))
+/// Reads until a writer waits in the other thread, and unlocks. Whether a reader that came then was refused, and whether the writer came.
+fn read_until_asked(
+    reader: &mut WriterLockParty<'_>,
+    late: &mut WriterLockParty<'_>,
+    wakes: &Gathering,
+    meeting: &Meeting,
+) -> Option<(bool, bool)> {
+    let (was_asked, refused) = reader.try_to(wakes, || {
+        let was_asked = meeting.meet() && meeting.meet();
+        (was_asked, party::is_refused(late))
+    })?;
+    Some((refused, was_asked && meeting.meet()))
 }
 
 /// While a writer waits, a reader that comes is refused. The last reader that leaves counts and wakes one, and the writer enters at the
-/// mark.
+/// mark, whatever its closure answers.
 #[test]
 fn the_last_reader_wakes_the_writer(rt: HostRuntime) -> Result<(), Fail> {
     for action in [WaitAction::Abort, WaitAction::Continue] {
+        let (lock, one, two, three) = in_three_parts(rt.alloc())?;
+        let mut reader = party_of(&lock, one, Kind::Read);
+        let mut writer = party_of(&lock, two, Kind::Write);
+        let mut late = party_of(&lock, three, Kind::Read);
+        let wakes = Gathering::new();
+        let meeting = Meeting::of(2);
+        let refused_and_noted = thread::join(
+            &rt,
+            || read_until_asked(&mut reader, &mut late, &wakes, &meeting),
+            || party::wait_for_unlock(&rt, &mut writer, &meeting, action),
+        );
         assert_eq!(rt;
-            write_after_a_reader(&rt, rt.alloc(), action)?,
-            (Some(true), Some((1, 0, 0)), (2, 1))
+            (refused_and_noted, wakes.gathered()),
+            ((Some((true, true)), Some((1, 0, 0))), (2, 1))
         );
     }
     Ok(())
