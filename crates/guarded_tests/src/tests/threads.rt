@@ -2,7 +2,6 @@
 ghost use Rattle.passes.specs.Parts.{IsAgain, IsWhole};
 ghost use Rattle.running_guarded.specs.GuardedShown.{IsGuardedPass, HasStayed, part_of};
 
-use super::wake_nobody_at_number;
 use passes::WaitResult;
 use running_guarded::{Guarded, GuardedPass};
 use std::alloc::AllocError;
@@ -103,7 +102,7 @@ fn count_up<R: Wait>(
                 thread::yield_now();
                 WaitAction::Continue
             },
-            wake_nobody_at_number,
+            |_| (),
             |number| *number = number.wrapping_add(1),
         );
         match counted {
