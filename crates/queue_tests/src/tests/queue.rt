@@ -1,87 +1,40 @@
 //! A queue, on one thread.
 ghost use Rattle.job_queue.specs.QueueShown.{IsQueuePass, IsWholePass};
 
+use super::party::first_wrong;
+use super::step::Step;
+use closures::wake_nobody;
 use job_queue::{JobQueue, PutFault, QueuePass, Taken};
-use std::alloc::Allocator;
+use std::alloc::{AllocError, Allocator, Global};
 use std::sync::Wait;
-use std::sync::atomic::{AtomicU64, Ordering};
 use std::test::Fail;
 use steps_events::WaitAction;
 
-/// How the calls of `all_calls` answered.
-#[derive(Drop)]
-struct Answers {
-    put: [Result<u64, PutFault<u64>>; 3],
-    taken: [Taken<u64>; 4],
-    late: Result<u64, PutFault<u64>>,
-}
-
-/// Puts three jobs where two have room, takes three times, where the third take's closure aborts, closes, puts and takes.
-fn all_calls<R: Wait>(
-    rt: &R,
-    queue: &JobQueue<u64>,
-    pass: &mut QueuePass,
-    asked: &AtomicU64,
-    told: &AtomicU64,
-    woken: &AtomicU64,
-) -> Answers
-    requires own { IsQueuePass queue.now pass.old }
-    ensures own { IsQueuePass queue.now pass.new }
-{
-    let one = queue.put(rt, pass, 7, |_| {
-        woken.fetch_add(1, Ordering::SeqCst);
-    });
-    let other = queue.put(rt, pass, 8, |_| ());
-    let third = queue.put(rt, pass, 9, |_| ());
-    let first = queue.take(rt, pass, |_, _| WaitAction::Continue, |_| ());
-    let second = queue.take(rt, pass, |_, _| WaitAction::Continue, |_| ());
-    let none = queue.take(
-        rt,
-        pass,
-        |_, seen| {
-            asked.fetch_add(1, Ordering::SeqCst);
-            told.fetch_add(*seen, Ordering::SeqCst);
-            WaitAction::Abort
-        },
-        |_| (),
-    );
-    queue.close(rt, pass, |_| ());
-    let late = queue.put(rt, pass, 10, |_| ());
-    let closed = queue.take(rt, pass, |_, _| WaitAction::Continue, |_| ());
-    Answers {
-        put: [one, other, third],
-        taken: [first, second, none, closed],
-        late,
-    }
-}
-
+/// Only the take that finds none is asked, once, and told 0 permits. A call wakes once where it unlocks, and once more with a notify.
 #[test]
 fn one_thread(rt: HostRuntime) -> Result<(), Fail> {
-    let (queue, mut pass) = JobQueue::new(rt.alloc(), 2)?;
-    let asked = AtomicU64::new(0);
-    let told = AtomicU64::new(0);
-    let woken = AtomicU64::new(0);
-    let answers = all_calls(&rt, &queue, &mut pass, &asked, &told, &woken);
-    assert_eq!(rt; answers.put, [Ok(0), Ok(1), Err(PutFault::Full(9))]);
-    assert_eq!(rt;
-        answers.taken,
-        [
-            Taken::Job { ticket: 0, job: 7 },
-            Taken::Job { ticket: 1, job: 8 },
-            Taken::Interrupted,
-            Taken::Closed,
-        ]
-    );
-    assert_eq!(rt; answers.late, Err(PutFault::Closed(10)));
-    // Once, and told 0 permits; once at the unlock, and once with the notify.
-    assert_eq!(rt; asked.load(Ordering::SeqCst), 1);
-    assert_eq!(rt; told.load(Ordering::SeqCst), 0);
-    assert_eq!(rt; woken.load(Ordering::SeqCst), 2);
+    let wrong = first_wrong(
+        &rt,
+        rt.alloc(),
+        2,
+        &[
+            (Step::Put(7, Ok(0)), 22),
+            (Step::Put(8, Ok(1)), 22),
+            (Step::Put(9, Err(PutFault::Full(9))), 2),
+            (Step::Take(Taken::Job { ticket: 0, job: 7 }), 2),
+            (Step::Take(Taken::Job { ticket: 1, job: 8 }), 2),
+            (Step::Take(Taken::Interrupted), 212),
+            (Step::Close, 33),
+            (Step::Put(10, Err(PutFault::Closed(10))), 2),
+            (Step::Take(Taken::Closed), 2),
+        ],
+    )?;
+    assert_eq!(rt; wrong, None);
     Ok(())
 }
 
 /// How many jobs the queue takes in until it answers `Full`, with their tickets in order; `None` where it answers something else.
-pub fn room_in<R: Wait, A: Allocator>(
+fn room_in<R: Wait, A: Allocator>(
     rt: &R,
     queue: &JobQueue<u64, A>,
     pass: &mut QueuePass,
@@ -89,7 +42,7 @@ pub fn room_in<R: Wait, A: Allocator>(
     requires own { IsQueuePass queue.now pass.old }
 {
     for job in 0..100u64 {
-        match queue.put(rt, pass, job, |_| ()) {
+        match queue.put(rt, pass, job, wake_nobody) {
             Ok(ticket) if ticket == job => (),
             Err(PutFault::Full(back)) if back == job => return Some(job),
             _ => return None,
@@ -98,13 +51,39 @@ pub fn room_in<R: Wait, A: Allocator>(
     None
 }
 
+/// The room in a queue of this capacity.
+pub(super) fn room_of<R: Wait, A: Allocator + Copy>(
+    rt: &R,
+    alloc: A,
+    capacity: usize,
+) -> Result<Option<u64>, AllocError> {
+    let (queue, mut pass) = JobQueue::new(alloc, capacity)?;
+    Ok(room_in(rt, &queue, &mut pass))
+}
+
 #[test]
 fn a_queue_has_room_for_its_capacity(rt: HostRuntime) -> Result<(), Fail> {
     for (capacity, room) in [(0, 0), (1, 1), (3, 3), (40, 40)] {
-        let (queue, mut pass) = JobQueue::new(rt.alloc(), capacity)?;
-        assert_eq!(rt; room_in(&rt, &queue, &mut pass), Some(room));
+        assert_eq!(rt; room_of(&rt, rt.alloc(), capacity)?, Some(room));
     }
     Ok(())
+}
+
+/// Takes, and gives up where there is no job.
+fn take_at_once<R: Wait>(rt: &R, queue: &JobQueue<u64>, pass: &mut QueuePass) -> Taken<u64>
+    requires own { IsQueuePass queue.now pass.old }
+    ensures own { IsQueuePass queue.now pass.new }
+{
+    queue.take(rt, pass, |_, _| WaitAction::Abort, wake_nobody)
+}
+
+/// Puts two jobs.
+fn put_two<R: Wait>(rt: &R, queue: &JobQueue<u64>, pass: &mut QueuePass)
+    requires own { IsQueuePass queue.now pass.old }
+    ensures own { IsQueuePass queue.now pass.new }
+{
+    let _ = queue.put(rt, pass, 7, wake_nobody);
+    let _ = queue.put(rt, pass, 8, wake_nobody);
 }
 
 /// Puts two jobs by one half of a pass, takes one by the other, and joins them. What was taken.
@@ -119,9 +98,8 @@ fn put_and_take_in_parts<R: Wait>(
     let Ok((mut one, mut two)) = pass.split(queue) else {
         unreachable!()
     };
-    let _first = queue.put(rt, &mut one, 7, |_| ());
-    let _second = queue.put(rt, &mut one, 8, |_| ());
-    let taken = queue.take(rt, &mut two, |_, _| WaitAction::Abort, |_| ());
+    put_two(rt, queue, &mut one);
+    let taken = take_at_once(rt, queue, &mut two);
     let Ok(pass) = QueuePass::join(one, two, queue) else {
         unreachable!()
     };
@@ -144,14 +122,21 @@ fn part_and_join(queue: &JobQueue<u64>, pass: QueuePass) -> QueuePass
     pass
 }
 
+/// What is taken by a part of a pass, and then by the whole.
+fn taken_in_parts<R: Wait>(rt: &R, alloc: Global) -> Result<(Taken<u64>, Taken<u64>), AllocError> {
+    let (queue, pass) = JobQueue::new(alloc, 2)?;
+    let (mut pass, first) = put_and_take_in_parts(rt, &queue, part_and_join(&queue, pass));
+    Ok((first, take_at_once(rt, &queue, &mut pass)))
+}
+
 #[test]
 fn parts_are_the_whole_again(rt: HostRuntime) -> Result<(), Fail> {
-    let (queue, pass) = JobQueue::new(rt.alloc(), 2)?;
-    let (mut pass, taken) = put_and_take_in_parts(&rt, &queue, part_and_join(&queue, pass));
-    assert_eq!(rt; taken, Taken::Job { ticket: 0, job: 7 });
     assert_eq!(rt;
-        queue.take(&rt, &mut pass, |_, _| WaitAction::Abort, |_| ()),
-        Taken::Job { ticket: 1, job: 8 }
+        taken_in_parts(&rt, rt.alloc())?,
+        (
+            Taken::Job { ticket: 0, job: 7 },
+            Taken::Job { ticket: 1, job: 8 }
+        )
     );
     Ok(())
 }
