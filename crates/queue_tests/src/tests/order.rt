@@ -12,6 +12,7 @@ use std::test::Fail;
 use std::thread;
 use std::thread::Threads;
 use steps_events::WaitAction;
+use tallies::WaitWord;
 
 /// What the two threads of a test tell each other.
 #[derive(Drop)]
@@ -89,20 +90,6 @@ fn take_and_give_up<R: Wait>(rt: &R, party: &mut Party<'_>, signals: &Signals) -
     taken
 }
 
-/// Puts a job, held up in its first wake. Whether it was put.
-fn put_held_up<R: Wait>(rt: &R, party: &mut Party<'_>, signals: &Signals) -> bool {
-    let queue = party.queue;
-    queue
-        .put(rt, &mut party.pass, 7, |_| signals.wake())
-        .is_ok()
-}
-
-/// Closes, held up in its first wake.
-fn close_held_up<R: Wait>(rt: &R, party: &mut Party<'_>, signals: &Signals) {
-    let queue = party.queue;
-    queue.close(rt, &mut party.pass, |_| signals.wake());
-}
-
 /// What the other thread does once the taker is asked.
 #[derive(Drop)]
 enum Change {
@@ -110,7 +97,7 @@ enum Change {
     Close,
 }
 
-/// Does so, held up. Whether the taker was asked, and the job put.
+/// Does so, held up in its first wake. Whether the taker was asked, and the job put.
 fn change_held_up<R: Wait>(
     rt: &R,
     party: &mut Party<'_>,
@@ -120,10 +107,12 @@ fn change_held_up<R: Wait>(
     if !signals.asked.awaited() {
         return false;
     }
+    let queue = party.queue;
+    let wake = |_: &WaitWord| signals.wake();
     match change {
-        Change::Put => put_held_up(rt, party, signals),
+        Change::Put => queue.put(rt, &mut party.pass, 7, wake).is_ok(),
         Change::Close => {
-            close_held_up(rt, party, signals);
+            queue.close(rt, &mut party.pass, wake);
             true
         }
     }

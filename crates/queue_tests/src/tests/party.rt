@@ -2,11 +2,12 @@
 ghost use Rattle.job_queue.specs.QueueShown.{IsQueuePass};
 
 use super::step::Step;
-use job_queue::{JobQueue, PutFault, QueuePass, Taken};
+use job_queue::{JobQueue, QueuePass};
 use signal::Gathering;
 use std::alloc::{AllocError, Global};
 use std::sync::Wait;
 use steps_events::WaitAction;
+use tallies::WaitWord;
 
 /// One that calls a queue.
 #[derive(Drop)]
@@ -27,49 +28,27 @@ impl<'q> Party<'q> {
     }
 }
 
-/// Puts a job. The wake closure is gathered.
-fn put_gathered<R: Wait>(
-    rt: &R,
-    party: &mut Party<'_>,
-    job: u64,
-    gathering: &Gathering,
-) -> Result<u64, PutFault<u64>> {
-    let queue = party.queue;
-    queue.put(
-        rt,
-        &mut party.pass,
-        job,
-        |word| gathering.wake_one(word.load()),
-    )
-}
-
-/// Takes a job, with a wait closure that answers `Abort`. Both closures are gathered.
-fn take_gathered<R: Wait>(rt: &R, party: &mut Party<'_>, gathering: &Gathering) -> Taken<u64> {
-    let queue = party.queue;
-    queue.take(
-        rt,
-        &mut party.pass,
-        |_, seen| {
-            gathering.wait(*seen);
-            WaitAction::Abort
-        },
-        |word| gathering.wake_one(word.load()),
-    )
-}
-
-/// Closes the queue. The wake closure is gathered.
-fn close_gathered<R: Wait>(rt: &R, party: &mut Party<'_>, gathering: &Gathering) {
-    let queue = party.queue;
-    queue.close(rt, &mut party.pass, |word| gathering.wake_all(word.load()));
-}
-
-/// Whether the step's call is answered as it has to be. Its closures are gathered.
+/// Whether the step's call is answered as it has to be, where its wait closure answers `Abort`. The closures are gathered.
 fn is_answered<R: Wait>(rt: &R, party: &mut Party<'_>, step: &Step, gathering: &Gathering) -> bool {
+    let queue = party.queue;
+    let pass = &mut party.pass;
+    let wake_one = |word: &WaitWord| gathering.wake_one(word.load());
     match step {
-        Step::Put(job, answer) => put_gathered(rt, party, *job, gathering) == *answer,
-        Step::Take(answer) => take_gathered(rt, party, gathering) == *answer,
+        Step::Put(job, answer) => queue.put(rt, pass, *job, wake_one) == *answer,
+        Step::Take(answer) => {
+            let taken = queue.take(
+                rt,
+                pass,
+                |_, seen| {
+                    gathering.wait(*seen);
+                    WaitAction::Abort
+                },
+                wake_one,
+            );
+            taken == *answer
+        }
         Step::Close => {
-            close_gathered(rt, party, gathering);
+            queue.close(rt, pass, |word| gathering.wake_all(word.load()));
             true
         }
     }
