@@ -1,5 +1,4 @@
-use crate::tests::benched;
-use bench_table::run::run;
+use crate::tests::{benched, told};
 use std::io;
 use std::io::{ErrorKind, Read, Write};
 use std::sync::Wait;
@@ -70,13 +69,11 @@ impl Read for Fails<'_> {
 #[test]
 fn a_failed_read_ends_it(rt: HostRuntime) -> Result<(), Fail> {
     let mut written: Vec<u8> = Vec::new(rt.alloc());
-    let fault = run(&rt, rt.alloc(), &mut Fails(b"0\n"), &mut written)
-        .err()
-        .ok_or("the read failed")?;
-    let told = format!(in rt.alloc(); "{fault}")?;
-    assert_eq!(rt; told.as_str(), "reading failed");
-    assert_eq!(rt; fault.status(), 1);
-    assert_eq!(rt; written.len(), 0);
+    let told = told(&rt, rt.alloc(), &mut Fails(b"0\n"), &mut written)?;
+    assert_eq!(rt;
+        (told.as_str(), written.len()),
+        ("reading failed, status 1", 0)
+    );
     Ok(())
 }
 
@@ -98,18 +95,20 @@ impl Write for Takes {
     }
 }
 
+/// How many bytes a writer takes, with how the run ends. The table without rounds has 36.
+const TAKEN: [(usize, &str); 4] = [
+    (0, "writing failed, status 1"),
+    (1, "writing failed, status 1"),
+    (35, "writing failed, status 1"),
+    (36, "benched"),
+];
+
 #[test]
 fn a_failed_write_ends_it(rt: HostRuntime) -> Result<(), Fail> {
-    for taken in [0, 1, 35] {
+    for (taken, ended) in TAKEN {
         let mut reader: &[u8] = b"0";
-        let fault = run(&rt, rt.alloc(), &mut reader, &mut Takes(taken))
-            .err()
-            .ok_or("the write failed")?;
-        let told = format!(in rt.alloc(); "{fault}")?;
-        assert_eq!(rt; told.as_str(), "writing failed");
-        assert_eq!(rt; fault.status(), 1);
+        let told = told(&rt, rt.alloc(), &mut reader, &mut Takes(taken))?;
+        assert_eq!(rt; told.as_str(), ended);
     }
-    let mut reader: &[u8] = b"0";
-    assert!(rt; run(&rt, rt.alloc(), &mut reader, &mut Takes(36)).is_ok());
     Ok(())
 }
