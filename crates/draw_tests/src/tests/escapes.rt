@@ -3,6 +3,7 @@ use markup::markup::Markup;
 use markup::name::{Key, Tag};
 use markup::opening::Opening;
 use markup::words::Words;
+use std::alloc::{AllocError, Global};
 use std::test::Fail;
 
 #[test]
@@ -12,17 +13,34 @@ fn special_characters_are_escaped(rt: HostRuntime) -> Result<(), Fail> {
     Ok(())
 }
 
-#[test]
-fn an_element_is_closed(rt: HostRuntime) -> Result<(), Fail> {
-    let title = Opening::new(rt.alloc(), Tag::Title)?.saying("1 < 2")?;
-    let circle = Opening::new(rt.alloc(), Tag::Circle)?
+/// A circle with a title in it.
+fn circle(alloc: Global) -> Result<Markup, AllocError> {
+    let title = Opening::new(alloc, Tag::Title)?.saying("1 < 2")?;
+    Opening::new(alloc, Tag::Circle)?
         .with(Key::Class, "a\"b")?
         .at(Key::Radius, 5)?
-        .around(&title)?;
+        .around(&title)
+}
+
+/// An element with nothing in it.
+fn empty(alloc: Global, tag: Tag) -> Result<Markup, AllocError> {
+    Opening::new(alloc, tag)?.empty()
+}
+
+/// Words alone.
+fn said(alloc: Global, words: &str) -> Result<Markup, AllocError> {
+    let mut markup = Markup::new(alloc);
+    markup.say(words)?;
+    Ok(markup)
+}
+
+#[test]
+fn an_element_is_closed(rt: HostRuntime) -> Result<(), Fail> {
+    let circle = circle(rt.alloc())?;
+    let empty = empty(rt.alloc(), Tag::Defs)?;
     let mut both = Markup::new(rt.alloc());
     both.add(&circle)?;
     both.say("&")?;
-    let empty = Opening::new(rt.alloc(), Tag::Defs)?.empty()?;
     both.add(&empty)?;
     assert_eq!(rt;
         both.as_str(),
@@ -31,23 +49,25 @@ fn an_element_is_closed(rt: HostRuntime) -> Result<(), Fail> {
     Ok(())
 }
 
+/// A group with a circle, and one with nothing.
+fn groups(alloc: Global) -> Result<Vec<Group<'static>>, AllocError> {
+    let mut groups = Vec::new(alloc);
+    groups.push(Group {
+        title: "1 & 2",
+        inside: empty(alloc, Tag::Circle)?,
+    })?;
+    groups.push(Group {
+        title: "",
+        inside: Markup::new(alloc),
+    })?;
+    Ok(groups)
+}
+
 #[test]
 fn groups_stand_between_other_markup(rt: HostRuntime) -> Result<(), Fail> {
-    let mut before = Markup::new(rt.alloc());
-    before.say("<")?;
-    let inside = Opening::new(rt.alloc(), Tag::Circle)?.empty()?;
-    let groups = vec![in rt.alloc();
-        Group {
-            title: "1 & 2",
-            inside
-        },
-        Group {
-            title: "",
-            inside: Markup::new(rt.alloc())
-        },
-    ]?;
-    let mut after = Markup::new(rt.alloc());
-    after.say("→")?;
+    let before = said(rt.alloc(), "<")?;
+    let groups = groups(rt.alloc())?;
+    let after = said(rt.alloc(), "→")?;
     let picture = Opening::new(rt.alloc(), Tag::Svg)?.whole_with(&before, &groups, &after)?;
     assert_eq!(rt;
         picture.as_str(),

@@ -3,43 +3,63 @@ use std::str;
 use std::test::Fail;
 use sync_draw::picture::draw_text;
 use sync_draw::run::run;
-use sync_draw::story::play;
+use sync_draw::story::{Step, Story, play};
 use sync_play::fault::{LineFault, TextFault};
 
 /// The README's first text.
-const ABORT: &[u8] = b"mutex 2\n1 try_lock\n1 run\n2 lock\n2 run\n2 abort\n2 run\n";
+const ABORT: &str = "mutex 2\n1 try_lock\n1 run\n2 lock\n2 run\n2 abort\n2 run\n";
+
+/// Writes a step of a story: its line, where it is the first of one, and how many equal steps it stands for.
+fn push_step(out: &mut String, step: &Step<u64>) -> Result<(), AllocError> {
+    if let Some(line) = &step.line {
+        let number = line.number;
+        let words = line.words.as_str();
+        write!(out, "{number}: {words} / ")?;
+    }
+    let count = step.count;
+    write!(out, "{count} / ")?;
+    Ok(())
+}
+
+/// The steps of a story, how many are left out, and its last line.
+fn shown(alloc: Global, story: &Story<u64>) -> Result<String, AllocError> {
+    let mut out = String::new(alloc);
+    for step in &story.steps {
+        push_step(&mut out, step)?;
+    }
+    let left_out = story.left_out;
+    let last = story.last.as_str();
+    write!(out, "{left_out} left out / {last}")?;
+    Ok(out)
+}
+
+/// The story of a text; empty where it has a fault.
+fn story_of(alloc: Global, text: &str) -> Result<String, AllocError> {
+    match play::<u64>(alloc, text.as_bytes()) {
+        Ok(story) => shown(alloc, &story),
+        Err(_) => Ok(String::new(alloc)),
+    }
+}
 
 #[test]
 fn a_spin_is_one_step_of_a_story(rt: HostRuntime) -> Result<(), Fail> {
-    let story = play::<u64>(rt.alloc(), ABORT)
-        .ok()
-        .ok_or("it has no fault")?;
-    let mut counts: Vec<u64> = Vec::new(rt.alloc());
-    for step in &story.steps {
-        counts.push(step.count)?;
-    }
+    let story = story_of(rt.alloc(), ABORT)?;
     // try_lock, its exchange; lock, its 10000 exchanges, the one after which it stands, its answer, the last exchange.
-    assert_eq!(rt; counts.as_slice(), [1, 1, 1, 10000, 1, 1, 1].as_slice());
-    assert_eq!(rt; story.left_out, 0);
-    assert_eq!(rt; story.last.as_str(), "word 1 failed 10002\n");
+    assert_eq!(rt;
+        story.as_str(),
+        "2: 1 try_lock / 1 / 3: 1 run / 1 / 4: 2 lock / 1 / 5: 2 run / 10000 / 1 / 6: 2 abort / 1 / 7: 2 run / 1 / \
+         0 left out / word 1 failed 10002\n"
+    );
     Ok(())
 }
 
 #[test]
 fn each_line_stands_at_its_first_step(rt: HostRuntime) -> Result<(), Fail> {
-    let story = play::<u64>(rt.alloc(), b"once 1\n\n 1   call_once\t\n1 go 3\n")
-        .ok()
-        .ok_or("it has no fault")?;
-    let mut lines = String::new(rt.alloc());
-    for step in &story.steps {
-        if let Some(line) = &step.line {
-            let number = line.number;
-            let words = line.words.as_str();
-            write!(lines, "{number}: {words} / ")?;
-        }
-    }
-    assert_eq!(rt; lines.as_str(), "3: 1 call_once / 4: 1 go 3 / ");
-    assert_eq!(rt; story.steps.len(), 4);
+    let story = story_of(rt.alloc(), "once 1\n\n 1   call_once\t\n1 go 3\n")?;
+    assert_eq!(rt;
+        story.as_str(),
+        "3: 1 call_once / 1 / 4: 1 go 3 / 1 / 1 / 1 / 0 left out / word 1 failed 0\n"
+    );
     Ok(())
 }
 
@@ -52,105 +72,132 @@ fn taken(alloc: Global, times: u64) -> Result<String, AllocError> {
     Ok(text)
 }
 
-#[test]
-fn a_story_keeps_two_thousand_steps(rt: HostRuntime) -> Result<(), Fail> {
-    let text = taken(rt.alloc(), 401)?;
-    let story = play::<u64>(rt.alloc(), text.as_bytes())
-        .ok()
-        .ok_or("it has no fault")?;
-    assert_eq!(rt; story.steps.len(), 2000);
-    assert_eq!(rt; story.left_out, 5);
-    Ok(())
-}
-
-/// Words that the picture of a text has.
-fn has(rt: HostRuntime, text: &[u8], words: &str) -> Result<bool, Fail> {
-    let picture = draw_text(rt.alloc(), text).ok().ok_or("it has no fault")?;
-    let picture = str::from_utf8(&picture).ok().ok_or("it is text")?;
-    Ok(picture.contains(words))
+/// How many steps the story of such a text has, and how many are left out.
+fn kept(alloc: Global, times: u64) -> Option<(usize, u64)> {
+    let text = taken(alloc, times).ok()?;
+    let story = play::<u64>(alloc, text.as_bytes()).ok()?;
+    Some((story.steps.len(), story.left_out))
 }
 
 #[test]
-fn a_picture_tells_what_happened(rt: HostRuntime) -> Result<(), Fail> {
-    assert!(rt; has(rt, ABORT, ">found locked × 10,000</text>")?);
-    assert!(rt; has(rt, ABORT, ">✕ interrupted</text>")?);
-    assert!(rt; has(rt, ABORT, ">word 1 failed 10002</text>")?);
-    assert!(rt;
-        has(
-            rt,
-            b"barrier 2 2\n1 start_wait\n1 go 2\n",
-            ">round 0: 1/2</text>"
-        )?
-    );
-    assert!(rt;
-        has(
-            rt,
-            b"rwreader 1\n1 write_lock\n1 run\n",
-            ">free → write</text>"
-        )?
-    );
-    assert!(rt; has(rt, b"semaphore 1 2\n1 post 3\n1 run\n", ">post 3</text>")?);
-    assert!(rt;
-        has(
-            rt,
-            b"condvar 1\n1 notify_one\n1 run\n",
-            ">sees waiters 0</text>"
-        )?
-    );
-    assert!(rt;
-        has(
-            rt,
-            b"mutex 3\n2 lock\n",
-            ">Without a step, and so without a lane: 2 of the parties. </text>"
-        )?
-    );
-    Ok(())
+fn a_story_keeps_two_thousand_steps(rt: HostRuntime) {
+    assert_eq!(rt; kept(rt.alloc(), 401), Some((2000, 5)));
 }
 
-/// A `fetch_add` at an atomic, so many steps long: an exchange, two loads, two stores and the release.
-fn added(alloc: Global, steps: u64) -> Result<String, AllocError> {
-    format!(in alloc; "atomic_u128 1 18446744073709551615\n1 fetch_add 2\n1 go {steps}\n")
+/// Whether a picture has these words, if it is text.
+fn says(picture: &[u8], words: &str) -> Option<bool> {
+    let picture = str::from_utf8(picture).ok()?;
+    Some(picture.contains(words))
 }
+
+/// Whether the picture of a text has these words, if the text has no fault.
+fn has(alloc: Global, text: &str, words: &str) -> Option<bool> {
+    match draw_text(alloc, text.as_bytes()) {
+        Ok(picture) => says(&picture, words),
+        Err(_) => None,
+    }
+}
+
+/// The first of these words that the picture of the text beside them does not have, or has though it is not to.
+fn wrong_words<'w>(alloc: Global, pictures: &[(&str, &'w str, bool)]) -> Option<&'w str> {
+    for (text, words, wanted) in pictures {
+        if has(alloc, text, words) != Some(*wanted) {
+            return Some(*words);
+        }
+    }
+    None
+}
+
+/// Texts, with words that their pictures have.
+const TOLD: [(&str, &str, bool); 8] = [
+    (ABORT, ">found locked × 10,000</text>", true),
+    (ABORT, ">✕ interrupted</text>", true),
+    (ABORT, ">word 1 failed 10002</text>", true),
+    (
+        "barrier 2 2\n1 start_wait\n1 go 2\n",
+        ">round 0: 1/2</text>",
+        true,
+    ),
+    (
+        "rwreader 1\n1 write_lock\n1 run\n",
+        ">free → write</text>",
+        true,
+    ),
+    ("semaphore 1 2\n1 post 3\n1 run\n", ">post 3</text>", true),
+    (
+        "condvar 1\n1 notify_one\n1 run\n",
+        ">sees waiters 0</text>",
+        true,
+    ),
+    (
+        "mutex 3\n2 lock\n",
+        ">Without a step, and so without a lane: 2 of the parties. </text>",
+        true,
+    ),
+];
 
 #[test]
-fn an_atomic_has_a_band_for_its_value(rt: HostRuntime) -> Result<(), Fail> {
-    let half = added(rt.alloc(), 4)?;
-    let half = half.as_bytes();
-    assert!(rt; has(rt, half, ">18446744073709551615</text>")?);
-    assert!(rt; has(rt, half, ">half written</text>")?);
-    assert!(rt; !has(rt, half, ">18446744073709551617</text>")?);
-    let whole = added(rt.alloc(), 6)?;
-    let whole = whole.as_bytes();
-    assert!(rt; has(rt, whole, ">18446744073709551617</text>")?);
-    assert!(rt;
-        has(
-            rt,
-            whole,
-            ">sees high half 0: value 18446744073709551615</text>"
-        )?
-    );
-    assert!(rt;
-        has(
-            rt,
-            whole,
-            ">stores high half 1: value 18446744073709551617</text>"
-        )?
-    );
-    Ok(())
+fn a_picture_tells_what_happened(rt: HostRuntime) {
+    assert_eq!(rt; wrong_words(rt.alloc(), &TOLD), None);
+}
+
+/// A `fetch_add` at an atomic up to the first of its two stores: an exchange, two loads, and that store.
+const HALF: &str = "atomic_u128 1 18446744073709551615\n1 fetch_add 2\n1 go 4\n";
+
+/// The same with the other store and the release.
+const WHOLE: &str = "atomic_u128 1 18446744073709551615\n1 fetch_add 2\n1 go 6\n";
+
+/// Words about the value, which only the picture of the whole has after it.
+const VALUES: [(&str, &str, bool); 6] = [
+    (HALF, ">18446744073709551615</text>", true),
+    (HALF, ">half written</text>", true),
+    (HALF, ">18446744073709551617</text>", false),
+    (WHOLE, ">18446744073709551617</text>", true),
+    (
+        WHOLE,
+        ">sees high half 0: value 18446744073709551615</text>",
+        true,
+    ),
+    (
+        WHOLE,
+        ">stores high half 1: value 18446744073709551617</text>",
+        true,
+    ),
+];
+
+#[test]
+fn an_atomic_has_a_band_for_its_value(rt: HostRuntime) {
+    assert_eq!(rt; wrong_words(rt.alloc(), &VALUES), None);
+}
+
+/// The title of a group, if the line begins with one.
+fn title_in(line: &str) -> Option<&str> {
+    let (title, _) = line.strip_prefix("<g><title>")?.split_once("</title>")?;
+    Some(title)
+}
+
+/// The titles of the groups of a picture, a line each.
+fn titles_in(alloc: Global, picture: &str) -> Result<String, AllocError> {
+    let mut titles = String::new(alloc);
+    for line in picture.lines() {
+        if let Some(title) = title_in(line) {
+            writeln!(titles, "{title}")?;
+        }
+    }
+    Ok(titles)
+}
+
+/// The titles of the groups in the picture of a text; empty where it has a fault.
+fn titles_of(alloc: Global, text: &str) -> Result<String, AllocError> {
+    match draw_text(alloc, text.as_bytes()) {
+        Ok(picture) => titles_in(alloc, str::from_utf8(&picture).unwrap_or("")),
+        Err(_) => Ok(String::new(alloc)),
+    }
 }
 
 #[test]
 fn a_group_for_each_row_has_the_row_as_its_title(rt: HostRuntime) -> Result<(), Fail> {
-    let picture = draw_text(rt.alloc(), ABORT).ok().ok_or("it has no fault")?;
-    let picture = str::from_utf8(&picture).ok().ok_or("it is text")?;
-    let mut titles = String::new(rt.alloc());
-    for line in picture.lines() {
-        if let Some(title) = line.strip_prefix("<g><title>")
-            && let Some((title, _)) = title.split_once("</title>")
-        {
-            writeln!(titles, "{title}")?;
-        }
-    }
+    let titles = titles_of(rt.alloc(), ABORT)?;
     assert_eq!(rt;
         titles.as_str(),
         "\
@@ -174,18 +221,21 @@ const FAULTY: [(&[u8], u64, LineFault); 4] = [
     (b"mutex 1\n1 lock\n1 run\n1 run\n", 4, LineFault::Idle),
 ];
 
-#[test]
-fn a_fault_is_told_and_nothing_is_written(rt: HostRuntime) -> Result<(), Fail> {
-    for (text, line, fault) in FAULTY {
-        let told = draw_text(rt.alloc(), text).err().ok_or("it has a fault")?;
-        assert_eq!(rt; told, TextFault::Line { line, fault });
-        let mut reader = text;
-        let mut written: Vec<u8> = Vec::new(rt.alloc());
-        let told = run(rt.alloc(), &mut reader, &mut written)
-            .err()
-            .ok_or("it has a fault")?;
-        assert_eq!(rt; told.status(), 2);
-        assert_eq!(rt; written.len(), 0);
+/// The exit status where the text of a run has a fault, and how many bytes are written.
+fn ended(alloc: Global, text: &[u8]) -> (Option<u8>, usize) {
+    let mut reader = text;
+    let mut written: Vec<u8> = Vec::new(alloc);
+    match run(alloc, &mut reader, &mut written) {
+        Ok(()) => (None, written.len()),
+        Err(fault) => (Some(fault.status()), written.len()),
     }
-    Ok(())
+}
+
+#[test]
+fn a_fault_is_told_and_nothing_is_written(rt: HostRuntime) {
+    for (text, line, fault) in FAULTY {
+        let told = draw_text(rt.alloc(), text).err();
+        assert_eq!(rt; told, Some(TextFault::Line { line, fault }));
+        assert_eq!(rt; ended(rt.alloc(), text), (Some(2), 0));
+    }
 }
