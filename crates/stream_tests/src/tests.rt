@@ -5,7 +5,7 @@ mod streams;
 
 use programs::{Draws, Ended, Explores, Plays, Program, Traces};
 use std::alloc::{AllocError, Global};
-use std::io::ErrorKind;
+use std::io::{ErrorKind, Read};
 use std::test::Fail;
 use streams::{Fails, Gives, Takes};
 
@@ -61,6 +61,19 @@ fn takes(alloc: Global, at_once: usize, limit: usize) -> Takes {
     }
 }
 
+/// How a run ends with a writer that takes so many bytes at once, and fails once it holds `limit`; and whether it then holds these bytes.
+fn ends<P: Program, R: Read>(
+    alloc: Global,
+    reader: &mut R,
+    at_once: usize,
+    limit: usize,
+    held: &[u8],
+) -> (Ended, bool) {
+    let mut writer = takes(alloc, at_once, limit);
+    let ended = P::run(alloc, reader, &mut writer);
+    (ended, writer.held.as_slice() == held)
+}
+
 /// Whether a reader that fails is always answered by `reading failed`, with nothing written: at each byte of the text, and at its end.
 fn tells_failing_readers<P: Program>(alloc: Global, text: &str) -> bool {
     for at in 0..=text.len() {
@@ -69,9 +82,8 @@ fn tells_failing_readers<P: Program>(alloc: Global, text: &str) -> bool {
                 before: &text.as_bytes()[..at],
                 kind,
             };
-            let mut written: Vec<u8> = Vec::new(alloc);
-            let ended = P::run(alloc, &mut reader, &mut written);
-            if ended != Ended::Reading || !written.is_empty() {
+            let ended = ends::<P, _>(alloc, &mut reader, usize::MAX, usize::MAX, b"");
+            if ended != (Ended::Reading, true) {
                 return false;
             }
         }
@@ -84,9 +96,8 @@ fn tells_failing_writers<P: Program>(alloc: Global, text: &str) -> bool {
     let whole = output::<P>(alloc, text);
     for limit in 0..whole.len() {
         let mut reader = text.as_bytes();
-        let mut writer = takes(alloc, usize::MAX, limit);
-        let ended = P::run(alloc, &mut reader, &mut writer);
-        if ended != Ended::Writing || writer.held.as_slice() != &whole[..limit] {
+        let ended = ends::<P, _>(alloc, &mut reader, usize::MAX, limit, &whole[..limit]);
+        if ended != (Ended::Writing, true) {
             return false;
         }
     }
@@ -101,9 +112,8 @@ fn takes_small_pieces<P: Program>(alloc: Global, text: &str) -> bool {
             left: text.as_bytes(),
             at_once: given,
         };
-        let mut writer = takes(alloc, taken, usize::MAX);
-        let ended = P::run(alloc, &mut reader, &mut writer);
-        if ended != Ended::Whole || writer.held.as_slice() != whole.as_slice() {
+        let ended = ends::<P, _>(alloc, &mut reader, taken, usize::MAX, &whole);
+        if ended != (Ended::Whole, true) {
             return false;
         }
     }
@@ -113,8 +123,7 @@ fn takes_small_pieces<P: Program>(alloc: Global, text: &str) -> bool {
 /// Whether a writer that takes nothing is told of, and holds nothing.
 fn tells_an_idle_writer<P: Program>(alloc: Global, text: &str) -> bool {
     let mut reader = text.as_bytes();
-    let mut writer = takes(alloc, 0, usize::MAX);
-    P::run(alloc, &mut reader, &mut writer) == Ended::Writing && writer.held.is_empty()
+    ends::<P, _>(alloc, &mut reader, 0, usize::MAX, b"") == (Ended::Writing, true)
 }
 
 /// The first of the texts with which something is wrong.
@@ -131,19 +140,24 @@ fn wrong_with<'t, P: Program>(alloc: Global, texts: &[&'t str]) -> Option<&'t st
     None
 }
 
+/// The first of the texts of each object with which something is wrong.
+fn wrong_text<P: Program>(alloc: Global) -> Option<&'static str> {
+    wrong_with::<P>(alloc, &TEXTS)
+}
+
 #[test]
 fn sync_play_at_every_byte(rt: HostRuntime) {
-    assert_eq!(rt; wrong_with::<Plays>(rt.alloc(), &TEXTS), None);
+    assert_eq!(rt; wrong_text::<Plays>(rt.alloc()), None);
 }
 
 #[test]
 fn sync_trace_at_every_byte(rt: HostRuntime) {
-    assert_eq!(rt; wrong_with::<Traces>(rt.alloc(), &TEXTS), None);
+    assert_eq!(rt; wrong_text::<Traces>(rt.alloc()), None);
 }
 
 #[test]
 fn sync_draw_at_every_byte(rt: HostRuntime) {
-    assert_eq!(rt; wrong_with::<Draws>(rt.alloc(), &TEXTS), None);
+    assert_eq!(rt; wrong_text::<Draws>(rt.alloc()), None);
 }
 
 #[test]
@@ -151,26 +165,28 @@ fn sync_explore_at_every_byte(rt: HostRuntime) {
     assert_eq!(rt; wrong_with::<Explores>(rt.alloc(), &QUESTIONS), None);
 }
 
+/// How the trace of the text with a fault ends, with a writer that fails once it holds so many bytes, and whether it then holds these.
+fn traced(alloc: Global, limit: usize, held: &[u8]) -> (Ended, bool) {
+    let mut reader = FAULTY.as_bytes();
+    ends::<Traces, _>(alloc, &mut reader, 7, limit, held)
+}
+
+/// Whether the text with a fault is traced up to it, and a write that fails is told before the fault is.
+fn traces_up_to_a_fault(alloc: Global) -> bool {
+    let whole = output::<Traces>(alloc, FAULTY);
+    for limit in 0..whole.len() {
+        if traced(alloc, limit, &whole[..limit]) != (Ended::Writing, true) {
+            return false;
+        }
+    }
+    whole.len() > 10 && traced(alloc, usize::MAX, &whole) == (Ended::Other, true)
+}
+
 /// A text with a fault: `sync-trace` writes the trace up to it, and tells of a write that fails before it tells of the text; the others write
 /// nothing.
 #[test]
 fn a_text_with_a_fault(rt: HostRuntime) {
-    let traced = output::<Traces>(rt.alloc(), FAULTY);
-    assert!(rt; traced.len() > 10);
-    for limit in 0..traced.len() {
-        let mut reader = FAULTY.as_bytes();
-        let mut writer = takes(rt.alloc(), 7, limit);
-        let ended = Traces::run(rt.alloc(), &mut reader, &mut writer);
-        assert_eq!(rt; ended, Ended::Writing);
-        assert_eq!(rt; writer.held.as_slice(), &traced[..limit]);
-    }
-    assert_eq!(rt; output::<Plays>(rt.alloc(), FAULTY).len(), 0);
-    assert_eq!(rt; output::<Draws>(rt.alloc(), FAULTY).len(), 0);
-    let mut reader = FAULTY.as_bytes();
-    let mut writer = takes(rt.alloc(), 7, usize::MAX);
-    assert_eq!(rt;
-        Traces::run(rt.alloc(), &mut reader, &mut writer),
-        Ended::Other
-    );
-    assert_eq!(rt; writer.held.as_slice(), traced.as_slice());
+    assert!(rt; traces_up_to_a_fault(rt.alloc()));
+    assert!(rt; output::<Plays>(rt.alloc(), FAULTY).is_empty());
+    assert!(rt; output::<Draws>(rt.alloc(), FAULTY).is_empty());
 }
