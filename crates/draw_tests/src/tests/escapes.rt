@@ -63,12 +63,17 @@ fn groups(alloc: Global) -> Result<Vec<Group<'static>>, AllocError> {
     Ok(groups)
 }
 
+/// A picture with these groups, between a `<` and an arrow.
+fn picture_of(alloc: Global, groups: &[Group<'_>]) -> Result<String, AllocError> {
+    let before = said(alloc, "<")?;
+    let after = said(alloc, "→")?;
+    Opening::new(alloc, Tag::Svg)?.whole_with(&before, groups, &after)
+}
+
 #[test]
 fn groups_stand_between_other_markup(rt: HostRuntime) -> Result<(), Fail> {
-    let before = said(rt.alloc(), "<")?;
     let groups = groups(rt.alloc())?;
-    let after = said(rt.alloc(), "→")?;
-    let picture = Opening::new(rt.alloc(), Tag::Svg)?.whole_with(&before, &groups, &after)?;
+    let picture = picture_of(rt.alloc(), &groups)?;
     assert_eq!(rt;
         picture.as_str(),
         "\

@@ -50,12 +50,11 @@ fn other_trace(alloc: Global, texts: &[(&str, &str)]) -> Result<String, AllocErr
     Ok(String::new(alloc))
 }
 
-#[test]
-fn a_waiter_aborts(rt: HostRuntime) -> Result<(), Fail> {
-    let text = "mutex 2\n1 try_lock\n1 run\n2 lock\n2 run\n2 abort\n2 run\n";
-    let trace = traced(rt.alloc(), &mut text.as_bytes())?;
-    assert_eq!(rt;
-        trace.as_str(),
+/// Texts, with their traces.
+const TRACES: [(&str, &str); 6] = [
+    // A waiter aborts.
+    (
+        "mutex 2\n1 try_lock\n1 run\n2 lock\n2 run\n2 abort\n2 run\n",
         "\
 step     times  line  party  act                                word  holds  call
 1               2     1      try_lock                           0     -      begins
@@ -65,13 +64,9 @@ step     times  line  party  act                                word  holds  cal
 10004           5     2      exchange 0 for 1, found 1, failed  1     1      waits 1
 10005           6     2      its closure answers Abort          1     1      goes on
 10006           7     2      exchange 0 for 1, found 1, failed  1     1      interrupted
-"
-    );
-    Ok(())
-}
-
-/// Texts whose parties hold something, with their traces.
-const HOLDS: [(&str, &str); 2] = [
+",
+    ),
+    // Holds are told by their kinds.
     (
         "rwreader 3\n3 read_lock\n3 run\n1 read_lock\n1 run\n1 unlock\n1 go\n",
         "\
@@ -94,17 +89,7 @@ step  times  line  party  act                                                 wo
 2            3     1      exchange 0 for 18446744073709551615, found 0, done  18446744073709551615  1 writes  success
 ",
     ),
-];
-
-#[test]
-fn holds_are_told_by_their_kinds(rt: HostRuntime) -> Result<(), Fail> {
-    let other = other_trace(rt.alloc(), &HOLDS)?;
-    assert_eq!(rt; other.as_str(), "");
-    Ok(())
-}
-
-/// Texts with a fault, with their traces.
-const FAULTY: [(&str, &str); 2] = [
+    // A fault comes after the steps before it.
     (
         "semaphore 1 5\n1 post 2\n1 go 4\n",
         "\
@@ -120,23 +105,9 @@ line 3: idle, status 2",
 step  times  line  party  act  word  holds  call
 line 1: no object, status 2",
     ),
-];
-
-#[test]
-fn a_fault_comes_after_the_steps_before_it(rt: HostRuntime) -> Result<(), Fail> {
-    let other = other_trace(rt.alloc(), &FAULTY)?;
-    assert_eq!(rt; other.as_str(), "");
-    Ok(())
-}
-
-/// Steps that read the same are folded where they follow one another in one line, and not across lines.
-#[test]
-fn spins_are_folded_line_by_line(rt: HostRuntime) -> Result<(), Fail> {
-    let text =
-        "once 3\n1 call_once\n1 go 2\n2 call_once\n2 go 4\n2 go 2\n3 call_once\n3 go\n2 go\n";
-    let trace = traced(rt.alloc(), &mut text.as_bytes())?;
-    assert_eq!(rt;
-        trace.as_str(),
+    // Steps that read the same are folded where they follow one another in one line, and not across lines.
+    (
+        "once 3\n1 call_once\n1 go 2\n2 call_once\n2 go 4\n2 go 2\n3 call_once\n3 go\n2 go\n",
         "\
 step  times  line  party  act                                word  holds  call
 1            2     1      call_once                          0     -      begins
@@ -150,8 +121,14 @@ step  times  line  party  act                                word  holds  call
 11           7     3      call_once                          1     -      begins
 12           8     3      load, found 1                      1     -      goes on
 13           9     2      load, found 1                      1     -      goes on
-"
-    );
+",
+    ),
+];
+
+#[test]
+fn a_trace_has_a_row_for_each_step(rt: HostRuntime) -> Result<(), Fail> {
+    let other = other_trace(rt.alloc(), &TRACES)?;
+    assert_eq!(rt; other.as_str(), "");
     Ok(())
 }
 
