@@ -4,39 +4,36 @@ mod faults;
 mod figures;
 mod tables;
 
+use bench_table::fault::BenchFault;
 use bench_table::run::run;
 use std::alloc::{AllocError, Global};
-use std::io::{Read, Write};
+use std::io::Read;
 use std::sync::Wait;
 use std::time::Clock;
 
-/// Runs the program from a reader to a writer: `benched`, or the fault's line and the exit status.
-fn told<R: Read, W: Write>(
+/// A fault's line, the exit status, and how many bytes were written.
+fn told(alloc: Global, fault: BenchFault, written: usize) -> Result<String, AllocError> {
+    let status = fault.status();
+    format!(in alloc; "{fault}, status {status}, {written} written")
+}
+
+/// What a run writes, or what is told of its fault.
+fn benched_from<R: Read>(
     rt: &(impl Clock + Wait),
     alloc: Global,
     reader: &mut R,
-    writer: &mut W,
 ) -> Result<String, AllocError> {
-    match run(rt, alloc, reader, writer) {
-        Ok(()) => format!(in alloc; "benched"),
-        Err(fault) => {
-            let status = fault.status();
-            format!(in alloc; "{fault}, status {status}")
-        }
+    let mut written: Vec<u8> = Vec::new(alloc);
+    match run(rt, alloc, reader, &mut written) {
+        Ok(()) => shown(alloc, &written),
+        Err(fault) => told(alloc, fault, written.len()),
     }
 }
 
-/// What a run writes, or its fault's line, the exit status, and how many bytes were written.
+/// The same where the reader brings a text.
 fn benched(rt: &(impl Clock + Wait), alloc: Global, text: &[u8]) -> Result<String, AllocError> {
     let mut reader = text;
-    let mut written: Vec<u8> = Vec::new(alloc);
-    let told = told(rt, alloc, &mut reader, &mut written)?;
-    if told.as_str() == "benched" {
-        shown(alloc, &written)
-    } else {
-        let left = written.len();
-        format!(in alloc; "{told}, {left} written")
-    }
+    benched_from(rt, alloc, &mut reader)
 }
 
 /// An output, whose bytes are ASCII, as text.

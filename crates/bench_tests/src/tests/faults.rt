@@ -1,4 +1,6 @@
-use crate::tests::{benched, told};
+use crate::tests::{benched, benched_from, told};
+use bench_table::run::run;
+use std::alloc::{AllocError, Global};
 use std::io;
 use std::io::{ErrorKind, Read, Write};
 use std::sync::Wait;
@@ -68,12 +70,8 @@ impl Read for Fails<'_> {
 
 #[test]
 fn a_failed_read_ends_it(rt: HostRuntime) -> Result<(), Fail> {
-    let mut written: Vec<u8> = Vec::new(rt.alloc());
-    let told = told(&rt, rt.alloc(), &mut Fails(b"0\n"), &mut written)?;
-    assert_eq!(rt;
-        (told.as_str(), written.len()),
-        ("reading failed, status 1", 0)
-    );
+    let told = benched_from(&rt, rt.alloc(), &mut Fails(b"0\n"))?;
+    assert_eq!(rt; told.as_str(), "reading failed, status 1, 0 written");
     Ok(())
 }
 
@@ -95,20 +93,29 @@ impl Write for Takes {
     }
 }
 
+/// How a run without rounds ends with a writer that takes so many bytes.
+fn ended(rt: &(impl Clock + Wait), alloc: Global, taken: usize) -> Result<String, AllocError> {
+    let mut reader: &[u8] = b"0";
+    let mut writer = Takes(taken);
+    match run(rt, alloc, &mut reader, &mut writer) {
+        Ok(()) => format!(in alloc; "benched"),
+        Err(fault) => told(alloc, fault, taken.saturating_sub(writer.0)),
+    }
+}
+
 /// How many bytes a writer takes, with how the run ends. The table without rounds has 36.
 const TAKEN: [(usize, &str); 4] = [
-    (0, "writing failed, status 1"),
-    (1, "writing failed, status 1"),
-    (35, "writing failed, status 1"),
+    (0, "writing failed, status 1, 0 written"),
+    (1, "writing failed, status 1, 1 written"),
+    (35, "writing failed, status 1, 35 written"),
     (36, "benched"),
 ];
 
 #[test]
 fn a_failed_write_ends_it(rt: HostRuntime) -> Result<(), Fail> {
-    for (taken, ended) in TAKEN {
-        let mut reader: &[u8] = b"0";
-        let told = told(&rt, rt.alloc(), &mut reader, &mut Takes(taken))?;
-        assert_eq!(rt; told.as_str(), ended);
+    for (taken, wanted) in TAKEN {
+        let ended = ended(&rt, rt.alloc(), taken)?;
+        assert_eq!(rt; ended.as_str(), wanted);
     }
     Ok(())
 }

@@ -128,10 +128,9 @@ fn is_figure(text: &str) -> bool {
 
 /// The median in the line of a table that has this name, where it is both tenths too, as it is of one round.
 fn only_figure<'l>(line: &'l str, name: &str) -> Option<&'l str> {
-    let figures = line.strip_prefix(name)?.strip_prefix('\t')?;
+    let (found, figures) = line.split_once('\t')?;
     let (median, tenths) = figures.split_once('\t')?;
-    let (lower, upper) = tenths.split_once('\t')?;
-    if median == lower && median == upper {
+    if found == name && tenths.split_once('\t') == Some((median, median)) {
         Some(median)
     } else {
         None
