@@ -1,8 +1,10 @@
 //! The running atomic: the model's texts with a whole pass, and threads that meet.
 ghost use Rattle.running_atomic.specs.AtomicShown.{IsAtomicPass, HasStayed};
 
+use crate::atomic::internal::AtomicInteger;
 use crate::atomic::{Atomic, AtomicPass, Ordering};
 use signal::Signal;
+use std::alloc::{AllocError, Global};
 use std::sync::Wait;
 use std::sync::atomic::AtomicU64;
 use std::test::Fail;
@@ -15,84 +17,142 @@ const ORDER: Ordering = Ordering::SeqCst;
 fn one_pass_by_turns(rt: HostRuntime) -> Result<(), Fail> {
     let (atomic, mut pass) = Atomic::<i64>::new(rt.alloc(), 1)?;
     atomic.store(&rt, &mut pass, 5, ORDER);
-    assert_eq!(rt; atomic.load(&rt, &mut pass, ORDER), 5);
-    assert_eq!(rt; atomic.swap(&rt, &mut pass, 6, ORDER), 5);
-    assert_eq!(rt; atomic.fetch_sub(&rt, &mut pass, 7, ORDER), 6);
-    assert_eq!(rt; atomic.into_inner(pass), -1);
+    let loaded = atomic.load(&rt, &mut pass, ORDER);
+    let swapped = atomic.swap(&rt, &mut pass, 6, ORDER);
+    let subtracted = atomic.fetch_sub(&rt, &mut pass, 7, ORDER);
+    assert_eq!(rt;
+        [loaded, swapped, subtracted, atomic.into_inner(pass)],
+        [5, 5, 6, -1]
+    );
     Ok(())
+}
+
+/// What an addition to a new atomic answers, and what a load tells then.
+fn add<T: AtomicInteger, R: Wait>(
+    rt: &R,
+    alloc: Global,
+    first: T,
+    value: T,
+) -> Result<(T, T), AllocError> {
+    let (atomic, mut pass) = Atomic::<T>::new(alloc, first)?;
+    let old = atomic.fetch_add(rt, &mut pass, value, ORDER);
+    Ok((old, atomic.load(rt, &mut pass, ORDER)))
 }
 
 #[test]
 fn sums_wrap(rt: HostRuntime) -> Result<(), Fail> {
-    let (atomic, mut pass) = Atomic::<u64>::new(rt.alloc(), u64::MAX)?;
-    assert_eq!(rt; atomic.fetch_add(&rt, &mut pass, 1, ORDER), u64::MAX);
-    assert_eq!(rt; atomic.load(&rt, &mut pass, ORDER), 0);
+    assert_eq!(rt; add(&rt, rt.alloc(), u64::MAX, 1)?, (u64::MAX, 0));
+    assert_eq!(rt; add(&rt, rt.alloc(), -1i128, 1)?, (-1, 0));
     let (atomic, mut pass) = Atomic::<i64>::new(rt.alloc(), i64::MIN)?;
-    assert_eq!(rt; atomic.fetch_sub(&rt, &mut pass, 1, ORDER), i64::MIN);
-    assert_eq!(rt; atomic.load(&rt, &mut pass, ORDER), i64::MAX);
-    let (atomic, mut pass) = Atomic::<i128>::new(rt.alloc(), -1)?;
-    assert_eq!(rt; atomic.fetch_add(&rt, &mut pass, 1, ORDER), -1);
-    assert_eq!(rt; atomic.load(&rt, &mut pass, ORDER), 0);
-    let (atomic, mut pass) = Atomic::<u128>::new(rt.alloc(), 18446744073709551615)?;
+    let old = atomic.fetch_sub(&rt, &mut pass, 1, ORDER);
+    let loaded = atomic.load(&rt, &mut pass, ORDER);
     assert_eq!(rt;
-        atomic.fetch_add(&rt, &mut pass, 1, ORDER),
-        18446744073709551615
+        (old, loaded, atomic.into_inner(pass)),
+        (i64::MIN, i64::MAX, i64::MAX)
     );
-    assert_eq!(rt; atomic.into_inner(pass), 18446744073709551616);
+    let (atomic, mut pass) = Atomic::<u128>::new(rt.alloc(), 18446744073709551615)?;
+    let old = atomic.fetch_add(&rt, &mut pass, 1, ORDER);
+    assert_eq!(rt;
+        (old, atomic.into_inner(pass)),
+        (18446744073709551615, 18446744073709551616)
+    );
     Ok(())
+}
+
+/// What an exchange answers, and the value after it.
+fn exchange<R: Wait>(
+    rt: &R,
+    atomic: &Atomic<u64>,
+    pass: &mut AtomicPass<u64>,
+    current: u64,
+    new: u64,
+) -> (Result<u64, u64>, u64)
+    requires own { IsAtomicPass atomic.now pass.old }
+    ensures stayed { HasStayed pass.old pass.new }
+{
+    let answer = atomic.compare_exchange(rt, pass, current, new, ORDER, ORDER);
+    (answer, atomic.load(rt, pass, ORDER))
+}
+
+/// The same of a weak one.
+fn exchange_weak<R: Wait>(
+    rt: &R,
+    atomic: &Atomic<u64>,
+    pass: &mut AtomicPass<u64>,
+    current: u64,
+    new: u64,
+) -> (Result<u64, u64>, u64)
+    requires own { IsAtomicPass atomic.now pass.old }
+    ensures stayed { HasStayed pass.old pass.new }
+{
+    let answer = atomic.compare_exchange_weak(rt, pass, current, new, ORDER, ORDER);
+    (answer, atomic.load(rt, pass, ORDER))
 }
 
 #[test]
 fn exchanges_compare(rt: HostRuntime) -> Result<(), Fail> {
     let (atomic, mut pass) = Atomic::<u64>::new(rt.alloc(), 7)?;
+    let exchanges = [
+        exchange(&rt, &atomic, &mut pass, 8, 9),
+        exchange(&rt, &atomic, &mut pass, 7, 9),
+        exchange_weak(&rt, &atomic, &mut pass, 7, 3),
+        exchange_weak(&rt, &atomic, &mut pass, 9, 3),
+    ];
     assert_eq!(rt;
-        atomic.compare_exchange(&rt, &mut pass, 8, 9, ORDER, ORDER),
-        Err(7)
+        (exchanges, atomic.into_inner(pass)),
+        ([(Err(7), 7), (Ok(7), 9), (Err(9), 9), (Ok(9), 3)], 3)
     );
-    assert_eq!(rt; atomic.load(&rt, &mut pass, ORDER), 7);
-    assert_eq!(rt;
-        atomic.compare_exchange(&rt, &mut pass, 7, 9, ORDER, ORDER),
-        Ok(7)
-    );
-    assert_eq!(rt; atomic.load(&rt, &mut pass, ORDER), 9);
-    assert_eq!(rt;
-        atomic.compare_exchange_weak(&rt, &mut pass, 7, 3, ORDER, ORDER),
-        Err(9)
-    );
-    assert_eq!(rt;
-        atomic.compare_exchange_weak(&rt, &mut pass, 9, 3, ORDER, ORDER),
-        Ok(9)
-    );
-    assert_eq!(rt; atomic.into_inner(pass), 3);
     Ok(())
+}
+
+/// What calls on bits answer, and a load after the first; and the value at the end.
+fn mix_bits<R: Wait>(rt: &R, atomic: Atomic<u64>, mut pass: AtomicPass<u64>) -> [u64; 6]
+    requires own { IsAtomicPass atomic pass }
+{
+    let inverted = atomic.fetch_nand(rt, &mut pass, 10, ORDER);
+    let loaded = atomic.load(rt, &mut pass, ORDER);
+    let both = atomic.fetch_and(rt, &mut pass, 12, ORDER);
+    let one = atomic.fetch_or(rt, &mut pass, 3, ORDER);
+    let differing = atomic.fetch_xor(rt, &mut pass, 5, ORDER);
+    [
+        inverted,
+        loaded,
+        both,
+        one,
+        differing,
+        atomic.into_inner(pass),
+    ]
+}
+
+/// What `fetch_max` and `fetch_min` answer, and the value at the end.
+fn take_extremes<R: Wait>(rt: &R, atomic: Atomic<i64>, mut pass: AtomicPass<i64>) -> [i64; 3]
+    requires own { IsAtomicPass atomic pass }
+{
+    let before_max = atomic.fetch_max(rt, &mut pass, 3, ORDER);
+    let before_min = atomic.fetch_min(rt, &mut pass, -7, ORDER);
+    [before_max, before_min, atomic.into_inner(pass)]
 }
 
 #[test]
 fn bits_and_extremes(rt: HostRuntime) -> Result<(), Fail> {
-    let (atomic, mut pass) = Atomic::<u64>::new(rt.alloc(), 12)?;
-    assert_eq!(rt; atomic.fetch_nand(&rt, &mut pass, 10, ORDER), 12);
-    assert_eq!(rt; atomic.load(&rt, &mut pass, ORDER), 18446744073709551607);
+    let (atomic, pass) = Atomic::<u64>::new(rt.alloc(), 12)?;
+    let all_but_eight = 18446744073709551607;
     assert_eq!(rt;
-        atomic.fetch_and(&rt, &mut pass, 12, ORDER),
-        18446744073709551607
+        mix_bits(&rt, atomic, pass),
+        [12, all_but_eight, all_but_eight, 4, 7, 2]
     );
-    assert_eq!(rt; atomic.fetch_or(&rt, &mut pass, 3, ORDER), 4);
-    assert_eq!(rt; atomic.fetch_xor(&rt, &mut pass, 5, ORDER), 7);
-    assert_eq!(rt; atomic.into_inner(pass), 2);
-    let (atomic, mut pass) = Atomic::<i64>::new(rt.alloc(), -5)?;
-    assert_eq!(rt; atomic.fetch_max(&rt, &mut pass, 3, ORDER), -5);
-    assert_eq!(rt; atomic.fetch_min(&rt, &mut pass, -7, ORDER), 3);
-    assert_eq!(rt; atomic.into_inner(pass), -7);
+    let (atomic, pass) = Atomic::<i64>::new(rt.alloc(), -5)?;
+    assert_eq!(rt; take_extremes(&rt, atomic, pass), [-5, 3, -7]);
     Ok(())
 }
 
-/// What an update answers whose closure chooses this, and how often it was asked.
+/// What an update answers whose closure chooses this, how often it was asked, and the value after it.
 fn update<R: Wait>(
     rt: &R,
     atomic: &Atomic<u64>,
     pass: &mut AtomicPass<u64>,
     choice: Option<u64>,
-) -> (Result<u64, u64>, u64)
+) -> (Result<u64, u64>, u64, u64)
     requires own { IsAtomicPass atomic.now pass.old }
     ensures stayed { HasStayed pass.old pass.new }
 {
@@ -101,31 +161,43 @@ fn update<R: Wait>(
         calls.fetch_add(1, ORDER);
         choice
     });
-    (answer, calls.load(ORDER))
+    let calls = calls.load(ORDER);
+    (answer, calls, atomic.load(rt, pass, ORDER))
 }
 
 #[test]
 fn an_update_asks_once(rt: HostRuntime) -> Result<(), Fail> {
     let (atomic, mut pass) = Atomic::<u64>::new(rt.alloc(), 5)?;
-    assert_eq!(rt; update(&rt, &atomic, &mut pass, None), (Err(5), 1));
-    assert_eq!(rt; atomic.load(&rt, &mut pass, ORDER), 5);
-    assert_eq!(rt; update(&rt, &atomic, &mut pass, Some(8)), (Ok(5), 1));
-    assert_eq!(rt; atomic.into_inner(pass), 8);
+    let updates = [
+        update(&rt, &atomic, &mut pass, None),
+        update(&rt, &atomic, &mut pass, Some(8)),
+    ];
+    assert_eq!(rt;
+        (updates, atomic.into_inner(pass)),
+        ([(Err(5), 1, 5), (Ok(5), 1, 8)], 8)
+    );
     Ok(())
+}
+
+/// How an atomic of this value shows itself, by `Display` and by `Debug`.
+fn shown<T: AtomicInteger, R: Wait>(rt: &R, alloc: Global, value: T) -> Result<String, AllocError> {
+    let (atomic, mut pass) = Atomic::<T>::new(alloc, value)?;
+    let shown = atomic.shown(rt, &mut pass);
+    format!(in alloc; "{shown}, {shown:?}")
 }
 
 #[test]
 fn a_shown_atomic_prints_its_value(rt: HostRuntime) -> Result<(), Fail> {
-    let (atomic, mut pass) = Atomic::<u64>::new(rt.alloc(), 3)?;
-    let shown = atomic.shown(&rt, &mut pass);
-    let told = format!(in rt.alloc(); "{shown}")?;
-    assert_eq!(rt; told.as_str(), "Atomic<u64> { value: 3 }");
-    let told = format!(in rt.alloc(); "{shown:?}")?;
-    assert_eq!(rt; told.as_str(), "Atomic<u64> { value: 3 }");
-    let (atomic, mut pass) = Atomic::<i128>::new(rt.alloc(), -4)?;
-    let shown = atomic.shown(&rt, &mut pass);
-    let told = format!(in rt.alloc(); "{shown}")?;
-    assert_eq!(rt; told.as_str(), "Atomic<i128> { value: -4 }");
+    let told = shown(&rt, rt.alloc(), 3u64)?;
+    assert_eq!(rt;
+        told.as_str(),
+        "Atomic<u64> { value: 3 }, Atomic<u64> { value: 3 }"
+    );
+    let told = shown(&rt, rt.alloc(), -4i128)?;
+    assert_eq!(rt;
+        told.as_str(),
+        "Atomic<i128> { value: -4 }, Atomic<i128> { value: -4 }"
+    );
     Ok(())
 }
 
@@ -219,6 +291,35 @@ fn count_torn<R: Wait>(
     torn
 }
 
+/// Two threads with the halves of a pass add strides, and the halves are one again.
+fn stride_in_two_threads<R: Threads + Wait + Sync>(
+    rt: &R,
+    atomic: &Atomic<u128>,
+    pass: AtomicPass<u128>,
+) -> AtomicPass<u128>
+    requires own { IsAtomicPass atomic.now pass }
+    ensures own { IsAtomicPass atomic.now result }
+{
+    let Ok((one, two)) = pass.split(atomic) else {
+        unreachable!()
+    };
+    let (one, two) = thread::join(
+        rt,
+        || -> AtomicPass<u128>
+            requires { IsAtomicPass atomic.now one }
+            ensures { HasStayed one result }
+        { stride_often(rt, atomic, one, 1000) },
+        || -> AtomicPass<u128>
+            requires { IsAtomicPass atomic.now two }
+            ensures { HasStayed two result }
+        { stride_often(rt, atomic, two, 1000) },
+    );
+    let Ok(pass) = AtomicPass::join(one, two, atomic) else {
+        unreachable!()
+    };
+    pass
+}
+
 /// Two threads add strides, while a third loads: how often it sees a torn value, and the value at the end.
 fn watch_strides<R: Threads + Wait + Sync>(
     rt: &R,
@@ -231,35 +332,17 @@ fn watch_strides<R: Threads + Wait + Sync>(
     let Ok((adding, mut loading)) = pass.split(shared) else {
         unreachable!()
     };
-    let Ok((one, two)) = adding.split(shared) else {
-        unreachable!()
-    };
-    let (torn, (one, two)) = thread::join(
+    let (torn, added) = thread::join(
         rt,
         || -> u64
             requires { IsAtomicPass shared.now loading }
         { count_torn(rt, shared, &mut loading, 2000) },
-        || -> (AtomicPass<u128>, AtomicPass<u128>)
-            requires { IsAtomicPass shared.now one × IsAtomicPass shared.now two }
-            ensures { HasStayed one result.0 × HasStayed two result.1 }
-        {
-            thread::join(
-                rt,
-                || -> AtomicPass<u128>
-                    requires { IsAtomicPass shared.now one }
-                    ensures { HasStayed one result }
-                { stride_often(rt, shared, one, 1000) },
-                || -> AtomicPass<u128>
-                    requires { IsAtomicPass shared.now two }
-                    ensures { HasStayed two result }
-                { stride_often(rt, shared, two, 1000) },
-            )
-        },
+        || -> AtomicPass<u128>
+            requires { IsAtomicPass shared.now adding }
+            ensures { IsAtomicPass shared.entry.now result }
+        { stride_in_two_threads(rt, shared, adding) },
     );
-    let Ok(pass) = AtomicPass::join(one, two, &atomic) else {
-        unreachable!()
-    };
-    (torn, atomic.into_inner(pass))
+    (torn, atomic.into_inner(added))
 }
 
 #[test]
@@ -325,12 +408,11 @@ fn loads_beside_stores(rt: HostRuntime) -> Result<(), Fail> {
         unreachable!()
     };
     let loads = Signal::new();
-    let (came, saw) = thread::join(
+    let came_and_saw = thread::join(
         &rt,
         || store_numbers(&rt, &atomic, &mut one, &loads, 1000),
         || load_until_last(&rt, &atomic, &mut two, &loads, 1000),
     );
-    assert!(rt; came);
-    assert!(rt; saw);
+    assert_eq!(rt; came_and_saw, (true, true));
     Ok(())
 }
