@@ -1,6 +1,6 @@
 //! A bounded buffer: its items lie in a spin lock, a mutex is held round each move, and a party that cannot move yet waits at a condition
 //! variable, one for those that wait for a place and one for those that wait for an item.
-ghost use Rattle.std.specs.Prelude.{◌≡◌, ◌≤◌, ◌<◌};
+ghost use Rattle.std.specs.Prelude.{◌≡◌, ◌≤◌, ◌<◌, IfOk};
 ghost use Rattle.running_spin_lock.specs.SpinShown.{IsSpinPass, HasStayed as HasSpunAtMost};
 ghost use Rattle.running_mutex.specs.MutexShown.{IsMutexPass, HasStayed as HasLockedAtMost, holds_of, pass_of, borrow_of};
 ghost use Rattle.running_mutex.specs.CondShown.{IsCondPass, HasStayed as HasWaitedAtMost};
@@ -9,6 +9,7 @@ use crate::spin_lock::{SpinLock, SpinPass};
 use crate::strategy::condition_variable::{CondPass, ConditionVariable, Woken};
 use crate::strategy::mutex::{Mutex, MutexHold, MutexPass};
 use crate::{WaitResult, wake_nobody, yield_and_go_on};
+use std::alloc::{AllocError, Global};
 use std::sync::Wait;
 use std::test::Fail;
 use std::thread;
@@ -125,16 +126,6 @@ fn make_at_once<R: Wait>(
     guard.make(what)
 }
 
-/// What one party has of a buffer: the right to its items, to hold its mutex, to wait until it can move, and to tell the others that
-/// they can.
-#[derive(Drop)]
-struct Party {
-    items: SpinPass,
-    locks: MutexPass,
-    waits: CondPass,
-    notifies: CondPass,
-}
-
 /// Locks the buffer, makes the move, tells those that wait for it, and unlocks. The item that was put or taken.
 fn lock_and_make<R: Wait>(
     rt: &R,
@@ -168,89 +159,161 @@ fn lock_and_make<R: Wait>(
     item
 }
 
+/// A buffer: its items, the mutex that is held round each move, and where is waited for a place and for an item.
+#[derive(Drop)]
+struct Buffer {
+    items: SpinLock<Items>,
+    mutex: Mutex,
+    not_full: ConditionVariable,
+    not_empty: ConditionVariable,
+}
+
+/// The right to do all of it to a buffer.
+#[derive(Drop)]
+struct Passes {
+    items: SpinPass,
+    locks: MutexPass,
+    for_places: CondPass,
+    for_items: CondPass,
+}
+
+/// What one party has of a buffer: the right to its items, to hold its mutex, to wait until it can move, and to tell the others that
+/// they can.
+#[derive(Drop)]
+struct Party<'b> {
+    buffer: &'b Buffer,
+    can: &'b ConditionVariable,
+    others_can: &'b ConditionVariable,
+    items: SpinPass,
+    locks: MutexPass,
+    waits: CondPass,
+    notifies: CondPass,
+    ghost own: { IsSpinPass buffer.now.items items × IsMutexPass buffer.now.mutex locks × IsCondPass can.now waits × IsCondPass others_can.now notifies },
+    ghost off: { holds_of locks ≡ 0 },
+}
+
+impl Party<'_> {
+    /// Makes the move once it can be made, and tells the others. The item that was put or taken.
+    fn make<R: Wait>(&mut self, rt: &R, what: Move) -> u64 {
+        let buffer = self.buffer;
+        lock_and_make(
+            rt,
+            &buffer.mutex,
+            &mut self.locks,
+            self.can,
+            &mut self.waits,
+            self.others_can,
+            &mut self.notifies,
+            &buffer.items,
+            &mut self.items,
+            what,
+        )
+    }
+}
+
 /// Puts the numbers from 0 on, or takes so many. Whether what was put or taken were these numbers in order.
-fn make_often<R: Wait>(
-    rt: &R,
-    mutex: &Mutex,
-    can: &ConditionVariable,
-    others_can: &ConditionVariable,
-    items: &SpinLock<Items>,
-    mut party: Party,
-    puts: bool,
-    times: u64,
-) -> bool
-    requires own { IsMutexPass mutex.now party.locks × IsCondPass can.now party.waits × IsCondPass others_can.now party.notifies × IsSpinPass items.now party.items }
-    requires off { holds_of party.locks ≡ 0 }
-{
+fn make_often<R: Wait>(rt: &R, mut party: Party, puts: bool, times: u64) -> bool {
     let mut in_order = true;
     for number in 0..times {
         let what = if puts { Move::Put(number) } else { Move::Take };
-        let item = lock_and_make(
-            rt,
-            mutex,
-            &mut party.locks,
-            can,
-            &mut party.waits,
-            others_can,
-            &mut party.notifies,
-            items,
-            &mut party.items,
-            what,
-        );
-        in_order &= item == number;
+        in_order &= party.make(rt, what) == number;
     }
     in_order
 }
 
-/// A producer and a consumer pass 1000 items through a buffer of 3 places, in order.
-#[test]
-fn a_buffer_over_condition_variables(rt: HostRuntime) -> Result<(), Fail> {
-    let Ok((items, moves)) = SpinLock::new(rt.alloc(), Items::new()) else {
-        return Err("no memory")?;
-    };
-    let (mutex, locks) = Mutex::new(rt.alloc())?;
-    let (not_full, for_places) = ConditionVariable::new(rt.alloc())?;
-    let (not_empty, for_items) = ConditionVariable::new(rt.alloc())?;
-    let Ok((moves_one, moves_two)) = moves.split(&items) else {
+/// Where is waited for a place and where for an item, with their passes.
+fn new_conditions(
+    alloc: Global,
+) -> Result<((ConditionVariable, CondPass), (ConditionVariable, CondPass)), AllocError>
+    ensures own { IfOk result (λ made. IsCondPass made.0.0 made.0.1 × IsCondPass made.1.0 made.1.1) }
+{
+    let not_full = ConditionVariable::new(alloc)?;
+    let not_empty = ConditionVariable::new(alloc)?;
+    Ok((not_full, not_empty))
+}
+
+/// A new buffer, and its passes.
+fn new_buffer(alloc: Global) -> Result<(Buffer, Passes), AllocError>
+    ensures own { IfOk result (λ made. IsSpinPass made.0.items made.1.items × IsMutexPass made.0.mutex made.1.locks × IsCondPass made.0.not_full made.1.for_places × IsCondPass made.0.not_empty made.1.for_items) }
+    ensures off { IfOk result (λ made. holds_of made.1.locks ≡ 0) }
+{
+    let conditions = new_conditions(alloc)?;
+    let locked = Mutex::new(alloc)?;
+    match SpinLock::new(alloc, Items::new()) {
+        Ok((items, moves)) => {
+            let ((not_full, for_places), (not_empty, for_items)) = conditions;
+            let (mutex, locks) = locked;
+            let buffer = Buffer {
+                items,
+                mutex,
+                not_full,
+                not_empty,
+            };
+            let passes = Passes {
+                items: moves,
+                locks,
+                for_places,
+                for_items,
+            };
+            Ok((buffer, passes))
+        }
+        Err((error, _)) => Err(error),
+    }
+}
+
+/// The producer and the consumer of a buffer, each with a half of each pass.
+fn parties<'b>(buffer: &'b Buffer, passes: Passes) -> (Party<'b>, Party<'b>)
+    requires own { IsSpinPass buffer.now.items passes.items × IsMutexPass buffer.now.mutex passes.locks × IsCondPass buffer.now.not_full passes.for_places × IsCondPass buffer.now.not_empty passes.for_items }
+    requires off { holds_of passes.locks ≡ 0 }
+{
+    let Passes {
+        items,
+        locks,
+        for_places,
+        for_items,
+    } = passes;
+    let Ok((moves_one, moves_two)) = items.split(&buffer.items) else {
         unreachable!()
     };
-    let Ok((locks_one, locks_two)) = locks.split(&mutex) else {
+    let Ok((locks_one, locks_two)) = locks.split(&buffer.mutex) else {
         unreachable!()
     };
-    let Ok((waits_for_places, tells_of_places)) = for_places.split(&not_full) else {
+    let Ok((waits_for_places, tells_of_places)) = for_places.split(&buffer.not_full) else {
         unreachable!()
     };
-    let Ok((waits_for_items, tells_of_items)) = for_items.split(&not_empty) else {
+    let Ok((waits_for_items, tells_of_items)) = for_items.split(&buffer.not_empty) else {
         unreachable!()
     };
     let producer = Party {
+        buffer,
+        can: &buffer.not_full,
+        others_can: &buffer.not_empty,
         items: moves_one,
         locks: locks_one,
         waits: waits_for_places,
         notifies: tells_of_items,
     };
     let consumer = Party {
+        buffer,
+        can: &buffer.not_empty,
+        others_can: &buffer.not_full,
         items: moves_two,
         locks: locks_two,
         waits: waits_for_items,
         notifies: tells_of_places,
     };
+    (producer, consumer)
+}
+
+/// A producer and a consumer pass 1000 items through a buffer of 3 places, in order.
+#[test]
+fn a_buffer_over_condition_variables(rt: HostRuntime) -> Result<(), Fail> {
+    let (buffer, passes) = new_buffer(rt.alloc())?;
+    let (producer, consumer) = parties(&buffer, passes);
     let in_order = thread::join(
         &rt,
-        || -> bool
-            requires { IsMutexPass mutex producer.locks × IsCondPass not_full producer.waits × IsCondPass not_empty producer.notifies × IsSpinPass items producer.items × (holds_of producer.locks ≡ 0) }
-        {
-            make_often(
-                &rt, &mutex, &not_full, &not_empty, &items, producer, true, 1000,
-            )
-        },
-        || -> bool
-            requires { IsMutexPass mutex consumer.locks × IsCondPass not_empty consumer.waits × IsCondPass not_full consumer.notifies × IsSpinPass items consumer.items × (holds_of consumer.locks ≡ 0) }
-        {
-            make_often(
-                &rt, &mutex, &not_empty, &not_full, &items, consumer, false, 1000,
-            )
-        },
+        || make_often(&rt, producer, true, 1000),
+        || make_often(&rt, consumer, false, 1000),
     );
     assert_eq!(rt; in_order, (true, true));
     Ok(())

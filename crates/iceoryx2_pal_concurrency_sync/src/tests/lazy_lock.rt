@@ -1,7 +1,7 @@
 //! The running lazy value.
 mod gives;
 
-ghost use Rattle.std.specs.Prelude.{◌≡◌};
+ghost use Rattle.std.specs.Prelude.{◌≡◌, IfOk};
 ghost use Rattle.passes.specs.Parts.{IsWhole};
 ghost use Rattle.passes.specs.Views.{first_view};
 ghost use Rattle.running_once.specs.OnceRule.{no_runs};
@@ -12,30 +12,56 @@ ghost use Rattle.running_lazy_lock.specs.LazyShown.{IsLazyPass, IsComplete, HasF
 use crate::lazy_lock::{LazyLock, LazyPass};
 use linked_list_allocator::LocalHeap;
 use signal::Meeting;
+use std::alloc::{AllocError, Global};
 use std::sync::Wait;
 use std::sync::atomic::{AtomicU64, Ordering};
 use std::test::Fail;
 use std::thread;
+use std::thread::Threads;
 
 /// The closure of most of these values.
 fn forty_two() -> u64 {
     42
 }
 
+/// A new lazy value with this closure, and its pass.
+fn new_lazy<F: FnOnce() -> u64 + Drop>(
+    alloc: Global,
+    closure: F,
+) -> Result<(LazyLock<u64, F>, LazyPass), AllocError>
+    ensures own { IfOk result (λ made. IsLazyPass made.0 made.1) }
+    ensures first { IfOk result (λ made. (known_by made.1 ≡ first_view no_runs) × (known_of_init made.1 ≡ first_view none_held) × IsWhole (part_of made.1)) }
+{
+    match LazyLock::new(alloc, closure) {
+        Ok(made) => Ok(made),
+        Err((error, _)) => Err(error),
+    }
+}
+
+/// Forces a new lazy value twice whose closure counts its calls: what is counted before, both values, and what is counted then.
+fn read_counting<F: FnOnce() -> u64 + Drop, R: Wait>(
+    rt: &R,
+    alloc: Global,
+    calls: &AtomicU64,
+    closure: F,
+) -> Result<[u64; 4], AllocError>
+    requires may { (f : F) → F.IsAlwaysCallable f }
+{
+    let (lazy, mut pass) = new_lazy(alloc, closure)?;
+    let before = calls.load(Ordering::SeqCst);
+    let first = *LazyLock::force(&lazy, rt, &mut pass);
+    let second = *LazyLock::force(&lazy, rt, &mut pass);
+    Ok([before, first, second, calls.load(Ordering::SeqCst)])
+}
+
 #[test]
 fn a_value_is_made_once_and_read_twice(rt: HostRuntime) -> Result<(), Fail> {
     let calls = AtomicU64::new(0);
-    let made = LazyLock::new(rt.alloc(), || -> u64 {
+    let read = read_counting(&rt, rt.alloc(), &calls, || -> u64 {
         calls.fetch_add(1, Ordering::SeqCst);
         42
-    });
-    let Ok((lazy, mut pass)) = made else {
-        return Err("no memory")?;
-    };
-    assert_eq!(rt; calls.load(Ordering::SeqCst), 0);
-    assert_eq!(rt; *LazyLock::force(&lazy, &rt, &mut pass), 42);
-    assert_eq!(rt; *LazyLock::force(&lazy, &rt, &mut pass), 42);
-    assert_eq!(rt; calls.load(Ordering::SeqCst), 1);
+    })?;
+    assert_eq!(rt; read, [0, 42, 42, 1]);
     Ok(())
 }
 
@@ -58,9 +84,7 @@ fn force_twice<F: FnOnce() -> u64 + Drop, R: Wait>(
 
 #[test]
 fn the_closure_is_taken_once(rt: HostRuntime) -> Result<(), Fail> {
-    let Ok((lazy, mut pass)) = LazyLock::new(rt.alloc(), forty_two) else {
-        return Err("no memory")?;
-    };
+    let (lazy, mut pass) = new_lazy(rt.alloc(), forty_two)?;
     assert_eq!(rt; force_twice(&rt, &lazy, &mut pass), 42);
     Ok(())
 }
@@ -106,9 +130,7 @@ fn force_in_parts<F: FnOnce() -> u64 + Drop, R: Wait>(
 
 #[test]
 fn parts_are_the_whole_again(rt: HostRuntime) -> Result<(), Fail> {
-    let Ok((lazy, pass)) = LazyLock::new(rt.alloc(), forty_two) else {
-        return Err("no memory")?;
-    };
+    let (lazy, pass) = new_lazy(rt.alloc(), forty_two)?;
     let (_pass, forced) = force_in_parts(&rt, &lazy, pass);
     assert_eq!(rt; forced, [42, 42, 42]);
     Ok(())
@@ -129,30 +151,40 @@ fn meet_and_force<F: FnOnce() -> u64 + Drop, R: Wait>(
     came.then_some(value)
 }
 
+/// Two threads meet and force a new lazy value with this closure. What each has, if both came.
+fn force_in_two_threads<F: FnOnce() -> u64 + Drop + Send, R: Threads + Wait + Sync>(
+    rt: &R,
+    alloc: Global,
+    closure: F,
+) -> Result<(Option<u64>, Option<u64>), AllocError>
+    requires may { (f : F) → F.IsAlwaysCallable f }
+{
+    let (lazy, pass) = new_lazy(alloc, closure)?;
+    let Ok((mut one, mut two)) = pass.split(&lazy) else {
+        unreachable!()
+    };
+    let meeting = Meeting::of(2);
+    Ok(thread::join(
+        rt,
+        || meet_and_force(rt, &lazy, &mut one, &meeting),
+        || meet_and_force(rt, &lazy, &mut two, &meeting),
+    ))
+}
+
 #[test]
 fn two_threads_force_one_value(rt: HostRuntime) -> Result<(), Fail> {
     let calls = AtomicU64::new(0);
-    let meeting = Meeting::of(2);
-    let made = LazyLock::new(rt.alloc(), || -> u64 {
+    let forced = force_in_two_threads(&rt, rt.alloc(), || -> u64 {
         for _ in 0..100u64 {
             thread::yield_now();
         }
         calls.fetch_add(1, Ordering::SeqCst);
         42
-    });
-    let Ok((lazy, pass)) = made else {
-        return Err("no memory")?;
-    };
-    let Ok((mut one, mut two)) = pass.split(&lazy) else {
-        unreachable!()
-    };
-    let forced = thread::join(
-        &rt,
-        || meet_and_force(&rt, &lazy, &mut one, &meeting),
-        || meet_and_force(&rt, &lazy, &mut two, &meeting),
+    })?;
+    assert_eq!(rt;
+        (forced, calls.load(Ordering::SeqCst)),
+        ((Some(42), Some(42)), 1)
     );
-    assert_eq!(rt; forced, (Some(42), Some(42)));
-    assert_eq!(rt; calls.load(Ordering::SeqCst), 1);
     Ok(())
 }
 
@@ -168,35 +200,63 @@ impl Drop for Counted<'_> {
     }
 }
 
+/// Forces a new lazy value twice, and drops it. How often the value was dropped before that, and how often then.
+fn force_and_drop<R: Wait>(
+    rt: &R,
+    alloc: Global,
+    drops: &AtomicU64,
+) -> Result<(u64, u64), AllocError> {
+    match LazyLock::new(alloc, || Counted { drops }) {
+        Ok((lazy, mut pass)) => {
+            LazyLock::force(&lazy, rt, &mut pass);
+            LazyLock::force(&lazy, rt, &mut pass);
+            let before = drops.load(Ordering::SeqCst);
+            drop(lazy);
+            Ok((before, drops.load(Ordering::SeqCst)))
+        }
+        Err((error, _)) => Err(error),
+    }
+}
+
 #[test]
 fn a_made_value_is_dropped_with_the_lock(rt: HostRuntime) -> Result<(), Fail> {
     let drops = AtomicU64::new(0);
-    let Ok((lazy, mut pass)) = LazyLock::new(rt.alloc(), || Counted { drops: &drops }) else {
-        return Err("no memory")?;
-    };
-    LazyLock::force(&lazy, &rt, &mut pass);
-    LazyLock::force(&lazy, &rt, &mut pass);
-    assert_eq!(rt; drops.load(Ordering::SeqCst), 0);
-    drop(lazy);
-    assert_eq!(rt; drops.load(Ordering::SeqCst), 1);
+    assert_eq!(rt; force_and_drop(&rt, rt.alloc(), &drops)?, (0, 1));
     Ok(())
+}
+
+/// Drops a new lazy value that nobody forced. How often what its closure holds was dropped before that, and how often then.
+fn drop_unforced(alloc: Global, drops: &AtomicU64) -> Result<(u64, u64), AllocError> {
+    let held = Counted { drops };
+    let (lazy, _pass) = new_lazy(alloc, move || -> u64 {
+        drop(held);
+        42
+    })?;
+    let before = drops.load(Ordering::SeqCst);
+    drop(lazy);
+    Ok((before, drops.load(Ordering::SeqCst)))
 }
 
 #[test]
 fn a_closure_that_never_ran_is_dropped_with_the_lock(rt: HostRuntime) -> Result<(), Fail> {
     let drops = AtomicU64::new(0);
-    let held = Counted { drops: &drops };
-    let made = LazyLock::<u64, _>::new(rt.alloc(), move || -> u64 {
-        drop(held);
-        42
-    });
-    let Ok((lazy, _pass)) = made else {
-        return Err("no memory")?;
-    };
-    assert_eq!(rt; drops.load(Ordering::SeqCst), 0);
-    drop(lazy);
-    assert_eq!(rt; drops.load(Ordering::SeqCst), 1);
+    assert_eq!(rt; drop_unforced(rt.alloc(), &drops)?, (0, 1));
     Ok(())
+}
+
+/// Whether a lazy value was made in a heap of this size, what it or else the closure that came back gives, and how many bytes of the
+/// heap are used then.
+fn a_lazy_value_in<R: Wait>(
+    rt: &R,
+    alloc: Global,
+    size: usize,
+) -> Result<(bool, u64, usize), AllocError> {
+    let heap = LocalHeap::new(alloc, size)?;
+    let (is_made, value) = match LazyLock::new(&heap, forty_two) {
+        Ok((lazy, mut pass)) => (true, *LazyLock::force(&lazy, rt, &mut pass)),
+        Err((_, closure)) => (false, closure()),
+    };
+    Ok((is_made, value, heap.used()))
 }
 
 /// The once is two blocks of 16 bytes, and the closure's lock three.
@@ -210,19 +270,7 @@ fn a_lazy_value_that_finds_no_memory_hands_its_closure_back(rt: HostRuntime) -> 
         (64, false),
         (80, true),
     ] {
-        let heap = LocalHeap::new(rt.alloc(), size)?;
-        match LazyLock::new(&heap, forty_two) {
-            Ok((lazy, mut pass)) => {
-                assert!(rt; room);
-                assert_eq!(rt; *LazyLock::force(&lazy, &rt, &mut pass), 42);
-                drop(lazy);
-            }
-            Err((_, closure)) => {
-                assert!(rt; !room);
-                assert_eq!(rt; closure(), 42);
-            }
-        }
-        assert_eq!(rt; heap.used(), 0);
+        assert_eq!(rt; a_lazy_value_in(&rt, rt.alloc(), size)?, (room, 42, 0));
     }
     Ok(())
 }
@@ -236,9 +284,7 @@ fn shared_where_it_moves<T: Send + Sync, F: Send>(lazy: &LazyLock<T, F>) {
 
 #[test]
 fn a_lazy_value_is_shared_where_its_closure_moves(rt: HostRuntime) -> Result<(), Fail> {
-    let Ok((lazy, mut pass)) = LazyLock::new(rt.alloc(), forty_two) else {
-        return Err("no memory")?;
-    };
+    let (lazy, mut pass) = new_lazy(rt.alloc(), forty_two)?;
     shared_where_it_moves(&lazy);
     assert_eq!(rt; *LazyLock::force(&lazy, &rt, &mut pass), 42);
     Ok(())
