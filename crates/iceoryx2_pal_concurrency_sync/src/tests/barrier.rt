@@ -1,11 +1,12 @@
 //! The running barrier.
-ghost use Rattle.std.specs.Prelude.{◌≡◌, ◌+◌, ◌<◌};
+ghost use Rattle.std.specs.Prelude.{◌≡◌, ◌+◌, ◌<◌, IfOk};
 ghost use Rattle.passes.specs.Passes.{IsSamePass};
 ghost use Rattle.running_barrier.specs.BarrierShown.{IsBarrierPass, HasWaited, arrivals_of, waiters_of};
 
 use crate::WaitWord;
 use crate::strategy::barrier::{Barrier, BarrierFull, BarrierPass};
 use signal::{Notes, Signal};
+use std::alloc::{AllocError, Global};
 use std::sync::Wait;
 use std::sync::atomic::{AtomicU64, Ordering};
 use std::test::Fail;
@@ -15,6 +16,20 @@ use std::thread::Threads;
 /// A wait closure: yields.
 fn yield_once(_word: &WaitWord, _seen: &u64) {
     thread::yield_now();
+}
+
+/// A new barrier of so many, and two parts of its pass.
+fn in_two_parts(
+    alloc: Global,
+    waiters: u32,
+) -> Result<(Barrier, BarrierPass, BarrierPass), AllocError>
+    ensures own { IfOk result (λ made. IsBarrierPass made.0 made.1 × IsBarrierPass made.0 made.2) }
+{
+    let (barrier, pass) = Barrier::new(alloc, waiters)?;
+    match pass.split(&barrier) {
+        Ok((one, two)) => Ok((barrier, one, two)),
+        Err(_) => unreachable!(),
+    }
 }
 
 /// What a `wait` did: its answer, how often it called its wait closure and its wake closure, and the word that the wake closure saw.
@@ -67,14 +82,14 @@ fn a_barrier_of_one_opens_at_each_call(rt: HostRuntime) -> Result<(), Fail> {
     Ok(())
 }
 
-/// Waits, and tells when its closure is asked. What that was told first, and what its word held then.
+/// Waits, and tells when its closure is asked. What that was told first, and what its word held then, unless the barrier was full.
 fn wait_first<R: Wait>(
     rt: &R,
     barrier: &Barrier,
     pass: &mut BarrierPass,
     asked: &Signal,
     wakes: &AtomicU64,
-) -> (Result<(), BarrierFull>, (u64, u64))
+) -> Result<(u64, u64), BarrierFull>
     requires { IsBarrierPass barrier.now pass.old }
 {
     let notes = Notes::new();
@@ -91,43 +106,60 @@ fn wait_first<R: Wait>(
         },
     );
     let (_calls, held, told) = notes.noted();
-    (answer, (told, held))
+    match answer {
+        Ok(()) => Ok((told, held)),
+        Err(full) => Err(full),
+    }
 }
 
-/// Waits once the other thread's closure was asked, and tells whether it was.
+/// Waits once the other thread's closure was asked, and tells whether it was, unless the barrier was full.
 fn wait_second<R: Wait>(
     rt: &R,
     barrier: &Barrier,
     pass: &mut BarrierPass,
     asked: &Signal,
     wakes: &AtomicU64,
-) -> (Result<(), BarrierFull>, bool)
+) -> Result<bool, BarrierFull>
     requires { IsBarrierPass barrier.now pass.old }
 {
     let was_asked = asked.awaited();
     let answer = barrier.wait(rt, pass, yield_once, |_| {
         wakes.fetch_add(1, Ordering::SeqCst);
     });
-    (answer, was_asked)
+    match answer {
+        Ok(()) => Ok(was_asked),
+        Err(full) => Err(full),
+    }
+}
+
+/// Two threads wait at a new barrier of two, the second once the first has asked its closure. What both came to, and how often a wake
+/// closure was called.
+fn wait_one_after_the_other<R: Threads + Wait + Sync>(
+    rt: &R,
+    alloc: Global,
+) -> Result<
+    (
+        Result<(u64, u64), BarrierFull>,
+        Result<bool, BarrierFull>,
+        u64,
+    ),
+    AllocError,
+> {
+    let (barrier, mut one, mut two) = in_two_parts(alloc, 2)?;
+    let (asked, wakes) = (Signal::new(), AtomicU64::new(0));
+    let (first, second) = thread::join(
+        rt,
+        || wait_first(rt, &barrier, &mut one, &asked, &wakes),
+        || wait_second(rt, &barrier, &mut two, &asked, &wakes),
+    );
+    Ok((first, second, wakes.load(Ordering::SeqCst)))
 }
 
 /// The second call arrives only after the first has asked its closure, so both calls are under way at once.
 #[test]
 fn a_barrier_of_two(rt: HostRuntime) -> Result<(), Fail> {
-    let (barrier, pass) = Barrier::new(rt.alloc(), 2)?;
-    let Ok((mut one, mut two)) = pass.split(&barrier) else {
-        unreachable!()
-    };
-    let (asked, wakes) = (Signal::new(), AtomicU64::new(0));
-    let (first, second) = thread::join(
-        &rt,
-        || wait_first(&rt, &barrier, &mut one, &asked, &wakes),
-        || wait_second(&rt, &barrier, &mut two, &asked, &wakes),
-    );
-    assert_eq!(rt;
-        (first, second, wakes.load(Ordering::SeqCst)),
-        ((Ok(()), (1, 1)), (Ok(()), true), 1)
-    );
+    let waited = wait_one_after_the_other(&rt, rt.alloc())?;
+    assert_eq!(rt; waited, (Ok((1, 1)), Ok(true), 1));
     Ok(())
 }
 
@@ -139,6 +171,23 @@ struct Counts {
     wakes: AtomicU64,
     /// The calls that came back before all four of their round had come.
     early: AtomicU64,
+}
+
+impl Counts {
+    fn new() -> Counts {
+        Counts {
+            arrivals: AtomicU64::new(0),
+            wakes: AtomicU64::new(0),
+            early: AtomicU64::new(0),
+        }
+    }
+
+    /// The arrivals, the wakes, and the calls that came back early.
+    fn counted(&self) -> (u64, u64, u64) {
+        let arrivals = self.arrivals.load(Ordering::SeqCst);
+        let wakes = self.wakes.load(Ordering::SeqCst);
+        (arrivals, wakes, self.early.load(Ordering::SeqCst))
+    }
 }
 
 fn wait_50_times<R: Wait>(
@@ -233,15 +282,8 @@ fn wait_in_four_threads<R: Threads + Wait + Sync>(
 #[test]
 fn four_threads_pass_50_rounds(rt: HostRuntime) -> Result<(), Fail> {
     let (barrier, pass) = Barrier::new(rt.alloc(), 4)?;
-    let counts = Counts {
-        arrivals: AtomicU64::new(0),
-        wakes: AtomicU64::new(0),
-        early: AtomicU64::new(0),
-    };
+    let counts = Counts::new();
     wait_in_four_threads(&rt, &barrier, pass, &counts);
-    let arrivals = counts.arrivals.load(Ordering::SeqCst);
-    let wakes = counts.wakes.load(Ordering::SeqCst);
-    let early = counts.early.load(Ordering::SeqCst);
-    assert_eq!(rt; (arrivals, wakes, early), (200, 50, 0));
+    assert_eq!(rt; counts.counted(), (200, 50, 0));
     Ok(())
 }

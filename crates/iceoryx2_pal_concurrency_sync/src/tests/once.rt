@@ -156,8 +156,8 @@ fn of_four_threads_one_runs_its_closure(rt: HostRuntime) -> Result<(), Fail> {
         runs: AtomicU64::new(0),
         made: AtomicU64::new(0),
     };
-    assert!(rt; meet_in_four_threads(&rt, &once, pass, &work));
-    assert_eq!(rt; work.runs.load(Ordering::SeqCst), 1);
+    let all_saw = meet_in_four_threads(&rt, &once, pass, &work);
+    assert_eq!(rt; (all_saw, work.runs.load(Ordering::SeqCst)), (true, 1));
     Ok(())
 }
 
@@ -200,20 +200,27 @@ fn call_second<R: Wait>(rt: &R, once: &Once, pass: &mut OncePass, told: &Told) -
     runs && came && !was_complete && told.ending.is_given() && !ran.is_given()
 }
 
-/// A call that comes while the closure of another runs returns only once that has ended.
-#[test]
-fn a_second_caller_waits_for_the_closure(rt: HostRuntime) -> Result<(), Fail> {
-    let (once, mut one, mut two) = in_two_parts(rt.alloc())?;
+/// Two threads call a new once, the second while the closure of the first runs. What both tell.
+fn call_one_within_the_other<R: Threads + Wait + Sync>(
+    rt: &R,
+    alloc: Global,
+) -> Result<(bool, bool), AllocError> {
+    let (once, mut one, mut two) = in_two_parts(alloc)?;
     let told = Told {
         meeting: Meeting::of(2),
         ending: Signal::new(),
     };
-    let both = thread::join(
-        &rt,
-        || call_first(&rt, &once, &mut one, &told),
-        || call_second(&rt, &once, &mut two, &told),
-    );
-    assert_eq!(rt; both, (true, true));
+    Ok(thread::join(
+        rt,
+        || call_first(rt, &once, &mut one, &told),
+        || call_second(rt, &once, &mut two, &told),
+    ))
+}
+
+/// A call that comes while the closure of another runs returns only once that has ended.
+#[test]
+fn a_second_caller_waits_for_the_closure(rt: HostRuntime) -> Result<(), Fail> {
+    assert_eq!(rt; call_one_within_the_other(&rt, rt.alloc())?, (true, true));
     Ok(())
 }
 

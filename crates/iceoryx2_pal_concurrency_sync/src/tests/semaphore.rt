@@ -162,16 +162,25 @@ fn wait_until_over<R: Wait>(
     (answer, calls.load(Ordering::SeqCst))
 }
 
+/// One thread posts once the call of another is over, whose closure answers `Abort`. Whether that came, what the other was answered, and
+/// how often its closure was asked.
+fn post_after_an_abort<R: Threads + Wait + Sync>(
+    rt: &R,
+    alloc: Global,
+) -> Result<(bool, (WaitResult<()>, u64)), AllocError> {
+    let (semaphore, mut one, mut two) = in_two_parts(alloc, 0)?;
+    let over = Signal::new();
+    Ok(thread::join(
+        rt,
+        || post_when_over(&semaphore, &mut one, &over),
+        || wait_until_over(rt, &semaphore, &mut two, &over),
+    ))
+}
+
 /// A call that went on after `Abort` would take what the other thread then posts.
 #[test]
 fn an_abort_is_obeyed(rt: HostRuntime) -> Result<(), Fail> {
-    let (semaphore, mut one, mut two) = in_two_parts(rt.alloc(), 0)?;
-    let over = Signal::new();
-    let over_and_answer = thread::join(
-        &rt,
-        || post_when_over(&semaphore, &mut one, &over),
-        || wait_until_over(&rt, &semaphore, &mut two, &over),
-    );
+    let over_and_answer = post_after_an_abort(&rt, rt.alloc())?;
     assert_eq!(rt; over_and_answer, (true, (WaitResult::Interrupted, 1)));
     Ok(())
 }
@@ -314,8 +323,8 @@ fn act_under_a_permit<R: Wait>(rt: &R, semaphore: &Semaphore, pass: &mut SemPass
 #[test]
 fn a_permit_is_given_back(rt: HostRuntime) -> Result<(), Fail> {
     let (semaphore, mut pass) = Semaphore::new(rt.alloc(), 1)?;
-    assert_eq!(rt; act_under_a_permit(&rt, &semaphore, &mut pass), 7);
-    assert_eq!(rt; semaphore.close(pass), 1);
+    let seven = act_under_a_permit(&rt, &semaphore, &mut pass);
+    assert_eq!(rt; (seven, semaphore.close(pass)), (7, 1));
     Ok(())
 }
 

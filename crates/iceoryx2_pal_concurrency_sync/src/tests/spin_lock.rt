@@ -24,31 +24,42 @@ fn is_refused(lock: &SpinLock<u64>, pass: &mut SpinPass) -> bool
     }
 }
 
-/// Whether `two` is refused while `one` has the guard, and whether it is afterwards.
-fn refused_while_held(
-    lock: &SpinLock<u64>,
-    one: &mut SpinPass,
-    two: &mut SpinPass,
-) -> Option<(bool, bool)>
-    requires { IsSpinPass lock.now one.old × IsSpinPass lock.now two.old }
+/// What the value is, if the lock is free.
+fn value_if_free(lock: &SpinLock<u64>, pass: &mut SpinPass) -> Option<u64>
+    requires own { IsSpinPass lock.now pass.old }
 {
-    let held = match SpinLock::try_lock(one, lock) {
-        Some(_guard) => is_refused(lock, two),
-        None => return None,
+    match SpinLock::try_lock(pass, lock) {
+        Some(guard) => Some(*guard),
+        None => None,
+    }
+}
+
+/// Whether `two` is refused while `one` has the guard.
+fn refused_while_held(lock: &SpinLock<u64>, one: &mut SpinPass, two: &mut SpinPass) -> Option<bool>
+    requires own { IsSpinPass lock.now one.old × IsSpinPass lock.now two.old }
+    ensures stayed { HasStayed two.old two.new }
+{
+    match SpinLock::try_lock(one, lock) {
+        Some(_guard) => Some(is_refused(lock, two)),
+        None => None,
+    }
+}
+
+/// Whether one half of a pass is refused while the other has the guard, and whether it is afterwards.
+fn refused_by_turns(lock: &SpinLock<u64>, pass: SpinPass) -> (Option<bool>, bool)
+    requires own { IsSpinPass lock.now pass }
+{
+    let Ok((mut one, mut two)) = pass.split(lock) else {
+        unreachable!()
     };
-    Some((held, is_refused(lock, two)))
+    let held = refused_while_held(lock, &mut one, &mut two);
+    (held, is_refused(lock, &mut two))
 }
 
 #[test]
 fn one_holder_at_a_time(rt: HostRuntime) -> Result<(), Fail> {
     let (lock, pass) = SpinLock::new(rt.alloc(), 0u64)?;
-    let Ok((mut one, mut two)) = pass.split(&lock) else {
-        unreachable!()
-    };
-    assert_eq!(rt;
-        refused_while_held(&lock, &mut one, &mut two),
-        Some((true, false))
-    );
+    assert_eq!(rt; refused_by_turns(&lock, pass), (Some(true), false));
     Ok(())
 }
 
@@ -107,8 +118,9 @@ fn add_twice<R: Wait>(rt: &R, lock: &SpinLock<u64>, pass: &mut SpinPass, more: u
 #[test]
 fn the_value_is_the_one_that_was_left(rt: HostRuntime) -> Result<(), Fail> {
     let (lock, mut pass) = SpinLock::new(rt.alloc(), 40u64)?;
-    assert_eq!(rt; add_twice(&rt, &lock, &mut pass, 1), 42);
-    assert_eq!(rt; add_twice(&rt, &lock, &mut pass, 0), 42);
+    let first = add_twice(&rt, &lock, &mut pass, 1);
+    let second = add_twice(&rt, &lock, &mut pass, 0);
+    assert_eq!(rt; (first, second), (42, 42));
     Ok(())
 }
 
@@ -153,8 +165,9 @@ fn each_call_is_one_of_the_model(rt: HostRuntime) -> Result<(), Fail> {
     let (lock, mut pass) = SpinLock::new(rt.alloc(), 1u64)?;
     add_by_blocking_lock(&rt, &lock, &mut pass, 10);
     add_by_lock(&rt, &lock, &mut pass, 100);
-    assert!(rt; add_by_try_lock(&lock, &mut pass, 1000));
-    assert_eq!(rt; add_twice(&rt, &lock, &mut pass, 0), 1111);
+    let added = add_by_try_lock(&lock, &mut pass, 1000);
+    let sum = add_twice(&rt, &lock, &mut pass, 0);
+    assert_eq!(rt; (added, sum), (true, 1111));
     Ok(())
 }
 

@@ -3,6 +3,7 @@ ghost use Rattle.std.specs.Prelude.{◌≡◌, ◌%◌, ◌≤◌};
 ghost use Rattle.running_spin_lock.specs.SpinShown.{IsSpinPass, IsSamePass};
 
 use crate::spin_lock::{SpinLock, SpinPass};
+use std::alloc::{AllocError, Global};
 use std::marker::{Model, PhantomData};
 use std::mem;
 use std::sync::Wait;
@@ -97,16 +98,23 @@ impl Keeps<u64> for AtMostTen {
     ghost keeps = { λ n. n ≤ 10 };
 }
 
-#[test]
-fn a_kept_value_is_kept(rt: HostRuntime) -> Result<(), Fail> {
+/// Replaces a new lock's 3 by 10, and that by 0: what each time stood there.
+fn replace_twice<R: Wait>(rt: &R, alloc: Global) -> Result<(u64, u64), AllocError> {
     let first: Kept<u64, AtMostTen> = Kept {
         value: 3,
         by: PhantomData,
     };
-    let Ok((lock, mut pass)) = SpinLock::new(rt.alloc(), first) else {
-        return Err("no memory")?;
-    };
-    assert_eq!(rt; replace(&rt, &lock, &mut pass, 10), 3);
-    assert_eq!(rt; replace(&rt, &lock, &mut pass, 0), 10);
+    match SpinLock::new(alloc, first) {
+        Ok((lock, mut pass)) => {
+            let three = replace(rt, &lock, &mut pass, 10);
+            Ok((three, replace(rt, &lock, &mut pass, 0)))
+        }
+        Err((error, _)) => Err(error),
+    }
+}
+
+#[test]
+fn a_kept_value_is_kept(rt: HostRuntime) -> Result<(), Fail> {
+    assert_eq!(rt; replace_twice(&rt, rt.alloc())?, (3, 10));
     Ok(())
 }

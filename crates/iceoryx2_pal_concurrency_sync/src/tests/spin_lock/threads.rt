@@ -1,13 +1,14 @@
 //! Threads that meet at the lock.
 ghost use Rattle.running_spin_lock.specs.SpinShown.{IsSpinPass, HasStayed};
 
-use super::is_refused;
+use super::{is_refused, value_if_free};
 use crate::spin_lock::{SpinLock, SpinPass};
 use signal::Signal;
 use std::alloc::AllocError;
 use std::sync::Wait;
 use std::test::Fail;
 use std::thread;
+use std::thread::Threads;
 
 /// Pushes these numbers under one guard, and tells whether there was memory.
 fn push_all<R: Wait>(
@@ -33,28 +34,49 @@ fn extend(list: &mut Vec<u64>, numbers: &[u64]) -> Result<(), AllocError> {
     Ok(())
 }
 
+/// Two threads push numbers, one of them two under one guard. Whether there was memory for all.
+fn push_in_two_threads<R: Threads + Wait + Sync>(
+    rt: &R,
+    lock: &SpinLock<Vec<u64>>,
+    pass: SpinPass,
+) -> (SpinPass, bool)
+    requires own { IsSpinPass lock.now pass }
+    ensures own { IsSpinPass lock.now result.0 }
+{
+    let Ok((one, two)) = pass.split(lock) else {
+        unreachable!()
+    };
+    let ((one, first), (_, second)) = thread::join(
+        rt,
+        || -> (SpinPass, bool)
+            requires { IsSpinPass lock.now one }
+            ensures { HasStayed one result.0 }
+        { push_all(rt, lock, one, &[1]) },
+        || -> (SpinPass, bool)
+            requires { IsSpinPass lock.now two }
+        { push_all(rt, lock, two, &[2, 3]) },
+    );
+    (one, first && second)
+}
+
+/// Whether the lock is free, and its list what the two threads make by turns.
+fn has_all(lock: &SpinLock<Vec<u64>>, pass: &mut SpinPass) -> bool
+    requires own { IsSpinPass lock.now pass.old }
+{
+    match SpinLock::try_lock(pass, lock) {
+        Some(guard) => {
+            let list = guard.as_slice();
+            list == [1, 2, 3].as_slice() || list == [2, 3, 1].as_slice()
+        }
+        None => false,
+    }
+}
+
 #[test]
 fn two_threads_push_under_their_guards(rt: HostRuntime) -> Result<(), Fail> {
     let (lock, pass) = SpinLock::new(rt.alloc(), Vec::new(rt.alloc()))?;
-    let Ok((one, two)) = pass.split(&lock) else {
-        unreachable!()
-    };
-    let ((mut one, first), (_, second)) = thread::join(
-        &rt,
-        || -> (SpinPass, bool)
-            requires { IsSpinPass lock one }
-            ensures { HasStayed one result.0 }
-        { push_all(&rt, &lock, one, &[1]) },
-        || push_all(&rt, &lock, two, &[2, 3]),
-    );
-    assert!(rt; first && second);
-    match SpinLock::try_lock(&mut one, &lock) {
-        Some(guard) => {
-            let list = guard.as_slice();
-            assert!(rt; list == [1, 2, 3].as_slice() || list == [2, 3, 1].as_slice());
-        }
-        None => return Err("the lock is taken")?,
-    }
+    let (mut one, pushed) = push_in_two_threads(&rt, &lock, pass);
+    assert!(rt; pushed && has_all(&lock, &mut one));
     Ok(())
 }
 
@@ -70,26 +92,34 @@ fn count_up<R: Wait>(rt: &R, lock: &SpinLock<u64>, mut pass: SpinPass, times: u6
     pass
 }
 
-#[test]
-fn no_addition_is_lost(rt: HostRuntime) -> Result<(), Fail> {
-    let (lock, pass) = SpinLock::new(rt.alloc(), 0u64)?;
-    let Ok((one, two)) = pass.split(&lock) else {
+/// Two threads count up. The value then, if the lock is free.
+fn count_in_two_threads<R: Threads + Wait + Sync>(
+    rt: &R,
+    lock: &SpinLock<u64>,
+    pass: SpinPass,
+) -> Option<u64>
+    requires own { IsSpinPass lock.now pass }
+{
+    let Ok((one, two)) = pass.split(lock) else {
         unreachable!()
     };
     let (mut one, _) = thread::join(
-        &rt,
+        rt,
         || -> SpinPass
-            requires { IsSpinPass lock one }
+            requires { IsSpinPass lock.now one }
             ensures { HasStayed one result }
-        { count_up(&rt, &lock, one, 2000) },
-        || count_up(&rt, &lock, two, 3000),
+        { count_up(rt, lock, one, 2000) },
+        || -> SpinPass
+            requires { IsSpinPass lock.now two }
+        { count_up(rt, lock, two, 3000) },
     );
-    match SpinLock::try_lock(&mut one, &lock) {
-        Some(guard) => {
-            assert_eq!(rt; *guard, 5000);
-        }
-        None => return Err("the lock is taken")?,
-    }
+    value_if_free(lock, &mut one)
+}
+
+#[test]
+fn no_addition_is_lost(rt: HostRuntime) -> Result<(), Fail> {
+    let (lock, pass) = SpinLock::new(rt.alloc(), 0u64)?;
+    assert_eq!(rt; count_in_two_threads(&rt, &lock, pass), Some(5000));
     Ok(())
 }
 
@@ -184,28 +214,39 @@ fn wait_by_lock<R: Wait>(
     }
 }
 
+/// One thread holds a new lock, and another waits for it by `lock` or `blocking_lock`. Whether both came, and what the other found.
+fn wait_for_a_holder<R: Threads + Wait + Sync>(
+    rt: &R,
+    lock: &SpinLock<u64>,
+    pass: SpinPass,
+    by_lock: bool,
+) -> (bool, Option<u64>)
+    requires own { IsSpinPass lock.now pass }
+{
+    let Ok((mut one, mut two)) = pass.split(lock) else {
+        unreachable!()
+    };
+    let told = Told::new();
+    thread::join(
+        rt,
+        || hold_until_waited_for(lock, &mut one, &told),
+        || {
+            if by_lock {
+                wait_by_lock(rt, lock, &mut two, &told)
+            } else {
+                wait_by_blocking_lock(rt, lock, &mut two, &told)
+            }
+        },
+    )
+}
+
 /// A call comes in only once the holder has let go, and then finds what that has left.
 #[test]
 fn a_held_lock_is_waited_for_and_then_had(rt: HostRuntime) -> Result<(), Fail> {
     for by_lock in [false, true] {
         let (lock, pass) = SpinLock::new(rt.alloc(), 0u64)?;
-        let Ok((mut one, mut two)) = pass.split(&lock) else {
-            unreachable!()
-        };
-        let told = Told::new();
-        let (came, found) = thread::join(
-            &rt,
-            || hold_until_waited_for(&lock, &mut one, &told),
-            || {
-                if by_lock {
-                    wait_by_lock(&rt, &lock, &mut two, &told)
-                } else {
-                    wait_by_blocking_lock(&rt, &lock, &mut two, &told)
-                }
-            },
-        );
-        assert!(rt; came);
-        assert_eq!(rt; found, Some(7));
+        let came_and_found = wait_for_a_holder(&rt, &lock, pass, by_lock);
+        assert_eq!(rt; came_and_found, (true, Some(7)));
     }
     Ok(())
 }
