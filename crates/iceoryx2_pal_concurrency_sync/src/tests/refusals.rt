@@ -19,12 +19,16 @@ fn held(room: bool, size: usize) -> Held {
     (room, if room { size } else { 0 }, 0)
 }
 
-fn a_mutex_in(alloc: Global, size: usize) -> Result<Held, AllocError> {
-    let heap = LocalHeap::new(alloc, size)?;
-    let made = Mutex::new(&heap);
+/// What is held of a heap when an object was made in it, or not, and once that was dropped.
+fn held_by<T: Drop>(heap: &LocalHeap, made: Result<T, AllocError>) -> Held {
     let (is_made, used) = (made.is_ok(), heap.used());
     drop(made);
-    Ok((is_made, used, heap.used()))
+    (is_made, used, heap.used())
+}
+
+fn a_mutex_in(alloc: Global, size: usize) -> Result<Held, AllocError> {
+    let heap = LocalHeap::new(alloc, size)?;
+    Ok(held_by(&heap, Mutex::new(&heap)))
 }
 
 #[test]
@@ -37,10 +41,7 @@ fn a_mutex_that_finds_no_memory(rt: HostRuntime) -> Result<(), Fail> {
 
 fn a_reader_preferring_lock_in(alloc: Global, size: usize) -> Result<Held, AllocError> {
     let heap = LocalHeap::new(alloc, size)?;
-    let made = RwLockReaderPreference::new(&heap);
-    let (is_made, used) = (made.is_ok(), heap.used());
-    drop(made);
-    Ok((is_made, used, heap.used()))
+    Ok(held_by(&heap, RwLockReaderPreference::new(&heap)))
 }
 
 #[test]
@@ -56,10 +57,7 @@ fn a_reader_preferring_lock_that_finds_no_memory(rt: HostRuntime) -> Result<(), 
 
 fn a_writer_preferring_lock_in(alloc: Global, size: usize) -> Result<Held, AllocError> {
     let heap = LocalHeap::new(alloc, size)?;
-    let made = RwLockWriterPreference::new(&heap);
-    let (is_made, used) = (made.is_ok(), heap.used());
-    drop(made);
-    Ok((is_made, used, heap.used()))
+    Ok(held_by(&heap, RwLockWriterPreference::new(&heap)))
 }
 
 #[test]
@@ -75,10 +73,7 @@ fn a_writer_preferring_lock_that_finds_no_memory(rt: HostRuntime) -> Result<(), 
 
 fn a_semaphore_in(alloc: Global, size: usize) -> Result<Held, AllocError> {
     let heap = LocalHeap::new(alloc, size)?;
-    let made = Semaphore::new(&heap, 5);
-    let (is_made, used) = (made.is_ok(), heap.used());
-    drop(made);
-    Ok((is_made, used, heap.used()))
+    Ok(held_by(&heap, Semaphore::new(&heap, 5)))
 }
 
 #[test]
@@ -91,10 +86,7 @@ fn a_semaphore_that_finds_no_memory(rt: HostRuntime) -> Result<(), Fail> {
 
 fn a_barrier_in(alloc: Global, size: usize) -> Result<Held, AllocError> {
     let heap = LocalHeap::new(alloc, size)?;
-    let made = Barrier::new(&heap, 3);
-    let (is_made, used) = (made.is_ok(), heap.used());
-    drop(made);
-    Ok((is_made, used, heap.used()))
+    Ok(held_by(&heap, Barrier::new(&heap, 3)))
 }
 
 #[test]
@@ -107,10 +99,7 @@ fn a_barrier_that_finds_no_memory(rt: HostRuntime) -> Result<(), Fail> {
 
 fn a_once_in(alloc: Global, size: usize) -> Result<Held, AllocError> {
     let heap = LocalHeap::new(alloc, size)?;
-    let made = Once::new(&heap);
-    let (is_made, used) = (made.is_ok(), heap.used());
-    drop(made);
-    Ok((is_made, used, heap.used()))
+    Ok(held_by(&heap, Once::new(&heap)))
 }
 
 #[test]
@@ -124,10 +113,7 @@ fn a_once_that_finds_no_memory(rt: HostRuntime) -> Result<(), Fail> {
 /// A condition variable is four blocks of 16 bytes: its count and its permits.
 fn a_condition_variable_in(alloc: Global, size: usize) -> Result<Held, AllocError> {
     let heap = LocalHeap::new(alloc, size)?;
-    let made = ConditionVariable::new(&heap);
-    let (is_made, used) = (made.is_ok(), heap.used());
-    drop(made);
-    Ok((is_made, used, heap.used()))
+    Ok(held_by(&heap, ConditionVariable::new(&heap)))
 }
 
 #[test]
@@ -147,10 +133,7 @@ fn a_condition_variable_that_finds_no_memory(rt: HostRuntime) -> Result<(), Fail
 /// Three words, and so a block more than a lock's.
 fn an_atomic_in(alloc: Global, size: usize) -> Result<Held, AllocError> {
     let heap = LocalHeap::new(alloc, size)?;
-    let made = Atomic::<u128, _>::new(&heap, 7);
-    let (is_made, used) = (made.is_ok(), heap.used());
-    drop(made);
-    Ok((is_made, used, heap.used()))
+    Ok(held_by(&heap, Atomic::<u128, _>::new(&heap, 7)))
 }
 
 #[test]

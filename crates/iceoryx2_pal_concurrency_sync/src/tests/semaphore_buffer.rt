@@ -1,5 +1,5 @@
 //! A bounded buffer over two semaphores: one counts the places that are free, and the other the items.
-ghost use Rattle.std.specs.Prelude.{◌≡◌};
+ghost use Rattle.std.specs.Prelude.{◌≡◌, IfOk};
 ghost use Rattle.passes.specs.Passes.{view};
 ghost use Rattle.passes.specs.Views.{first_view};
 ghost use Rattle.playing.specs.Passes.{played};
@@ -9,6 +9,7 @@ ghost use Rattle.running_semaphore.specs.SemaphoreShown.{IsSemPass, HasCounted};
 
 use crate::strategy::semaphore::{SemPass, Semaphore};
 use crate::{WaitResult, wake_nobody, yield_and_go_on};
+use std::alloc::{AllocError, Global};
 use std::sync::Wait;
 use std::test::Fail;
 use std::thread;
@@ -38,19 +39,28 @@ fn pass_on<R: Wait>(rt: &R, from: &Semaphore, to: &Semaphore, mut side: Side, ti
     side
 }
 
+/// The semaphores of an empty buffer of 3 places, each with its pass: of those that are free, and of those that are filled.
+fn empty_buffer(alloc: Global) -> Result<((Semaphore, SemPass), (Semaphore, SemPass)), AllocError>
+    ensures own { IfOk result (λ made. IsSemPass made.0.0 made.0.1 × IsSemPass made.1.0 made.1.1) }
+    ensures empty { IfOk result (λ made. (view made.0.1 ≡ first_view (played no_parties (first_permits 3))) × (view made.1.1 ≡ first_view (played no_parties (first_permits 0)))) }
+{
+    let free = Semaphore::new(alloc, 3)?;
+    let filled = Semaphore::new(alloc, 0)?;
+    Ok((free, filled))
+}
+
 /// A producer and a consumer pass 1000 items through a buffer of 3 places. How many places are free and filled at the end.
 fn produce_and_consume<R: Threads + Wait + Sync>(
     rt: &R,
-    free: Semaphore,
-    free_pass: SemPass,
-    filled: Semaphore,
-    filled_pass: SemPass,
+    free: (Semaphore, SemPass),
+    filled: (Semaphore, SemPass),
 ) -> (u64, u64)
-    requires own { IsSemPass free free_pass × IsSemPass filled filled_pass }
-    requires empty { (view free_pass ≡ first_view (played no_parties (first_permits 3))) × (view filled_pass ≡ first_view (played no_parties (first_permits 0))) }
+    requires own { IsSemPass free.0 free.1 × IsSemPass filled.0 filled.1 }
+    requires empty { (view free.1 ≡ first_view (played no_parties (first_permits 3))) × (view filled.1 ≡ first_view (played no_parties (first_permits 0))) }
     ensures free { result.0 ≡ 3 }
     ensures filled { result.1 ≡ 0 }
 {
+    let ((free, free_pass), (filled, filled_pass)) = (free, filled);
     let Ok((free_one, free_two)) = free_pass.split(&free) else {
         unreachable!()
     };
@@ -96,9 +106,7 @@ fn produce_and_consume<R: Threads + Wait + Sync>(
 
 #[test]
 fn a_buffer_of_three_places(rt: HostRuntime) -> Result<(), Fail> {
-    let (free, free_pass) = Semaphore::new(rt.alloc(), 3)?;
-    let (filled, filled_pass) = Semaphore::new(rt.alloc(), 0)?;
-    let places = produce_and_consume(&rt, free, free_pass, filled, filled_pass);
-    assert_eq!(rt; places, (3, 0));
+    let (free, filled) = empty_buffer(rt.alloc())?;
+    assert_eq!(rt; produce_and_consume(&rt, free, filled), (3, 0));
     Ok(())
 }
