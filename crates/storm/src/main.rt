@@ -14,9 +14,9 @@ mod rwwriter;
 mod semaphore;
 mod tally;
 
+use barrier::ForFour;
 use crowd::storm;
 use guarded::Stock;
-use iceoryx2_pal_concurrency_sync::strategy::barrier::Barrier;
 use iceoryx2_pal_concurrency_sync::strategy::rwlock::{
     RwLockReaderPreference, RwLockWriterPreference,
 };
@@ -68,7 +68,7 @@ fn storms<R: Threads + Wait + Sync>(
         storm::<RwLockReaderPreference, _, R>(rt, alloc, "reader-preferring lock", 8, turns)?,
         storm::<RwLockWriterPreference, _, R>(rt, alloc, "writer-preferring lock", 8, turns)?,
         storm::<Semaphore, _, R>(rt, alloc, "semaphore of 3", 8, turns)?,
-        storm::<Barrier, _, R>(rt, alloc, "barrier for 4", 4, turns)?,
+        storm::<ForFour, _, R>(rt, alloc, "barrier for 4", 4, turns)?,
         storm::<Stock, _, R>(rt, alloc, "guarded value and condition variable", 8, turns)?,
         queue::storm(rt, alloc, turns)?,
     ];

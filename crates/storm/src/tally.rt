@@ -86,7 +86,7 @@ impl Tally {
     }
 
     /// Something was seen that cannot be.
-    pub fn saw_torn(&self) {
+    fn saw_torn(&self) {
         self.torn.fetch_add(1, ORDER);
     }
 
