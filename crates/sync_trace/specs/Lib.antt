@@ -1,4 +1,5 @@
 pub mod Cells
+pub mod Printing
 pub mod Rows
 pub mod Table
 pub mod Trace
