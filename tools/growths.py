@@ -35,7 +35,7 @@ TESTED = {
 }
 
 # The libraries of the programs, whose calls take memory of the system alone. `./test streams` sweeps the limit of each program.
-SWEPT = {"sync_play", "sync_advice", "sync_trace", "sync_draw", "markup", "sync_search", "sync_explore"}
+SWEPT = {"sync_lines", "sync_play", "sync_advice", "sync_trace", "sync_draw", "markup", "sync_search", "sync_explore"}
 
 # Programs that nobody calls, and tests.
 APART = re.compile(r".*_tests|.*_main|sync_bench|bench_.*|storm|two_threads|spin_counter|four_meet|patient_writer|.*_pool|closures")

@@ -18,8 +18,8 @@ mod streams;
 
 use std::alloc::{AllocError, Global};
 use std::io::{Read, Write};
-use sync_play::command::{Command, STEP_LIMIT, Task};
-use sync_play::fault::LineFault;
+use sync_lines::command::{Command, STEP_LIMIT, Task};
+use sync_lines::fault::LineFault;
 use sync_play::player::next_events;
 use sync_play::run::run;
 use sync_steps::steps::{Answer, Input, Machine, Object, Then};

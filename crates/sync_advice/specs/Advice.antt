@@ -3,14 +3,14 @@ use Rattle.std.specs.Prelude.{ℕ, ◌-◌, ◌^◌, Bool, false, ◌&&◌, ◌|
 use Rattle.std.specs.Str.{bytes_eq}
 use Rattle.steps_events.specs.declared.event.Object.{Object}
 use Rattle.steps_events.specs.declared.event.Object.TheVariants as objects
-use Rattle.sync_play.specs.declared.fault.FaultyLine.{FaultyLine}
-use Rattle.sync_play.specs.declared.fault.LineFault.{LineFault}
-use Rattle.sync_play.specs.declared.fault.LineFault.TheVariants as faults
+use Rattle.sync_lines.specs.declared.fault.FaultyLine.{FaultyLine}
+use Rattle.sync_lines.specs.declared.fault.LineFault.{LineFault}
+use Rattle.sync_lines.specs.declared.fault.LineFault.TheVariants as faults
 use Rattle.steps_events.specs.declared.event.Call.{Call}
-use Rattle.sync_play.specs.Call.{name_of, calls_of, named}
-use Rattle.sync_play.specs.Command.{find, verbs}
-use Rattle.sync_play.specs.Lexer.{words_of, number_within}
-use Rattle.sync_play.specs.ValueTypes.{object_of_name}
+use Rattle.sync_lines.specs.Call.{name_of, calls_of, named}
+use Rattle.sync_lines.specs.Command.{find, verbs}
+use Rattle.sync_lines.specs.Lexer.{words_of, number_within}
+use Rattle.sync_lines.specs.ValueTypes.{object_of_name}
 
 -- a line, counted from 1; empty where there is none
 abbrev pub first_of : List (List ℕ) → List ℕ

@@ -8,15 +8,15 @@ mod objects;
 mod sentence;
 
 ghost use Rattle.std.specs.Prelude.{◌≡◌, IfOk};
-ghost use Rattle.sync_play.specs.Lexer.{lines_of};
+ghost use Rattle.sync_lines.specs.Lexer.{lines_of};
 ghost use Rattle.sync_advice.specs.Advice as meaning;
 
 use crate::sentence::say;
 use std::alloc::{AllocError, Global};
-use sync_play::fault::FaultyLine;
-use sync_play::lexer::{next_line, next_word};
-use sync_play::value_type::object_named;
-use sync_steps::steps::Object;
+use steps_events::event::Object;
+use sync_lines::fault::FaultyLine;
+use sync_lines::lexer::{next_line, next_word};
+use sync_lines::value_type::object_named;
 
 /// A line of a text, counted from 1, without its end. Empty where the text has no such line.
 fn line_of(text: &[u8], number: u64) -> &[u8]

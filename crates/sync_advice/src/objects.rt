@@ -2,8 +2,8 @@
 ghost use Rattle.std.specs.Prelude.{◌≡◌};
 ghost use Rattle.sync_advice.specs.Advice as meaning;
 
-use sync_play::call::{calls_of, named};
-use sync_steps::steps::Object;
+use steps_events::event::Object;
+use sync_lines::call::{calls_of, named};
 
 /// That it has no call of a name, up to the name.
 pub fn has_no_call(object: Object<()>) -> &'static [u8]

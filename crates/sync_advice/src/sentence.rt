@@ -1,18 +1,18 @@
 //! The sentence that says what would be right in the place of a line with a fault.
 ghost use Rattle.std.specs.Prelude.{◌≡◌, ◌++◌, OnOk};
-ghost use Rattle.sync_play.specs.Call.{calls_of as listed_calls};
-ghost use Rattle.sync_play.specs.Lexer.{words_of};
+ghost use Rattle.sync_lines.specs.Call.{calls_of as listed_calls};
+ghost use Rattle.sync_lines.specs.Lexer.{words_of};
 ghost use Rattle.sync_advice.specs.Advice as meaning;
 
 use crate::objects::{
     answers, first_line, first_numbers, has_no_call, has_start_wait, numbers_after, numbers_within,
 };
 use std::alloc::AllocError;
-use sync_play::call::{calls_of, name_of};
-use sync_play::command::is_known;
-use sync_play::fault::{FaultyLine, LineFault};
-use sync_play::lexer::{is, next_word, number_within};
-use sync_steps::steps::{Call, Object};
+use steps_events::event::{Call, Object};
+use sync_lines::call::{calls_of, name_of};
+use sync_lines::command::is_known;
+use sync_lines::fault::{FaultyLine, LineFault};
+use sync_lines::lexer::{is, next_word, number_within};
 
 /// Adds the names of calls, with commas between.
 fn add_names(out: &mut Vec<u8>, calls: &[Call<()>]) -> Result<(), AllocError>

@@ -1,9 +1,9 @@
 -- A picture of a text is one of its lines, with values of its type.
 use Rattle.std.proofs.Common.{◌≡◌, ℕ, List, Result, IfOk, Vec, Global, subst}
-use Rattle.sync_play.specs.declared.fault.TextFault.{TextFault}
-use Rattle.sync_play.specs.declared.value_type.ValueType.{ValueType}
-use Rattle.sync_play.specs.Lexer.{lines_of}
-use Rattle.sync_play.specs.ValueTypes.{type_of_lines, meaning_of}
+use Rattle.sync_lines.specs.declared.fault.TextFault.{TextFault}
+use Rattle.sync_lines.specs.declared.value_type.ValueType.{ValueType}
+use Rattle.sync_lines.specs.Lexer.{lines_of}
+use Rattle.sync_lines.specs.ValueTypes.{type_of_lines, meaning_of}
 use Rattle.sync_draw.specs.Picture.{IsTypedPicture, IsPictureOf}
 
 pub drawn_at : (t : ValueType) (text : List ℕ) (r : Result (Vec ℕ Global) TextFault) → t ≡ type_of_lines (lines_of text)

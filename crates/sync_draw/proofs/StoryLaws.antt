@@ -9,12 +9,12 @@ use Rattle.steps_events.specs.declared.event.Object.{Object}
 use Rattle.steps_events.specs.Arithmetic.{Arithmetic}
 use Rattle.steps_events.specs.Runs.{after}
 use Rattle.sync_steps.specs.Machine.{Configuration, StandsAt}
-use Rattle.sync_play.specs.declared.header.Header.{Header}
-use Rattle.sync_play.specs.Lexer.{lines_of}
-use Rattle.sync_play.specs.Numerals.{Numerals}
+use Rattle.sync_lines.specs.declared.header.Header.{Header}
+use Rattle.sync_lines.specs.Lexer.{lines_of}
+use Rattle.sync_lines.specs.Numerals.{Numerals}
 use Rattle.sync_play.specs.Print.{printed, last_line}
 use Rattle.sync_play.specs.Text.{typed_output}
-use Rattle.sync_play.specs.declared.fault.FaultyLine.{FaultyLine}
+use Rattle.sync_lines.specs.declared.fault.FaultyLine.{FaultyLine}
 use Rattle.sync_play.specs.declared.walk.Rest.{Rest}
 use Rattle.sync_play.specs.WalkOutput.{events_in, output_unless}
 use Rattle.sync_play.specs.Walk.{nothing, opened, rest_walk}

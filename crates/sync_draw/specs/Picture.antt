@@ -3,9 +3,9 @@ use Rattle.std.specs.Prelude.{◌≡◌, ℕ, List, ◌++◌, map, codes, string
 use Rattle.markup.specs.declared.name.Tag.TheVariants as tags
 use Rattle.markup.specs.Tree.{IsElement}
 use Rattle.steps_events.specs.Arithmetic.{Arithmetic}
-use Rattle.sync_play.specs.Lexer.{lines_of}
-use Rattle.sync_play.specs.Numerals.{Numerals}
-use Rattle.sync_play.specs.ValueTypes.{values_in}
+use Rattle.sync_lines.specs.Lexer.{lines_of}
+use Rattle.sync_lines.specs.Numerals.{Numerals}
+use Rattle.sync_lines.specs.ValueTypes.{values_in}
 use Rattle.sync_trace.specs.Trace.{rows_of}
 use Rattle.sync_draw.specs.declared.story.Step.{Step}
 use Rattle.sync_draw.specs.Story.{kept}

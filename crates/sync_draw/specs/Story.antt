@@ -2,9 +2,9 @@
 use Rattle.std.specs.Prelude.{◌≡◌, ℕ, ◌-◌, List, [], ◌∷◌, ◌++◌, map, take, Option, Result, Ok, string_bytes}
 use Rattle.steps_events.specs.declared.event.Event.{Event}
 use Rattle.steps_events.specs.declared.hold.HoldKind.{HoldKind}
-use Rattle.sync_play.specs.declared.fault.FaultyLine.{FaultyLine}
+use Rattle.sync_lines.specs.declared.fault.FaultyLine.{FaultyLine}
 use Rattle.steps_events.specs.Arithmetic.{Arithmetic}
-use Rattle.sync_play.specs.Numerals.{Numerals}
+use Rattle.sync_lines.specs.Numerals.{Numerals}
 use Rattle.sync_play.specs.Text.{typed_output}
 use Rattle.sync_trace.specs.Rows.{Entry, number_after}
 use Rattle.sync_trace.specs.Trace.{rows_of}

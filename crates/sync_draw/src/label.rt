@@ -3,7 +3,7 @@ use crate::story::{Step, Story};
 use crate::terms::{name_of, say_value};
 use crate::value::{DataWords, ends_a_value};
 use std::alloc::{AllocError, Global};
-use sync_play::integer::TextInteger;
+use sync_lines::integer::TextInteger;
 use sync_play::print::print_answer;
 use sync_steps::WaitAction;
 use sync_steps::steps::{Act, Answer, Object, Then, Wake, Word};

@@ -10,7 +10,7 @@ use crate::terms::{Shown, band_name, say_value, shown_at, shown_of};
 use crate::value::DataWords;
 use std::alloc::{AllocError, Global};
 use steps_events::hold::HoldKind;
-use sync_play::integer::TextInteger;
+use sync_lines::integer::TextInteger;
 use sync_steps::steps::{Act, Object, Then, Word};
 
 /// Where the first row begins.

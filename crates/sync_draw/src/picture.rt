@@ -1,7 +1,7 @@
 //! Draws a story where its layout has it.
 ghost use Rattle.std.specs.Prelude.{◌≡◌, ◌<◌, ◌^◌, OnOk, IfOk, IfErr, string_bytes};
-ghost use Rattle.sync_play.specs.Fault.{IsFaultOf};
-ghost use Rattle.sync_play.specs.Lexer.{lines_of};
+ghost use Rattle.sync_lines.specs.Fault.{IsFaultOf};
+ghost use Rattle.sync_lines.specs.Lexer.{lines_of};
 ghost use Rattle.sync_play.specs.Text.{typed_output, output_of};
 ghost use Rattle.markup.specs.Group.{titles_of};
 ghost use Rattle.sync_draw.specs.Story.{HasOutput};
@@ -19,9 +19,9 @@ use markup::name::{Key, Tag};
 use markup::opening::Opening;
 use std::alloc::{AllocError, Global};
 use steps_events::hold::HoldKind;
-use sync_play::by_value_type;
-use sync_play::fault::TextFault;
-use sync_play::integer::TextInteger;
+use sync_lines::by_value_type;
+use sync_lines::fault::TextFault;
+use sync_lines::integer::TextInteger;
 use sync_steps::steps::Act;
 
 /// How high the notes below the rows are.

@@ -6,7 +6,7 @@ ghost use Rattle.sync_draw.specs.Run.{HasDrawn, HasBegun};
 use crate::picture::draw_text;
 use std::alloc::Global;
 use std::io::{Read, Write};
-use sync_play::fault::RunFault;
+use sync_lines::fault::RunFault;
 use sync_play::run::{read_all, write_all};
 
 /// Reads a schedule text to its end, draws it, and writes the picture, and nothing else.

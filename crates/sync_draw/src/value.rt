@@ -1,6 +1,6 @@
 //! The value of an atomic, which its two data words have together.
 use crate::story::Story;
-use sync_play::integer::TextInteger;
+use sync_lines::integer::TextInteger;
 use sync_steps::steps::{Act, Word};
 
 /// The two data words of an atomic.

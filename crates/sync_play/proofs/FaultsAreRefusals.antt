@@ -12,27 +12,28 @@ use Rattle.steps_events.specs.Moves.{InputValues}
 use Rattle.sync_steps.specs.Runs.{fault_of, move_of, IsNext}
 use Rattle.steps_events.specs.Runs.{after}
 use Rattle.sync_steps.specs.Runs.{IsRun}
-use Rattle.sync_play.specs.declared.fault.FaultyLine.{FaultyLine}
-use Rattle.sync_play.specs.declared.fault.LineFault.{LineFault}
-use Rattle.sync_play.specs.declared.fault.LineFault.TheVariants as faults
-use Rattle.sync_play.specs.declared.header.Header.{Header}
-use Rattle.sync_play.specs.declared.command.Command.{Command}
-use Rattle.sync_play.specs.declared.command.Task.{Task}
-use Rattle.sync_play.specs.declared.command.Task.TheVariants as tasks
-use Rattle.sync_play.specs.Command.{command_of}
+use Rattle.sync_lines.specs.declared.fault.FaultyLine.{FaultyLine}
+use Rattle.sync_lines.specs.declared.fault.LineFault.{LineFault}
+use Rattle.sync_lines.specs.declared.fault.LineFault.TheVariants as faults
+use Rattle.sync_lines.specs.declared.header.Header.{Header}
+use Rattle.sync_lines.specs.declared.command.Command.{Command}
+use Rattle.sync_lines.specs.declared.command.Task.{Task}
+use Rattle.sync_lines.specs.declared.command.Task.TheVariants as tasks
+use Rattle.sync_lines.specs.Command.{command_of}
 use Rattle.sync_play.specs.Player.{event_by, unless_refused, event_of, events_of, run_of, steps_of, task_events}
-use Rattle.sync_play.specs.Fault.{◌>>=◌, at_line, line_fault_of}
-use Rattle.sync_play.specs.Lexer.{words_of}
-use Rattle.sync_play.specs.Header.{header_of}
+use Rattle.sync_lines.specs.Fault.{◌>>=◌, at_line, line_fault_of}
+use Rattle.sync_lines.specs.Lexer.{words_of}
+use Rattle.sync_lines.specs.Header.{header_of}
 use Rattle.sync_play.specs.Text.{events_asked, line_events, output_after, typed_output}
 use Rattle.sync_play.specs.Print.{printed}
 use Rattle.sync_play.specs.Law.{LinesAsk, GoOn, IsRefusedAt, RunRefused, TaskRefused, LineRefused, LaterLineRefused, IsRefusedLine}
 use Rattle.sync_play.proofs.Moves.{HavePlacesAt, none_have_places, next_has_places_at, run_has_places, allowed_moves}
 use Rattle.sync_play.proofs.RunsAreOutputs.{no_inputs, cut_run, line_is}
-use Rattle.sync_play.proofs.OutputsAreRuns.{HasValues, command_values, ok_at_line, next_is, run_of_both, line_runs}
+use Rattle.sync_lines.proofs.CommandLaws.{HasValues, command_values}
+use Rattle.sync_play.proofs.OutputsAreRuns.{ok_at_line, next_is, run_of_both, line_runs}
 use Rattle.sync_play.proofs.PlayerLaws.{event_is, event_refused, run_length, run_refused as schedule_refused}
 use Rattle.sync_play.proofs.TextLaws.{after_both, asks_wrongly, asks_command, line_then, line_fails, text_is_empty, header_fails, header_is}
-use Rattle.sync_play.specs.Numerals.{Numerals, ReadsValues}
+use Rattle.sync_lines.specs.Numerals.{Numerals, ReadsValues}
 
 -- A step that may fail fails at first, or afterwards.
 

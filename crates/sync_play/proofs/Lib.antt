@@ -1,4 +1,3 @@
-pub mod LexerLaws
 pub mod PlayerLaws
 pub mod PrintLaws
 pub mod TextLaws

@@ -16,14 +16,14 @@ use Rattle.steps_events.specs.declared.event.Wake.TheVariants as wakes
 use Rattle.steps_events.specs.declared.event.Word.TheVariants as words
 use Rattle.steps_events.specs.Integers.{u64_arithmetic}
 use Rattle.sync_steps.specs.Runs.{IsRun}
-use Rattle.sync_play.specs.declared.fault.FaultyLine.{FaultyLine}
-use Rattle.sync_play.specs.declared.command.Task.TheVariants as tasks
+use Rattle.sync_lines.specs.declared.fault.FaultyLine.{FaultyLine}
+use Rattle.sync_lines.specs.declared.command.Task.TheVariants as tasks
 use Rattle.sync_play.specs.Player.{steps_of}
-use Rattle.sync_play.specs.Header.{header_of}
-use Rattle.sync_play.specs.Command.{command_of, task_of}
+use Rattle.sync_lines.specs.Header.{header_of}
+use Rattle.sync_lines.specs.Command.{command_of, task_of}
 use Rattle.sync_play.specs.Print.{last_line}
-use Rattle.sync_play.specs.Lexer.{lines_of}
-use Rattle.sync_play.specs.Numerals.{u64_numerals}
+use Rattle.sync_lines.specs.Lexer.{lines_of}
+use Rattle.sync_lines.specs.Numerals.{u64_numerals}
 use Rattle.sync_play.specs.Law.{LinesAsk, IsRunOfText, EndsInItsLine}
 use Rattle.sync_play.proofs.RunsAreOutputs.{runs_are_outputs}
 

@@ -10,21 +10,21 @@ use Rattle.steps_events.specs.Arithmetic.{Arithmetic}
 use Rattle.steps_events.specs.Runs.{after}
 use Rattle.sync_steps.specs.Machine.{Configuration, StandsAt}
 use Rattle.sync_steps.specs.Machine.Strides.{is_quiet, IsQuiet}
-use Rattle.sync_play.specs.declared.fault.FaultyLine.{FaultyLine}
-use Rattle.sync_play.specs.declared.fault.TextFault.{TextFault}
-use Rattle.sync_play.specs.declared.header.Header.{Header}
+use Rattle.sync_lines.specs.declared.fault.FaultyLine.{FaultyLine}
+use Rattle.sync_lines.specs.declared.fault.TextFault.{TextFault}
+use Rattle.sync_lines.specs.declared.header.Header.{Header}
 use Rattle.sync_play.specs.declared.walk.Rest.{Rest}
 use Rattle.sync_play.specs.declared.walk.Step.{Step}
 use Rattle.sync_play.specs.declared.walk.Stride.{Stride}
-use Rattle.sync_play.specs.Fault.{IsFaultOf}
-use Rattle.sync_play.specs.Lexer.{lines_of}
+use Rattle.sync_lines.specs.Fault.{IsFaultOf}
+use Rattle.sync_lines.specs.Lexer.{lines_of}
 use Rattle.sync_play.specs.Print.{printed, act_line, event_lines, last_line}
 use Rattle.sync_play.specs.Text.{typed_output}
 use Rattle.sync_play.specs.Walk.{Walk, steps_then, nothing, go_walk, lines_walk, opened, rest_walk, after_times, IsNextStride}
 use Rattle.sync_play.specs.WalkOutput.{events_in, output_unless, output_in, output_opened, PrintsAll}
 use Rattle.sync_play.proofs.TextLaws.{after_both}
 use Rattle.sync_play.proofs.WalksAreOutputs.{walks_print}
-use Rattle.sync_play.specs.Numerals.{Numerals}
+use Rattle.sync_lines.specs.Numerals.{Numerals}
 
 module _ {T : Type 0} (z : Arithmetic T) (numerals : Numerals T) where
   abbrev Ev : Type 0

@@ -8,8 +8,9 @@ use Rattle.steps_events.specs.Arithmetic.{Arithmetic}
 use Rattle.sync_steps.specs.Runs.{fault_of, IsNext}
 use Rattle.steps_events.specs.Runs.{after}
 use Rattle.sync_steps.specs.Runs.{IsRun}
-use Rattle.sync_play.specs.declared.fault.LineFault.{LineFault}
-use Rattle.sync_play.specs.Fault.{◌>>=◌, line_fault_of}
+use Rattle.sync_lines.specs.declared.fault.LineFault.{LineFault}
+use Rattle.sync_lines.specs.Fault.{◌>>=◌, line_fault_of}
+use Rattle.sync_lines.proofs.FaultLaws.{ok_is, bind_ok}
 use Rattle.sync_play.specs.Player.{event_of, events_of}
 
 -- these events, and then the others
@@ -23,16 +24,6 @@ with_none (Err fault) = refl
 with_first : {A : Type 0} (x : A) (front : List A) (rest : Result (List A) LineFault) → (with_front front rest >>= λ others. Ok (x ∷ others)) ≡ with_front (x ∷ front) rest
 with_first x front (Ok others) = refl
 with_first x front (Err fault) = refl
-
-abbrev ok_of : {A : Type 0} → A → Result A LineFault
-ok_of x = Ok x
-
-pub ok_is : {A : Type 0} (x y : A) → ok_of x ≡ ok_of y → x ≡ y
-ok_is x y e = cc
-
-pub bind_ok : {A B : Type 0} (r : Result A LineFault) (f : A → Result B LineFault) (y : B) → (r >>= f) ≡ Ok y → (x : A) × (r ≡ Ok x) × (f x ≡ Ok y)
-bind_ok (Ok x) f y e = (x, refl, e)
-bind_ok (Err d) f y e = absurd cc
 
 module _ {T : Type 0} (z : Arithmetic T) where
   abbrev Ev : Type 0

@@ -10,7 +10,7 @@ use Rattle.steps_events.specs.Arithmetic.{Arithmetic}
 use Rattle.steps_events.specs.Past.{failures_in}
 use Rattle.sync_steps.specs.Runs.{word_in}
 use Rattle.sync_play.specs.Print.{party_words, party_line, named, further_words, last_line}
-use Rattle.sync_play.specs.Numerals.{Numerals}
+use Rattle.sync_lines.specs.Numerals.{Numerals}
 
 -- what is printed, if the last piece is
 printed_all : {A E P Q : Type 0} (result : Result A E) → (P → Q) → OnOk result P → OnOk result Q

@@ -8,19 +8,19 @@ use Rattle.steps_events.specs.declared.event.Object.{Object}
 use Rattle.steps_events.specs.Arithmetic.{Arithmetic}
 use Rattle.steps_events.specs.Runs.{after}
 use Rattle.sync_steps.specs.Runs.{IsRun}
-use Rattle.sync_play.specs.declared.command.Command.{Command}
-use Rattle.sync_play.specs.declared.command.Task.{Task}
-use Rattle.sync_play.specs.declared.command.Task.TheVariants as tasks
-use Rattle.sync_play.specs.Command.{command_of}
-use Rattle.sync_play.specs.Fault.{at_line}
+use Rattle.sync_lines.specs.declared.command.Command.{Command}
+use Rattle.sync_lines.specs.declared.command.Task.{Task}
+use Rattle.sync_lines.specs.declared.command.Task.TheVariants as tasks
+use Rattle.sync_lines.specs.Command.{command_of}
+use Rattle.sync_lines.specs.Fault.{at_line}
 use Rattle.sync_play.specs.Player.{events_of, run_of, steps_of, task_events}
 use Rattle.sync_play.specs.Text.{line_events, output_after, typed_output}
 use Rattle.sync_play.specs.Print.{printed, event_lines, last_line}
 use Rattle.sync_play.specs.Law.{EndsFirstAtLast, AreInputsOf, CommandAsks, LineAsks, LinesAsk, IsRunOfLines}
-use Rattle.sync_play.specs.Lexer.{words_of}
+use Rattle.sync_lines.specs.Lexer.{words_of}
 use Rattle.sync_play.proofs.PlayerLaws.{event_is, run_is}
 use Rattle.sync_play.proofs.TextLaws.{after_both, asks_none, asks_command, line_then, lines_end, header_is}
-use Rattle.sync_play.specs.Numerals.{Numerals}
+use Rattle.sync_lines.specs.Numerals.{Numerals}
 
 module _ {T : Type 0} (z : Arithmetic T) (numerals : Numerals T) where
   abbrev Ev : Type 0

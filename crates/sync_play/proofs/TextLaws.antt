@@ -4,19 +4,19 @@ use Rattle.steps_events.specs.declared.event.Event.{Event}
 use Rattle.steps_events.specs.declared.event.Object.{Object}
 use Rattle.steps_events.specs.Runs.{after}
 use Rattle.steps_events.specs.Arithmetic.{Arithmetic}
-use Rattle.sync_play.specs.declared.command.Command.{Command}
-use Rattle.sync_play.specs.declared.fault.FaultyLine.{FaultyLine}
-use Rattle.sync_play.specs.declared.fault.LineFault.{LineFault}
-use Rattle.sync_play.specs.declared.fault.LineFault.TheVariants as faults
-use Rattle.sync_play.specs.declared.header.Header.{Header}
-use Rattle.sync_play.specs.Command.{command_of}
-use Rattle.sync_play.specs.Fault.{◌>>=◌, at_line}
-use Rattle.sync_play.specs.Header.{header_of}
-use Rattle.sync_play.specs.Lexer.{words_of}
+use Rattle.sync_lines.specs.declared.command.Command.{Command}
+use Rattle.sync_lines.specs.declared.fault.FaultyLine.{FaultyLine}
+use Rattle.sync_lines.specs.declared.fault.LineFault.{LineFault}
+use Rattle.sync_lines.specs.declared.fault.LineFault.TheVariants as faults
+use Rattle.sync_lines.specs.declared.header.Header.{Header}
+use Rattle.sync_lines.specs.Command.{command_of}
+use Rattle.sync_lines.specs.Fault.{◌>>=◌, at_line}
+use Rattle.sync_lines.specs.Header.{header_of}
+use Rattle.sync_lines.specs.Lexer.{words_of}
 use Rattle.sync_play.specs.Player.{command_events}
 use Rattle.sync_play.specs.Print.{printed, last_line}
 use Rattle.sync_play.specs.Text.{line_events, output_after, typed_output}
-use Rattle.sync_play.specs.Numerals.{Numerals}
+use Rattle.sync_lines.specs.Numerals.{Numerals}
 
 pub after_both : {T : Type 0} (events more past : List (Event T)) → after (events ++ more) past ≡ after more (after events past)
 after_both [] more past = refl

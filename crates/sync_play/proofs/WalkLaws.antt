@@ -12,17 +12,17 @@ use Rattle.sync_steps.specs.declared.steps.machine.stride.Stride.{Stride as Even
 use Rattle.sync_steps.specs.Machine.{Configuration, StandsAt, Steps, RefusesStep}
 use Rattle.sync_steps.specs.Machine.Strides.{steps_of, Strides, IsQuiet}
 use Rattle.sync_steps.specs.Runs.{IsRun}
-use Rattle.sync_play.specs.declared.command.Command.{Command}
-use Rattle.sync_play.specs.declared.command.Task.{Task}
-use Rattle.sync_play.specs.declared.command.Task.TheVariants as tasks
-use Rattle.sync_play.specs.declared.fault.LineFault.{LineFault}
-use Rattle.sync_play.specs.declared.fault.LineFault.TheVariants as faults
-use Rattle.sync_play.specs.Fault.{line_fault_of}
-use Rattle.sync_play.specs.Lexer.{lines_of, words_of}
+use Rattle.sync_lines.specs.declared.command.Command.{Command}
+use Rattle.sync_lines.specs.declared.command.Task.{Task}
+use Rattle.sync_lines.specs.declared.command.Task.TheVariants as tasks
+use Rattle.sync_lines.specs.declared.fault.LineFault.{LineFault}
+use Rattle.sync_lines.specs.declared.fault.LineFault.TheVariants as faults
+use Rattle.sync_lines.specs.Fault.{line_fault_of}
+use Rattle.sync_lines.specs.Lexer.{lines_of, words_of}
 use Rattle.sync_play.specs.Player.{event_of, steps_left, left_after}
 use Rattle.sync_play.specs.Walk.{Walk, ended, stopped, step_then, steps_then, go_walk, run_walk, asked, lines_walk, walk_from, after_times, IsTurn}
 use Rattle.sync_play.proofs.PlayerLaws.{event_is, event_refused}
-use Rattle.sync_play.specs.Numerals.{Numerals}
+use Rattle.sync_lines.specs.Numerals.{Numerals}
 
 -- How many steps are left.
 

@@ -6,22 +6,22 @@ use Rattle.steps_events.specs.declared.event.Object.{Object}
 use Rattle.steps_events.specs.Runs.{after}
 use Rattle.steps_events.specs.Sights.{goes_on}
 use Rattle.steps_events.specs.Arithmetic.{Arithmetic}
-use Rattle.sync_play.specs.declared.command.Command.{Command}
-use Rattle.sync_play.specs.declared.command.Task.{Task}
-use Rattle.sync_play.specs.declared.command.Task.TheVariants as tasks
-use Rattle.sync_play.specs.declared.fault.LineFault.{LineFault}
-use Rattle.sync_play.specs.declared.header.Header.{Header}
-use Rattle.sync_play.specs.Command.{command_of}
-use Rattle.sync_play.specs.Fault.{◌>>=◌, at_line}
-use Rattle.sync_play.specs.Header.{header_of}
-use Rattle.sync_play.specs.Lexer.{words_of}
+use Rattle.sync_lines.specs.declared.command.Command.{Command}
+use Rattle.sync_lines.specs.declared.command.Task.{Task}
+use Rattle.sync_lines.specs.declared.command.Task.TheVariants as tasks
+use Rattle.sync_lines.specs.declared.fault.LineFault.{LineFault}
+use Rattle.sync_lines.specs.declared.header.Header.{Header}
+use Rattle.sync_lines.specs.Command.{command_of}
+use Rattle.sync_lines.specs.Fault.{◌>>=◌, at_line}
+use Rattle.sync_lines.specs.Header.{header_of}
+use Rattle.sync_lines.specs.Lexer.{words_of}
 use Rattle.sync_play.specs.Player.{event_of, events_of, run_of, steps_of, task_events}
 use Rattle.sync_play.specs.Print.{printed, event_lines, last_line}
 use Rattle.sync_play.specs.Text.{events_asked, line_events, output_after, typed_output}
-use Rattle.sync_play.specs.declared.fault.FaultyLine.{FaultyLine}
+use Rattle.sync_lines.specs.declared.fault.FaultyLine.{FaultyLine}
 use Rattle.sync_play.specs.WalkOutput.{events_in, output_unless, output_in, output_opened}
 use Rattle.sync_play.specs.Walk.{Walk, step_then, event_then, go_walk, run_walk, task_walk, or_nothing, line_walk, lines_walk, opened, opened_by}
-use Rattle.sync_play.specs.Numerals.{Numerals}
+use Rattle.sync_lines.specs.Numerals.{Numerals}
 
 abbrev Out : Type 0
 Out = Result (List ℕ) FaultyLine

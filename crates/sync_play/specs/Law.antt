@@ -9,22 +9,22 @@ use Rattle.steps_events.specs.Sights.{goes_on}
 use Rattle.sync_steps.specs.Runs.{fault_of}
 use Rattle.steps_events.specs.Runs.{after}
 use Rattle.sync_steps.specs.Runs.{IsRun}
-use Rattle.sync_play.specs.declared.fault.FaultyLine.{FaultyLine}
-use Rattle.sync_play.specs.declared.fault.LineFault.{LineFault}
-use Rattle.sync_play.specs.declared.fault.LineFault.TheVariants as faults
-use Rattle.sync_play.specs.declared.command.Command.{Command}
-use Rattle.sync_play.specs.declared.command.Task.{Task}
-use Rattle.sync_play.specs.declared.command.Task.TheVariants as tasks
-use Rattle.sync_play.specs.declared.header.Header.{Header}
-use Rattle.sync_play.specs.Command.{command_of}
-use Rattle.sync_play.specs.Fault.{line_fault_of}
-use Rattle.sync_play.specs.Header.{header_of}
-use Rattle.sync_play.specs.Lexer.{lines_of, words_of}
+use Rattle.sync_lines.specs.declared.fault.FaultyLine.{FaultyLine}
+use Rattle.sync_lines.specs.declared.fault.LineFault.{LineFault}
+use Rattle.sync_lines.specs.declared.fault.LineFault.TheVariants as faults
+use Rattle.sync_lines.specs.declared.command.Command.{Command}
+use Rattle.sync_lines.specs.declared.command.Task.{Task}
+use Rattle.sync_lines.specs.declared.command.Task.TheVariants as tasks
+use Rattle.sync_lines.specs.declared.header.Header.{Header}
+use Rattle.sync_lines.specs.Command.{command_of}
+use Rattle.sync_lines.specs.Fault.{line_fault_of}
+use Rattle.sync_lines.specs.Header.{header_of}
+use Rattle.sync_lines.specs.Lexer.{lines_of, words_of}
 use Rattle.sync_play.specs.Player.{steps_of}
 use Rattle.sync_play.specs.Print.{printed, last_line}
 use Rattle.sync_play.specs.Text.{output_of}
-use Rattle.sync_play.specs.Numerals.{Numerals}
-use Rattle.sync_play.specs.ValueTypes.{values_in}
+use Rattle.sync_lines.specs.Numerals.{Numerals}
+use Rattle.sync_lines.specs.ValueTypes.{values_in}
 
 -- the last event answered its call or stands at a closure, and none before it did
 abbrev pub EndsFirstAtLast : {T : Type 0} → List (Event T) → Type 0

@@ -1,11 +1,3 @@
-pub mod Fault
-pub mod Lexer
-pub mod Numerals
-pub mod NumeralLaws
-pub mod ValueTypes
-pub mod Header
-pub mod Call
-pub mod Command
 pub mod Player
 pub mod Print
 pub mod Text

@@ -10,12 +10,12 @@ use Rattle.steps_events.specs.Moves.{Move}
 use Rattle.steps_events.specs.Sights.{goes_on}
 use Rattle.sync_steps.specs.declared.steps.machine.stride.Stride.{Stride}
 use Rattle.sync_steps.specs.Runs.{fault_of, move_of}
-use Rattle.sync_play.specs.declared.command.Command.{Command}
-use Rattle.sync_play.specs.declared.command.Task.{Task}
-use Rattle.sync_play.specs.declared.command.Task.TheVariants as tasks
-use Rattle.sync_play.specs.declared.fault.LineFault.{LineFault}
-use Rattle.sync_play.specs.declared.fault.LineFault.TheVariants as faults
-use Rattle.sync_play.specs.Fault.{◌>>=◌, line_fault_of}
+use Rattle.sync_lines.specs.declared.command.Command.{Command}
+use Rattle.sync_lines.specs.declared.command.Task.{Task}
+use Rattle.sync_lines.specs.declared.command.Task.TheVariants as tasks
+use Rattle.sync_lines.specs.declared.fault.LineFault.{LineFault}
+use Rattle.sync_lines.specs.declared.fault.LineFault.TheVariants as faults
+use Rattle.sync_lines.specs.Fault.{◌>>=◌, line_fault_of}
 
 abbrev pub event_by : {T : Type 0} → ℕ → Option (Move T) → Result (Event T) LineFault
 event_by party (Some move) = Ok (record { party = party; act = move.act; «then» = move.outcome })

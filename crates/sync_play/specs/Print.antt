@@ -18,7 +18,7 @@ use Rattle.steps_events.specs.declared.event.Object.TheVariants as objects
 use Rattle.steps_events.specs.Arithmetic.{Arithmetic}
 use Rattle.steps_events.specs.Past.{failures_in}
 use Rattle.sync_steps.specs.Runs.{word_in}
-use Rattle.sync_play.specs.Numerals.{Numerals}
+use Rattle.sync_lines.specs.Numerals.{Numerals}
 
 -- how a line of a party begins: with its number, which is counted from 1
 abbrev pub party_words : ℕ → List ℕ

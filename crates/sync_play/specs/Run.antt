@@ -1,9 +1,9 @@
 -- What became of a run of the program.
 use Rattle.std.specs.Prelude.{◌≡◌, ℕ, List, take, Option, Ok, Err}
 use Rattle.std.specs.Io.KnownBytes.{Appends, Consumes, IsAtEnd}
-use Rattle.sync_play.specs.declared.fault.FaultyLine.{FaultyLine}
-use Rattle.sync_play.specs.declared.fault.RunFault.{RunFault}
-use Rattle.sync_play.specs.declared.fault.RunFault.TheVariants as runs
+use Rattle.sync_lines.specs.declared.fault.FaultyLine.{FaultyLine}
+use Rattle.sync_lines.specs.declared.fault.RunFault.{RunFault}
+use Rattle.sync_lines.specs.declared.fault.RunFault.TheVariants as runs
 use Rattle.sync_play.specs.Text.{output_of}
 
 -- the text was read to its end

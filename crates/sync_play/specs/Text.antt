@@ -4,18 +4,18 @@ use Rattle.steps_events.specs.declared.event.Event.{Event}
 use Rattle.steps_events.specs.declared.event.Object.{Object}
 use Rattle.steps_events.specs.Arithmetic.{Arithmetic}
 use Rattle.steps_events.specs.Runs.{after}
-use Rattle.sync_play.specs.declared.command.Command.{Command}
-use Rattle.sync_play.specs.declared.fault.FaultyLine.{FaultyLine}
-use Rattle.sync_play.specs.declared.fault.LineFault.{LineFault}
-use Rattle.sync_play.specs.declared.fault.LineFault.TheVariants as faults
-use Rattle.sync_play.specs.Command.{command_of}
-use Rattle.sync_play.specs.Fault.{◌>>=◌, at_line}
-use Rattle.sync_play.specs.Header.{header_of}
-use Rattle.sync_play.specs.Lexer.{lines_of, words_of}
+use Rattle.sync_lines.specs.declared.command.Command.{Command}
+use Rattle.sync_lines.specs.declared.fault.FaultyLine.{FaultyLine}
+use Rattle.sync_lines.specs.declared.fault.LineFault.{LineFault}
+use Rattle.sync_lines.specs.declared.fault.LineFault.TheVariants as faults
+use Rattle.sync_lines.specs.Command.{command_of}
+use Rattle.sync_lines.specs.Fault.{◌>>=◌, at_line}
+use Rattle.sync_lines.specs.Header.{header_of}
+use Rattle.sync_lines.specs.Lexer.{lines_of, words_of}
 use Rattle.sync_play.specs.Player.{command_events}
 use Rattle.sync_play.specs.Print.{printed, last_line}
-use Rattle.sync_play.specs.Numerals.{Numerals}
-use Rattle.sync_play.specs.ValueTypes.{values_in}
+use Rattle.sync_lines.specs.Numerals.{Numerals}
+use Rattle.sync_lines.specs.ValueTypes.{values_in}
 
 module _ {T : Type 0} (z : Arithmetic T) (numerals : Numerals T) where
   -- a line without words asks nothing

@@ -8,21 +8,21 @@ use Rattle.steps_events.specs.Runs.{after}
 use Rattle.steps_events.specs.Sights.{goes_on}
 use Rattle.sync_steps.specs.declared.steps.machine.stride.Stride.{Stride as EventStride}
 use Rattle.sync_steps.specs.Machine.{Configuration, StandsAt}
-use Rattle.sync_play.specs.declared.command.Command.{Command}
-use Rattle.sync_play.specs.declared.command.Task.{Task}
-use Rattle.sync_play.specs.declared.command.Task.TheVariants as tasks
-use Rattle.sync_play.specs.declared.fault.LineFault.{LineFault}
-use Rattle.sync_play.specs.declared.fault.LineFault.TheVariants as faults
-use Rattle.sync_play.specs.declared.header.Header.{Header}
-use Rattle.sync_play.specs.Command.{command_of}
-use Rattle.sync_play.specs.Fault.{◌>>=◌}
-use Rattle.sync_play.specs.Header.{header_of}
-use Rattle.sync_play.specs.Lexer.{lines_of, words_of}
-use Rattle.sync_play.specs.Numerals.{Numerals}
+use Rattle.sync_lines.specs.declared.command.Command.{Command}
+use Rattle.sync_lines.specs.declared.command.Task.{Task}
+use Rattle.sync_lines.specs.declared.command.Task.TheVariants as tasks
+use Rattle.sync_lines.specs.declared.fault.LineFault.{LineFault}
+use Rattle.sync_lines.specs.declared.fault.LineFault.TheVariants as faults
+use Rattle.sync_lines.specs.declared.header.Header.{Header}
+use Rattle.sync_lines.specs.Command.{command_of}
+use Rattle.sync_lines.specs.Fault.{◌>>=◌}
+use Rattle.sync_lines.specs.Header.{header_of}
+use Rattle.sync_lines.specs.Lexer.{lines_of, words_of}
+use Rattle.sync_lines.specs.Numerals.{Numerals}
 use Rattle.sync_play.specs.Player.{event_of, steps_left}
 use Rattle.sync_play.specs.declared.walk.Step.{Step}
 use Rattle.sync_play.specs.declared.walk.Stride.{Stride}
-use Rattle.sync_play.specs.declared.fault.FaultyLine.{FaultyLine}
+use Rattle.sync_lines.specs.declared.fault.FaultyLine.{FaultyLine}
 use Rattle.sync_play.specs.declared.walk.Rest.{Rest}
 
 -- the steps, in order, and the line with a fault that ends them early, if there is one

@@ -2,7 +2,7 @@
 ghost use Rattle.sync_play.specs.Law.{OutputsAreRuns, RunsAreOutputs, FaultsAreRefusals, RefusalsAreFaults, EndsInItsLine};
 ghost use Rattle.sync_play.specs.WalkOutput.{WalksAreOutputs};
 
-use crate::integer::TextInteger;
+use sync_lines::integer::TextInteger;
 
 /// The walk of a text is what is played of it: its output is what the events of the walk's steps print, and its fault is the walk's.
 pub fn walks_are_outputs<T: TextInteger>()

@@ -8,9 +8,9 @@ ghost use Rattle.steps_events.specs.declared.event.Object.{Object as AnObject};
 ghost use Rattle.sync_play.specs.Player.{steps_left, left_after};
 ghost use Rattle.sync_play.specs.Walk as meaning;
 
-use crate::command::{Command, Task};
-use crate::fault::LineFault;
 use steps_events::atomic::internal::AtomicInteger;
+use sync_lines::command::{Command, Task};
+use sync_lines::fault::LineFault;
 use sync_steps::steps::{Machine, Stride, Then};
 
 /// Whether a call goes on by itself.

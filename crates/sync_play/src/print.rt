@@ -6,8 +6,8 @@ ghost use Rattle.sync_steps.specs.Machine.{StandsAt};
 ghost use Rattle.sync_steps.specs.Runs.{word_in};
 ghost use Rattle.sync_play.specs.Print.{answer_words, party_words, wake_line, then_line, event_lines, further_words, last_line};
 
-use crate::integer::TextInteger;
 use std::alloc::AllocError;
+use sync_lines::integer::TextInteger;
 use sync_steps::steps::{Act, Answer, Event, Machine, Object, Then, Wake};
 
 /// Prints what a call answers.

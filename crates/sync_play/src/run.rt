@@ -3,10 +3,10 @@ ghost use Rattle.std.specs.Prelude.{◌≡◌, ◌≢◌, OnOk, IfOk, IfErr};
 ghost use Rattle.std.specs.Io.KnownBytes.{Appends};
 ghost use Rattle.sync_play.specs.Run.{HasRead, HasPlayed, HasBegun, TellsFault, EndsReading, Begins};
 
-use crate::fault::RunFault;
 use crate::text::play_text;
 use std::alloc::Global;
 use std::io::{Read, Write};
+use sync_lines::fault::RunFault;
 
 /// How many bytes are read at once.
 const CHUNK: usize = 4096;

@@ -4,17 +4,17 @@ ghost use Rattle.sync_steps.specs.Machine.{StandsAt};
 ghost use Rattle.steps_events.specs.declared.event.Event.{Event as AnEvent};
 ghost use Rattle.steps_events.specs.declared.event.Object.{Object as AnObject};
 ghost use Rattle.sync_steps.specs.Machine.Strides.{IsQuiet};
-ghost use Rattle.sync_play.specs.Lexer.{lines_of, words_of};
+ghost use Rattle.sync_lines.specs.Lexer.{lines_of, words_of};
 ghost use Rattle.sync_play.specs.Player.{steps_left};
 ghost use Rattle.sync_play.specs.Walk as meaning;
 
-use crate::command::{Command, Task};
-use crate::fault::{FaultyLine, LineFault};
-use crate::header::Header;
-use crate::integer::TextInteger;
-use crate::lexer::next_line;
 use crate::player::next_events;
 use std::alloc::AllocError;
+use sync_lines::command::{Command, Task};
+use sync_lines::fault::{FaultyLine, LineFault};
+use sync_lines::header::Header;
+use sync_lines::integer::TextInteger;
+use sync_lines::lexer::next_line;
 use sync_steps::steps::{Event, Machine, Object};
 
 /// An event, and the line that asked for it, counted from 1.

@@ -8,7 +8,7 @@ use Rattle.steps_events.specs.Arithmetic.{Arithmetic}
 use Rattle.sync_steps.specs.Runs.{word_in}
 use Rattle.sync_play.specs.Print.{further_words}
 use Rattle.sync_trace.specs.Cells.{words_text}
-use Rattle.sync_play.specs.Numerals.{Numerals}
+use Rattle.sync_lines.specs.Numerals.{Numerals}
 
 module _ {T : Type 0} (z : Arithmetic T) (numerals : Numerals T) where
   pub words_printed :

@@ -15,11 +15,11 @@ use Rattle.steps_events.specs.Tables.{Table}
 use Rattle.sync_steps.specs.Machine.Strides.{is_quiet}
 use Rattle.sync_steps.specs.Objects.{table_of}
 use Rattle.sync_steps.specs.Runs.{word_in}
-use Rattle.sync_play.specs.declared.header.Header.{Header}
+use Rattle.sync_lines.specs.declared.header.Header.{Header}
 use Rattle.sync_play.specs.declared.walk.Step.{Step}
 use Rattle.sync_play.specs.Walk.{after_times}
 use Rattle.sync_trace.specs.Cells.{Texts, act_words, standing_words, words_text, with_holder, holders, or_dash, cells_at}
-use Rattle.sync_play.specs.Numerals.{Numerals}
+use Rattle.sync_lines.specs.Numerals.{Numerals}
 
 module _ {T : Type 0} (z : Arithmetic T) (numerals : Numerals T) where
   abbrev Ev : Type 0

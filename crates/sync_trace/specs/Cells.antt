@@ -20,9 +20,9 @@ use Rattle.steps_events.specs.Arithmetic.{Arithmetic}
 use Rattle.steps_events.specs.Past.{hold_of}
 use Rattle.sync_steps.specs.Objects.{table_of}
 use Rattle.sync_steps.specs.Runs.{word_in}
-use Rattle.sync_play.specs.declared.header.Header.{Header}
-use Rattle.sync_play.specs.Call.{name_of}
-use Rattle.sync_play.specs.Numerals.{Numerals}
+use Rattle.sync_lines.specs.declared.header.Header.{Header}
+use Rattle.sync_lines.specs.Call.{name_of}
+use Rattle.sync_lines.specs.Numerals.{Numerals}
 use Rattle.sync_play.specs.Print.{answer_words, further_words}
 use Rattle.sync_play.specs.declared.walk.Step.{Step}
 use Rattle.sync_trace.specs.declared.cells.Cells.{Cells}

@@ -6,7 +6,7 @@ use Rattle.steps_events.specs.declared.event.Act.{Act}
 use Rattle.steps_events.specs.declared.event.Act.TheVariants as acts
 use Rattle.steps_events.specs.declared.event.Wake.TheVariants as wakes
 use Rattle.sync_play.specs.declared.walk.Step.{Step}
-use Rattle.sync_play.specs.Numerals.{Numerals}
+use Rattle.sync_lines.specs.Numerals.{Numerals}
 use Rattle.sync_trace.specs.declared.cells.Cells.{Cells}
 use Rattle.sync_trace.specs.Cells.{verb_words, call_words}
 

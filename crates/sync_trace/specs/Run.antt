@@ -1,11 +1,11 @@
 -- What became of a run of the program.
 use Rattle.std.specs.Prelude.{◌≡◌, ℕ, List, take, Option, Some, None, IfSome}
 use Rattle.std.specs.Io.KnownBytes.{Appends}
-use Rattle.sync_play.specs.declared.fault.RunFault.{RunFault}
-use Rattle.sync_play.specs.declared.fault.RunFault.TheVariants as runs
+use Rattle.sync_lines.specs.declared.fault.RunFault.{RunFault}
+use Rattle.sync_lines.specs.declared.fault.RunFault.TheVariants as runs
 use Rattle.sync_play.specs.Run.{HasRead}
-use Rattle.sync_play.specs.declared.fault.FaultyLine.{FaultyLine}
-use Rattle.sync_play.specs.Lexer.{lines_of}
+use Rattle.sync_lines.specs.declared.fault.FaultyLine.{FaultyLine}
+use Rattle.sync_lines.specs.Lexer.{lines_of}
 use Rattle.sync_advice.specs.Advice.{explained}
 use Rattle.sync_trace.specs.declared.run.Failed.{Failed}
 use Rattle.sync_trace.specs.Trace.{trace_of}

@@ -6,7 +6,7 @@ ghost use Rattle.sync_trace.specs.Rows as meaning;
 
 use crate::cells::Cells;
 use std::alloc::{AllocError, Global};
-use sync_play::lexer::is;
+use sync_lines::lexer::is;
 
 /// A row: steps with the same cells. Steps are counted from 1, up to 2^64 - 1.
 #[derive(Drop)]

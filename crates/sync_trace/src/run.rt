@@ -1,13 +1,13 @@
 //! Traces the text that a reader brings.
 ghost use Rattle.std.specs.Prelude.{◌≡◌, OnOk, IfErr, None};
-ghost use Rattle.sync_play.specs.declared.fault.RunFault.TheVariants as runs;
+ghost use Rattle.sync_lines.specs.declared.fault.RunFault.TheVariants as runs;
 ghost use Rattle.sync_trace.specs.Run.{HasTraced, HasBegun, TellsFault, IsEarly, IsAdvice, IsAdvised};
 
 use crate::trace::trace_text;
 use std::alloc::{AllocError, Global};
 use std::io::{Read, Write};
 use sync_advice::explain;
-use sync_play::fault::{FaultyLine, RunFault};
+use sync_lines::fault::{FaultyLine, RunFault};
 use sync_play::run::{read_all, write_all};
 
 /// Why a run of the program ended early, and what would be right.

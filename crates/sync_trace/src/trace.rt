@@ -2,7 +2,7 @@
 ghost use Rattle.std.specs.Prelude.{◌≡◌, ◌+◌, ◌^◌, ◌<◌, List, length, IfOk};
 ghost use Rattle.sync_steps.specs.Machine.{StandsAt};
 ghost use Rattle.steps_events.specs.declared.event.Event.{Event as AnEvent};
-ghost use Rattle.sync_play.specs.Lexer.{lines_of};
+ghost use Rattle.sync_lines.specs.Lexer.{lines_of};
 ghost use Rattle.sync_play.specs.Walk.{rest_walk};
 ghost use Rattle.sync_trace.specs.Trace as meaning;
 
@@ -10,10 +10,10 @@ use crate::cells::cells_of;
 use crate::rows::{Row, add};
 use crate::table::table;
 use std::alloc::{AllocError, Global};
-use sync_play::by_value_type;
-use sync_play::fault::FaultyLine;
-use sync_play::header::Header;
-use sync_play::integer::TextInteger;
+use sync_lines::by_value_type;
+use sync_lines::fault::FaultyLine;
+use sync_lines::header::Header;
+use sync_lines::integer::TextInteger;
 use sync_play::walk::{Rest, next_stride, open};
 use sync_steps::steps::Machine;
 

@@ -4,7 +4,7 @@ use std::test::Fail;
 use sync_draw::picture::draw_text;
 use sync_draw::run::run;
 use sync_draw::story::{Step, Story, play};
-use sync_play::fault::{LineFault, TextFault};
+use sync_lines::fault::{LineFault, TextFault};
 
 /// The README's first text.
 const ABORT: &str = "mutex 2\n1 try_lock\n1 run\n2 lock\n2 run\n2 abort\n2 run\n";

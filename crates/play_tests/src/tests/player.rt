@@ -1,8 +1,8 @@
 use std::alloc::AllocError;
 use std::test::Fail;
-use sync_play::command::{Command, Task};
-use sync_play::fault::LineFault;
-use sync_play::header::Header;
+use sync_lines::command::{Command, Task};
+use sync_lines::fault::LineFault;
+use sync_lines::header::Header;
 use sync_play::player::next_events;
 use sync_play::print::{print_event, print_last};
 use sync_steps::steps::{Machine, Object};

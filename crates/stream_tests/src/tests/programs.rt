@@ -3,7 +3,7 @@
 use std::alloc::Global;
 use std::io::{Read, Write};
 use sync_explore::fault::ExploreFault;
-use sync_play::fault::RunFault;
+use sync_lines::fault::RunFault;
 use sync_search::watch::Unwatched;
 
 /// How a run ended.

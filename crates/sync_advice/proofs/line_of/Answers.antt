@@ -1,5 +1,5 @@
 use Rattle.std.proofs.Common.{◌-◌, drop, ap, sym, ◌∙◌}
-use Rattle.sync_play.specs.Lexer.{lines_of}
+use Rattle.sync_lines.specs.Lexer.{lines_of}
 use Rattle.sync_advice.specs.Advice.{first_of}
 use Rattle.sync_advice.proofs.Lines.{next_dropped}
 use Rattle.sync_advice.proofs.line_of.Goals as goal

@@ -1,5 +1,5 @@
 use Rattle.std.proofs.Common.{◌≡◌, ◌-◌, drop}
-use Rattle.sync_play.specs.Lexer.{lines_of}
+use Rattle.sync_lines.specs.Lexer.{lines_of}
 use Rattle.sync_advice.specs.Advice as meaning
 use Rattle.sync_advice.proofs.line_of.Given as goal
 

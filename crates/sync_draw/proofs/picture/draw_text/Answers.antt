@@ -1,5 +1,5 @@
 use Rattle.std.proofs.Common.{rules}
-use Rattle.sync_play.specs.declared.value_type.ValueType.TheVariants as types
+use Rattle.sync_lines.specs.declared.value_type.ValueType.TheVariants as types
 use Rattle.sync_draw.proofs.PictureLaws.{drawn_at}
 use Rattle.sync_draw.proofs.picture.draw_text.Goals as goal
 

@@ -1,7 +1,7 @@
 use Rattle.std.proofs.Common.{◌≡◌, ◌<◌, refl, ap, ◌∙◌, arith, rules, tests}
 use Rattle.std.proofs.lemmas.Result.{err_from_is_err_and}
-use Rattle.sync_play.specs.declared.command.Command.{Command}
-use Rattle.sync_play.specs.declared.command.Task.TheVariants as tasks
+use Rattle.sync_lines.specs.declared.command.Command.{Command}
+use Rattle.sync_lines.specs.declared.command.Task.TheVariants as tasks
 use Rattle.sync_play.proofs.WalkLaws.{turn_done, turn_limited, turn_given, turn_not_given, turn_strides, stride_refused}
 use Rattle.sync_play.proofs.player.next_events.Goals.{in-Go, in-Go-2}
 use Rattle.sync_play.proofs.player.next_events.Goals as goal

@@ -1,0 +1,3 @@
+pub mod LexerLaws
+pub mod FaultLaws
+pub mod CommandLaws

@@ -1,0 +1,5 @@
+use Rattle.std.proofs.Common.{rules}
+use Rattle.sync_lines.proofs.fault.RunFaultDisplay.fmt.Goals as goal
+
+pub returns-in-Text : goal.returns-in-Text
+returns-in-Text g c = search rules

@@ -1,0 +1,5 @@
+use Rattle.std.proofs.Common.{rules}
+use Rattle.sync_lines.proofs.integer.I64TextInteger.print.Goals as goal
+
+pub returns : goal.returns
+returns c = search rules

@@ -1,7 +1,0 @@
-use Rattle.std.proofs.Common.{◌≡◌, drop}
-use Rattle.sync_play.specs.Call.{named}
-use Rattle.sync_play.proofs.call.named.Given as goal
-
--- the calls so far have other names
-abbrev pub invariant-loop-call : goal.invariant-loop-call
-invariant-loop-call l = named l.name l.calls ≡ named l.name (drop l.call-index l.calls)

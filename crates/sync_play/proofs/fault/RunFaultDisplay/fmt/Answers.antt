@@ -1,5 +1,0 @@
-use Rattle.std.proofs.Common.{rules}
-use Rattle.sync_play.proofs.fault.RunFaultDisplay.fmt.Goals as goal
-
-pub returns-in-Text : goal.returns-in-Text
-returns-in-Text g c = search rules

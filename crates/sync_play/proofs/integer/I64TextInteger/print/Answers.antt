@@ -1,5 +1,0 @@
-use Rattle.std.proofs.Common.{rules}
-use Rattle.sync_play.proofs.integer.I64TextInteger.print.Goals as goal
-
-pub returns : goal.returns
-returns c = search rules

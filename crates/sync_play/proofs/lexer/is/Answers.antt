@@ -1,5 +1,0 @@
-use Rattle.std.proofs.Common.{rules}
-use Rattle.sync_play.proofs.lexer.is.Goals as goal
-
-pub returns : goal.returns
-returns c = search rules
