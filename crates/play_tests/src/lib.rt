@@ -1,4 +1,4 @@
-//! The tests of schedule texts and of what their events print. They stand apart, so that what plays them is proved once.
+//! The tests of what plays schedule texts, apart from it, so that it is proved once. What texts print is tested by the tables of `texts/sync-play`.
 #![tactic(auto)]
 
 #[cfg(test)]

@@ -1,6 +1,6 @@
 //! Texts that are longer than any buffer, and outputs too.
 use super::streams::{Fails, Gives, Takes};
-use super::{played, told};
+use super::told;
 use std::alloc::{AllocError, Global};
 use std::io::ErrorKind;
 use std::test::Fail;
@@ -87,18 +87,6 @@ fn a_late_read_fails(rt: HostRuntime) -> Result<(), Fail> {
     assert_eq!(rt;
         (told.as_str(), written.len()),
         ("reading failed, status 1", 0)
-    );
-    Ok(())
-}
-
-#[test]
-fn a_late_line_is_refused(rt: HostRuntime) -> Result<(), Fail> {
-    let mut text = long_text(rt.alloc())?;
-    text.push_str("1 unlock\n")?;
-    let output = played(rt.alloc(), text.as_bytes())?;
-    assert_eq!(rt;
-        output.as_str(),
-        "line 30002: bad line, status 2, 0 written"
     );
     Ok(())
 }
