@@ -1,12 +1,17 @@
 -- What becomes of what a pass counts over several tries.
-use Rattle.std.proofs.Common.{ℕ, ◌+◌, ◌≤◌, Bool, true, false, MatchBool, refl, ◌∙◌, sym, subst, arith}
+use Rattle.std.proofs.Common.{◌≡◌, ℕ, ◌+◌, ◌≤◌, Bool, true, false, MatchBool, refl, ap, ◌∙◌, sym, subst, arith}
+use Rattle.std.specs.Borrow.{Bor}
+use Rattle.std.specs.Fn.{Shared}
+use Rattle.steps_events.specs.declared.WaitAction.{WaitAction}
 use Rattle.passes.specs.declared.part.Part.{Part}
 use Rattle.passes.specs.declared.pass.Pass.{Pass}
+use Rattle.passes.specs.declared.view.View.{View}
 use Rattle.passes.specs.Passes.{part_of, sights_of}
+use Rattle.passes.specs.Answers.{HasAsked}
 use Rattle.passes.proofs.Attempts.{read_twice, read_and_written}
 use Rattle.playing.specs.declared.played.Played.{Played}
 use Rattle.playing.specs.Passes.{counts_of}
-use Rattle.playing.specs.Counts.{HasOnlySeen, HasMoved, WasRefused, WasRefusedAt}
+use Rattle.playing.specs.Counts.{HasSeen, HasMissed, HasOnlySeen, HasMoved, WasRefused, WasRefusedAt}
 
 module _ {M Q V C : Type 0} where
   pub seen_none : (p : Pass (Played M Q V C)) → HasOnlySeen p p
@@ -52,3 +57,34 @@ module _ {M Q V C : Type 0} where
       MatchBool granted (HasMoved Moves q r) (WasRefused P 1 q r) → MatchBool granted (HasMoved Moves p r) (WasRefused P (n + 1) p r)
   told_later Moves P n p q r true seen more moved = moved_later Moves p q r seen moved
   told_later Moves P n p q r false seen more again = refused_later P n p q r seen more again
+
+  -- what was refused first, and was then granted or refused again
+  pub told_after : (Moves : Part → C → C → ℕ → Type 0) (P : ℕ → Type 0) (m n : ℕ) (p q r : Pass (Played M Q V C)) (granted : Bool) → WasRefused P m p q → MatchBool granted (HasMoved Moves q r) (WasRefused P n q r) →
+      MatchBool granted (HasMoved Moves p r) (WasRefused P (m + n) p r)
+  told_after Moves P m n p q r true first moved = moved_later Moves p q r first.stayed moved
+  told_after Moves P m n p q r false first again = record {
+    stayed = seen_twice p q r first.stayed again.stayed;
+    looked = record { more = omega (arith, first.looked.more, again.looked.more); refusing = again.looked.refusing };
+  }
+
+  -- one sight, and no more
+
+  pub seen_once : (n : ℕ) (p q : Pass (Played M Q V C)) → HasSeen n p q → HasOnlySeen p q
+  seen_once n p q saw = let count = ap (λ (v : View C). v.sights.count) saw.1 in record {
+    same = saw.0;
+    counts = ap (λ (v : View C). v.tally) saw.1;
+    part = ap (λ (v : View C). v.part) saw.1;
+    saw = record { more = omega (arith, count); still = λ none. absurd (omega (arith, count, none)) };
+  }
+
+  pub missed_once : (from n : ℕ) (p q : Pass (Played M Q V C)) → HasMissed from n p q → HasOnlySeen p q
+  missed_once from n p q missed = let count = ap (λ (v : View C). v.sights.count) missed.1 in record {
+    same = missed.0;
+    counts = ap (λ (v : View C). v.tally) missed.1;
+    part = ap (λ (v : View C). v.part) missed.1;
+    saw = record { more = omega (arith, count); still = λ none. absurd (omega (arith, count, none)) };
+  }
+
+-- a call that had looked so often before it asked and looked again
+pub asked_after : {F W T : Type 0} (g : Shared F (Bor W × (Bor ℕ × Unit {0})) WaitAction) (wait : F) (P : ℕ → Type 0) (m n : ℕ) (p q r : Pass T) → (sights_of q).count ≡ (sights_of p).count + m → HasAsked g wait P n q r → HasAsked g wait P (m + n) p r
+asked_after g wait P m n p q r before asked = record { more = asked.more; looked = omega (arith, before, asked.looked); some = asked.some; again = asked.again }

@@ -12,6 +12,7 @@ use Rattle.steps_events.specs.declared.event.Answer.TheVariants as answers
 use Rattle.steps_events.specs.declared.hold.HoldKind.{HoldKind}
 use Rattle.steps_events.specs.declared.hold.HoldKind.TheVariants as kinds
 use Rattle.steps_events.specs.declared.row.Intent.TheVariants as intents
+use Rattle.steps_events.specs.declared.row.After.{After}
 use Rattle.steps_events.specs.declared.row.After.TheVariants as afters
 use Rattle.steps_events.specs.Arithmetic.{Arithmetic, IsValue}
 use Rattle.steps_events.specs.Past.{hold_or}
@@ -25,6 +26,17 @@ use Rattle.running_atomic.specs.AtomicParties.{Writes, IsNext, Reads, Knows, Put
 
 eqb_hit : (n m : ℕ) → n ≡ m → (n == m) ≡ true
 eqb_hit n m same = subst (λ (k : ℕ). (n == k) ≡ true) same (eqb_same n)
+
+-- what a look of the lock's function means, by whether it answers the next word
+
+pub reads_some : (seen to : ℕ) (answer : Option ℕ) → (seen < 2 ^ 64 - 2 → answer ≡ Some (seen + 1)) → (2 ^ 64 - 2 ≤ seen → answer ≡ None) → answer ≡ Some to → (seen < 2 ^ 64 - 2) × (to ≡ seen + 1)
+reads_some seen to answer one_more full is =
+    let not_full : 2 ^ 64 - 2 ≤ seen → ⊥ = λ above. let no = full above in cc in
+    let room : seen < 2 ^ 64 - 2 = omega (arith, not_full) in
+    (room, let more = one_more room in cc)
+
+pub reads_none : (seen : ℕ) (answer : Option ℕ) → (seen < 2 ^ 64 - 2 → answer ≡ Some (seen + 1)) → answer ≡ None → 2 ^ 64 - 2 ≤ seen
+reads_none seen answer one_more is = let no_room : seen < 2 ^ 64 - 2 → ⊥ = λ room. let more = one_more room in cc in omega (arith, no_room)
 
 module _ {T : Type 0} (z : Arithmetic T) (v : T) where
   -- `Load` takes the lock
@@ -248,3 +260,7 @@ module _ {T : Type 0} (z : Arithmetic T) (v : T) where
   pub differs : (call : Call T) (current old new : T) (done : List (Slot T)) (p : Parties T) → z.same old current ≡ false → Leads (atomic_model z v) call (afters.At (compares z (z.same old current) old new)) (Some kinds.Write) done p →
       IsNext z v call (places.Leave (answers.ErrOld old)) (Some kinds.Write) done p
   differs call current old new done p is at = subst (λ (b : Bool). IsNext z v call (compares z b old new) (Some kinds.Write) done p) is at
+
+  -- however the new value is written
+  pub puts_so : (one new : T) (answer : Answer T) → new ≡ one → ◌≡◌ {A = After T (AtomicPlace T)} (afters.At (puts z one answer)) (afters.At (puts z new answer))
+  puts_so one new answer is = ap (λ (x : T). afters.At (puts z x answer)) (sym is)

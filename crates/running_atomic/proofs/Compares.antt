@@ -4,11 +4,15 @@ use Rattle.std.specs.Prelude.{MatchBool}
 use Rattle.steps_events.specs.declared.event.Call.{Call}
 use Rattle.steps_events.specs.declared.event.Answer.{Answer}
 use Rattle.steps_events.specs.declared.event.Answer.TheVariants as answers
+use Rattle.steps_events.specs.declared.row.After.{After}
+use Rattle.steps_events.specs.declared.row.After.TheVariants as afters
 use Rattle.steps_events.specs.Arithmetic.{Arithmetic}
 use Rattle.passes.specs.declared.pass.Pass.{Pass}
 use Rattle.passes.specs.declared.view.View.{View}
 use Rattle.passes.specs.Passes.{IsSamePass}
 use Rattle.passes.specs.Parts.{IsWhole}
+use Rattle.steps_atomic.specs.declared.AtomicPlace.{AtomicPlace}
+use Rattle.steps_atomic.specs.Table.{compares, puts}
 use Rattle.steps_atomic.specs.Register as register
 use Rattle.tallies.specs.Counts.{one_more}
 use Rattle.tallies.specs.declared.held.Held.{Held}
@@ -24,7 +28,7 @@ use Rattle.running_atomic.specs.AtomicSteps.{PlayedAtomic, StartsWith, Acts, Act
 use Rattle.running_atomic.specs.AtomicShown.{HasGot, HasActedAt, HasTaken, HasCompared}
 use Rattle.running_atomic.proofs.AtomicKeeps.{settled_is}
 
-same_twice : {T : Type 0} (p q r : Pass (PlayedAtomic T)) → IsSamePass p q → IsSamePass q r → IsSamePass p r
+pub same_twice : {T : Type 0} (p q r : Pass (PlayedAtomic T)) → IsSamePass p q → IsSamePass q r → IsSamePass p r
 same_twice p q r first second = (second.0 ∙ first.0, second.1 ∙ first.1)
 
 -- the low word that was read is the one that the hold knows
@@ -36,7 +40,7 @@ low_read v w low on read =
 
 module _ {T : Type 0} (z : Arithmetic T) (k : T) where
   -- an act counts from whatever the pass was before, where it had seen and weighed the same
-  acts_since : (a : RegisterAct T) (answer : Answer T) (v u w : View AtomicTally) → u.tally.heard ≡ v.tally.heard → u.part ≡ v.part → Acts z k a answer u w → Acts z k a answer v w
+  pub acts_since : (a : RegisterAct T) (answer : Answer T) (v u w : View AtomicTally) → u.tally.heard ≡ v.tally.heard → u.part ≡ v.part → Acts z k a answer u w → Acts z k a answer v w
   acts_since a answer v u w heard part acts = record {
     before = acts.before;
     answered = acts.answered;
@@ -100,3 +104,10 @@ module _ {T : Type 0} (z : Arithmetic T) (k : T) where
   -- it answers that it found this one
   pub answers_same : (current old new : T) (x : Content) → value_of z x ≡ current → z.same old current ≡ true → (register.compared (z.same old (value_of z x)) old new).0 ≡ answers.OkOld old
   answers_same current old new x is same = ap (λ (u : T). (register.compared (z.same old u) old new).0) is ∙ ap (λ (b : Bool). (register.compared b old new).0) same
+
+  -- and then it puts the new value, whatever the words are called
+  pub writes_new : (current old new : T) (x y : Content) → value_of z x ≡ current → value_of z y ≡ new → z.same old current ≡ true → (register.compared (z.same old (value_of z x)) old (value_of z y)).1 ≡ new
+  writes_new current old new x y is new_is same = ap (λ (u : T). (register.compared (z.same old u) old (value_of z y)).1) is ∙ ap (λ (b : Bool). (register.compared b old (value_of z y)).1) same ∙ new_is
+
+  pub puts_new : (current old new : T) (answer : Answer T) → z.same old current ≡ true → answer ≡ answers.OkOld old → ◌≡◌ {A = After T (AtomicPlace T)} (afters.At (compares z (z.same old current) old new)) (afters.At (puts z new answer))
+  puts_new current old new answer same is = ap (λ (b : Bool). afters.At (compares z b old new)) same ∙ ap (λ (a : Answer T). afters.At (puts z new a)) (sym is)

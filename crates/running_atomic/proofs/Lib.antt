@@ -8,3 +8,4 @@ pub mod Joins
 pub mod AtomicPlays
 pub mod HistoryFollows
 pub mod Compares
+pub mod OverCalls

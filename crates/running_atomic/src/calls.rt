@@ -68,6 +68,38 @@ fn is_same<T: AtomicInteger>(old: T, current: T) -> bool
     old == current
 }
 
+/// Their sum, wrapped.
+#[inline(always)]
+fn sum<T: AtomicInteger>(old: T, value: T) -> T
+    ensures { result ≡ T.arithmetic.add old value }
+{
+    old.overflowing_add(value).0
+}
+
+/// Their difference, wrapped.
+#[inline(always)]
+fn difference<T: AtomicInteger>(old: T, value: T) -> T
+    ensures { result ≡ T.arithmetic.subtract old value }
+{
+    old.overflowing_sub(value).0
+}
+
+/// The greater of the two.
+#[inline(always)]
+fn greater<T: AtomicInteger>(old: T, value: T) -> T
+    ensures { result ≡ T.arithmetic.greater old value }
+{
+    old.max(value)
+}
+
+/// The lesser of the two.
+#[inline(always)]
+fn lesser<T: AtomicInteger>(old: T, value: T) -> T
+    ensures { result ≡ T.arithmetic.lesser old value }
+{
+    old.min(value)
+}
+
 /// The bits that both have.
 #[inline(always)]
 fn and<T: AtomicInteger>(old: T, value: T) -> T
@@ -247,7 +279,7 @@ impl<T: AtomicInteger, A: Allocator> Atomic<T, A> {
         let call = Call::FetchAdd(value);
         let words = content(value);
         let old = self.take(rt, &mut pass.pass, &call);
-        let new = old.overflowing_add(value).0;
+        let new = sum(old, value);
         let act = AtomicAct::FetchAdd(words);
         self.replace(&mut pass.pass, old, new, &act, &call)
     }
@@ -268,7 +300,7 @@ impl<T: AtomicInteger, A: Allocator> Atomic<T, A> {
         let call = Call::FetchSub(value);
         let words = content(value);
         let old = self.take(rt, &mut pass.pass, &call);
-        let new = old.overflowing_sub(value).0;
+        let new = difference(old, value);
         let act = AtomicAct::FetchSub(words);
         self.replace(&mut pass.pass, old, new, &act, &call)
     }
@@ -373,7 +405,7 @@ impl<T: AtomicInteger, A: Allocator> Atomic<T, A> {
         let call = Call::FetchMax(value);
         let words = content(value);
         let old = self.take(rt, &mut pass.pass, &call);
-        let new = old.max(value);
+        let new = greater(old, value);
         let act = AtomicAct::FetchMax(words);
         self.replace(&mut pass.pass, old, new, &act, &call)
     }
@@ -394,7 +426,7 @@ impl<T: AtomicInteger, A: Allocator> Atomic<T, A> {
         let call = Call::FetchMin(value);
         let words = content(value);
         let old = self.take(rt, &mut pass.pass, &call);
-        let new = old.min(value);
+        let new = lesser(old, value);
         let act = AtomicAct::FetchMin(words);
         self.replace(&mut pass.pass, old, new, &act, &call)
     }

@@ -1,3 +1,5 @@
 pub mod MutexKeeps
 pub mod MutexPlays
 pub mod CondKeeps
+pub mod MutexTries
+pub mod CondCalls

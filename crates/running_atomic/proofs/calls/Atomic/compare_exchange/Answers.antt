@@ -1,12 +1,13 @@
-use Rattle.std.proofs.Common.{sym, ◌∙◌, refl}
-use Rattle.std.proofs.lemmas.Bool.{MatchBool-at_false}
+use Rattle.std.proofs.Common.{sym, ap, ◌∙◌, refl}
+use Rattle.std.proofs.lemmas.Bool.{MatchBool-at_true, MatchBool-at_false}
 use Rattle.steps_events.specs.declared.event.Call.TheVariants as calls
 use Rattle.steps_events.specs.declared.event.Answer.TheVariants as answers
 use Rattle.steps_atomic.specs.Register.{plain}
 use Rattle.running_atomic.specs.AtomicRule.{value_of}
 use Rattle.running_atomic.specs.AtomicShown.{opening_of, pass_in, parties_in}
 use Rattle.running_atomic.proofs.AtomicPlays.{may_leave, leaves, answers_old, answers_so, differs}
-use Rattle.running_atomic.proofs.Compares.{has_kept, answers_other, answers_same}
+use Rattle.running_atomic.proofs.Compares.{has_kept, answers_other, answers_same, writes_new, puts_new}
+use Rattle.running_atomic.proofs.OverCalls.{acts_after}
 use Rattle.running_atomic.proofs.calls.Atomic.compare_exchange.Goals as goal
 
 pub compare-old-requires-clause-writes : goal.compare-old-requires-clause-writes
@@ -27,3 +28,18 @@ returns-else-is_same-clause-kept g c = has_kept g.T.AtomicInteger.arithmetic (op
 pub returns-else-is_same-clause-played_kept : goal.returns-else-is_same-clause-played_kept
 returns-else-is_same-clause-played_kept g c =
     leaves _ _ _ _ _ _ _ (differs _ _ _ c.args.current c.compare-old.result c.args.new _ _ (sym c.is_same.ensures ∙ c.if-is_same.false) c.compare-old.ensures.knows) c.leave_write.ensures.went
+
+pub replace-requires-clause-holding : goal.replace-requires-clause-holding
+replace-requires-clause-holding g c κs within = (MatchBool-at_true _ _ (sym c.is_same.ensures ∙ c.if-is_same.true) c.compare-old.ensures.compared).holding
+
+pub replace-requires-clause-right : goal.replace-requires-clause-right
+replace-requires-clause-right g c κs within = writes_new g.T.AtomicInteger.arithmetic (opening_of c.args.self.now) c.args.current c.compare-old.result c.args.new c.content-from.result c.content-to.result c.content-from.ensures.value c.content-to.ensures.value (sym c.is_same.ensures ∙ c.if-is_same.true)
+
+pub replace-requires-clause-puts : goal.replace-requires-clause-puts
+replace-requires-clause-puts g c κs within = let z = g.T.AtomicInteger.arithmetic in let k = opening_of c.args.self.now in let same = sym c.is_same.ensures ∙ c.if-is_same.true in
+    puts_new z k c.args.current c.compare-old.result c.args.new _ same (answers_same z k c.args.current c.compare-old.result (value_of z c.content-to.result) c.content-from.result c.content-from.ensures.value same)
+
+pub returns-then-is_same-clause-changed : goal.returns-then-is_same-clause-changed
+returns-then-is_same-clause-changed g c = let z = g.T.AtomicInteger.arithmetic in let same = sym c.is_same.ensures ∙ c.if-is_same.true in
+    acts_after _ _ _ _ _ _ _ (pass_in c.args.pass.now) c.compare-old.new.pass c.replace.new.pass (MatchBool-at_true _ _ same c.compare-old.ensures.compared) c.replace.ensures.acted (λ i. plain (calls.CompareExchange (c.content-from.ensures.value i) (c.content-to.ensures.value i)))
+    (answers_same z (opening_of c.args.self.now) c.args.current c.compare-old.result (value_of z c.content-to.result) c.content-from.result c.content-from.ensures.value same ∙ ap answers.OkOld (sym c.replace.ensures.old))

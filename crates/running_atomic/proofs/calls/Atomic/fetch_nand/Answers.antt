@@ -1,11 +1,33 @@
-use Rattle.std.proofs.Common.{refl}
+use Rattle.std.proofs.Common.{refl, sym, ap, ◌∙◌}
+use Rattle.steps_events.specs.declared.event.Call.TheVariants as calls
 use Rattle.steps_events.specs.declared.event.Answer.TheVariants as answers
-use Rattle.running_atomic.specs.AtomicShown.{parties_in}
-use Rattle.running_atomic.proofs.AtomicPlays.{answers_old}
+use Rattle.steps_atomic.specs.Register.{plain}
+use Rattle.running_atomic.specs.AtomicShown.{pass_in, parties_in}
+use Rattle.running_atomic.proofs.AtomicPlays.{answers_old, puts_so}
+use Rattle.running_atomic.proofs.OverCalls.{acts_after}
 use Rattle.running_atomic.proofs.calls.Atomic.fetch_nand.Goals as goal
 
 pub take-old-requires-clause-writes : goal.take-old-requires-clause-writes
 take-old-requires-clause-writes g c κs within = record { begins = refl; grants = refl; free = refl; values = c.content-words.ensures.is_value }
+
+pub replace-requires-clause-holding : goal.replace-requires-clause-holding
+replace-requires-clause-holding g c κs within = c.take-old.ensures.taken.holding
+
+pub replace-requires-clause-right : goal.replace-requires-clause-right
+replace-requires-clause-right g c κs within = let z = g.T.AtomicInteger.arithmetic in ap (λ x. z.inverse (z.and c.take-old.result x)) c.content-words.ensures.value ∙ ap z.inverse (sym c.and.ensures) ∙ sym c.inverse-new.ensures
+
+pub replace-requires-clause-knows : goal.replace-requires-clause-knows
+replace-requires-clause-knows g c κs within = (_, c.take-old.ensures.knows)
+
+pub replace-requires-clause-puts : goal.replace-requires-clause-puts
+replace-requires-clause-puts g c κs within = let z = g.T.AtomicInteger.arithmetic in puts_so z c.args.value _ _ _ (c.inverse-new.ensures ∙ ap z.inverse c.and.ensures)
+
+pub replace-requires-clause-acts : goal.replace-requires-clause-acts
+replace-requires-clause-acts g c κs within = λ i. calls.FetchNand (sym c.content-words.ensures.value i)
+
+pub returns-clause-acted : goal.returns-clause-acted
+returns-clause-acted g c =
+    acts_after _ _ _ _ _ _ _ (pass_in c.args.pass.now) c.take-old.new.pass c.replace.new.pass c.take-old.ensures.taken c.replace.ensures.acted (λ i. plain (calls.FetchNand (c.content-words.ensures.value i))) (ap answers.Value (sym c.replace.ensures.old))
 
 pub returns-clause-played : goal.returns-clause-played
 returns-clause-played g c = answers_old _ _ _ _ _ answers.Value (parties_in c.args.pass.now) _ c.replace.ensures.old (c.replace.ensures.played _ c.take-old.ensures.knows)

@@ -3,6 +3,7 @@ use Rattle.playing.specs.Stages.{key_of}
 use Rattle.steps_atomic.specs.Register.{answer_to}
 use Rattle.running_atomic.specs.AtomicRule.{act_in}
 use Rattle.running_atomic.proofs.AtomicPlays.{comes_to_put, may_put}
+use Rattle.running_atomic.proofs.OverCalls.{settles_holding, right_to_put, has_replaced_by}
 use Rattle.running_atomic.proofs.calls.Atomic.replace.Goals as goal
 
 pub put-requires-clause-may : goal.put-requires-clause-may
@@ -11,3 +12,12 @@ put-requires-clause-may g c κs within = let z = g.T.AtomicInteger.arithmetic in
 
 pub returns-clause-played : goal.returns-clause-played
 returns-clause-played g c = λ done knows. c.put.ensures.put _ _ done (comes_to_put _ _ _ _ _ _ _ _ c.requires.puts knows)
+
+pub put-requires-clause-on : goal.put-requires-clause-on
+put-requires-clause-on g c κs within = settles_holding _ _ c.args.pass.now c.requires.holding
+
+pub put-requires-clause-right : goal.put-requires-clause-right
+put-requires-clause-right g c κs within = right_to_put _ _ _ _ c.args.pass.now c.requires.holding c.requires.right
+
+pub returns-clause-acted : goal.returns-clause-acted
+returns-clause-acted g c = has_replaced_by _ _ _ _ c.args.pass.now c.put.new.pass c.requires.holding c.put.ensures.same c.put.ensures.acted

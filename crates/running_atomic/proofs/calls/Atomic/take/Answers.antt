@@ -5,6 +5,7 @@ use Rattle.playing.specs.Passes.{parties_of}
 use Rattle.playing.specs.Stages.{key_of}
 use Rattle.running_atomic.specs.AtomicParties.{Knows}
 use Rattle.running_atomic.proofs.AtomicPlays.{reads_next, may_read_low, reads_low, may_read_high, reads_high}
+use Rattle.running_atomic.proofs.OverCalls.{has_taken}
 use Rattle.running_atomic.proofs.calls.Atomic.take.Goals as goal
 
 pub read_low-low-requires-clause-may : goal.read_low-low-requires-clause-may
@@ -24,3 +25,7 @@ read_high-high-requires-clause-goes_on g c κs within = record {
 pub returns-clause-knows : goal.returns-clause-knows
 returns-clause-knows g c = subst (λ x. Knows g.T.AtomicInteger.arithmetic (key_of c.args.self.now.stage) c.args.call.now x (all_of (parties_of c.args.pass.now)) (parties_of c.read_high-high.new.pass)) (sym c.from_words.ensures.given)
     (reads_high _ _ _ _ _ (Some kinds.Write) _ _ _ (reads_low _ _ _ (Some kinds.Write) _ _ _ _ (reads_next _ _ _ _ _ c.requires.reads c.write_lock.ensures.next) c.read_low-low.ensures.went) c.read_high-high.ensures.went)
+
+pub returns-clause-taken : goal.returns-clause-taken
+returns-clause-taken g c = has_taken _ _ _ _ c.args.pass.now c.write_lock.new.pass c.read_low-low.new.pass c.read_high-high.new.pass c.write_lock.ensures.on c.read_low-low.ensures.same c.read_low-low.ensures.read
+    c.read_high-high.ensures.same c.read_high-high.ensures.read c.from_words.ensures.given

@@ -1,0 +1,70 @@
+-- What the tries of a `lock` come to, one after another.
+use Rattle.std.proofs.Common.{◌≡◌, ℕ, ◌+◌, Bool, true, false, MatchBool, [], ◌∷◌, refl, sym, ap, subst, ◌∙◌, arith}
+use Rattle.std.specs.Borrow.{Bor}
+use Rattle.std.specs.Fn.{Shared}
+use Rattle.steps_events.specs.declared.WaitAction.{WaitAction}
+use Rattle.steps_events.specs.declared.event.Word.TheVariants as words
+use Rattle.passes.specs.declared.view.View.{View}
+use Rattle.passes.specs.Parts.{IsWhole}
+use Rattle.passes.specs.Passes.{part_of, sights_of}
+use Rattle.passes.specs.Answers.{HasAsked}
+use Rattle.playing.specs.Words.{IsNamed}
+use Rattle.playing.specs.Counts.{HasMoved, WasRefused, WasRefusedAt, HasGivenUp}
+use Rattle.playing.proofs.Attempts.{missed_once, told_after, asked_after}
+use Rattle.tallies.specs.declared.mutex.Holds.{Holds}
+use Rattle.running_mutex.specs.MutexShown.{MutexPass, IsLocked, IsAlone, Enters, HasLocked, HasSeenLocked, HasUnlocked, HasEntered, HasStayed, grants_of}
+
+pub locks_once : (p q : MutexPass) → HasLocked p q → HasEntered p q
+locks_once p q locked = let count = ap (λ (v : View Holds). v.sights.count) locked.2 in record {
+  same = locked.0;
+  counts = record { off = locked.1; on = ap (λ (v : View Holds). v.tally.holds) locked.2; grants = ap (λ (v : View Holds). v.tally.grants) locked.2 };
+  part = ap (λ (v : View Holds). v.part) locked.2;
+  saw = record { more = omega (arith, count); not_fresh = ap (λ (v : View Holds). v.sights.fresh) locked.2; still = λ _. ap (λ (v : View Holds). v.sights) locked.2 };
+}
+
+pub sees_once : (p q : MutexPass) → HasSeenLocked p q → (sights_of q).count ≡ (sights_of p).count + 1
+sees_once p q saw = ap (λ (v : View Holds). v.sights.count) saw.1
+
+-- the value that was seen is what a locked mutex has
+pub refused_at : (seen : ℕ) (p q : MutexPass) → seen ≡ 1 → HasSeenLocked p q → WasRefusedAt IsLocked seen 1 p q
+refused_at seen p q is saw = let count = sees_once p q saw in let last : (sights_of q).last ≡ 1 = ap (λ (v : View Holds). v.sights.last) saw.1 in
+    record { stayed = missed_once 0 1 p q saw; looked = record { more = omega (arith, count); refusing = (last ∙ sym is, is) } }
+
+pub refused_once : (p q : MutexPass) → HasSeenLocked p q → WasRefused IsLocked 1 p q
+refused_once p q saw = let count = sees_once p q saw in record { stayed = missed_once 0 1 p q saw; looked = record { more = omega (arith, count); refusing = ap (λ (v : View Holds). v.sights.last) saw.1 } }
+
+-- the first exchange was refused, and then it entered or gave up
+pub ends : {F W : Type 0} (g : Shared F (Bor W × (Bor ℕ × Unit {0})) WaitAction) (wait : F) (b : Bool) (p q r : MutexPass) → HasSeenLocked p q → MatchBool b (HasMoved Enters q r) (WasRefused IsLocked 10001 q r) →
+    (b ≡ false → HasAsked g wait IsLocked 10000 q r) → MatchBool b (HasEntered p r) (HasGivenUp g wait IsLocked p r)
+ends g wait true p q r saw told asked = told_after Enters IsLocked 1 10001 p q r true (refused_once p q saw) told
+ends g wait false p q r saw told asked = (told_after Enters IsLocked 1 10001 p q r false (refused_once p q saw) told, asked_after g wait IsLocked 1 10000 p q r (sees_once p q saw) (asked refl))
+
+-- the word's name
+pub state_named : (i : ℕ) → i ≡ 0 → IsNamed (words.State ∷ []) i words.State
+state_named i is = subst (λ (n : ℕ). IsNamed (words.State ∷ []) n words.State) (sym is) refl
+
+-- the hold, once it is off again
+
+pub alone_again : (p q : MutexPass) → HasUnlocked p q → IsWhole (part_of p) → IsAlone q
+alone_again p q off whole = (subst IsWhole (sym (ap (λ (v : View Holds). v.part) off.2)) whole, ap (λ (v : View Holds). v.tally.holds) off.2)
+
+pub grants_once : (p q r : MutexPass) → HasEntered p q → HasUnlocked q r → grants_of r ≡ grants_of p + 1
+grants_once p q r on off = ap (λ (v : View Holds). v.tally.grants) off.2 ∙ on.counts.grants
+
+pub stays : (p q r : MutexPass) → HasEntered p q → HasUnlocked q r → HasStayed p r
+stays p q r on off = let once = grants_once p q r on off in let count = ap (λ (v : View Holds). v.sights.count) off.2 in record {
+  same = (off.0.0 ∙ on.same.0, off.0.1 ∙ on.same.1);
+  holds = ap (λ (v : View Holds). v.tally.holds) off.2 ∙ sym on.counts.off;
+  part = ap (λ (v : View Holds). v.part) off.2 ∙ on.part;
+  grants = omega (arith, once);
+  saw = omega (arith, count, on.saw.more);
+}
+
+pub stays_refused : (P : ℕ → Type 0) (n : ℕ) (p q : MutexPass) → WasRefused P n p q → HasStayed p q
+stays_refused P n p q refused = let grants = ap (λ (t : Holds). t.grants) refused.stayed.counts in record {
+  same = refused.stayed.same;
+  holds = ap (λ (t : Holds). t.holds) refused.stayed.counts;
+  part = refused.stayed.part;
+  grants = omega (arith, grants);
+  saw = refused.stayed.saw.more;
+}

@@ -1,0 +1,63 @@
+use Rattle.std.proofs.Common.{refl, sym, ◌∙◌}
+use Rattle.std.proofs.lemmas.Bool.{true≢false}
+use Rattle.running_mutex.specs.MutexShown.{pass_of}
+use Rattle.running_mutex.proofs.MutexTries.{alone_again}
+use Rattle.running_mutex.proofs.CondCalls.{took_or_not, took_some, took_none, regains, leaves}
+use Rattle.running_mutex.proofs.condition_variable.ConditionVariable.wait_held.Goals as goal
+
+pub returns-then-not-lock_again : goal.returns-then-not-lock_again
+returns-then-not-lock_again g c = let slept = c.sleep-signalled.ensures in (
+  (refl, λ _. tt, leaves _ _ (pass_of c.args.hold) c.sleep-signalled.new.mtx_pass c.lock_again.new.pass slept.unlocked c.if-not-lock_again.ensures.locked),
+  record {
+    left = tt;
+    same_borrow = tt;
+    regained = tt;
+    counted = slept.counted;
+    signalled = tt;
+    unsignalled = tt;
+    gave_up = took_or_not _ _ _ slept.slept;
+    aborted = c.lock_again.ensures.aborted c.if-not-lock_again.true;
+    exact = λ whole. true≢false (sym (c.lock_again.ensures.exact (alone_again (pass_of c.args.hold) c.sleep-signalled.new.mtx_pass slept.unlocked whole)) ∙ c.if-not-lock_again.true);
+    some = λ whole some. took_some _ _ _ _ slept.slept (slept.some whole) some;
+    none = λ whole none. took_none _ _ _ _ slept.slept (slept.some whole) none;
+    woke = slept.woke;
+  },
+)
+
+pub returns-then-signalled : goal.returns-then-signalled
+returns-then-signalled g c = let slept = c.sleep-signalled.ensures in (
+  (refl, λ _. refl, tt),
+  record {
+    left = tt;
+    same_borrow = refl;
+    regained = regains (pass_of c.args.hold) c.sleep-signalled.new.mtx_pass c.lock_again.new.pass slept.unlocked c.if-not-lock_again.ensures.locked;
+    counted = slept.counted;
+    signalled = c.if-signalled.ensures.slept;
+    unsignalled = tt;
+    gave_up = tt;
+    aborted = tt;
+    exact = λ _. tt;
+    some = λ whole some. took_some _ _ _ _ slept.slept (slept.some whole) some;
+    none = λ whole none. took_none _ _ _ _ slept.slept (slept.some whole) none;
+    woke = slept.woke;
+  },
+)
+
+pub returns-else-signalled : goal.returns-else-signalled
+returns-else-signalled g c = let slept = c.sleep-signalled.ensures in (
+  (refl, λ _. refl, tt),
+  record {
+    left = tt;
+    same_borrow = refl;
+    regained = regains (pass_of c.args.hold) c.sleep-signalled.new.mtx_pass c.lock_again.new.pass slept.unlocked c.if-not-lock_again.ensures.locked;
+    counted = slept.counted;
+    signalled = tt;
+    unsignalled = c.if-signalled.ensures.slept;
+    gave_up = tt;
+    aborted = tt;
+    exact = λ _. tt;
+    some = λ whole some. took_some _ _ _ _ slept.slept (slept.some whole) some;
+    none = λ whole none. took_none _ _ _ _ slept.slept (slept.some whole) none;
+    woke = slept.woke;
+  },
+)
