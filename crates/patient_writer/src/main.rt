@@ -2,7 +2,7 @@
 //! Then the writer comes again, and waits as long as it takes.
 #![tactic(auto)]
 
-ghost use Rattle.running_rwlock.specs.RwWriterShown.{IsRwWriterPass, HasStayed};
+ghost use Rattle.running_rw_writer.specs.RwWriterShown.{IsRwWriterPass, HasStayed};
 
 use iceoryx2_pal_concurrency_sync::strategy::rwlock::{RwLockWriterPreference, RwWriterPass};
 use iceoryx2_pal_concurrency_sync::{WaitAction, WaitResult, wake_nobody, yield_and_go_on};

@@ -9,7 +9,8 @@ ghost use denote.Param.Send.{IsSync, IsSend};
 use running_barrier::{Barrier, BarrierPass};
 use running_mutex::condition_variable::{CondPass, ConditionVariable};
 use running_mutex::{Mutex, MutexPass};
-use running_rwlock::{RwLockReaderPreference, RwLockWriterPreference, RwReaderPass, RwWriterPass};
+use running_rw_reader::{RwLockReaderPreference, RwReaderPass};
+use running_rw_writer::{RwLockWriterPreference, RwWriterPass};
 use running_semaphore::{SemPass, Semaphore};
 use running_spin_lock::{SpinLock, SpinPass};
 use std::alloc::Allocator;
@@ -167,7 +168,7 @@ impl<A: Allocator> Shares<Barrier<A>> for BarrierPass {
 
 impl<A: Allocator> Shares<RwLockReaderPreference<A>> for RwReaderPass {
     ghost use Rattle.passes.specs.Passes.{part_of};
-    ghost use Rattle.running_rwlock.specs.RwReaderShown.{IsRwReaderPass, reads_of, writes_of};
+    ghost use Rattle.running_rw_reader.specs.RwReaderShown.{IsRwReaderPass, reads_of, writes_of};
 
     ghost idle = { λ lock p. IsRwReaderPass lock p × (reads_of p ≡ 0) × (writes_of p ≡ 0) };
 
@@ -193,7 +194,7 @@ impl<A: Allocator> Shares<RwLockReaderPreference<A>> for RwReaderPass {
 }
 
 impl<A: Allocator> Shares<RwLockWriterPreference<A>> for RwWriterPass {
-    ghost use Rattle.running_rwlock.specs.RwWriterShown.{IsRwWriterPass, part_in, pass_in, reads_of, writes_of};
+    ghost use Rattle.running_rw_writer.specs.RwWriterShown.{IsRwWriterPass, part_in, pass_in, reads_of, writes_of};
 
     ghost idle = { λ lock p. IsRwWriterPass lock p × (reads_of (pass_in p) ≡ 0) × (writes_of (pass_in p) ≡ 0) };
 

@@ -1,6 +1,6 @@
 //! A storm at the reader-preferring lock: four writers and four readers.
 ghost use Rattle.std.specs.Prelude.{◌≡◌, Some};
-ghost use Rattle.running_rwlock.specs.RwReaderShown.{IsRwReaderPass, IsAlone, HasStayed};
+ghost use Rattle.running_rw_reader.specs.RwReaderShown.{IsRwReaderPass, IsAlone, HasStayed};
 
 use crate::crowd::Object;
 use crate::tally::Tally;

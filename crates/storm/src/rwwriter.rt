@@ -1,6 +1,6 @@
 //! A storm at the writer-preferring lock: four writers and four readers.
 ghost use Rattle.std.specs.Prelude.{◌≡◌, Some};
-ghost use Rattle.running_rwlock.specs.RwWriterShown.{IsRwWriterPass, IsAlone, HasStayed};
+ghost use Rattle.running_rw_writer.specs.RwWriterShown.{IsRwWriterPass, IsAlone, HasStayed};
 
 use crate::crowd::Object;
 use crate::tally::Tally;

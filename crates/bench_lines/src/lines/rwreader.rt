@@ -1,5 +1,5 @@
 //! The lines of the reader-preferring lock.
-ghost use Rattle.running_rwlock.specs.RwReaderShown.{IsRwReaderPass, HasStayed};
+ghost use Rattle.running_rw_reader.specs.RwReaderShown.{IsRwReaderPass, HasStayed};
 
 use crate::lines::{Operation, successes};
 use iceoryx2_pal_concurrency_sync::strategy::rwlock::{RwLockReaderPreference, RwReaderPass};

@@ -1,5 +1,5 @@
 //! The lines of the writer-preferring lock.
-ghost use Rattle.running_rwlock.specs.RwWriterShown.{IsRwWriterPass, HasStayed};
+ghost use Rattle.running_rw_writer.specs.RwWriterShown.{IsRwWriterPass, HasStayed};
 
 use crate::lines::{Operation, successes};
 use iceoryx2_pal_concurrency_sync::strategy::rwlock::{RwLockWriterPreference, RwWriterPass};

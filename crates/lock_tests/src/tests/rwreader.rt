@@ -1,7 +1,7 @@
 //! The running reader-preferring lock.
 ghost use Rattle.std.specs.Prelude.{◌≡◌, ◌+◌, false, IfOk};
 ghost use Rattle.passes.specs.Passes.{IsSamePass, sights_of};
-ghost use Rattle.running_rwlock.specs.RwReaderShown.{IsRwReaderPass, IsAlone, HasStayed, reads_of, writes_of};
+ghost use Rattle.running_rw_reader.specs.RwReaderShown.{IsRwReaderPass, IsAlone, HasStayed, reads_of, writes_of};
 
 use super::give_up;
 use super::party::{self, Kind, Noted, Party};
@@ -95,7 +95,7 @@ fn lock_and_unlock_often<R: Wait>(
 }
 
 /// Two threads read and write in turn. After the join the word is 0.
-#[tactic(auto, using(running_rwlock::proofs::RwReaderJoins::nobody_joins))]
+#[tactic(auto, using(running_rw_hold::proofs::RwJoins::nobody_joins))]
 fn lock_in_two_threads<R: Threads + Wait + Sync>(
     rt: &R,
     lock: RwLockReaderPreference,

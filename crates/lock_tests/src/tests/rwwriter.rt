@@ -2,7 +2,7 @@
 ghost use Rattle.std.specs.Prelude.{◌≡◌, IfOk};
 ghost use Rattle.passes.specs.Parts.{IsAgain};
 ghost use Rattle.passes.specs.Passes.{object_of};
-ghost use Rattle.running_rwlock.specs.RwWriterShown.{IsRwWriterPass, IsAlone, HasStayed, pass_in, part_in, reads_of, writes_of};
+ghost use Rattle.running_rw_writer.specs.RwWriterShown.{IsRwWriterPass, IsAlone, HasStayed, pass_in, part_in, reads_of, writes_of};
 
 use super::party::{self, Kind, Noted, Party};
 use iceoryx2_pal_concurrency_sync::strategy::rwlock::{RwLockWriterPreference, RwWriterPass};
@@ -130,7 +130,7 @@ fn write_often<R: Wait>(
 }
 
 /// One thread reads and another writes, with the parts of this pass, which has no hold before and after.
-#[tactic(auto, using(running_rwlock::proofs::RwReaderJoins::nobody_joins))]
+#[tactic(auto, using(running_rw_hold::proofs::RwJoins::nobody_joins))]
 fn two_threads<R: Threads + Wait + Sync>(
     rt: &R,
     lock: &RwLockWriterPreference,
@@ -163,7 +163,7 @@ fn two_threads<R: Threads + Wait + Sync>(
 }
 
 /// Two threads read and two write, likewise.
-#[tactic(auto, using(running_rwlock::proofs::RwReaderJoins::nobody_joins))]
+#[tactic(auto, using(running_rw_hold::proofs::RwJoins::nobody_joins))]
 fn four_threads<R: Threads + Wait + Sync>(
     rt: &R,
     lock: &RwLockWriterPreference,
@@ -196,7 +196,7 @@ fn four_threads<R: Threads + Wait + Sync>(
 }
 
 /// The word that is left after four threads read and four write, each two hundred times: no hold, and no mark.
-#[tactic(auto, using(running_rwlock::proofs::RwReaderJoins::nobody_joins))]
+#[tactic(auto, using(running_rw_hold::proofs::RwJoins::nobody_joins))]
 fn storm<R: Threads + Wait + Sync>(rt: &R, lock: RwLockWriterPreference, pass: RwWriterPass) -> u64
     requires own { IsRwWriterPass lock pass }
     requires alone { IsAlone pass }

@@ -1,4 +1,4 @@
-use Rattle.running_rwlock.specs.RwWriterShown.{HasStayed}
+use Rattle.running_rw_writer.specs.RwWriterShown.{HasStayed}
 use Rattle.lock_tests.proofs.tests.rwwriter.read_often.Given as goal
 
 abbrev pub invariant-loop : goal.invariant-loop

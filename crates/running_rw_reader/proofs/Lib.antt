@@ -1,0 +1,4 @@
+pub mod RwReaderKeeps
+pub mod RwReaderCounts
+pub mod RwReaderPlays
+pub mod RwReaderUnlocks

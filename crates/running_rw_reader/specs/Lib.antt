@@ -1,0 +1,3 @@
+pub mod RwReaderParties
+pub mod RwReaderSteps
+pub mod RwReaderShown

@@ -1,0 +1,4 @@
+pub mod RwWriterKeeps
+pub mod RwWriterCounts
+pub mod RwWriterTries
+pub mod RwWriterPlays

@@ -1,0 +1,11 @@
+use Rattle.playing.specs.Passes.{parties_of, counted}
+use Rattle.playing.specs.Plays.{Going}
+use Rattle.running_rw_writer.proofs.RwWriterCounts.{reader_in_counts}
+use Rattle.running_rw_writer.proofs.RwWriterKeeps.{readers_in}
+use Rattle.running_rw_writer.proofs.RwLockWriterPreference.come_to_read.Goals as goal
+
+pub exchange-requires-clause-update : goal.exchange-requires-clause-update
+exchange-requires-clause-update g c = readers_in _ _ _ c.requires.even c.requires.room c.requires.more
+
+pub exchange-requires-clause-follow : goal.exchange-requires-clause-follow
+exchange-requires-clause-follow g c = reader_in_counts Going (parties_of c.args.pass.now) (counted c.args.pass.now) _ _ c.requires.more

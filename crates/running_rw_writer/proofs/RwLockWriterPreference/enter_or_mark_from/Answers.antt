@@ -1,0 +1,37 @@
+use Rattle.std.proofs.Common.{ℕ, Result, is_ok, sym, ap, ◌∙◌, rules}
+use Rattle.playing.specs.Tries.{spun}
+use Rattle.running_rw_writer.proofs.RwWriterPlays.{marks_none}
+use Rattle.running_rw_writer.proofs.RwWriterTries.{marks_some}
+use Rattle.running_rw_writer.proofs.RwLockWriterPreference.enter_or_mark_from.Goals as goal
+
+pub enter_if_free-requires-clause-at : goal.enter_if_free-requires-clause-at
+enter_if_free-requires-clause-at g c = let w = c.requires.at in (spun w.0, w.1, c.loop.invariant.at w.0 w.1 w.2)
+
+pub returns-in-Ok-clause-played : goal.returns-in-Ok-clause-played
+returns-in-Ok-clause-played g c = λ n done at. c.in-Ok.ensures.granted (spun n) done (c.loop.invariant.at n done at)
+
+pub returns-in_default-clause-played : goal.returns-in_default-clause-played
+returns-in_default-clause-played g c = λ n done at. marks_none (spun n) c.in-Err.found done _ (search rules) (c.in-Err.ensures.goes_on (spun n) done (c.loop.invariant.at n done at))
+
+pub set_mark-requires-clause-at : goal.set_mark-requires-clause-at
+set_mark-requires-clause-at g c = let w = c.requires.at in (spun w.0, w.1, c.in-Err.ensures.goes_on (spun w.0) w.1 (c.loop.invariant.at w.0 w.1 w.2))
+
+pub returns-in-Ok-set_mark-clause-played : goal.returns-in-Ok-set_mark-clause-played
+returns-in-Ok-set_mark-clause-played g c = λ n done at. c.in-Ok-set_mark.ensures.spins (spun n) done (c.in-Err.ensures.goes_on (spun n) done (c.loop.invariant.at n done at))
+
+pub loop-preserved : goal.loop-preserved
+loop-preserved g c = record {
+  tried = search rules;
+  just = search rules;
+  exact = search rules;
+  at = λ n done at. c.in-Err-set_mark.ensures.looks (spun n) done (c.in-Err.ensures.goes_on (spun n) done (c.loop.invariant.at n done at));
+}
+
+pub set_mark-requires-clause-even : goal.set_mark-requires-clause-even
+set_mark-requires-clause-even g c = (marks_some _ _ _ c.marks.ensures.«open» c.marks.ensures.marked c.marks.ensures.full c.in-Some-marks.is).0
+
+pub set_mark-requires-clause-marked : goal.set_mark-requires-clause-marked
+set_mark-requires-clause-marked g c = (marks_some _ _ _ c.marks.ensures.«open» c.marks.ensures.marked c.marks.ensures.full c.in-Some-marks.is).2
+
+pub returns-in_default-clause-exact : goal.returns-in_default-clause-exact
+returns-in_default-clause-exact g c = λ none alone. let at = c.loop.invariant.exact none alone in sym (ap (λ (r : Result Unit ℕ). is_ok r) c.in-Err.is) ∙ c.enter_if_free.ensures.exact at.0 at.1

@@ -1,0 +1,19 @@
+use Rattle.steps_events.specs.declared.event.Call.TheVariants as calls
+use Rattle.playing.specs.Passes.{parties_of, counted}
+use Rattle.playing.specs.Plays.{Continuing}
+use Rattle.running_rw_writer.proofs.RwWriterCounts.{writer_out_counts}
+use Rattle.running_rw_writer.proofs.RwWriterKeeps.{writers_out}
+use Rattle.running_rw_writer.proofs.RwWriterPlays.{may_leave_writing, leaves_writing}
+use Rattle.running_rw_writer.proofs.RwLockWriterPreference.leave_writing.Goals as goal
+
+pub store-requires-clause-may : goal.store-requires-clause-may
+store-requires-clause-may g c = may_leave_writing _ c.requires.has
+
+pub store-requires-clause-update : goal.store-requires-clause-update
+store-requires-clause-update g c = writers_out _ c.requires.on
+
+pub store-requires-clause-follow : goal.store-requires-clause-follow
+store-requires-clause-follow g c = writer_out_counts (Continuing calls.Unlock) (parties_of c.args.pass.now) (counted c.args.pass.now)
+
+pub returns-clause-played : goal.returns-clause-played
+returns-clause-played g c = leaves_writing _ _ _ c.store.ensures.went

@@ -1,0 +1,22 @@
+use Rattle.playing.specs.Passes.{parties_of, counted}
+use Rattle.playing.specs.Plays.{Going}
+use Rattle.running_rw_writer.proofs.RwWriterCounts.{load_to_write_counts}
+use Rattle.running_rw_writer.proofs.RwWriterKeeps.{loads_to_write}
+use Rattle.running_rw_writer.proofs.RwWriterPlays.{may_look_last, looked_last}
+use Rattle.running_rw_writer.proofs.RwWriterTries.{just_seen}
+use Rattle.running_rw_writer.proofs.RwLockWriterPreference.look_last.Goals as goal
+
+pub load-requires-clause-may : goal.load-requires-clause-may
+load-requires-clause-may g c = let w = c.requires.at in may_look_last _ w.0 w.1 _ w.2
+
+pub load-requires-clause-update : goal.load-requires-clause-update
+load-requires-clause-update g c = loads_to_write _
+
+pub load-requires-clause-follow : goal.load-requires-clause-follow
+load-requires-clause-follow g c = load_to_write_counts Going (parties_of c.args.pass.now) (counted c.args.pass.now)
+
+pub returns-clause-looked : goal.returns-clause-looked
+returns-clause-looked g c = looked_last _ _ _ _ c.load.ensures.went
+
+pub returns-clause-just : goal.returns-clause-just
+returns-clause-just g c = just_seen c.args.pass.now _ _ c.load.ensures.told

@@ -1,0 +1,12 @@
+use Rattle.steps_rw_writer.specs.Table.{spins}
+use Rattle.playing.specs.Passes.{parties_of}
+use Rattle.playing.specs.Tries.{spun}
+use Rattle.running_rw_writer.specs.RwWriterParties.{OnceWriting, WriteGoes}
+use Rattle.running_rw_writer.specs.RwWriterShown.{HasTried}
+use Rattle.running_rw_writer.proofs.RwLockWriterPreference.spin_to_write.Given as goal
+
+abbrev pub invariant-loop : goal.invariant-loop
+invariant-loop g l = record {
+  tried : HasTried l.counter l.fn.pass l.pass;
+  at : OnceWriting (spins (spun 0)) (parties_of l.fn.pass) (λ done. WriteGoes (spins (spun l.counter)) done (parties_of l.pass));
+}

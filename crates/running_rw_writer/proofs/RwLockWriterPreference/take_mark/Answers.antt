@@ -1,0 +1,25 @@
+use Rattle.playing.specs.Passes.{parties_of, counted}
+use Rattle.playing.specs.Plays.{Going}
+use Rattle.running_rw_writer.proofs.RwWriterCounts.{unmark_counts}
+use Rattle.running_rw_writer.proofs.RwWriterKeeps.{marks_taken}
+use Rattle.running_rw_writer.proofs.RwWriterPlays.{may_unmark, unmarked, unmark_missed}
+use Rattle.running_rw_writer.proofs.RwWriterTries.{missed_it}
+use Rattle.running_rw_writer.proofs.RwLockWriterPreference.take_mark.Goals as goal
+
+pub exchange-found-requires-clause-may : goal.exchange-found-requires-clause-may
+exchange-found-requires-clause-may g c = may_unmark _ _ c.requires.at.0 _ c.requires.set c.requires.unmarked c.requires.at.1
+
+pub exchange-found-requires-clause-update : goal.exchange-found-requires-clause-update
+exchange-found-requires-clause-update g c = marks_taken _ _ _ c.requires.set c.requires.unmarked
+
+pub exchange-found-requires-clause-follow : goal.exchange-found-requires-clause-follow
+exchange-found-requires-clause-follow g c = unmark_counts Going (parties_of c.args.pass.now) (counted c.args.pass.now) _ _ c.requires.set c.requires.unmarked
+
+pub returns-then-found-seen-clause-counts : goal.returns-then-found-seen-clause-counts
+returns-then-found-seen-clause-counts g c = unmarked _ _ _ _ c.requires.set c.if-found-seen.true c.exchange-found.ensures.went
+
+pub returns-else-found-seen-clause-looks : goal.returns-else-found-seen-clause-looks
+returns-else-found-seen-clause-looks g c = unmark_missed _ _ _ _ c.requires.set c.if-found-seen.false c.exchange-found.ensures.went
+
+pub returns-else-found-seen-clause-missed : goal.returns-else-found-seen-clause-missed
+returns-else-found-seen-clause-missed g c = missed_it _ _ _ _ c.exchange-found.ensures.same c.requires.just (c.exchange-found.ensures.told.failed c.if-found-seen.false)

@@ -1,0 +1,421 @@
+-- The steps of a writer-preferring lock are those of its table.
+use Rattle.std.proofs.Common.{◌≡◌, ◌≢◌, ℕ, ◌+◌, ◌-◌, ◌%◌, ◌^◌, ◌<◌, ◌≤◌, ◌==◌, ◌&&◌, not, Bool, true, false, cond, refl, sym, ap, subst, ◌∙◌, List, [], ◌∷◌, Option, Some, None, inl, inr, arith}
+use Rattle.std.specs.Prelude.{nat_lt, MatchBool}
+use mathlib.Core.Logic.{dite}
+use native.Mathlib.Decide.{ℕ_discrete}
+use Rattle.std.proofs.lemmas.Bool.{ne_eqb}
+use Rattle.std.proofs.lemmas.Bool.Decides.{nat_tests}
+use Rattle.steps_events.specs.declared.WaitAction.TheVariants as actions
+use Rattle.steps_events.specs.declared.event.Word.{Word}
+use Rattle.steps_events.specs.declared.event.Word.TheVariants as words
+use Rattle.steps_events.specs.declared.event.Wake.TheVariants as wakes
+use Rattle.steps_events.specs.declared.event.Call.{Call}
+use Rattle.steps_events.specs.declared.event.Call.TheVariants as calls
+use Rattle.steps_events.specs.declared.event.Answer.{Answer}
+use Rattle.steps_events.specs.declared.event.Answer.TheVariants as answers
+use Rattle.steps_events.specs.declared.hold.HoldKind.{HoldKind}
+use Rattle.steps_events.specs.declared.hold.HoldKind.TheVariants as kinds
+use Rattle.steps_events.specs.declared.patience.Patience.{Patience}
+use Rattle.steps_events.specs.declared.row.Intent.{Intent}
+use Rattle.steps_events.specs.declared.row.Intent.TheVariants as intents
+use Rattle.steps_events.specs.declared.row.After.{After}
+use Rattle.steps_events.specs.declared.row.After.TheVariants as afters
+use Rattle.steps_events.specs.Rows.{within, refused}
+use Rattle.steps_events.proofs.Holds.{eqb_same}
+use Rattle.steps_rw_writer.specs.declared.Leaver.{Leaver}
+use Rattle.steps_rw_writer.specs.declared.Leaver.TheVariants as leavers
+use Rattle.steps_rw_writer.specs.declared.RwWriterPlace.{RwWriterPlace}
+use Rattle.steps_rw_writer.specs.declared.RwWriterPlace.TheVariants as places
+use Rattle.steps_rw_writer.specs.Table.{rw_writer_intent, rw_writer_grant, is_odd, lets_readers_in, lets_writer_in, lets_mark, is_marked, is_blocked, try_read_look, read_look, spins, marks_or_spins, unmarks_or_leaves, write_refused, write_look, last_look, released}
+use Rattle.tallies.specs.RwWriterScript.{rw_writer_model}
+use Rattle.steps_rw_writer.proofs.WordLaws.{is_marking}
+use Rattle.playing.specs.Slots.{Slot, Parties, all_of}
+use Rattle.playing.specs.Words.{IsNamed, IsStepOn}
+use Rattle.playing.specs.Plays.{Coming, Going, Beginning, Continuing, Answered, ComesBy, IsHolding, Led, HasCalled, HasEnded}
+use Rattle.playing.specs.Tries.{spun, IsRefused, IsGranted, MayTry, StandsToWait, IsToWake, IsToWakeTwice}
+use Rattle.playing.proofs.Holding.{holding_told, holding_is}
+use Rattle.tallies.specs.RwWriterScript.{rw_writer_handed}
+use Rattle.running_rw_writer.specs.RwWriterSteps.{IsMarked}
+use Rattle.running_rw_writer.specs.RwWriterShown.{IsShut}
+use Rattle.running_rw_writer.specs.RwWriterParties.{has_hold, TableHas, TableLed, CallGoes, WriteGoes, GoesFromTo, SomeCallGoes, ComesToWrite, ComesToGiveUp, WriteIsGranted, IsToWakeBoth, Unlocks, unlocked}
+
+abbrev Comes : Coming ℕ → Call ℕ → RwWriterPlace → List (Slot ℕ) → Parties ℕ → Type 0
+Comes way call place done p = ComesBy rw_writer_model way call place None done p
+
+abbrev Ended : Call ℕ → Answer ℕ → Option HoldKind → List (Slot ℕ) → Parties ℕ → Type 0
+Ended call answer hold done p = HasEnded rw_writer_model call answer hold done p
+
+-- what the tests of the table say
+
+lt_true : (m n : ℕ) → m < n → nat_lt m n ≡ true
+lt_true m n below = grind (arith, nat_tests)
+
+lt_false : (m n : ℕ) → n ≤ m → nat_lt m n ≡ false
+lt_false m n above = grind (arith, nat_tests)
+
+and_false : (b : Bool) → (b && false) ≡ false
+and_false true = refl
+and_false false = refl
+
+hit : (m n : ℕ) → m ≡ n → (m == n) ≡ true
+hit m n is = subst (λ k. (k == n) ≡ true) (sym is) (eqb_same n)
+
+open_word : (w : ℕ) → w % 2 ≡ 0 → w < 2 ^ 64 - 4 → lets_readers_in w ≡ true
+open_word w even room = rw (even, lt_true w (2 ^ 64 - 4) room) refl
+
+shut_word : (w : ℕ) → IsShut w → lets_readers_in w ≡ false
+shut_word w (inl odd) = rw odd refl
+shut_word w (inr full) = rw (lt_false w (2 ^ 64 - 4) full) (and_false (not (is_odd w)))
+
+markable : (w : ℕ) → w % 2 ≡ 0 → w ≢ 2 ^ 64 - 2 → lets_mark w ≡ true
+markable w even other = rw (even, ne_eqb w (2 ^ 64 - 2) other) refl
+
+unmarkable : (w : ℕ) → (w % 2 ≡ 0 → w ≢ 2 ^ 64 - 2 → ⊥) → lets_mark w ≡ false
+unmarkable w never = dite (ℕ_discrete (w % 2) 1) (λ odd. rw odd refl)
+    (λ even. dite (ℕ_discrete w (2 ^ 64 - 2)) (λ full. rw full refl) (λ other. absurd (never (omega (arith, even)) other)))
+
+marked_word : (w : ℕ) → IsMarked w → is_marked w ≡ true
+marked_word w set = rw (set.odd, ne_eqb w (2 ^ 64 - 1) set.unwritten) refl
+
+unmarked_word : (w : ℕ) → ¬ IsMarked w → is_marked w ≡ false
+unmarked_word w unset = dite (ℕ_discrete (w % 2) 1)
+    (λ odd. dite (ℕ_discrete w (2 ^ 64 - 1)) (λ full. rw full refl) (λ other. absurd (unset (record { odd = odd; unwritten = other }))))
+    (λ other. let even : w % 2 ≡ 0 = omega (arith, other) in rw even refl)
+
+-- an exchange of a `WriteLock` from 0 or 1 takes the write hold; one up or down takes none
+
+enters : (seen : ℕ) → seen < 2 → rw_writer_grant {T = ℕ} calls.WriteLock seen (2 ^ 64 - 1) ≡ Some kinds.Write
+enters seen free = grind (arith, nat_tests)
+
+marks : (seen : ℕ) → rw_writer_grant {T = ℕ} calls.WriteLock seen (seen + 1) ≡ None
+marks seen = rw (is_marking seen (seen + 1) refl) refl
+
+unmarks : (seen : ℕ) → seen % 2 ≡ 1 → rw_writer_grant {T = ℕ} calls.WriteLock seen (seen - 1) ≡ None
+unmarks seen odd = grind (arith, nat_tests)
+
+-- how a call goes on by a test
+
+when_true : (call : Call ℕ) (b : Bool) (one other : After ℕ RwWriterPlace) (done : List (Slot ℕ)) (p : Parties ℕ) → b ≡ true → CallGoes call (cond b one other) done p → CallGoes call one done p
+when_true call b one other done p is at = subst (λ (c : Bool). CallGoes call (cond c one other) done p) is at
+
+when_false : (call : Call ℕ) (b : Bool) (one other : After ℕ RwWriterPlace) (done : List (Slot ℕ)) (p : Parties ℕ) → b ≡ false → CallGoes call (cond b one other) done p → CallGoes call other done p
+when_false call b one other done p is at = subst (λ (c : Bool). CallGoes call (cond c one other) done p) is at
+
+-- the steps that the table has
+
+has_step : (way : Coming ℕ) (i : ℕ) (intent : Word → Intent ℕ) (call : Call ℕ) (place : RwWriterPlace) (hold : Option HoldKind) (done : List (Slot ℕ)) (p : Parties ℕ) (name : Word) →
+    IsNamed (words.State ∷ words.Counter ∷ []) i name → ◌≡◌ {A = Intent ℕ} (rw_writer_intent words.State words.Counter place hold) (intent name) → IsStepOn name (intent name) →
+    ComesBy rw_writer_model way call place hold done p → TableHas way i intent p
+has_step way i intent call place hold done p name named intends on comes =
+    record { call = call; place = place; hold = hold; done = done; comes = comes; name = name; named = named; intends = intends; on = on }
+
+may_look : (way : Coming ℕ) (call : Call ℕ) (place : RwWriterPlace) (done : List (Slot ℕ)) (p : Parties ℕ) → ◌≡◌ {A = Intent ℕ} (rw_writer_intent words.State words.Counter place None) (intents.Load words.State) →
+    Comes way call place done p → TableHas way 0 (λ w. intents.Load w) p
+may_look way call place done p intends comes = has_step way 0 (λ w. intents.Load w) call place None done p words.State refl intends refl comes
+
+may_exchange : (way : Coming ℕ) (call : Call ℕ) (place : RwWriterPlace) (done : List (Slot ℕ)) (p : Parties ℕ) (from to put : ℕ) → put ≡ to →
+    ◌≡◌ {A = Intent ℕ} (rw_writer_intent words.State words.Counter place None) (intents.Exchange words.State from to) → Comes way call place done p → TableHas way 0 (λ w. intents.Exchange w from put) p
+may_exchange way call place done p from to put is intends comes =
+    has_step way 0 (λ w. intents.Exchange w from put) call place None done p words.State refl (intends ∙ ap (λ (n : ℕ). intents.Exchange words.State from n) (sym is)) refl comes
+
+-- how the calls begin
+
+try_read_begins : (p : Parties ℕ) → Comes (Beginning calls.TryReadLock) calls.TryReadLock places.TryReadLook (all_of p) p
+try_read_begins p = (refl, record { may = record { begins = refl; free = refl; values = tt }; new = refl; others = refl })
+
+pub read_begins : (p : Parties ℕ) → Comes (Beginning calls.ReadLock) calls.ReadLock (places.ReadLook (spun 0)) (all_of p) p
+read_begins p = (refl, record { may = record { begins = refl; free = refl; values = tt }; new = refl; others = refl })
+
+try_write_begins : (p : Parties ℕ) → Comes (Beginning calls.TryWriteLock) calls.TryWriteLock places.TryWrite (all_of p) p
+try_write_begins p = (refl, record { may = record { begins = refl; free = refl; values = tt }; new = refl; others = refl })
+
+pub write_begins : (p : Parties ℕ) → ComesToWrite (Beginning calls.WriteLock) (spun 0) (all_of p) p
+write_begins p = (refl, record { may = record { begins = refl; free = refl; values = tt }; new = refl; others = refl })
+
+unlock_begins : (kind : HoldKind) (done : List (Slot ℕ)) (p : Parties ℕ) → IsHolding rw_writer_model kind done p →
+    ComesBy rw_writer_model (Continuing calls.Unlock) calls.Unlock places.Release (Some kind) done p
+unlock_begins kind done p holding = (refl, record { kind = kind; may = record { begins = refl; free = refl; values = tt }; kept = refl; holding = holding })
+
+-- a reader that tries once
+
+pub may_look_once : (p : Parties ℕ) → TableHas (Beginning calls.TryReadLock) 0 (λ w. intents.Load w) p
+may_look_once p = may_look _ calls.TryReadLock places.TryReadLook (all_of p) p refl (try_read_begins p)
+
+pub looked_once : (found : ℕ) (p q : Parties ℕ) → TableLed (Beginning calls.TryReadLock) p found q → CallGoes calls.TryReadLock (try_read_look found) (all_of p) q
+looked_once found p q went = went calls.TryReadLock places.TryReadLook None (all_of p) (try_read_begins p)
+
+pub turned_away : (seen : ℕ) (done : List (Slot ℕ)) (p : Parties ℕ) → IsShut seen → CallGoes calls.TryReadLock (try_read_look seen) done p → CallGoes calls.TryReadLock (afters.Ends answers.Interrupted) done p
+turned_away seen done p shut at = when_false calls.TryReadLock (lets_readers_in seen) (afters.At (places.TryRead seen (seen + 2))) (afters.Ends answers.Interrupted) done p (shut_word seen shut) at
+
+comes_once : (seen : ℕ) (done : List (Slot ℕ)) (p : Parties ℕ) → seen % 2 ≡ 0 → seen < 2 ^ 64 - 4 → CallGoes calls.TryReadLock (try_read_look seen) done p → CallGoes calls.TryReadLock (afters.At (places.TryRead seen (seen + 2))) done p
+comes_once seen done p even room at = when_true calls.TryReadLock (lets_readers_in seen) (afters.At (places.TryRead seen (seen + 2))) (afters.Ends answers.Interrupted) done p (open_word seen even room) at
+
+pub may_read_once : (seen more : ℕ) (done : List (Slot ℕ)) (p : Parties ℕ) → seen % 2 ≡ 0 → seen < 2 ^ 64 - 4 → more ≡ seen + 2 → CallGoes calls.TryReadLock (try_read_look seen) done p → TableHas Going 0 (λ w. intents.Exchange w seen more) p
+may_read_once seen more done p even room is at = may_exchange Going calls.TryReadLock (places.TryRead seen (seen + 2)) done p seen (seen + 2) more is refl (comes_once seen done p even room at)
+
+once_so : (seen found : ℕ) (b : Bool) (done : List (Slot ℕ)) (q : Parties ℕ) → (found == seen) ≡ b → Led rw_writer_model calls.TryReadLock (places.TryRead seen (seen + 2)) None found done q →
+    MatchBool b (Ended calls.TryReadLock answers.Success (Some kinds.Read) done q) (Ended calls.TryReadLock answers.Interrupted None done q)
+once_so seen found true done q test led = rw test at led
+once_so seen found false done q test led = rw test at led
+
+pub read_once : (seen found : ℕ) (done : List (Slot ℕ)) (p q : Parties ℕ) → seen % 2 ≡ 0 → seen < 2 ^ 64 - 4 → CallGoes calls.TryReadLock (try_read_look seen) done p → TableLed Going p found q →
+    MatchBool (found == seen) (Ended calls.TryReadLock answers.Success (Some kinds.Read) done q) (Ended calls.TryReadLock answers.Interrupted None done q)
+read_once seen found done p q even room at went = once_so seen found (found == seen) done q refl (went calls.TryReadLock (places.TryRead seen (seen + 2)) None done (comes_once seen done p even room at))
+
+-- a reader that waits
+
+pub may_look_to_read : (way : Coming ℕ) (p : Parties ℕ) → MayTry rw_writer_model calls.ReadLock places.ReadLook way p → TableHas way 0 (λ w. intents.Load w) p
+may_look_to_read way p may = may_look way calls.ReadLock (places.ReadLook may.patience) may.done p refl may.comes
+
+pub looked : (way : Coming ℕ) (found : ℕ) (p q : Parties ℕ) → TableLed way p found q → (patience : Patience) (done : List (Slot ℕ)) → Comes way calls.ReadLock (places.ReadLook patience) done p → CallGoes calls.ReadLock (read_look patience found) done q
+looked way found p q went patience done comes = went calls.ReadLock (places.ReadLook patience) None done comes
+
+pub found_shut : (patience : Patience) (seen : ℕ) (done : List (Slot ℕ)) (p : Parties ℕ) → IsShut seen → CallGoes calls.ReadLock (read_look patience seen) done p → IsRefused rw_writer_model calls.ReadLock places.ReadLook patience seen done p
+found_shut patience seen done p shut at =
+    when_false calls.ReadLock (lets_readers_in seen) (afters.At (places.Read seen (seen + 2) patience)) (within places.ReadLook (refused patience seen)) done p (shut_word seen shut) at
+
+comes_to_read : (patience : Patience) (seen : ℕ) (done : List (Slot ℕ)) (p : Parties ℕ) → seen % 2 ≡ 0 → seen < 2 ^ 64 - 4 → CallGoes calls.ReadLock (read_look patience seen) done p → CallGoes calls.ReadLock (afters.At (places.Read seen (seen + 2) patience)) done p
+comes_to_read patience seen done p even room at =
+    when_true calls.ReadLock (lets_readers_in seen) (afters.At (places.Read seen (seen + 2) patience)) (within places.ReadLook (refused patience seen)) done p (open_word seen even room) at
+
+pub may_read : (patience : Patience) (seen more : ℕ) (done : List (Slot ℕ)) (p : Parties ℕ) → seen % 2 ≡ 0 → seen < 2 ^ 64 - 4 → more ≡ seen + 2 → CallGoes calls.ReadLock (read_look patience seen) done p → TableHas Going 0 (λ w. intents.Exchange w seen more) p
+may_read patience seen more done p even room is at = may_exchange Going calls.ReadLock (places.Read seen (seen + 2) patience) done p seen (seen + 2) more is refl (comes_to_read patience seen done p even room at)
+
+read_so : (patience : Patience) (seen found : ℕ) (done : List (Slot ℕ)) (q : Parties ℕ) → (found == seen) ≡ true →
+    Led rw_writer_model calls.ReadLock (places.Read seen (seen + 2) patience) None found done q → Ended calls.ReadLock answers.Success (Some kinds.Read) done q
+read_so patience seen found done q test led = rw test at led
+
+again_so : (patience : Patience) (seen found : ℕ) (done : List (Slot ℕ)) (q : Parties ℕ) → (found == seen) ≡ false →
+    Led rw_writer_model calls.ReadLock (places.Read seen (seen + 2) patience) None found done q → CallGoes calls.ReadLock (read_look patience found) done q
+again_so patience seen found done q test led = rw test at led
+
+pub has_read : (patience : Patience) (seen found : ℕ) (done : List (Slot ℕ)) (p q : Parties ℕ) → seen % 2 ≡ 0 → seen < 2 ^ 64 - 4 → found ≡ seen → CallGoes calls.ReadLock (read_look patience seen) done p → TableLed Going p found q →
+    IsGranted rw_writer_model calls.ReadLock places.ReadLook (Some kinds.Read) done q
+has_read patience seen found done p q even room is at went =
+    read_so patience seen found done q (hit found seen is) (went calls.ReadLock (places.Read seen (seen + 2) patience) None done (comes_to_read patience seen done p even room at))
+
+pub looked_again : (patience : Patience) (seen found : ℕ) (done : List (Slot ℕ)) (p q : Parties ℕ) → seen % 2 ≡ 0 → seen < 2 ^ 64 - 4 → found ≢ seen → CallGoes calls.ReadLock (read_look patience seen) done p → TableLed Going p found q →
+    CallGoes calls.ReadLock (read_look patience found) done q
+looked_again patience seen found done p q even room miss at went =
+    again_so patience seen found done q (ne_eqb found seen miss) (went calls.ReadLock (places.Read seen (seen + 2) patience) None done (comes_to_read patience seen done p even room at))
+
+pub first_read : (p : Parties ℕ) → MayTry rw_writer_model calls.ReadLock places.ReadLook (Beginning calls.ReadLock) p
+first_read p = record { patience = spun 0; done = all_of p; comes = read_begins p }
+
+-- a writer that tries once
+
+pub may_write_once : (p : Parties ℕ) (put : ℕ) → put ≡ 2 ^ 64 - 1 → TableHas (Beginning calls.TryWriteLock) 0 (λ w. intents.Exchange w 0 put) p
+may_write_once p put is = may_exchange (Beginning calls.TryWriteLock) calls.TryWriteLock places.TryWrite (all_of p) p 0 (2 ^ 64 - 1) put is refl (try_write_begins p)
+
+wrote_so : (found : ℕ) (b : Bool) (done : List (Slot ℕ)) (q : Parties ℕ) → (found == 0) ≡ b → Led rw_writer_model calls.TryWriteLock places.TryWrite None found done q →
+    MatchBool b (Ended calls.TryWriteLock answers.Success (Some kinds.Write) done q) (Ended calls.TryWriteLock answers.Interrupted None done q)
+wrote_so found true done q test led = rw test at led
+wrote_so found false done q test led = rw test at led
+
+pub wrote_once : (found : ℕ) (p q : Parties ℕ) → TableLed (Beginning calls.TryWriteLock) p found q →
+    MatchBool (found == 0) (HasCalled rw_writer_model calls.TryWriteLock answers.Success (Some kinds.Write) p q) (HasCalled rw_writer_model calls.TryWriteLock answers.Interrupted None p q)
+wrote_once found p q went = wrote_so found (found == 0) (all_of p) q refl (went calls.TryWriteLock places.TryWrite None (all_of p) (try_write_begins p))
+
+-- who was granted the lock has it
+pub granted_has : (call : Call ℕ) (kind : HoldKind) (done : List (Slot ℕ)) (q : Parties ℕ) → Ended call answers.Success (Some kind) done q → has_hold kind q ≡ true
+granted_has call kind done q ended = holding_is rw_writer_model kind done q ended.rests
+
+-- a writer's looks
+
+pub may_look_to_write : (way : Coming ℕ) (patience : Patience) (done : List (Slot ℕ)) (p : Parties ℕ) → Comes way calls.WriteLock (places.WriteLook patience) done p → TableHas way 0 (λ w. intents.Load w) p
+may_look_to_write way patience done p comes = may_look way calls.WriteLock (places.WriteLook patience) done p refl comes
+
+pub looked_to_write : (way : Coming ℕ) (found : ℕ) (p q : Parties ℕ) → TableLed way p found q → (patience : Patience) (done : List (Slot ℕ)) → Comes way calls.WriteLock (places.WriteLook patience) done p → WriteGoes (write_look patience found) done q
+looked_to_write way found p q went patience done comes = went calls.WriteLock (places.WriteLook patience) None done comes
+
+-- it enters
+
+pub comes_to_enter : (patience : Patience) (seen : ℕ) (done : List (Slot ℕ)) (p : Parties ℕ) → seen < 2 → WriteGoes (write_look patience seen) done p → WriteGoes (afters.At (places.Enter seen patience)) done p
+comes_to_enter patience seen done p free at = when_true calls.WriteLock (lets_writer_in seen) (afters.At (places.Enter seen patience)) (write_refused patience seen) done p (lt_true seen 2 free) at
+
+pub may_enter : (patience : Patience) (seen : ℕ) (done : List (Slot ℕ)) (p : Parties ℕ) → WriteGoes (afters.At (places.Enter seen patience)) done p → (put : ℕ) → put ≡ 2 ^ 64 - 1 → TableHas Going 0 (λ w. intents.Exchange w seen put) p
+may_enter patience seen done p at put is = may_exchange Going calls.WriteLock (places.Enter seen patience) done p seen (2 ^ 64 - 1) put is refl at
+
+pub enter_refused : (patience : Patience) (seen : ℕ) (done : List (Slot ℕ)) (p : Parties ℕ) → 2 ≤ seen → WriteGoes (write_look patience seen) done p → WriteGoes (write_refused patience seen) done p
+enter_refused patience seen done p held at = when_false calls.WriteLock (lets_writer_in seen) (afters.At (places.Enter seen patience)) (write_refused patience seen) done p (lt_false seen 2 held) at
+
+enter_so : (patience : Patience) (seen found : ℕ) (done : List (Slot ℕ)) (q : Parties ℕ) → (found == seen) ≡ true → rw_writer_grant {T = ℕ} calls.WriteLock seen (2 ^ 64 - 1) ≡ Some kinds.Write →
+    Led rw_writer_model calls.WriteLock (places.Enter seen patience) None found done q → WriteIsGranted done q
+enter_so patience seen found done q test grants led = rw (test, grants) at led
+
+pub entered : (patience : Patience) (seen found : ℕ) (done : List (Slot ℕ)) (p q : Parties ℕ) → seen < 2 → found ≡ seen → WriteGoes (afters.At (places.Enter seen patience)) done p → TableLed Going p found q → WriteIsGranted done q
+entered patience seen found done p q free is at went = enter_so patience seen found done q (hit found seen is) (enters seen free) (went calls.WriteLock (places.Enter seen patience) None done at)
+
+enter_missed_so : (patience : Patience) (seen found : ℕ) (done : List (Slot ℕ)) (q : Parties ℕ) → (found == seen) ≡ false →
+    Led rw_writer_model calls.WriteLock (places.Enter seen patience) None found done q → WriteGoes (write_refused patience found) done q
+enter_missed_so patience seen found done q test led = rw test at led
+
+pub enter_missed : (patience : Patience) (seen found : ℕ) (done : List (Slot ℕ)) (p q : Parties ℕ) → found ≢ seen → WriteGoes (afters.At (places.Enter seen patience)) done p → TableLed Going p found q → WriteGoes (write_refused patience found) done q
+enter_missed patience seen found done p q miss at went = enter_missed_so patience seen found done q (ne_eqb found seen miss) (went calls.WriteLock (places.Enter seen patience) None done at)
+
+-- it marks
+
+comes_to_mark : (patience : Patience) (seen : ℕ) (done : List (Slot ℕ)) (p : Parties ℕ) → seen % 2 ≡ 0 → seen ≢ 2 ^ 64 - 2 → WriteGoes (marks_or_spins patience seen) done p → WriteGoes (afters.At (places.Mark seen (seen + 1) patience)) done p
+comes_to_mark patience seen done p even other at = when_true calls.WriteLock (lets_mark seen) (afters.At (places.Mark seen (seen + 1) patience)) (spins patience) done p (markable seen even other) at
+
+pub marks_none : (patience : Patience) (seen : ℕ) (done : List (Slot ℕ)) (p : Parties ℕ) → (seen % 2 ≡ 0 → seen ≢ 2 ^ 64 - 2 → ⊥) → WriteGoes (marks_or_spins patience seen) done p → WriteGoes (spins patience) done p
+marks_none patience seen done p never at = when_false calls.WriteLock (lets_mark seen) (afters.At (places.Mark seen (seen + 1) patience)) (spins patience) done p (unmarkable seen never) at
+
+pub may_mark : (patience : Patience) (seen put : ℕ) (done : List (Slot ℕ)) (p : Parties ℕ) → seen % 2 ≡ 0 → seen ≢ 2 ^ 64 - 2 → put ≡ seen + 1 → WriteGoes (marks_or_spins patience seen) done p → TableHas Going 0 (λ w. intents.Exchange w seen put) p
+may_mark patience seen put done p even other is at = may_exchange Going calls.WriteLock (places.Mark seen (seen + 1) patience) done p seen (seen + 1) put is refl (comes_to_mark patience seen done p even other at)
+
+mark_so : (patience : Patience) (seen found : ℕ) (done : List (Slot ℕ)) (q : Parties ℕ) → (found == seen) ≡ true → rw_writer_grant {T = ℕ} calls.WriteLock seen (seen + 1) ≡ None →
+    Led rw_writer_model calls.WriteLock (places.Mark seen (seen + 1) patience) None found done q → WriteGoes (spins patience) done q
+mark_so patience seen found done q test grants led = rw (test, grants) at led
+
+pub marked : (patience : Patience) (seen found : ℕ) (done : List (Slot ℕ)) (p q : Parties ℕ) → seen % 2 ≡ 0 → seen ≢ 2 ^ 64 - 2 → found ≡ seen → WriteGoes (marks_or_spins patience seen) done p → TableLed Going p found q → WriteGoes (spins patience) done q
+marked patience seen found done p q even other is at went =
+    mark_so patience seen found done q (hit found seen is) (marks seen) (went calls.WriteLock (places.Mark seen (seen + 1) patience) None done (comes_to_mark patience seen done p even other at))
+
+mark_missed_so : (patience : Patience) (seen found : ℕ) (done : List (Slot ℕ)) (q : Parties ℕ) → (found == seen) ≡ false →
+    Led rw_writer_model calls.WriteLock (places.Mark seen (seen + 1) patience) None found done q → WriteGoes (write_look patience found) done q
+mark_missed_so patience seen found done q test led = rw test at led
+
+pub mark_missed : (patience : Patience) (seen found : ℕ) (done : List (Slot ℕ)) (p q : Parties ℕ) → seen % 2 ≡ 0 → seen ≢ 2 ^ 64 - 2 → found ≢ seen → WriteGoes (marks_or_spins patience seen) done p → TableLed Going p found q →
+    WriteGoes (write_look patience found) done q
+mark_missed patience seen found done p q even other miss at went =
+    mark_missed_so patience seen found done q (ne_eqb found seen miss) (went calls.WriteLock (places.Mark seen (seen + 1) patience) None done (comes_to_mark patience seen done p even other at))
+
+-- it spins, and then loads the counter and looks a last time
+
+pub spins_on : (n : ℕ) (done : List (Slot ℕ)) (p : Parties ℕ) → n < 10000 → WriteGoes (spins (spun n)) done p → ComesToWrite Going (spun (n + 1)) done p
+spins_on n done p below at = when_true calls.WriteLock (nat_lt n 10000) (afters.At (places.WriteLook (spun (n + 1)))) (afters.At (places.LoadCounter (spun n))) done p (lt_true n 10000 below) at
+
+pub all_spun : (n : ℕ) (done : List (Slot ℕ)) (p : Parties ℕ) → n ≡ 10000 → WriteGoes (spins (spun n)) done p → WriteGoes (afters.At (places.LoadCounter (spun 10000))) done p
+all_spun n done p all at = subst (λ (k : ℕ). WriteGoes (spins (spun k)) done p) all at
+
+pub may_load_count : (patience : Patience) (done : List (Slot ℕ)) (p : Parties ℕ) → WriteGoes (afters.At (places.LoadCounter patience)) done p → TableHas Going 1 (λ w. intents.Load w) p
+may_load_count patience done p at = has_step Going 1 (λ w. intents.Load w) calls.WriteLock (places.LoadCounter patience) None done p words.Counter refl refl refl at
+
+pub counter_loaded : (found : ℕ) (p q : Parties ℕ) → TableLed Going p found q → (patience : Patience) → GoesFromTo calls.WriteLock (afters.At (places.LoadCounter patience)) (afters.At (places.LastLook found patience)) p q
+counter_loaded found p q went patience = λ done at. went calls.WriteLock (places.LoadCounter patience) None done at
+
+pub may_look_last : (count : ℕ) (patience : Patience) (done : List (Slot ℕ)) (p : Parties ℕ) → WriteGoes (afters.At (places.LastLook count patience)) done p → TableHas Going 0 (λ w. intents.Load w) p
+may_look_last count patience done p at = may_look Going calls.WriteLock (places.LastLook count patience) done p refl at
+
+pub looked_last : (count found : ℕ) (p q : Parties ℕ) → TableLed Going p found q → (patience : Patience) → GoesFromTo calls.WriteLock (afters.At (places.LastLook count patience)) (last_look count patience found) p q
+looked_last count found p q went patience = λ done at. went calls.WriteLock (places.LastLook count patience) None done at
+
+pub stands : (count seen : ℕ) (patience : Patience) (done : List (Slot ℕ)) (p : Parties ℕ) → is_blocked seen ≡ true → WriteGoes (last_look count patience seen) done p → WriteGoes (afters.Waits (places.WriteLook patience) count) done p
+stands count seen patience done p blocked at = when_true calls.WriteLock (is_blocked seen) (afters.Waits (places.WriteLook patience) count) (write_look patience seen) done p blocked at
+
+pub goes_on : (count seen : ℕ) (patience : Patience) (done : List (Slot ℕ)) (p : Parties ℕ) → is_blocked seen ≡ false → WriteGoes (last_look count patience seen) done p → WriteGoes (write_look patience seen) done p
+goes_on count seen patience done p free at = when_false calls.WriteLock (is_blocked seen) (afters.Waits (places.WriteLook patience) count) (write_look patience seen) done p free at
+
+-- its closure is asked, with the counter
+
+pub stands_to_wait : (i count : ℕ) (done : List (Slot ℕ)) (p : Parties ℕ) → i ≡ 1 → WriteGoes (afters.Waits (places.WriteLook (spun 10000)) count) done p →
+    StandsToWait rw_writer_model (words.State ∷ words.Counter ∷ []) rw_writer_handed i count p
+stands_to_wait i count done p is at = record {
+  call = calls.WriteLock;
+  place = places.WriteLook (spun 10000);
+  hold = None;
+  done = done;
+  at = at;
+  word = subst (λ (n : ℕ). IsNamed (words.State ∷ words.Counter ∷ []) n words.Counter) (sym is) refl;
+}
+
+pub continued : (count : ℕ) (done : List (Slot ℕ)) (p : Parties ℕ) → WriteGoes (afters.Waits (places.WriteLook (spun 10000)) count) done p → ComesToWrite (Answered actions.Continue) (spun 10000) done p
+continued count done p at = record { stood = places.WriteLook (spun 10000); told = count; at = at; answered = refl }
+
+pub aborted : (count : ℕ) (done : List (Slot ℕ)) (p : Parties ℕ) → WriteGoes (afters.Waits (places.WriteLook (spun 10000)) count) done p → ComesToGiveUp done p
+aborted count done p at = record { stood = places.WriteLook (spun 10000); told = count; at = at; answered = refl }
+
+-- it gives up
+
+comes_to_unmark : (seen : ℕ) (done : List (Slot ℕ)) (p : Parties ℕ) → IsMarked seen → WriteGoes (unmarks_or_leaves seen) done p → WriteGoes (afters.At (places.Unmark seen (seen - 1))) done p
+comes_to_unmark seen done p set at = when_true calls.WriteLock (is_marked seen) (afters.At (places.Unmark seen (seen - 1))) (afters.Ends answers.Interrupted) done p (marked_word seen set) at
+
+pub leaves : (seen : ℕ) (done : List (Slot ℕ)) (p : Parties ℕ) → ¬ IsMarked seen → WriteGoes (unmarks_or_leaves seen) done p → WriteGoes (afters.Ends answers.Interrupted) done p
+leaves seen done p unset at = when_false calls.WriteLock (is_marked seen) (afters.At (places.Unmark seen (seen - 1))) (afters.Ends answers.Interrupted) done p (unmarked_word seen unset) at
+
+pub may_unmark : (seen put : ℕ) (done : List (Slot ℕ)) (p : Parties ℕ) → IsMarked seen → put ≡ seen - 1 → WriteGoes (unmarks_or_leaves seen) done p → TableHas Going 0 (λ w. intents.Exchange w seen put) p
+may_unmark seen put done p set is at = may_exchange Going calls.WriteLock (places.Unmark seen (seen - 1)) done p seen (seen - 1) put is refl (comes_to_unmark seen done p set at)
+
+unmark_so : (seen found : ℕ) (done : List (Slot ℕ)) (q : Parties ℕ) → (found == seen) ≡ true → rw_writer_grant {T = ℕ} calls.WriteLock seen (seen - 1) ≡ None →
+    Led rw_writer_model calls.WriteLock (places.Unmark seen (seen - 1)) None found done q → WriteGoes (afters.At (places.Count leavers.GivenUp)) done q
+unmark_so seen found done q test grants led = rw (test, grants) at led
+
+pub unmarked : (seen found : ℕ) (p q : Parties ℕ) → IsMarked seen → found ≡ seen → TableLed Going p found q → GoesFromTo calls.WriteLock (unmarks_or_leaves seen) (afters.At (places.Count leavers.GivenUp)) p q
+unmarked seen found p q set is went =
+    λ done at. unmark_so seen found done q (hit found seen is) (unmarks seen set.odd) (went calls.WriteLock (places.Unmark seen (seen - 1)) None done (comes_to_unmark seen done p set at))
+
+unmark_missed_so : (seen found : ℕ) (done : List (Slot ℕ)) (q : Parties ℕ) → (found == seen) ≡ false →
+    Led rw_writer_model calls.WriteLock (places.Unmark seen (seen - 1)) None found done q → WriteGoes (unmarks_or_leaves found) done q
+unmark_missed_so seen found done q test led = rw test at led
+
+pub unmark_missed : (seen found : ℕ) (p q : Parties ℕ) → IsMarked seen → found ≢ seen → TableLed Going p found q → GoesFromTo calls.WriteLock (unmarks_or_leaves seen) (unmarks_or_leaves found) p q
+unmark_missed seen found p q set miss went =
+    λ done at. unmark_missed_so seen found done q (ne_eqb found seen miss) (went calls.WriteLock (places.Unmark seen (seen - 1)) None done (comes_to_unmark seen done p set at))
+
+-- the counter's add, and the wakes
+
+pub may_count : (who : Leaver) (p : Parties ℕ) → SomeCallGoes (afters.At (places.Count who)) p → TableHas Going 1 (λ w. intents.Add w 1) p
+may_count who p is = has_step Going 1 (λ w. intents.Add w 1) is.call (places.Count who) None is.done p words.Counter refl refl refl is.at
+
+pub counted : (found : ℕ) (p q : Parties ℕ) → TableLed Going p found q → (call : Call ℕ) (who : Leaver) → GoesFromTo call (afters.At (places.Count who)) (afters.At (places.WakeOne who)) p q
+counted found p q went call who = λ done at. went call (places.Count who) None done at
+
+pub is_to_wake : (i : ℕ) (who : Leaver) (p : Parties ℕ) → i ≡ 1 → SomeCallGoes (afters.At (places.WakeOne who)) p → IsToWake rw_writer_model (words.State ∷ words.Counter ∷ []) rw_writer_handed i p
+is_to_wake i who p is goes = record {
+  call = goes.call;
+  place = places.WakeOne who;
+  hold = None;
+  done = goes.done;
+  at = goes.at;
+  who = wakes.One;
+  wakes = refl;
+  word = subst (λ (n : ℕ). IsNamed (words.State ∷ words.Counter ∷ []) n words.Counter) (sym is) refl;
+}
+
+pub is_to_wake_both : (i j : ℕ) (p : Parties ℕ) → i ≡ 1 → j ≡ 0 → IsToWakeBoth p → IsToWakeTwice rw_writer_model (words.State ∷ words.Counter ∷ []) rw_writer_handed i j p
+is_to_wake_both i j p first second both = record {
+  call = both.wakes.call;
+  place = places.WakeOne both.who;
+  hold = None;
+  done = both.wakes.done;
+  at = both.wakes.at;
+  who = wakes.One;
+  wakes = refl;
+  word = subst (λ (n : ℕ). IsNamed (words.State ∷ words.Counter ∷ []) n words.Counter) (sym first) refl;
+  later = places.WakeAll both.who;
+  goes_on = both.both;
+  also = wakes.All;
+  wakes_also = refl;
+  word_also = subst (λ (n : ℕ). IsNamed (words.State ∷ words.Counter ∷ []) n words.State) (sym second) refl;
+}
+
+-- `Unlock`
+
+pub may_leave_reading : (p : Parties ℕ) → has_hold kinds.Read p ≡ true → TableHas (Continuing calls.Unlock) 0 (λ w. intents.Subtract w 2) p
+may_leave_reading p has = has_step (Continuing calls.Unlock) 0 (λ w. intents.Subtract w 2) calls.Unlock places.Release (Some kinds.Read) p.resting p words.State refl refl refl
+    (unlock_begins kinds.Read p.resting p (holding_told rw_writer_model kinds.Read p has))
+
+pub may_leave_writing : (p : Parties ℕ) → has_hold kinds.Write p ≡ true → TableHas (Continuing calls.Unlock) 0 (λ w. intents.Store w 0) p
+may_leave_writing p has = has_step (Continuing calls.Unlock) 0 (λ w. intents.Store w 0) calls.Unlock places.Release (Some kinds.Write) p.resting p words.State refl refl refl
+    (unlock_begins kinds.Write p.resting p (holding_told rw_writer_model kinds.Write p has))
+
+pub leaves_reading : (found : ℕ) (p q : Parties ℕ) → TableLed (Continuing calls.Unlock) p found q → Unlocks kinds.Read (released (Some found)) p q
+leaves_reading found p q went = λ done holding. went calls.Unlock places.Release (Some kinds.Read) done (unlock_begins kinds.Read done p holding)
+
+pub leaves_writing : (found : ℕ) (p q : Parties ℕ) → TableLed (Continuing calls.Unlock) p found q → Unlocks kinds.Write (afters.At (places.Count leavers.Writer)) p q
+leaves_writing found p q went = λ done holding. went calls.Unlock places.Release (Some kinds.Write) done (unlock_begins kinds.Write done p holding)
+
+-- the party that had this hold goes on so
+pub unlocking : (kind : HoldKind) (after : After ℕ RwWriterPlace) (p q : Parties ℕ) → has_hold kind p ≡ true → Unlocks kind after p q → SomeCallGoes after q
+unlocking kind after p q has goes = record { call = calls.Unlock; done = p.resting; at = goes p.resting (holding_told rw_writer_model kind p has) }
+
+pub last_reader : (found : ℕ) (p q : Parties ℕ) → found ≡ 3 → Unlocks kinds.Read (released (Some found)) p q → Unlocks kinds.Read (afters.At (places.Count leavers.Reader)) p q
+last_reader found p q is goes = λ done holding. when_true calls.Unlock (found == 3) (afters.At (places.Count leavers.Reader)) (afters.Ends answers.Done) done q (hit found 3 is) (goes done holding)
+
+wakes_so : (found : ℕ) (done : List (Slot ℕ)) (q : Parties ℕ) → (found == 3) ≡ true → CallGoes calls.Unlock (afters.At (places.WakeOne leavers.Reader)) done q → CallGoes calls.Unlock (unlocked kinds.Read found) done q
+wakes_so found done q test at = rw test at
+
+pub wakes_writer : (found last : ℕ) (p q r : Parties ℕ) → found ≡ 3 → last ≡ found → Unlocks kinds.Read (afters.At (places.Count leavers.Reader)) p q → GoesFromTo calls.Unlock (afters.At (places.Count leavers.Reader)) (afters.At (places.WakeOne leavers.Reader)) q r →
+    Unlocks kinds.Read (unlocked kinds.Read last) p r
+wakes_writer found last p q r is saw goes on = λ done holding. wakes_so last done r (hit last 3 (saw ∙ is)) (on done (goes done holding))

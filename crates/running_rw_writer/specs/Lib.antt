@@ -1,0 +1,3 @@
+pub mod RwWriterSteps
+pub mod RwWriterShown
+pub mod RwWriterParties

@@ -1,9 +1,0 @@
-pub mod RwReaderKeeps
-pub mod RwReaderCounts
-pub mod RwReaderPlays
-pub mod RwWriterKeeps
-pub mod RwWriterCounts
-pub mod RwWriterTries
-pub mod RwWriterPlays
-pub mod RwReaderUnlocks
-pub mod RwReaderJoins
