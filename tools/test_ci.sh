@@ -1,7 +1,7 @@
-# `rt ci`, whose last line counts what passed and failed. Its own count goes into the test's.
+# `rt ci`, whose last line counts what passed and failed. Its own count goes into the test's. What each crate cost goes to standard error.
 test_ci() {
     local ended last
-    rt ci | tee -- "$room/ci"
+    python3 tools/cost.py rt ci | tee -- "$room/ci"
     ended=${PIPESTATUS[0]}
     last=$(tail -n 1 -- "$room/ci")
     if [[ ! $last =~ ^([0-9]+)\ passed,\ ([0-9]+)\ failed$ ]]; then
