@@ -35,7 +35,10 @@ TESTED = {
 }
 
 # The libraries of the programs, whose calls take memory of the system alone. `./test streams` sweeps the limit of each program.
-SWEPT = {"sync_play", "sync_advice", "sync_trace", "sync_draw", "markup", "sync_search", "sync_explore"}
+SWEPT = {
+    *("sync_play", "sync_advice", "sync_trace", "sync_search", "sync_explore"),
+    *("markup", "draw_shapes", "sync_story", "draw_layout", "draw_parts", "sync_draw"),
+}
 
 # Programs that nobody calls, and tests.
 APART = re.compile(r".*_tests|.*_main|sync_bench|bench_.*|storm|two_threads|spin_counter|four_meet|patient_writer|.*_pool|closures")
