@@ -23,8 +23,8 @@ TESTED = {
     "running_mutex ConditionVariable::new": "a_condition_variable_that_finds_no_memory",
     "running_mutex Mutex::new": "a_mutex_that_finds_no_memory",
     "running_once Once::new": "a_once_that_finds_no_memory",
-    "running_rw_reader RwLockReaderPreference::new": "a_reader_preferring_lock_that_finds_no_memory",
-    "running_rw_writer RwLockWriterPreference::new": "a_writer_preferring_lock_that_finds_no_memory",
+    "running_rwlock RwLockReaderPreference::new": "a_reader_preferring_lock_that_finds_no_memory",
+    "running_rwlock RwLockWriterPreference::new": "a_writer_preferring_lock_that_finds_no_memory",
     "running_semaphore Semaphore::new": "a_semaphore_that_finds_no_memory",
     "running_spin_lock SpinLock::new": "a_spin_lock_that_finds_no_memory_hands_its_value_back",
     "sync_steps Machine::new": "a_machine_that_finds_no_memory",
@@ -35,7 +35,10 @@ TESTED = {
 }
 
 # The libraries of the programs, whose calls take memory of the system alone. `./test streams` sweeps the limit of each program.
-SWEPT = {"sync_lines", "sync_play", "sync_advice", "sync_trace", "sync_draw", "markup", "sync_search", "sync_explore"}
+SWEPT = {
+    *("sync_lines", "sync_play", "sync_advice", "sync_trace", "sync_search", "sync_explore"),
+    *("markup", "draw_shapes", "sync_story", "draw_layout", "draw_parts", "sync_draw"),
+}
 
 # Programs that nobody calls, and tests.
 APART = re.compile(r".*_tests|.*_main|sync_bench|bench_.*|storm|two_threads|spin_counter|four_meet|patient_writer|.*_pool|closures")

@@ -1,2 +1,1 @@
-pub mod StoryLaws
 pub mod PictureLaws

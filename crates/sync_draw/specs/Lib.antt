@@ -1,4 +1,2 @@
 pub mod Picture
 pub mod Run
-pub mod Story
-pub mod Title

@@ -7,9 +7,9 @@ use Rattle.sync_lines.specs.Lexer.{lines_of}
 use Rattle.sync_lines.specs.Numerals.{Numerals}
 use Rattle.sync_lines.specs.ValueTypes.{values_in}
 use Rattle.sync_trace.specs.Trace.{rows_of}
-use Rattle.sync_draw.specs.declared.story.Step.{Step}
-use Rattle.sync_draw.specs.Story.{kept}
-use Rattle.sync_draw.specs.Title.{title_words}
+use Rattle.sync_story.specs.declared.story.Step.{Step}
+use Rattle.sync_story.specs.Story.{kept}
+use Rattle.sync_story.specs.Title.{title_words}
 
 -- an `svg` element with all that is in it, in which the groups have these titles, and then the end of the line
 abbrev pub IsPicture : List (List ℕ) → List ℕ → Type 0

@@ -4,7 +4,7 @@ use Rattle.std.specs.Io.KnownBytes.{Appends}
 use Rattle.sync_play.specs.Run.{HasRead}
 use Rattle.sync_play.specs.Text.{output_of}
 use Rattle.sync_draw.specs.Picture.{IsPictureOf}
-use Rattle.sync_draw.specs.Story.{HasOutput}
+use Rattle.sync_story.specs.Story.{HasOutput}
 
 -- all that was read is a text without a fault, and its picture was written and nothing else
 pub record HasDrawn (left left' written written' : Option (List ℕ)) : Type 0 where

@@ -3,18 +3,11 @@
 //! [`run::run`] draws the text that a reader brings, and writes its picture to a writer; [`picture::draw_text`] draws a text that is
 //! already there. The program of the crate beside this one is the first of them over standard input and output.
 //!
-//! A text is played and its steps are kept (`story`); each step is put in words (`label`), with values in the object's own
-//! terms (`terms`); all get their places (`layout`); and what has a place is drawn (`picture`, by the elements of `shape`).
+//! A text is played and its steps are kept (`sync_story`); each step is put in words, and all get their places (`draw_layout`); what has
+//! a place is drawn (`draw_parts`, by the elements of `draw_shapes`); and `picture` makes one picture of it.
 #![tactic(auto)]
 
-mod label;
-mod layout;
-mod legend;
 pub mod picture;
 pub mod run;
-mod shape;
-pub mod story;
-mod style;
-mod terms;
-pub mod title;
-mod value;
+
+pub use sync_story::{story, title};

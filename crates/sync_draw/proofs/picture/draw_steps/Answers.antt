@@ -3,9 +3,9 @@ use Rattle.std.proofs.lemmas.List.{take_all}
 use Rattle.std.specs.Prelude.{string_bytes}
 use Rattle.markup.specs.declared.group.Group.{Group}
 use Rattle.markup.specs.Group.{titles_of}
-use Rattle.sync_draw.specs.declared.story.Step.{Step}
+use Rattle.sync_story.specs.declared.story.Step.{Step}
 use Rattle.sync_draw.specs.Picture.{step_titles}
-use Rattle.sync_draw.proofs.StoryLaws.{one_more}
+use Rattle.sync_story.proofs.StoryLaws.{one_more}
 use Rattle.sync_draw.proofs.picture.draw_steps.Goals as goal
 
 pub loop-step-preserved : goal.loop-step-preserved

@@ -1,6 +1,6 @@
 use Rattle.std.proofs.Common.{subst, ℕ, List}
 use Rattle.sync_draw.specs.Picture.{IsPicture}
-use Rattle.sync_draw.proofs.StoryLaws.{titles_told, has_output}
+use Rattle.sync_story.proofs.StoryLaws.{titles_told, has_output}
 use Rattle.sync_draw.proofs.picture.draw_typed.Goals as goal
 
 pub returns-clause-drawn : goal.returns-clause-drawn

@@ -1,0 +1,73 @@
+//! The value of an atomic, which its two data words have together.
+use sync_lines::integer::TextInteger;
+use sync_steps::steps::{Act, Word};
+use sync_story::story::Story;
+
+/// The two data words of an atomic.
+#[derive(Clone, Copy)]
+pub struct DataWords {
+    pub low: u64,
+    pub high: u64,
+    /// Whether of a new value only the low word is written.
+    pub is_half: bool,
+}
+
+impl DataWords {
+    /// Those before the first step.
+    pub fn before<T>(story: &Story<T>) -> DataWords {
+        DataWords {
+            low: story.opening.low,
+            high: story.opening.high,
+            is_half: false,
+        }
+    }
+
+    /// Those after a step that writes one of them.
+    pub fn written_by<T: Copy>(self, act: &Act<T>) -> Option<DataWords> {
+        match *act {
+            Act::Store {
+                word: Word::Low,
+                put,
+            } => Some(DataWords {
+                low: put,
+                high: self.high,
+                is_half: true,
+            }),
+            Act::Store {
+                word: Word::High,
+                put,
+            } => Some(DataWords {
+                low: self.low,
+                high: put,
+                is_half: false,
+            }),
+            _ => None,
+        }
+    }
+
+    /// Those after a row of the story.
+    pub fn after<T: Copy>(story: &Story<T>, row: u32) -> DataWords {
+        let mut words = DataWords::before(story);
+        for step in &story.steps {
+            if step.row <= row
+                && let Some(written) = words.written_by(&step.event.act)
+            {
+                words = written;
+            }
+        }
+        words
+    }
+
+    /// The value that they have.
+    pub fn value<T: TextInteger>(self) -> T {
+        T::from_words(self.low, self.high)
+    }
+}
+
+/// Whether a step reads or writes the second of the two words, and so knows the value.
+pub fn ends_a_value<T: Copy>(act: &Act<T>) -> bool {
+    match *act {
+        Act::Load { word, .. } | Act::Store { word, .. } => word == Word::High,
+        _ => false,
+    }
+}

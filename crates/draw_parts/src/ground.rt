@@ -1,0 +1,59 @@
+//! Draws what the steps stand on.
+use crate::band::draw_bands;
+use crate::foot::height_of;
+use crate::lane::draw_lanes;
+use crate::schedule::draw_schedule;
+use draw_layout::layout::Layout;
+use draw_shapes::shape::{put, put_shape, put_text, rect};
+use draw_shapes::style::draw_style;
+use markup::markup::Markup;
+use markup::name::Tag;
+use markup::opening::Opening;
+use std::alloc::{AllocError, Global};
+use sync_story::story::Story;
+
+/// Draws the name of the picture, which a browser shows, and what all else refers to.
+fn draw_name(alloc: Global, picture: &mut Markup, title: &str) -> Result<(), AllocError> {
+    picture.say("\n")?;
+    let name = Opening::new(alloc, Tag::Title)?.saying(title)?;
+    put(picture, name)?;
+    draw_style(alloc, picture)
+}
+
+/// Draws the paper, and the first line of the text on it.
+fn draw_paper(
+    alloc: Global,
+    picture: &mut Markup,
+    title: &str,
+    layout: &Layout,
+) -> Result<(), AllocError> {
+    let width = u64::from(layout.width);
+    let paper = rect(alloc, "paper", 0, 0, width, height_of(layout))?;
+    put_shape(picture, paper)?;
+    put_text(alloc, picture, "head", 12, 22, title)
+}
+
+/// Draws the columns: the schedule, the lanes and the bands.
+fn draw_columns<T>(
+    alloc: Global,
+    picture: &mut Markup,
+    story: &Story<T>,
+    layout: &Layout,
+) -> Result<(), AllocError> {
+    draw_schedule(alloc, picture, story, layout)?;
+    draw_lanes(alloc, picture, layout)?;
+    draw_bands(alloc, picture, layout)
+}
+
+/// Draws what the steps stand on.
+pub fn draw_ground<T>(
+    alloc: Global,
+    story: &Story<T>,
+    layout: &Layout,
+) -> Result<Markup, AllocError> {
+    let mut picture = Markup::new(alloc);
+    draw_name(alloc, &mut picture, story.title.as_str())?;
+    draw_paper(alloc, &mut picture, story.title.as_str(), layout)?;
+    draw_columns(alloc, &mut picture, story, layout)?;
+    Ok(picture)
+}

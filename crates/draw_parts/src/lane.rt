@@ -1,0 +1,143 @@
+//! Draws the lanes, and on them the parties' calls, stands and holds.
+use draw_layout::layout::{Hold, Lane, Layout, Span, top_of};
+use draw_shapes::shape::{circle, line, put_shape, put_text, put_titled, rect};
+use markup::markup::Markup;
+use markup::name::Key;
+use std::alloc::{AllocError, Global};
+use steps_events::hold::HoldKind;
+
+/// Draws which party a lane is of.
+pub fn draw_party(
+    alloc: Global,
+    picture: &mut Markup,
+    lane: &Lane,
+    class: &str,
+    x: u64,
+    baseline: u64,
+) -> Result<(), AllocError> {
+    let party = lane.party as u128 + 1;
+    let name = format!(in alloc; "party {party}")?;
+    put_text(alloc, picture, class, x, baseline, name.as_str())
+}
+
+/// Draws the party's name, and the line that its calls stand on.
+fn draw_lane(
+    alloc: Global,
+    picture: &mut Markup,
+    layout: &Layout,
+    lane: &Lane,
+) -> Result<(), AllocError> {
+    draw_party(alloc, picture, lane, "head", lane.start() + 10, 22)?;
+    let x = lane.middle();
+    let way = line(alloc, "lane", (x, 30), (x, layout.bottom()))?;
+    put_shape(picture, way)
+}
+
+/// Draws the box of a call. It is dashed where the call has not ended.
+fn draw_call(
+    alloc: Global,
+    picture: &mut Markup,
+    layout: &Layout,
+    lane: &Lane,
+    span: &Span,
+) -> Result<(), AllocError> {
+    let class = if span.last.is_some() { "call" } else { "open" };
+    let top = top_of(span.first);
+    let bottom = layout.bottom_of(span, 20);
+    let height = bottom.saturating_sub(top);
+    let area = rect(
+        alloc,
+        class,
+        lane.start(),
+        top,
+        u64::from(lane.width),
+        height,
+    )?
+    .at(Key::Rounding, 6)?;
+    put_shape(picture, area)
+}
+
+/// Draws a stand at a closure.
+fn draw_stand(
+    alloc: Global,
+    picture: &mut Markup,
+    layout: &Layout,
+    lane: &Lane,
+    span: &Span,
+) -> Result<(), AllocError> {
+    let top = top_of(span.first) + 16;
+    let bottom = layout.bottom_of(span, 2);
+    let area = rect(
+        alloc,
+        "stand",
+        lane.start() + 4,
+        top,
+        20,
+        bottom.saturating_sub(top),
+    )?;
+    put_titled(alloc, picture, area, "stands at its closure")
+}
+
+/// Draws a hold.
+fn draw_hold(
+    alloc: Global,
+    picture: &mut Markup,
+    layout: &Layout,
+    lane: &Lane,
+    hold: &Hold,
+) -> Result<(), AllocError> {
+    let (class, title) = match hold.kind {
+        HoldKind::Write => ("writer", "holds, alone"),
+        HoldKind::Read => ("reader", "holds, to read"),
+    };
+    let top = top_of(hold.span.first) + 8;
+    let bottom = layout.bottom_of(&hold.span, 8);
+    let height = bottom.saturating_sub(top);
+    let bar = rect(alloc, class, u64::from(lane.left), top, 5, height)?.at(Key::Rounding, 2)?;
+    put_titled(alloc, picture, bar, title)
+}
+
+/// Draws a ring round what a refused call saw last.
+fn draw_sight(
+    alloc: Global,
+    picture: &mut Markup,
+    lane: &Lane,
+    row: u32,
+) -> Result<(), AllocError> {
+    let ring = circle(alloc, "last", lane.middle(), top_of(row) + 8, 8)?;
+    let title = "what the call saw last before it was refused";
+    put_titled(alloc, picture, ring, title)
+}
+
+/// Draws a party's calls, stands, holds and sights.
+fn draw_spans(
+    alloc: Global,
+    picture: &mut Markup,
+    layout: &Layout,
+    lane: &Lane,
+) -> Result<(), AllocError> {
+    for call in &lane.calls {
+        draw_call(alloc, picture, layout, lane, call)?;
+    }
+    for stand in &lane.stands {
+        draw_stand(alloc, picture, layout, lane, stand)?;
+    }
+    for hold in &lane.holds {
+        draw_hold(alloc, picture, layout, lane, hold)?;
+    }
+    for row in &lane.sights {
+        draw_sight(alloc, picture, lane, *row)?;
+    }
+    Ok(())
+}
+
+/// Draws the lanes, and on them what the parties did.
+pub fn draw_lanes(alloc: Global, picture: &mut Markup, layout: &Layout) -> Result<(), AllocError> {
+    for lane in &layout.lanes {
+        draw_lane(alloc, picture, layout, lane)?;
+    }
+    for lane in &layout.lanes {
+        draw_spans(alloc, picture, layout, lane)?;
+    }
+    Ok(())
+}

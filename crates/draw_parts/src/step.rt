@@ -1,0 +1,158 @@
+//! Draws a step in the lane of its party.
+ghost use Rattle.std.specs.Prelude.{◌<◌, ◌^◌};
+
+use crate::lane::draw_party;
+use draw_layout::label::{Mark, Reach, Tone, label_of, mark_of, outcome_of, reach_of, tone_of};
+use draw_layout::layout::{Lane, Layout, top_of};
+use draw_shapes::legend::cross;
+use draw_shapes::shape::{circle, line, put_shape, put_text, rect};
+use markup::markup::Markup;
+use std::alloc::{AllocError, Global};
+use sync_lines::integer::TextInteger;
+use sync_steps::steps::Act;
+use sync_story::story::{Step, Story};
+
+/// Draws the mark of a step, round its place.
+fn draw_mark(
+    alloc: Global,
+    picture: &mut Markup,
+    mark: Mark,
+    x: u64,
+    y: u64,
+) -> Result<(), AllocError>
+    requires x_fits { x < 2 ^ 40 }
+    requires y_fits { y < 2 ^ 42 }
+{
+    let drawn = match mark {
+        Mark::None => return Ok(()),
+        Mark::Look => circle(alloc, "look", x, y, 5),
+        Mark::Done => circle(alloc, "done", x, y, 5),
+        Mark::Failed => cross(alloc, x, y),
+        Mark::Written => rect(
+            alloc,
+            "done",
+            x.saturating_sub(5),
+            y.saturating_sub(5),
+            10,
+            10,
+        ),
+        Mark::Wake => line(alloc, "wake", (x, y), (x + 20, y)),
+    };
+    put_shape(picture, drawn?)
+}
+
+/// Draws the way from a step to the word that it reads or writes.
+fn draw_reach(
+    alloc: Global,
+    picture: &mut Markup,
+    layout: &Layout,
+    reach: Reach,
+    x: u64,
+    y: u64,
+) -> Result<(), AllocError>
+    requires { x < 2 ^ 40 }
+{
+    let class = if reach.writes { "write" } else { "read" };
+    let to = layout.right_of(reach.word) + 2;
+    put_shape(picture, line(alloc, class, (x, y), (to, y))?)
+}
+
+fn tone_class(tone: Option<Tone>) -> &'static str {
+    match tone {
+        Some(Tone::Granted) => "granted end",
+        Some(Tone::Refused) => "refused end",
+        Some(Tone::Waiting) => "waiting end",
+        None => "end",
+    }
+}
+
+/// Draws what a step did.
+fn draw_label<T: TextInteger>(
+    alloc: Global,
+    picture: &mut Markup,
+    story: &Story<T>,
+    lane: &Lane,
+    step: &Step<T>,
+) -> Result<(), AllocError> {
+    let baseline = top_of(step.row) + 12;
+    // A wake's arrow is longer than a mark.
+    let indent = if mark_of(&step.event.act) == Mark::Wake {
+        40
+    } else {
+        28
+    };
+    let label = label_of(alloc, story, step)?;
+    let x = lane.start() + indent;
+    put_text(alloc, picture, "", x, baseline, label.as_str())
+}
+
+/// Draws what became of a step's call.
+fn draw_outcome<T: TextInteger>(
+    alloc: Global,
+    picture: &mut Markup,
+    lane: &Lane,
+    step: &Step<T>,
+) -> Result<(), AllocError> {
+    let baseline = top_of(step.row) + 12;
+    let outcome = outcome_of(alloc, &step.event.then)?;
+    if outcome.is_empty() {
+        return Ok(());
+    }
+    let class = tone_class(tone_of(&step.event.then));
+    let right = lane.end().saturating_sub(8);
+    put_text(alloc, picture, class, right, baseline, outcome.as_str())
+}
+
+/// Draws the head of a call: its words in the text, without the party's number, and the party.
+fn draw_head<T>(
+    alloc: Global,
+    picture: &mut Markup,
+    lane: &Lane,
+    step: &Step<T>,
+) -> Result<(), AllocError> {
+    let baseline = top_of(step.row) + 13;
+    if let Some(line) = &step.line
+        && let Some((_, call)) = line.words.as_str().split_once(' ')
+    {
+        put_text(alloc, picture, "head", lane.start() + 10, baseline, call)?;
+    }
+    let right = lane.end().saturating_sub(8);
+    draw_party(alloc, picture, lane, "soft end", right, baseline)
+}
+
+/// Draws a step in the lane of its party: the head of a call, or the way to a word, a mark and words.
+fn draw_in_lane<T: TextInteger>(
+    alloc: Global,
+    picture: &mut Markup,
+    story: &Story<T>,
+    layout: &Layout,
+    lane: &Lane,
+    step: &Step<T>,
+) -> Result<(), AllocError> {
+    if let Act::Begun(_) = step.event.act {
+        return draw_head(alloc, picture, lane, step);
+    }
+    let x = lane.middle();
+    let y = top_of(step.row) + 8;
+    if let Some(reach) = reach_of(&step.event.act) {
+        draw_reach(alloc, picture, layout, reach, x, y)?;
+    }
+    draw_mark(alloc, picture, mark_of(&step.event.act), x, y)?;
+    draw_label(alloc, picture, story, lane, step)?;
+    draw_outcome(alloc, picture, lane, step)
+}
+
+/// Draws all that a step's group has inside.
+pub fn draw_inside<T: TextInteger>(
+    alloc: Global,
+    inside: &mut Markup,
+    story: &Story<T>,
+    layout: &Layout,
+    step: &Step<T>,
+) -> Result<(), AllocError> {
+    inside.say("\n")?;
+    match layout.lane_of(step.event.party) {
+        Some(lane) => draw_in_lane(alloc, inside, story, layout, lane, step),
+        None => Ok(()),
+    }
+}
