@@ -4,6 +4,25 @@ use markup::name::{Key, Tag};
 use markup::opening::Opening;
 use std::alloc::{AllocError, Global};
 
+/// An element of a class.
+fn of_class(alloc: Global, tag: Tag, class: &str) -> Result<Opening, AllocError> {
+    Opening::new(alloc, tag)?.with(Key::Class, class)
+}
+
+/// An element with two numbers more.
+pub fn with_numbers(
+    shape: Opening,
+    first: (Key, u64),
+    second: (Key, u64),
+) -> Result<Opening, AllocError> {
+    shape.at(first.0, first.1)?.at(second.0, second.1)
+}
+
+/// An element at a place.
+fn placed(shape: Opening, x: u64, y: u64) -> Result<Opening, AllocError> {
+    with_numbers(shape, (Key::X, x), (Key::Y, y))
+}
+
 /// A rectangle.
 pub fn rect(
     alloc: Global,
@@ -13,12 +32,8 @@ pub fn rect(
     width: u64,
     height: u64,
 ) -> Result<Opening, AllocError> {
-    Opening::new(alloc, Tag::Rect)?
-        .with(Key::Class, class)?
-        .at(Key::X, left)?
-        .at(Key::Y, top)?
-        .at(Key::Width, width)?
-        .at(Key::Height, height)
+    let corner = placed(of_class(alloc, Tag::Rect, class)?, left, top)?;
+    with_numbers(corner, (Key::Width, width), (Key::Height, height))
 }
 
 /// A line from one place to another.
@@ -28,12 +43,9 @@ pub fn line(
     from: (u64, u64),
     to: (u64, u64),
 ) -> Result<Opening, AllocError> {
-    Opening::new(alloc, Tag::Line)?
-        .with(Key::Class, class)?
-        .at(Key::X1, from.0)?
-        .at(Key::Y1, from.1)?
-        .at(Key::X2, to.0)?
-        .at(Key::Y2, to.1)
+    let line = of_class(alloc, Tag::Line, class)?;
+    let begun = with_numbers(line, (Key::X1, from.0), (Key::Y1, from.1))?;
+    with_numbers(begun, (Key::X2, to.0), (Key::Y2, to.1))
 }
 
 /// A circle round a place.
@@ -44,26 +56,18 @@ pub fn circle(
     y: u64,
     radius: u64,
 ) -> Result<Opening, AllocError> {
-    Opening::new(alloc, Tag::Circle)?
-        .with(Key::Class, class)?
-        .at(Key::CenterX, x)?
-        .at(Key::CenterY, y)?
-        .at(Key::Radius, radius)
+    let circle = of_class(alloc, Tag::Circle, class)?;
+    with_numbers(circle, (Key::CenterX, x), (Key::CenterY, y))?.at(Key::Radius, radius)
 }
 
 /// A way of lines.
 pub fn path(alloc: Global, class: &str, outline: &str) -> Result<Opening, AllocError> {
-    Opening::new(alloc, Tag::Path)?
-        .with(Key::Class, class)?
-        .with(Key::Outline, outline)
+    of_class(alloc, Tag::Path, class)?.with(Key::Outline, outline)
 }
 
 /// Words at a place.
 fn text(alloc: Global, class: &str, x: u64, y: u64) -> Result<Opening, AllocError> {
-    Opening::new(alloc, Tag::Text)?
-        .with(Key::Class, class)?
-        .at(Key::X, x)?
-        .at(Key::Y, y)
+    placed(of_class(alloc, Tag::Text, class)?, x, y)
 }
 
 /// Puts an element into a picture, on a line of its own.
@@ -77,6 +81,11 @@ pub fn put_shape(picture: &mut Markup, shape: Opening) -> Result<(), AllocError>
     put(picture, shape.empty()?)
 }
 
+/// The title of an element.
+pub fn title_of(alloc: Global, title: &str) -> Result<Markup, AllocError> {
+    Opening::new(alloc, Tag::Title)?.saying(title)
+}
+
 /// Puts an element with a title into a picture, which a browser shows where one points at it.
 pub fn put_titled(
     alloc: Global,
@@ -84,7 +93,7 @@ pub fn put_titled(
     shape: Opening,
     title: &str,
 ) -> Result<(), AllocError> {
-    let title = Opening::new(alloc, Tag::Title)?.saying(title)?;
+    let title = title_of(alloc, title)?;
     put(picture, shape.around(&title)?)
 }
 

@@ -1,64 +1,65 @@
 //! How a picture looks, in a light and in a dark page.
-use crate::shape::{line, path, put};
+use crate::shape::{line, path, put, with_numbers};
 use markup::markup::Markup;
 use markup::name::{Key, Tag};
 use markup::opening::Opening;
 use std::alloc::{AllocError, Global};
 
-/// Every colour has a name, and two values.
-const LIGHT: &str =
-    "svg{--ink:#1f2328;--soft:#656d76;--line:#d0d7de;--call:#eaf3fe;--edge:#54a0ff;--hold:#1f7a4d;--wait:#95600f;--bad:#b42318;--paper:#fff;--w0:#f3f4f6;--w1:#dbeafe;--w2:#fde68a;--w3:#fecdd3}";
+/// The style of every element, by its class. Every colour has a name, and two values, for a light and for a dark page.
+const STYLE: &str = "
+svg{--ink:#1f2328;--soft:#656d76;--line:#d0d7de;--call:#eaf3fe;--edge:#54a0ff;--hold:#1f7a4d;--wait:#95600f;--bad:#b42318;--paper:#fff;--w0:#f3f4f6;--w1:#dbeafe;--w2:#fde68a;--w3:#fecdd3}
+@media(prefers-color-scheme:dark){svg{--ink:#e6edf3;--soft:#9198a1;--line:#30363d;--call:#13243a;--edge:#3b82f6;--hold:#3fb27f;--wait:#e3b341;--bad:#ff7b72;--paper:#0d1117;--w0:#21262d;--w1:#1f3a5f;--w2:#5c4813;--w3:#5c1f2b}}
+text{font:12px ui-monospace,SFMono-Regular,Menlo,Consolas,monospace;fill:var(--ink)}.soft{fill:var(--soft)}.head{font-weight:700}.granted{fill:var(--hold);font-weight:700}.refused{fill:var(--bad);font-weight:700}.waiting{fill:var(--wait)}.end{text-anchor:end}.mid{text-anchor:middle}
+.paper{fill:var(--paper)}.rule,.lane{stroke:var(--line)}.call{fill:var(--call);stroke:var(--edge)}.open{fill:var(--call);stroke:var(--edge);stroke-dasharray:5 4}.read{stroke:var(--soft);stroke-dasharray:2 3}.write,.wake{stroke:var(--ink);marker-end:url(#tip)}.done{fill:var(--ink)}.look{fill:var(--paper);stroke:var(--ink);stroke-width:1.5}.failed{stroke:var(--bad);stroke-width:1.5}.last{fill:none;stroke:var(--bad);stroke-width:1.5;stroke-dasharray:3 2}.stand{fill:url(#hatch)}.hatch{stroke:var(--wait);stroke-width:2;opacity:.45}.tip{fill:var(--ink)}.writer{fill:var(--hold);stroke:var(--hold)}.reader{fill:var(--paper);stroke:var(--hold);stroke-width:1.5}.zero{fill:var(--w0)}.first{fill:var(--w1)}.second{fill:var(--w2)}.third{fill:var(--w3)}.band{stroke:var(--line)}
+";
 
-const DARK: &str =
-    "@media(prefers-color-scheme:dark){svg{--ink:#e6edf3;--soft:#9198a1;--line:#30363d;--call:#13243a;--edge:#3b82f6;--hold:#3fb27f;--wait:#e3b341;--bad:#ff7b72;--paper:#0d1117;--w0:#21262d;--w1:#1f3a5f;--w2:#5c4813;--w3:#5c1f2b}}";
-
-const TEXT: &str =
-    "text{font:12px ui-monospace,SFMono-Regular,Menlo,Consolas,monospace;fill:var(--ink)}.soft{fill:var(--soft)}.head{font-weight:700}.granted{fill:var(--hold);font-weight:700}.refused{fill:var(--bad);font-weight:700}.waiting{fill:var(--wait)}.end{text-anchor:end}.mid{text-anchor:middle}";
-
-const SHAPES: &str =
-    ".paper{fill:var(--paper)}.rule,.lane{stroke:var(--line)}.call{fill:var(--call);stroke:var(--edge)}.open{fill:var(--call);stroke:var(--edge);stroke-dasharray:5 4}.read{stroke:var(--soft);stroke-dasharray:2 3}.write,.wake{stroke:var(--ink);marker-end:url(#tip)}.done{fill:var(--ink)}.look{fill:var(--paper);stroke:var(--ink);stroke-width:1.5}.failed{stroke:var(--bad);stroke-width:1.5}.last{fill:none;stroke:var(--bad);stroke-width:1.5;stroke-dasharray:3 2}.stand{fill:url(#hatch)}.hatch{stroke:var(--wait);stroke-width:2;opacity:.45}.tip{fill:var(--ink)}.writer{fill:var(--hold);stroke:var(--hold)}.reader{fill:var(--paper);stroke:var(--hold);stroke-width:1.5}.zero{fill:var(--w0)}.first{fill:var(--w1)}.second{fill:var(--w2)}.third{fill:var(--w3)}.band{stroke:var(--line)}";
-
-/// The style of every element, by its class.
+/// The style, as an element.
 fn style(alloc: Global) -> Result<Markup, AllocError> {
-    let mut rules = Markup::new(alloc);
-    for rule in [LIGHT, DARK, TEXT, SHAPES] {
-        rules.say("\n")?;
-        rules.say(rule)?;
-    }
-    rules.say("\n")?;
-    Opening::new(alloc, Tag::Style)?.around(&rules)
+    Opening::new(alloc, Tag::Style)?.saying(STYLE)
+}
+
+/// An element that others name.
+fn named(alloc: Global, tag: Tag, name: &str) -> Result<Opening, AllocError> {
+    Opening::new(alloc, tag)?.with(Key::Id, name)
+}
+
+/// A pattern of lines that go up.
+fn pattern(alloc: Global) -> Result<Opening, AllocError> {
+    let pattern = named(alloc, Tag::Pattern, "hatch")?;
+    with_numbers(pattern, (Key::Width, 6), (Key::Height, 6))?
+        .with(Key::Units, "userSpaceOnUse")?
+        .with(Key::Transform, "rotate(45)")
 }
 
 /// The hatch of a stand.
 fn hatch(alloc: Global) -> Result<Markup, AllocError> {
-    let pattern = Opening::new(alloc, Tag::Pattern)?
-        .with(Key::Id, "hatch")?
-        .at(Key::Width, 6)?
-        .at(Key::Height, 6)?
-        .with(Key::Units, "userSpaceOnUse")?
-        .with(Key::Transform, "rotate(45)")?;
     let stroke = line(alloc, "hatch", (0, 0), (0, 6))?.empty()?;
-    pattern.around(&stroke)
+    pattern(alloc)?.around(&stroke)
+}
+
+/// A marker that points along its line.
+fn marker(alloc: Global) -> Result<Opening, AllocError> {
+    let marker = named(alloc, Tag::Marker, "tip")?.with(Key::ViewBox, "0 0 8 8")?;
+    let placed = with_numbers(marker, (Key::RefX, 7), (Key::RefY, 4))?;
+    with_numbers(placed, (Key::MarkerWidth, 7), (Key::MarkerHeight, 7))?.with(Key::Orient, "auto")
 }
 
 /// The tip of an arrow.
 fn tip(alloc: Global) -> Result<Markup, AllocError> {
-    let marker = Opening::new(alloc, Tag::Marker)?
-        .with(Key::Id, "tip")?
-        .with(Key::ViewBox, "0 0 8 8")?
-        .at(Key::RefX, 7)?
-        .at(Key::RefY, 4)?
-        .at(Key::MarkerWidth, 7)?
-        .at(Key::MarkerHeight, 7)?
-        .with(Key::Orient, "auto")?;
     let outline = path(alloc, "tip", "M0,0L8,4L0,8z")?.empty()?;
-    marker.around(&outline)
+    marker(alloc)?.around(&outline)
 }
 
-/// The hatch and the tip, which other elements name.
-fn definitions(alloc: Global) -> Result<Markup, AllocError> {
+/// The hatch and the tip.
+fn hatch_and_tip(alloc: Global) -> Result<Markup, AllocError> {
     let mut both = hatch(alloc)?;
     both.add(&tip(alloc)?)?;
+    Ok(both)
+}
+
+/// What other elements name.
+fn definitions(alloc: Global) -> Result<Markup, AllocError> {
+    let both = hatch_and_tip(alloc)?;
     Opening::new(alloc, Tag::Defs)?.around(&both)
 }
 
