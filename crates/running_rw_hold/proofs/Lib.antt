@@ -1,1 +1,3 @@
+pub mod RwHolds
 pub mod RwJoins
+pub mod RwTries

@@ -1,4 +1,5 @@
 pub mod RwReaderKeeps
 pub mod RwReaderCounts
+pub mod RwReaderTries
 pub mod RwReaderPlays
 pub mod RwReaderUnlocks

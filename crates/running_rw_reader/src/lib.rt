@@ -185,7 +185,6 @@ impl<A: Allocator> RwLockReaderPreference<A> {
     }
 
     /// Subtracts 1 for a read hold, stores 0 for a write hold, and then calls the wake closure once. Gives the pass back.
-    #[tactic(auto, using(crate::proofs::RwReaderUnlocks::unlocked_reading, crate::proofs::RwReaderUnlocks::unlocked_writing, crate::proofs::RwReaderUnlocks::played_reading, crate::proofs::RwReaderUnlocks::played_writing))]
     #[inline(always)]
     pub fn unlock<'p, W: Fn(&WaitWord)>(
         &self,

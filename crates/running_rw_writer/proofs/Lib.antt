@@ -1,4 +1,6 @@
 pub mod RwWriterKeeps
 pub mod RwWriterCounts
+pub mod RwWriterReads
 pub mod RwWriterTries
 pub mod RwWriterPlays
+pub mod RwWriterUnlocks

@@ -6,6 +6,7 @@ use native.Mathlib.Decide.{ℕ_discrete}
 use Rattle.passes.specs.declared.part.Sights.{Sights}
 use Rattle.passes.specs.declared.view.View.{View}
 use Rattle.passes.specs.declared.pass.Pass.{Pass}
+use Rattle.passes.specs.Parts.{IsWhole}
 use Rattle.passes.specs.Passes.{IsSamePass, sights_of}
 use Rattle.passes.specs.Sights.{seen_instead}
 use Rattle.playing.specs.Passes.{counts_of, counted}
@@ -13,7 +14,7 @@ use Rattle.steps_events.proofs.Holds.{eqb_same}
 use Rattle.tallies.specs.declared.rw_writer.MarkedHolds.{MarkedHolds}
 use Rattle.tallies.specs.Held.{read_holds, write_holds}
 use Rattle.tallies.specs.RwReaderRule.{Holds}
-use Rattle.running_rw_writer.specs.RwWriterShown.{IsShut, HasTried, HasJustSeen, HasMissedIt, MayGiveUp, HasGivenUpWriting, HasEnteredSeenFree}
+use Rattle.running_rw_writer.specs.RwWriterShown.{IsAloneWithin, IsShut, HasTried, HasJustSeen, HasMissedIt, MayGiveUp, HasGivenUpWriting, HasEnteredSeenFree}
 use Rattle.running_rw_writer.specs.RwWriterSteps.{PlayedRwWriter, IsMarked, IsSeenByWriter, LoadedToWrite, Missed, WriterIn, flagged, written}
 
 -- what a function of the lock's model says of a word, by whether it answers another word
@@ -102,6 +103,9 @@ unchanged p q same is =
 pub fewer : (p q : Pass PlayedRwWriter) → HasTried 1 p q → HasTried 0 p q
 fewer p q tried = record { same = tried.same; part = tried.part; tally = tried.tally; more = omega (arith, tried.more) }
 
+pub fewest : (n : ℕ) (p q : Pass PlayedRwWriter) → HasTried n p q → HasTried 0 p q
+fewest n p q tried = record { same = tried.same; part = tried.part; tally = tried.tally; more = omega (arith, tried.more) }
+
 pub tried_again : (m n : ℕ) (p q r : Pass PlayedRwWriter) → HasTried m p q → HasTried n q r → HasTried (m + n) p r
 tried_again m n p q r one two = record {
   same = (two.same.0 ∙ one.same.0, two.same.1 ∙ one.same.1);
@@ -180,3 +184,16 @@ gave_up_still n p q r gave_up same is =
 pub ends_after : (m n : ℕ) (p q r : Pass PlayedRwWriter) (entered : Bool) → HasTried m p q → MatchBool entered (HasEnteredSeenFree q r) (HasGivenUpWriting n q r) → MatchBool entered (HasEnteredSeenFree p r) (HasGivenUpWriting (m + n) p r)
 ends_after m n p q r true tried ended = entered_after m p q r tried ended
 ends_after m n p q r false tried ended = gave_up_after m n p q r tried ended
+
+-- and where it has not ended
+pub tries_after : (m n : ℕ) (p q r : Pass PlayedRwWriter) (entered : Bool) → HasTried m p q → MatchBool entered (HasEnteredSeenFree q r) (HasTried n q r) → MatchBool entered (HasEnteredSeenFree p r) (HasTried (m + n) p r)
+tries_after m n p q r true tried entered = entered_after m p q r tried entered
+tries_after m n p q r false tried again = tried_again m n p q r tried again
+
+-- it is still alone where it has seen that nobody holds the lock
+pub alone_still : (n found : ℕ) (p q : Pass PlayedRwWriter) → HasTried n p q → HasJustSeen found q → found ≡ 0 → IsAloneWithin p → IsAloneWithin q
+alone_still n found p q tried just none alone = (
+  (subst IsWhole (sym tried.part) alone.0.0, just.down (λ set. omega (arith, set.odd, none))),
+  ap (λ (t : MarkedHolds). read_holds t.held) tried.tally ∙ alone.1,
+  ap (λ (t : MarkedHolds). write_holds t.held) tried.tally ∙ alone.2,
+)

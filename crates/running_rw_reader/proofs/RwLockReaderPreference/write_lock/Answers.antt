@@ -1,19 +1,41 @@
-use Rattle.std.proofs.Common.{refl}
-use Rattle.std.proofs.lemmas.Bool.{MatchBool-at_false}
+use Rattle.std.proofs.Common.{Some, refl, sym, ap, subst}
+use mathlib.Core.Option as maybe
+use Rattle.steps_events.specs.declared.event.Call.TheVariants as calls
+use Rattle.steps_events.specs.declared.event.Answer.TheVariants as answers
+use Rattle.steps_events.specs.declared.hold.HoldKind.TheVariants as kinds
+use Rattle.running_rw_reader.specs.RwReaderShown.{RwReaderPass, HasEnteredToWrite, HasPlayed}
 use Rattle.running_rw_reader.proofs.RwLockReaderPreference.write_lock.Goals as goal
 
+pub write_hold-requires-clause-on : goal.write_hold-requires-clause-on
+write_hold-requires-clause-on g c = c.if-wait_to_write.ensures.entered.counts.on.1
+
+pub write_hold-requires-clause-has : goal.write_hold-requires-clause-has
+write_hold-requires-clause-has g c = c.wait_to_write.ensures.has c.if-wait_to_write.true
+
+pub returns-then-wait_to_write : goal.returns-then-wait_to_write
+returns-then-wait_to_write g c = (
+  (ap maybe.some (sym c.write_hold.ensures.same_reference), λ _. refl, tt),
+  record {
+    refused = tt;
+    same_borrow = c.write_hold.ensures.same_reference;
+    kind = tt;
+    granted = subst (λ (p : RwReaderPass). HasEnteredToWrite c.args.pass.now p) (sym c.write_hold.ensures.same_pass) c.if-wait_to_write.ensures.entered;
+    played = subst (λ (p : RwReaderPass). HasPlayed calls.WriteLock answers.Success (Some kinds.Write) c.args.pass.now p) (sym c.write_hold.ensures.same_pass) c.if-wait_to_write.ensures.played;
+    exact = λ _. tt;
+    aborted = tt;
+  },
+)
+
 pub returns : goal.returns
-returns g c =
-    let gave_up = MatchBool-at_false _ _ c.if-wait_to_write.false c.wait_to_write.ensures.entered in
-    let played = MatchBool-at_false _ _ c.if-wait_to_write.false c.wait_to_write.ensures.played in (
-      (refl, λ _. tt, (gave_up, played)),
-      record {
-        refused = tt;
-        same_borrow = tt;
-        kind = tt;
-        granted = tt;
-        played = tt;
-        exact = λ alone. let entered = c.wait_to_write.ensures.exact alone in let not = c.if-wait_to_write.false in cc;
-        aborted = c.wait_to_write.ensures.aborted c.if-wait_to_write.false;
-      },
-    )
+returns g c = (
+  (refl, λ _. tt, (c.if-wait_to_write.ensures.entered, c.if-wait_to_write.ensures.played)),
+  record {
+    refused = tt;
+    same_borrow = tt;
+    kind = tt;
+    granted = tt;
+    played = tt;
+    exact = λ alone. let entered = c.wait_to_write.ensures.exact alone in let not = c.if-wait_to_write.false in cc;
+    aborted = c.wait_to_write.ensures.aborted c.if-wait_to_write.false;
+  },
+)

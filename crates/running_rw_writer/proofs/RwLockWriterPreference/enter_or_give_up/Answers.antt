@@ -2,7 +2,8 @@ use Rattle.std.proofs.Common.{refl, inl, inr}
 use Rattle.steps_events.specs.declared.event.Call.TheVariants as calls
 use Rattle.steps_rw_writer.specs.declared.Leaver.TheVariants as leavers
 use Rattle.running_rw_writer.specs.RwWriterParties.{given_up}
-use Rattle.running_rw_writer.proofs.RwWriterTries.{tried_again, gave_up_after, gave_up_still}
+use Rattle.running_rw_writer.proofs.RwWriterTries.{entered_after, tried_again, gave_up_after, gave_up_still}
+use Rattle.std.proofs.Common.{◌∙◌}
 use Rattle.running_rw_writer.proofs.RwLockWriterPreference.enter_or_give_up.Goals as goal
 
 pub look_to_write-seen-requires-clause-comes : goal.look_to_write-seen-requires-clause-comes
@@ -50,3 +51,30 @@ returns-else-take_mark_away-clause-entered g c = gave_up_after 1 0 _ _ _ (tried_
 
 pub returns-then-take_mark_away-clause-entered : goal.returns-then-take_mark_away-clause-entered
 returns-then-take_mark_away-clause-entered g c = gave_up_still 1 _ _ _ (gave_up_after 1 0 _ _ _ (tried_again 1 0 _ _ _ c.look_to_write-seen.ensures.tried c.in-Err.ensures.refused.0) c.if-take_mark_away.ensures.gave_up) c.count_up.ensures.same c.count_up.ensures.unchanged
+
+pub enter_if_free-requires-clause-own : goal.enter_if_free-requires-clause-own
+enter_if_free-requires-clause-own g c = c.look_to_write-seen.ensures.tried.same.0 ∙ c.requires.own
+
+pub enter_if_free-requires-clause-just : goal.enter_if_free-requires-clause-just
+enter_if_free-requires-clause-just g c = c.look_to_write-seen.ensures.just
+
+pub returns-in_default-clause-entered : goal.returns-in_default-clause-entered
+returns-in_default-clause-entered g c = entered_after 1 _ _ _ c.look_to_write-seen.ensures.tried c.in_default.ensures.entered
+
+pub returns-in_default-clause-woke : goal.returns-in_default-clause-woke
+returns-in_default-clause-woke g c = λ no. absurd cc
+
+pub take_mark_away-requires-clause-own : goal.take_mark_away-requires-clause-own
+take_mark_away-requires-clause-own g c = c.in-Err.ensures.refused.0.same.0 ∙ c.look_to_write-seen.ensures.tried.same.0 ∙ c.requires.own
+
+pub take_mark_away-requires-clause-just : goal.take_mark_away-requires-clause-just
+take_mark_away-requires-clause-just g c = c.in-Err.ensures.refused.1
+
+pub count_up-requires-clause-own : goal.count_up-requires-clause-own
+count_up-requires-clause-own g c = c.take_mark_away.ensures.gave_up.same.0 ∙ c.in-Err.ensures.refused.0.same.0 ∙ c.look_to_write-seen.ensures.tried.same.0 ∙ c.requires.own
+
+pub wake_both-requires-clause-own : goal.wake_both-requires-clause-own
+wake_both-requires-clause-own g c = c.count_up.ensures.same.0 ∙ c.take_mark_away.ensures.gave_up.same.0 ∙ c.in-Err.ensures.refused.0.same.0 ∙ c.look_to_write-seen.ensures.tried.same.0 ∙ c.requires.own
+
+pub returns-else-take_mark_away-clause-woke : goal.returns-else-take_mark_away-clause-woke
+returns-else-take_mark_away-clause-woke g c = λ _ marked. absurd (c.take_mark_away.ensures.unmarked c.if-take_mark_away.false marked)

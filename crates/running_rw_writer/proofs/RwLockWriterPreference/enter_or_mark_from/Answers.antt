@@ -1,7 +1,7 @@
-use Rattle.std.proofs.Common.{ℕ, Result, is_ok, sym, ap, ◌∙◌, rules}
+use Rattle.std.proofs.Common.{ℕ, Result, is_ok, refl, sym, ap, ◌∙◌, rules}
 use Rattle.playing.specs.Tries.{spun}
 use Rattle.running_rw_writer.proofs.RwWriterPlays.{marks_none}
-use Rattle.running_rw_writer.proofs.RwWriterTries.{marks_some}
+use Rattle.running_rw_writer.proofs.RwWriterTries.{marks_some, unchanged, fewest, tried_again, entered_after}
 use Rattle.running_rw_writer.proofs.RwLockWriterPreference.enter_or_mark_from.Goals as goal
 
 pub enter_if_free-requires-clause-at : goal.enter_if_free-requires-clause-at
@@ -21,9 +21,9 @@ returns-in-Ok-set_mark-clause-played g c = λ n done at. c.in-Ok-set_mark.ensure
 
 pub loop-preserved : goal.loop-preserved
 loop-preserved g c = record {
-  tried = search rules;
-  just = search rules;
-  exact = search rules;
+  tried = fewest _ _ _ (tried_again 0 1 _ _ _ (tried_again 0 0 _ _ _ c.loop.invariant.tried c.in-Err.ensures.refused.0) c.in-Err-set_mark.ensures.missed.tried);
+  just = c.in-Err-set_mark.ensures.missed.just;
+  exact = λ none alone. let at = c.loop.invariant.exact none alone in let no = (sym (ap (λ (r : Result Unit ℕ). is_ok r) c.in-Err.is) ∙ c.enter_if_free.ensures.exact at.0 at.1) in absurd cc;
   at = λ n done at. c.in-Err-set_mark.ensures.looks (spun n) done (c.in-Err.ensures.goes_on (spun n) done (c.loop.invariant.at n done at));
 }
 
@@ -35,3 +35,36 @@ set_mark-requires-clause-marked g c = (marks_some _ _ _ c.marks.ensures.«open»
 
 pub returns-in_default-clause-exact : goal.returns-in_default-clause-exact
 returns-in_default-clause-exact g c = λ none alone. let at = c.loop.invariant.exact none alone in sym (ap (λ (r : Result Unit ℕ). is_ok r) c.in-Err.is) ∙ c.enter_if_free.ensures.exact at.0 at.1
+
+pub loop-init : goal.loop-init
+loop-init g c = record { tried = unchanged _ _ (refl, refl) refl; just = c.requires.just; exact = λ none alone. (none, alone); at = λ _ _ at. at }
+
+pub enter_if_free-requires-clause-own : goal.enter_if_free-requires-clause-own
+enter_if_free-requires-clause-own g c = c.loop.invariant.tried.same.0 ∙ c.requires.own
+
+pub enter_if_free-requires-clause-just : goal.enter_if_free-requires-clause-just
+enter_if_free-requires-clause-just g c = c.loop.invariant.just
+
+pub returns-in-Ok-clause-entered : goal.returns-in-Ok-clause-entered
+returns-in-Ok-clause-entered g c = entered_after 0 _ _ _ c.loop.invariant.tried c.in-Ok.ensures.entered
+
+pub returns-in-Ok-clause-exact : goal.returns-in-Ok-clause-exact
+returns-in-Ok-clause-exact g c = λ _ _. refl
+
+pub returns-in_default-clause-entered : goal.returns-in_default-clause-entered
+returns-in_default-clause-entered g c = tried_again 0 0 _ _ _ c.loop.invariant.tried c.in-Err.ensures.refused.0
+
+pub set_mark-requires-clause-own : goal.set_mark-requires-clause-own
+set_mark-requires-clause-own g c = c.in-Err.ensures.refused.0.same.0 ∙ c.loop.invariant.tried.same.0 ∙ c.requires.own
+
+pub set_mark-requires-clause-just : goal.set_mark-requires-clause-just
+set_mark-requires-clause-just g c = c.in-Err.ensures.refused.1
+
+pub set_mark-requires-clause-other : goal.set_mark-requires-clause-other
+set_mark-requires-clause-other g c = (marks_some _ _ _ c.marks.ensures.«open» c.marks.ensures.marked c.marks.ensures.full c.in-Some-marks.is).1
+
+pub returns-in-Ok-set_mark-clause-entered : goal.returns-in-Ok-set_mark-clause-entered
+returns-in-Ok-set_mark-clause-entered g c = tried_again 0 0 _ _ _ (tried_again 0 0 _ _ _ c.loop.invariant.tried c.in-Err.ensures.refused.0) c.in-Ok-set_mark.ensures.done
+
+pub returns-in-Ok-set_mark-clause-exact : goal.returns-in-Ok-set_mark-clause-exact
+returns-in-Ok-set_mark-clause-exact g c = λ none alone. let at = c.loop.invariant.exact none alone in sym (ap (λ (r : Result Unit ℕ). is_ok r) c.in-Err.is) ∙ c.enter_if_free.ensures.exact at.0 at.1

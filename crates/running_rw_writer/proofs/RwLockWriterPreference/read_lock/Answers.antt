@@ -1,11 +1,16 @@
-use Rattle.std.proofs.Common.{refl}
-use Rattle.std.proofs.lemmas.Bool.{MatchBool-at_false}
+use Rattle.std.proofs.Common.{Some, refl, sym, ap, subst, arith}
+use mathlib.Core.Option as maybe
+use Rattle.steps_events.specs.declared.event.Call.TheVariants as calls
+use Rattle.steps_events.specs.declared.event.Answer.TheVariants as answers
+use Rattle.steps_events.specs.declared.hold.HoldKind.TheVariants as kinds
+use Rattle.running_rw_writer.specs.declared.pass.RwWriterPass.{RwWriterPass}
+use Rattle.running_rw_writer.specs.RwWriterShown.{pass_in, HasEnteredToRead, HasPlayed}
 use Rattle.running_rw_writer.proofs.RwLockWriterPreference.read_lock.Goals as goal
 
 pub returns : goal.returns
 returns g c =
-    let gave_up = MatchBool-at_false _ _ c.if-wait_to_read.false c.wait_to_read.ensures.entered in
-    let played = MatchBool-at_false _ _ c.if-wait_to_read.false c.wait_to_read.ensures.played in (
+    let gave_up = c.if-wait_to_read.ensures.entered in
+    let played = c.if-wait_to_read.ensures.played in (
       (refl, λ _. tt, (gave_up, λ whole. c.wait_to_read.ensures.asked (whole, c.args.pass.now.unflagged) c.if-wait_to_read.false, played)),
       record {
         refused = tt;
@@ -17,3 +22,23 @@ returns g c =
         aborted = c.wait_to_read.ensures.aborted c.if-wait_to_read.false;
       },
     )
+
+pub read_hold-requires-clause-on : goal.read_hold-requires-clause-on
+read_hold-requires-clause-on g c = omega (arith, c.if-wait_to_read.ensures.entered.counts.reads)
+
+pub read_hold-requires-clause-has : goal.read_hold-requires-clause-has
+read_hold-requires-clause-has g c = c.wait_to_read.ensures.has c.if-wait_to_read.true
+
+pub returns-then-wait_to_read : goal.returns-then-wait_to_read
+returns-then-wait_to_read g c = (
+  (ap maybe.some (sym c.read_hold.ensures.same_reference), λ _. refl, tt),
+  record {
+    refused = tt;
+    same_borrow = c.read_hold.ensures.same_reference;
+    kind = tt;
+    granted = subst (λ (p : RwWriterPass). HasEnteredToRead (pass_in c.args.pass.now) (pass_in p)) (sym c.read_hold.ensures.same_pass) c.if-wait_to_read.ensures.entered;
+    played = subst (λ (p : RwWriterPass). HasPlayed calls.ReadLock answers.Success (Some kinds.Read) (pass_in c.args.pass.now) (pass_in p)) (sym c.read_hold.ensures.same_pass) c.if-wait_to_read.ensures.played;
+    exact = λ _. tt;
+    aborted = tt;
+  },
+)

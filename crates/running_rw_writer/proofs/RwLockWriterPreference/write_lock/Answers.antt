@@ -1,11 +1,16 @@
-use Rattle.std.proofs.Common.{refl}
-use Rattle.std.proofs.lemmas.Bool.{MatchBool-at_false}
+use Rattle.std.proofs.Common.{Some, ◌<◌, refl, sym, ap, subst}
+use mathlib.Core.Option as maybe
+use Rattle.steps_events.specs.declared.event.Call.TheVariants as calls
+use Rattle.steps_events.specs.declared.event.Answer.TheVariants as answers
+use Rattle.steps_events.specs.declared.hold.HoldKind.TheVariants as kinds
+use Rattle.running_rw_writer.specs.declared.pass.RwWriterPass.{RwWriterPass}
+use Rattle.running_rw_writer.specs.RwWriterShown.{pass_in, sights_in, HasEnteredToWrite, HasPlayed}
 use Rattle.running_rw_writer.proofs.RwLockWriterPreference.write_lock.Goals as goal
 
 pub returns : goal.returns
 returns g c =
-    let gave_up = MatchBool-at_false _ _ c.if-wait_to_write.false c.wait_to_write.ensures.entered in
-    let played = MatchBool-at_false _ _ c.if-wait_to_write.false c.wait_to_write.ensures.played in (
+    let gave_up = c.if-wait_to_write.ensures.entered in
+    let played = c.if-wait_to_write.ensures.played in (
       (refl, λ _. tt, (gave_up, c.wait_to_write.ensures.woke c.if-wait_to_write.false, played)),
       record {
         refused = tt;
@@ -18,3 +23,24 @@ returns g c =
         aborted = c.wait_to_write.ensures.aborted c.if-wait_to_write.false;
       },
     )
+
+pub write_hold-requires-clause-on : goal.write_hold-requires-clause-on
+write_hold-requires-clause-on g c = c.if-wait_to_write.ensures.entered.0.on.1
+
+pub write_hold-requires-clause-has : goal.write_hold-requires-clause-has
+write_hold-requires-clause-has g c = c.wait_to_write.ensures.has c.if-wait_to_write.true
+
+pub returns-then-wait_to_write : goal.returns-then-wait_to_write
+returns-then-wait_to_write g c = (
+  (ap maybe.some (sym c.write_hold.ensures.same_reference), λ _. refl, tt),
+  record {
+    refused = tt;
+    same_borrow = c.write_hold.ensures.same_reference;
+    kind = tt;
+    granted = subst (λ (p : RwWriterPass). HasEnteredToWrite (pass_in c.args.pass.now) (pass_in p)) (sym c.write_hold.ensures.same_pass) c.if-wait_to_write.ensures.entered.0;
+    free = subst (λ (p : RwWriterPass). (sights_in p).last < 2) (sym c.write_hold.ensures.same_pass) c.if-wait_to_write.ensures.entered.1;
+    played = subst (λ (p : RwWriterPass). HasPlayed calls.WriteLock answers.Success (Some kinds.Write) (pass_in c.args.pass.now) (pass_in p)) (sym c.write_hold.ensures.same_pass) c.if-wait_to_write.ensures.played;
+    exact = λ _. tt;
+    aborted = tt;
+  },
+)
