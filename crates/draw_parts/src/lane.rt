@@ -1,5 +1,6 @@
 //! Draws the lanes, and on them the parties' calls, stands and holds.
-use draw_layout::layout::{Hold, Lane, Layout, Span, top_of};
+use draw_layout::lane::{Hold, Lane, Span};
+use draw_layout::layout::{Layout, top_of};
 use draw_shapes::shape::{circle, line, put_shape, put_text, put_titled, rect};
 use markup::markup::Markup;
 use markup::name::Key;
@@ -109,8 +110,8 @@ fn draw_sight(
     put_titled(alloc, picture, ring, title)
 }
 
-/// Draws a party's calls, stands, holds and sights.
-fn draw_spans(
+/// Draws a party's calls, and where they stand.
+fn draw_calls(
     alloc: Global,
     picture: &mut Markup,
     layout: &Layout,
@@ -122,6 +123,17 @@ fn draw_spans(
     for stand in &lane.stands {
         draw_stand(alloc, picture, layout, lane, stand)?;
     }
+    Ok(())
+}
+
+/// Draws a party's calls, stands, holds and sights.
+fn draw_spans(
+    alloc: Global,
+    picture: &mut Markup,
+    layout: &Layout,
+    lane: &Lane,
+) -> Result<(), AllocError> {
+    draw_calls(alloc, picture, layout, lane)?;
     for hold in &lane.holds {
         draw_hold(alloc, picture, layout, lane, hold)?;
     }

@@ -3,7 +3,8 @@ ghost use Rattle.std.specs.Prelude.{◌<◌, ◌^◌};
 
 use crate::lane::draw_party;
 use draw_layout::label::{Mark, Reach, Tone, label_of, mark_of, outcome_of, reach_of, tone_of};
-use draw_layout::layout::{Lane, Layout, top_of};
+use draw_layout::lane::Lane;
+use draw_layout::layout::{Layout, top_of};
 use draw_shapes::legend::cross;
 use draw_shapes::shape::{circle, line, put_shape, put_text, rect};
 use markup::markup::Markup;
@@ -120,6 +121,22 @@ fn draw_head<T>(
     draw_party(alloc, picture, lane, "soft end", right, baseline)
 }
 
+/// Draws the mark of a step, and the way to the word that it reads or writes.
+fn draw_act<T: Copy>(
+    alloc: Global,
+    picture: &mut Markup,
+    layout: &Layout,
+    lane: &Lane,
+    step: &Step<T>,
+) -> Result<(), AllocError> {
+    let x = lane.middle();
+    let y = top_of(step.row) + 8;
+    if let Some(reach) = reach_of(&step.event.act) {
+        draw_reach(alloc, picture, layout, reach, x, y)?;
+    }
+    draw_mark(alloc, picture, mark_of(&step.event.act), x, y)
+}
+
 /// Draws a step in the lane of its party: the head of a call, or the way to a word, a mark and words.
 fn draw_in_lane<T: TextInteger>(
     alloc: Global,
@@ -132,12 +149,7 @@ fn draw_in_lane<T: TextInteger>(
     if let Act::Begun(_) = step.event.act {
         return draw_head(alloc, picture, lane, step);
     }
-    let x = lane.middle();
-    let y = top_of(step.row) + 8;
-    if let Some(reach) = reach_of(&step.event.act) {
-        draw_reach(alloc, picture, layout, reach, x, y)?;
-    }
-    draw_mark(alloc, picture, mark_of(&step.event.act), x, y)?;
+    draw_act(alloc, picture, layout, lane, step)?;
     draw_label(alloc, picture, story, lane, step)?;
     draw_outcome(alloc, picture, lane, step)
 }

@@ -1,1 +1,2 @@
 pub mod PictureLaws
+pub mod RunLaws

@@ -54,6 +54,22 @@ fn draw_steps<'s, T: TextInteger>(
     Ok(groups)
 }
 
+/// The element of a picture, as far as all pictures have it.
+fn svg(alloc: Global) -> Result<Opening, AllocError>
+    ensures { IfOk result (λ opening. opening.tag ≡ Tag.Svg) }
+{
+    Opening::new(alloc, Tag::Svg)?.with(Key::Namespace, "http://www.w3.org/2000/svg")
+}
+
+/// The same, with what it shows.
+fn with_view(svg: Opening, view: &str, width: u64, height: u64) -> Result<Opening, AllocError>
+    ensures { IfOk result (λ opening. opening.tag ≡ svg.tag) }
+{
+    svg.with(Key::ViewBox, view)?
+        .at(Key::Width, width)?
+        .at(Key::Height, height)
+}
+
 /// The element of a picture.
 fn frame(alloc: Global, layout: &Layout) -> Result<Opening, AllocError>
     ensures { IfOk result (λ opening. opening.tag ≡ Tag.Svg) }
@@ -61,12 +77,7 @@ fn frame(alloc: Global, layout: &Layout) -> Result<Opening, AllocError>
     let width = u64::from(layout.width);
     let height = height_of(layout);
     let view = format!(in alloc; "0 0 {width} {height}")?;
-    Opening::new(alloc, Tag::Svg)?
-        .with(Key::Namespace, "http://www.w3.org/2000/svg")?
-        .with(Key::ViewBox, view.as_str())?
-        .at(Key::Width, width)?
-        .at(Key::Height, height)?
-        .with(Key::Role, "img")
+    with_view(svg(alloc)?, view.as_str(), width, height)?.with(Key::Role, "img")
 }
 
 /// The picture of a story.
@@ -86,9 +97,21 @@ fn draw_by<T: TextInteger>(
     ensures { IfOk result (λ bytes. IsPicture (step_titles story.now.steps.items) bytes.items) }
 {
     let steps = draw_steps(alloc, story, layout)?;
+    draw_round(alloc, story, layout, &steps)
+}
+
+/// The picture of a story whose steps are drawn.
+fn draw_round<T: TextInteger>(
+    alloc: Global,
+    story: &Story<T>,
+    layout: &Layout,
+    steps: &[Group<'_>],
+) -> Result<Vec<u8>, AllocError>
+    ensures { IfOk result (λ bytes. IsPicture (titles_of steps.now) bytes.items) }
+{
     let ground = draw_ground(alloc, story, layout)?;
     let foot = draw_foot(alloc, story, layout)?;
-    document(frame(alloc, layout)?, &ground, &steps, &foot)
+    document(frame(alloc, layout)?, &ground, steps, &foot)
 }
 
 /// The bytes of a whole picture.

@@ -1,6 +1,6 @@
 -- A story has the first rows of a text's trace, and the last line of its output.
 use Rattle.std.proofs.Common.{◌≡◌, ℕ, ◌+◌, ◌-◌, ◌<◌, ◌≤◌, min, Result, List, [], ◌∷◌, ◌++◌, length, get_or, map, take, Option, Some, None, Ok, Err, refl, sym, ap, subst, ◌∙◌, arith}
-use Rattle.std.proofs.lemmas.List.{take_more, map-append, length-take, length-append}
+use Rattle.std.proofs.lemmas.List.{take_more, map-append, length-take, length-take-le, length-append}
 use Rattle.std.proofs.lemmas.Simd.{map-map}
 use Rattle.std.specs.List.{take-map}
 use Rattle.std.specs.Prelude.{string_bytes}
@@ -42,6 +42,9 @@ module _ {T : Type 0} where
 
   pub keeps : (rows kept : List (Row T)) → kept ≡ take 2000 rows → entries kept ≡ take 2000 (entries rows)
   keeps rows kept cut = ap entries cut ∙ sym (take-map entry_of 2000 rows)
+
+  pub fills : (rows : List (Row T)) → 2000 < length rows → 2000 ≡ length (take 2000 rows)
+  fills rows above = sym (length-take-le 2000 rows (omega (arith, above)))
 
   pub kept_fits : (rows kept : List (Row T)) → kept ≡ take 2000 rows → length kept ≤ 2000
   kept_fits rows kept is = let most : length kept ≡ min 2000 (length rows) = ap length is ∙ length-take 2000 rows in omega (arith, most)

@@ -1,0 +1,321 @@
+//! The lane of a party, in plain numbers: its calls, where they stand, what it holds, and what its refused calls saw last.
+ghost use Rattle.std.specs.Prelude.{◌<◌, ◌^◌, IfOk};
+
+use crate::label::{Reach, Tone, label_of, outcome_of, reach_of, tone_of};
+use crate::width::text_width;
+use std::alloc::{AllocError, Global};
+use steps_events::hold::HoldKind;
+use sync_lines::integer::TextInteger;
+use sync_steps::steps::{Act, Then};
+use sync_story::story::{Step, Story};
+
+/// How wide the box of a call is at least.
+const LEAST_BOX: u32 = 130;
+
+/// Rows from one on. Without a last one they go to the end of the picture.
+#[derive(Clone, Copy)]
+pub struct Span {
+    pub first: u32,
+    pub last: Option<u32>,
+}
+
+impl Span {
+    /// Ends it at a row, if it is still open.
+    fn end(&mut self, row: u32) {
+        if self.last.is_none() {
+            self.last = Some(row);
+        }
+    }
+}
+
+/// A hold of a party.
+#[derive(Clone, Copy)]
+pub struct Hold {
+    pub kind: HoldKind,
+    pub span: Span,
+}
+
+/// What a party did. On its left is the place for its holds, 8 wide, and then comes the box of each call.
+#[derive(Drop)]
+pub struct Lane {
+    pub party: usize,
+    pub left: u32,
+    /// How wide the boxes are.
+    pub width: u32,
+    pub calls: Vec<Span>,
+    pub stands: Vec<Span>,
+    pub holds: Vec<Hold>,
+    /// The rows of what refused calls saw last.
+    pub sights: Vec<u32>,
+    /// The row of what its party saw last.
+    seen: Option<u32>,
+}
+
+impl Lane {
+    /// A lane on which nothing stands yet.
+    fn empty(alloc: Global, party: usize, left: u32, width: u32) -> Lane {
+        Lane {
+            party,
+            left,
+            width,
+            calls: Vec::new(alloc),
+            stands: Vec::new(alloc),
+            holds: Vec::new(alloc),
+            sights: Vec::new(alloc),
+            seen: None,
+        }
+    }
+
+    /// Adds what a step of its party did.
+    fn add<T: Copy>(&mut self, step: &Step<T>) -> Result<(), AllocError> {
+        add_call(&mut self.calls, step)?;
+        add_stand(&mut self.stands, step)?;
+        add_hold(&mut self.holds, step.hold, step.row)?;
+        self.add_sight(step)
+    }
+
+    /// Adds what a call saw last, where the step refuses it.
+    fn add_sight<T: Copy>(&mut self, step: &Step<T>) -> Result<(), AllocError> {
+        self.seen = seen_after(self.seen, step);
+        if let Some(row) = self.seen
+            && tone_of(&step.event.then) == Some(Tone::Refused)
+        {
+            self.sights.push(row)?;
+        }
+        Ok(())
+    }
+
+    /// Where the boxes of its calls begin.
+    pub fn start(&self) -> u64
+        ensures { result < 2 ^ 34 }
+    {
+        u64::from(self.left) + 8
+    }
+
+    /// Where they end.
+    pub fn end(&self) -> u64
+        ensures { result < 2 ^ 35 }
+    {
+        self.start() + u64::from(self.width)
+    }
+
+    /// Where the marks of its steps stand.
+    pub fn middle(&self) -> u64
+        ensures { result < 2 ^ 34 }
+    {
+        u64::from(self.left) + 22
+    }
+}
+
+/// How wide the box of a call has to be for this step.
+fn step_width<T: TextInteger>(
+    alloc: Global,
+    story: &Story<T>,
+    step: &Step<T>,
+) -> Result<u32, AllocError> {
+    let outcome_width = outcome_width(alloc, &step.event.then)?;
+    let said_width = said_width(alloc, story, step)?;
+    Ok(said_width + outcome_width + 12)
+}
+
+/// How wide what is said of a step is, with what stands beside it.
+fn said_width<T: TextInteger>(
+    alloc: Global,
+    story: &Story<T>,
+    step: &Step<T>,
+) -> Result<u32, AllocError>
+    ensures { IfOk result (λ width. width < 9000) }
+{
+    match (&step.event.act, &step.line) {
+        // The call's name stands on the left, and its party on the right.
+        (Act::Begun(_), Some(line)) => Ok(text_width(&line.words) + 70),
+        _ => Ok(label_width(alloc, story, step)? + 46),
+    }
+}
+
+/// How wide the words of what became of a call are.
+fn outcome_width<T: TextInteger>(alloc: Global, then: &Then<T>) -> Result<u32, AllocError>
+    ensures { IfOk result (λ width. width < 8000) }
+{
+    let outcome = outcome_of(alloc, then)?;
+    Ok(text_width(&outcome))
+}
+
+/// How wide the words of what a step did are.
+fn label_width<T: TextInteger>(
+    alloc: Global,
+    story: &Story<T>,
+    step: &Step<T>,
+) -> Result<u32, AllocError>
+    ensures { IfOk result (λ width. width < 8000) }
+{
+    let label = label_of(alloc, story, step)?;
+    Ok(text_width(&label))
+}
+
+/// How wide the boxes of a party are. `None` where it makes no step.
+fn box_width<T: TextInteger>(
+    alloc: Global,
+    story: &Story<T>,
+    party: usize,
+) -> Result<Option<u32>, AllocError> {
+    let mut width = None;
+    for step in &story.steps {
+        if step.event.party == party {
+            let wide = step_width(alloc, story, step)?;
+            width = Some(wide.max(width.unwrap_or(LEAST_BOX)));
+        }
+    }
+    Ok(width)
+}
+
+/// Ends the last of these spans at a row, if it is still open.
+fn end_last(spans: &mut Vec<Span>, row: u32) {
+    if let Some(span) = spans.last_mut() {
+        span.end(row);
+    }
+}
+
+/// Begins a span at a row.
+fn begin(spans: &mut Vec<Span>, row: u32) -> Result<(), AllocError> {
+    spans.push(Span {
+        first: row,
+        last: None,
+    })?;
+    Ok(())
+}
+
+/// Begins a call or ends it, where a step does.
+fn add_call<T: Copy>(calls: &mut Vec<Span>, step: &Step<T>) -> Result<(), AllocError> {
+    if let Act::Begun(_) = step.event.act {
+        begin(calls, step.row)?;
+    }
+    if let Then::Answers(_) = step.event.then {
+        end_last(calls, step.row);
+    }
+    Ok(())
+}
+
+/// Ends a stand at a closure, and begins one where the call stands after a step.
+fn add_stand<T: Copy>(stands: &mut Vec<Span>, step: &Step<T>) -> Result<(), AllocError> {
+    end_last(stands, step.row);
+    match step.event.then {
+        Then::Waits(_) | Then::Chooses(_) => begin(stands, step.row),
+        Then::GoesOn | Then::Answers(_) => Ok(()),
+    }
+}
+
+/// Whether the last of these holds is still there.
+fn is_held(holds: &[Hold]) -> bool {
+    match holds.last() {
+        Some(hold) => hold.span.last.is_none(),
+        None => false,
+    }
+}
+
+/// Begins a hold at a row, where the party has none.
+fn begin_hold(holds: &mut Vec<Hold>, kind: HoldKind, row: u32) -> Result<(), AllocError> {
+    if is_held(holds) {
+        return Ok(());
+    }
+    holds.push(Hold {
+        kind,
+        span: Span {
+            first: row,
+            last: None,
+        },
+    })?;
+    Ok(())
+}
+
+/// Ends the last of these holds at a row, if it is still there.
+fn end_hold(holds: &mut Vec<Hold>, row: u32) {
+    if let Some(hold) = holds.last_mut() {
+        hold.span.end(row);
+    }
+}
+
+/// Begins a hold or ends it, by what the party holds after a step.
+fn add_hold(holds: &mut Vec<Hold>, held: Option<HoldKind>, row: u32) -> Result<(), AllocError> {
+    match held {
+        Some(kind) => begin_hold(holds, kind, row),
+        None => {
+            end_hold(holds, row);
+            Ok(())
+        }
+    }
+}
+
+/// The row of what a party has seen last, after a step.
+fn seen_after<T: Copy>(seen: Option<u32>, step: &Step<T>) -> Option<u32> {
+    match reach_of(&step.event.act) {
+        Some(Reach { writes: false, .. }) => Some(step.row),
+        _ => seen,
+    }
+}
+
+/// The lane of a party whose boxes are this wide, from this place on.
+fn lane_of<T: Copy>(
+    alloc: Global,
+    steps: &[Step<T>],
+    party: usize,
+    left: u32,
+    width: u32,
+) -> Result<Lane, AllocError> {
+    let mut lane = Lane::empty(alloc, party, left, width);
+    for step in steps {
+        if step.event.party == party {
+            lane.add(step)?;
+        }
+    }
+    Ok(lane)
+}
+
+/// Adds the lane of a party whose boxes are this wide, from this place on, and tells where the next one begins.
+fn add_lane<T: Copy>(
+    alloc: Global,
+    lanes: &mut Vec<Lane>,
+    steps: &[Step<T>],
+    party: usize,
+    left: u32,
+    width: u32,
+) -> Result<u32, AllocError> {
+    lanes.push(lane_of(alloc, steps, party, left, width)?)?;
+    Ok(left.saturating_add(width).saturating_add(28))
+}
+
+/// Adds the lane of a party, if it makes a step.
+fn add_party<T: TextInteger>(
+    alloc: Global,
+    lanes: &mut Vec<Lane>,
+    story: &Story<T>,
+    party: usize,
+    left: u32,
+) -> Result<u32, AllocError> {
+    match box_width(alloc, story, party)? {
+        Some(width) => add_lane(alloc, lanes, &story.steps, party, left, width),
+        None => Ok(left),
+    }
+}
+
+/// The lanes, from this place on: one for each party that makes a step.
+pub fn lanes_of<T: TextInteger>(
+    alloc: Global,
+    story: &Story<T>,
+    left: u32,
+) -> Result<Vec<Lane>, AllocError> {
+    let mut lanes = Vec::new(alloc);
+    let mut left = left;
+    for party in 0..story.parties {
+        left = add_party(alloc, &mut lanes, story, party, left)?;
+    }
+    Ok(lanes)
+}
+
+/// Where the last lane ends, with the room that follows it.
+pub fn lanes_right(lanes: &[Lane], left: u32) -> u32 {
+    match lanes.last() {
+        Some(lane) => lane.left.saturating_add(lane.width).saturating_add(20),
+        None => left,
+    }
+}
