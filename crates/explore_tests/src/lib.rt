@@ -1,4 +1,4 @@
-//! The tests of the explorer. They stand apart from it, so that it is proved once.
+//! The tests of the explorer, apart from it, so that it is proved once. What it answers is tested by the tables of `texts/sync-explore`.
 #![tactic(auto)]
 
 #[cfg(test)]
