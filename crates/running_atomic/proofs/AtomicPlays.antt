@@ -12,7 +12,6 @@ use Rattle.steps_events.specs.declared.event.Answer.TheVariants as answers
 use Rattle.steps_events.specs.declared.hold.HoldKind.{HoldKind}
 use Rattle.steps_events.specs.declared.hold.HoldKind.TheVariants as kinds
 use Rattle.steps_events.specs.declared.row.Intent.TheVariants as intents
-use Rattle.steps_events.specs.declared.row.After.{After}
 use Rattle.steps_events.specs.declared.row.After.TheVariants as afters
 use Rattle.steps_events.specs.Arithmetic.{Arithmetic, IsValue}
 use Rattle.steps_events.specs.Past.{hold_or}
@@ -260,7 +259,3 @@ module _ {T : Type 0} (z : Arithmetic T) (v : T) where
   pub differs : (call : Call T) (current old new : T) (done : List (Slot T)) (p : Parties T) → z.same old current ≡ false → Leads (atomic_model z v) call (afters.At (compares z (z.same old current) old new)) (Some kinds.Write) done p →
       IsNext z v call (places.Leave (answers.ErrOld old)) (Some kinds.Write) done p
   differs call current old new done p is at = subst (λ (b : Bool). IsNext z v call (compares z b old new) (Some kinds.Write) done p) is at
-
-  -- however the new value is written
-  pub puts_so : (one new : T) (answer : Answer T) → new ≡ one → ◌≡◌ {A = After T (AtomicPlace T)} (afters.At (puts z one answer)) (afters.At (puts z new answer))
-  puts_so one new answer is = ap (λ (x : T). afters.At (puts z x answer)) (sym is)

@@ -1,5 +1,5 @@
 -- What a notify gives, and what a wait comes to.
-use Rattle.std.proofs.Common.{◌≡◌, ℕ, ◌+◌, ◌%◌, ◌^◌, ◌<◌, Bool, true, false, MatchBool, ◌⊎◌, inl, inr, sym, ap, subst, ◌∙◌, arith}
+use Rattle.std.proofs.Common.{◌≡◌, ℕ, ◌%◌, ◌^◌, ◌<◌, Bool, true, false, MatchBool, ◌⊎◌, inl, inr, ap, subst, ◌∙◌, arith}
 use Rattle.std.specs.Borrow.{Bor}
 use Rattle.std.specs.Fn.{Shared}
 use Rattle.steps_events.specs.declared.WaitAction.{WaitAction}
@@ -16,6 +16,7 @@ use Rattle.tallies.specs.MutexRule.{holds}
 use Rattle.running_semaphore.specs.SemaphoreSteps.{gave}
 use Rattle.running_mutex.specs.declared.condition_variable.Waits.{Waits}
 use Rattle.running_mutex.specs.declared.condition_variable.CondPass.{CondPass}
+use Rattle.running_mutex.specs.MutexSteps.{granted}
 use Rattle.running_mutex.specs.MutexShown.{MutexPass, IsLocked, HasEntered, HasUnlocked}
 use Rattle.running_mutex.specs.CondRule.{went_in, went_out, one_more}
 use Rattle.running_mutex.specs.CondShown.{waits_in, permits_in, HasGiven, HasLeft, HasRegained}
@@ -55,7 +56,7 @@ none_there n never = omega (arith, never)
 
 pub regains : (p q r : MutexPass) → HasUnlocked p q → HasEntered q r → HasRegained p r
 regains p q r off on =
-    let grants = on.counts.grants ∙ ap (λ (v : View Holds). v.tally.grants + 1) off.2 in
+    let grants = on.counts.grants ∙ ap (λ (v : View Holds). (granted v.tally).grants) off.2 in
     let sights : sights_of q ≡ stale (sights_of p) = ap (λ (v : View Holds). v.sights) off.2 in
     let count = ap (λ (s : Sights). s.count) sights in record {
       same = (on.same.0 ∙ off.0.0, on.same.1 ∙ off.0.1);

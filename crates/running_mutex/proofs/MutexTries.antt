@@ -9,9 +9,11 @@ use Rattle.passes.specs.Parts.{IsWhole}
 use Rattle.passes.specs.Passes.{part_of, sights_of}
 use Rattle.passes.specs.Answers.{HasAsked}
 use Rattle.playing.specs.Words.{IsNamed}
+use Rattle.playing.specs.Passes.{counts_of}
 use Rattle.playing.specs.Counts.{HasMoved, WasRefused, WasRefusedAt, HasGivenUp}
 use Rattle.playing.proofs.Attempts.{missed_once, told_after, asked_after}
 use Rattle.tallies.specs.declared.mutex.Holds.{Holds}
+use Rattle.running_mutex.specs.MutexSteps.{granted}
 use Rattle.running_mutex.specs.MutexShown.{MutexPass, IsLocked, IsAlone, Enters, HasLocked, HasSeenLocked, HasUnlocked, HasEntered, HasStayed, grants_of}
 
 pub locks_once : (p q : MutexPass) → HasLocked p q → HasEntered p q
@@ -48,7 +50,7 @@ state_named i is = subst (λ (n : ℕ). IsNamed (words.State ∷ []) n words.Sta
 pub alone_again : (p q : MutexPass) → HasUnlocked p q → IsWhole (part_of p) → IsAlone q
 alone_again p q off whole = (subst IsWhole (sym (ap (λ (v : View Holds). v.part) off.2)) whole, ap (λ (v : View Holds). v.tally.holds) off.2)
 
-pub grants_once : (p q r : MutexPass) → HasEntered p q → HasUnlocked q r → grants_of r ≡ grants_of p + 1
+pub grants_once : (p q r : MutexPass) → HasEntered p q → HasUnlocked q r → grants_of r ≡ (granted (counts_of p)).grants
 grants_once p q r on off = ap (λ (v : View Holds). v.tally.grants) off.2 ∙ on.counts.grants
 
 pub stays : (p q r : MutexPass) → HasEntered p q → HasUnlocked q r → HasStayed p r

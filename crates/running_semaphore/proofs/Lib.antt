@@ -1,2 +1,3 @@
 pub mod SemaphoreKeeps
 pub mod SemaphorePlays
+pub mod SemaphoreTakes

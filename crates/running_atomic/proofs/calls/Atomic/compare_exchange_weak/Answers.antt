@@ -43,3 +43,9 @@ pub returns-then-is_same-clause-changed : goal.returns-then-is_same-clause-chang
 returns-then-is_same-clause-changed g c = let z = g.T.AtomicInteger.arithmetic in let same = sym c.is_same.ensures ∙ c.if-is_same.true in
     acts_after _ _ _ _ _ _ _ (pass_in c.args.pass.now) c.compare-old.new.pass c.replace.new.pass (MatchBool-at_true _ _ same c.compare-old.ensures.compared) c.replace.ensures.acted (λ i. plain (calls.CompareExchangeWeak (c.content-from.ensures.value i) (c.content-to.ensures.value i)))
     (answers_same z (opening_of c.args.self.now) c.args.current c.compare-old.result (value_of z c.content-to.result) c.content-from.result c.content-from.ensures.value same ∙ ap answers.OkOld (sym c.replace.ensures.old))
+
+pub compare-old-requires-clause-acts : goal.compare-old-requires-clause-acts
+compare-old-requires-clause-acts g c κs within = λ i. plain (calls.CompareExchangeWeak (c.content-from.ensures.value i) (c.content-to.ensures.value i))
+
+pub replace-requires-clause-acts : goal.replace-requires-clause-acts
+replace-requires-clause-acts g c κs within = λ i. calls.CompareExchangeWeak (sym c.content-from.ensures.value i) (sym c.content-to.ensures.value i)

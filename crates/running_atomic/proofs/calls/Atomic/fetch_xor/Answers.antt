@@ -1,9 +1,9 @@
-use Rattle.std.proofs.Common.{refl, sym, ap, ◌∙◌}
+use Rattle.std.proofs.Common.{refl, sym, ap}
 use Rattle.steps_events.specs.declared.event.Call.TheVariants as calls
 use Rattle.steps_events.specs.declared.event.Answer.TheVariants as answers
 use Rattle.steps_atomic.specs.Register.{plain}
 use Rattle.running_atomic.specs.AtomicShown.{pass_in, parties_in}
-use Rattle.running_atomic.proofs.AtomicPlays.{answers_old, puts_so}
+use Rattle.running_atomic.proofs.AtomicPlays.{answers_old}
 use Rattle.running_atomic.proofs.OverCalls.{acts_after}
 use Rattle.running_atomic.proofs.calls.Atomic.fetch_xor.Goals as goal
 
@@ -14,13 +14,13 @@ pub replace-requires-clause-holding : goal.replace-requires-clause-holding
 replace-requires-clause-holding g c κs within = c.take-old.ensures.taken.holding
 
 pub replace-requires-clause-right : goal.replace-requires-clause-right
-replace-requires-clause-right g c κs within = ap (g.T.AtomicInteger.arithmetic.xor c.take-old.result) c.content-words.ensures.value ∙ sym c.xor-new.ensures
+replace-requires-clause-right g c κs within = cc
 
 pub replace-requires-clause-knows : goal.replace-requires-clause-knows
 replace-requires-clause-knows g c κs within = (_, c.take-old.ensures.knows)
 
 pub replace-requires-clause-puts : goal.replace-requires-clause-puts
-replace-requires-clause-puts g c κs within = puts_so g.T.AtomicInteger.arithmetic c.args.value _ _ _ c.xor-new.ensures
+replace-requires-clause-puts g c κs within = cc
 
 pub replace-requires-clause-acts : goal.replace-requires-clause-acts
 replace-requires-clause-acts g c κs within = λ i. calls.FetchXor (sym c.content-words.ensures.value i)

@@ -10,9 +10,6 @@ returns-in-Success-clause-slept g c = c.in-Success.ensures.took
 pub returns-in-Success-clause-some : goal.returns-in-Success-clause-some
 returns-in-Success-clause-some g c = c.in-Success.ensures.none
 
-pub returns-in-Success-clause-woke : goal.returns-in-Success-clause-woke
-returns-in-Success-clause-woke g c = c.unlock.ensures.woke
-
 pub returns-in-Interrupted-clause-counted : goal.returns-in-Interrupted-clause-counted
 returns-in-Interrupted-clause-counted g c = waits_once c.args.pass.now.waits c.count_in.new.pass c.count_out.new.pass c.count_in.ensures.counted c.count_out.ensures.counted
 
@@ -21,6 +18,3 @@ returns-in-Interrupted-clause-slept g c = record { refused = c.in-Interrupted.en
 
 pub returns-in-Interrupted-clause-some : goal.returns-in-Interrupted-clause-some
 returns-in-Interrupted-clause-some g c = λ whole. none_there _ (c.in-Interrupted.ensures.some whole)
-
-pub returns-in-Interrupted-clause-woke : goal.returns-in-Interrupted-clause-woke
-returns-in-Interrupted-clause-woke g c = c.unlock.ensures.woke
