@@ -1,3 +1,5 @@
+use Rattle.std.proofs.Common.{arith}
+use Rattle.std.proofs.lemmas.Grind.{common_steps}
 use Rattle.running_mutex.proofs.CondCalls.{waits_once, none_there}
 use Rattle.running_mutex.proofs.condition_variable.ConditionVariable.sleep.Goals as goal
 
@@ -18,3 +20,9 @@ returns-in-Interrupted-clause-slept g c = record { refused = c.in-Interrupted.en
 
 pub returns-in-Interrupted-clause-some : goal.returns-in-Interrupted-clause-some
 returns-in-Interrupted-clause-some g c = λ whole. none_there _ (c.in-Interrupted.ensures.some whole)
+
+pub returns-in-Success-clause-unlocked : goal.returns-in-Success-clause-unlocked
+returns-in-Success-clause-unlocked g c = grind (arith, common_steps)
+
+pub returns-in-Interrupted-clause-unlocked : goal.returns-in-Interrupted-clause-unlocked
+returns-in-Interrupted-clause-unlocked g c = grind (arith, common_steps)
