@@ -1,33 +1,29 @@
 -- Where a text has an output, it is what a run of the text's inputs prints.
-use Rattle.std.proofs.Common.{◌≡◌, ◌<◌, ℕ, zero, suc, ◌+◌, ◌-◌, ◌^◌, ◌≤◌, Bool, true, false, cond, List, [], ◌∷◌, ◌++◌, Option, Some, None, Result, Ok, Err, refl, sym, ap, subst, ◌∙◌, append_assoc, arith}
+use Rattle.std.proofs.Common.{◌≡◌, ℕ, zero, suc, ◌+◌, ◌≤◌, Bool, true, false, cond, List, [], ◌∷◌, ◌++◌, Option, Some, None, Result, Ok, Err, refl, sym, ap, subst, ◌∙◌, append_assoc, arith}
 use Rattle.std.proofs.lemmas.List.Concat.{flat_map-append}
-use Rattle.steps_events.specs.declared.event.Call.{Call}
-use Rattle.steps_events.specs.declared.event.Call.TheVariants as calls
 use Rattle.steps_events.specs.declared.event.Event.{Event}
 use Rattle.steps_events.specs.declared.event.Input.{Input}
 use Rattle.steps_events.specs.declared.event.Input.TheVariants as inputs
 use Rattle.steps_events.specs.declared.event.Object.{Object}
 use Rattle.steps_events.specs.declared.event.StepFault.{StepFault}
-use Rattle.steps_events.specs.Arithmetic.{Arithmetic, IsValue}
+use Rattle.steps_events.specs.Arithmetic.{Arithmetic}
 use Rattle.steps_events.specs.Moves.{Move}
 use Rattle.steps_events.specs.Sights.{goes_on}
-use Rattle.steps_events.specs.Moves.{CallValues, InputValues}
+use Rattle.steps_events.specs.Moves.{InputValues}
 use Rattle.steps_events.specs.Past.{call_of, hold_of}
 use Rattle.steps_events.proofs.Steps.{form_of_move}
 use Rattle.sync_steps.specs.Objects.{table_of}
 use Rattle.sync_steps.specs.Runs.{word_in, fault_of, move_of, IsNext}
 use Rattle.steps_events.specs.Runs.{after}
 use Rattle.sync_steps.specs.Runs.{IsRun}
-use Rattle.std.specs.Str.{bytes_eq}
 use Rattle.sync_lines.specs.declared.fault.FaultyLine.{FaultyLine}
 use Rattle.sync_lines.specs.declared.fault.LineFault.{LineFault}
 use Rattle.sync_lines.specs.declared.command.Task.{Task}
 use Rattle.sync_lines.specs.declared.command.Task.TheVariants as tasks
 use Rattle.sync_lines.specs.declared.command.Command.{Command}
 use Rattle.sync_lines.specs.Fault.{◌>>=◌, at_line}
-use Rattle.sync_lines.specs.Call.{calls_of, named}
-use Rattle.sync_lines.specs.Command.{find, verbs, values_of, alone, with_one, with_two, with_these, with_values, steps_asked, task_by, call_if, task_if, task_of, party_of, command_of}
-use Rattle.sync_lines.specs.Lexer.{words_of, number_within, nothing, only, only_two, only_number}
+use Rattle.sync_lines.specs.Command.{command_of}
+use Rattle.sync_lines.specs.Lexer.{words_of}
 use Rattle.sync_lines.specs.Header.{header_of}
 use Rattle.sync_play.specs.Player.{event_by, unless_refused, event_of, events_of, run_of, steps_of, task_events}
 use Rattle.sync_play.specs.Text.{events_asked, line_events, output_after, typed_output}
@@ -38,7 +34,6 @@ use Rattle.sync_lines.proofs.CommandLaws.{HasValues, command_values}
 use Rattle.sync_play.proofs.PlayerLaws.{run_length}
 use Rattle.sync_play.proofs.TextLaws.{after_both}
 use Rattle.sync_lines.specs.Numerals.{Numerals, ReadsValues}
-use Rattle.sync_lines.specs.NumeralLaws.{number_at_most}
 
 -- Steps that may fail, with any kind of fault.
 
