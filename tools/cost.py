@@ -36,7 +36,8 @@ def place_of(words):
     named = re.search(r" --crate-name (\w+) ", " ".join(words))
     if not named or words[1] not in ("build", "check"):
         return None
-    if words[1] == "build":
+    # What is proved for good goes somewhere; what is proved to try edits does not.
+    if "-o" in words:
         return named[1], "tests" if "--test" in words else "proof"
     over = words[words.index("--incremental") + 1] if "--incremental" in words else ""
     return named[1], "again" if os.path.basename(over) == "seed" else "edits"
