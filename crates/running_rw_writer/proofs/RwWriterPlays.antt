@@ -1,4 +1,6 @@
 -- The steps of a writer-preferring lock are those of its table.
+use Rattle.std.proofs.lemmas.Bool.{eqb-false}
+use Rattle.std.proofs.lemmas.Bool.{eqb-true}
 use Rattle.std.proofs.Common.{◌≡◌, ◌≢◌, ℕ, ◌+◌, ◌-◌, ◌%◌, ◌^◌, ◌<◌, ◌≤◌, ◌==◌, ◌&&◌, not, Bool, true, false, cond, refl, sym, ap, subst, ◌∙◌, List, [], ◌∷◌, Option, Some, None, inl, inr, arith}
 use Rattle.std.specs.Prelude.{nat_lt, MatchBool}
 use mathlib.Core.Logic.{dite}
@@ -53,10 +55,6 @@ lt_true m n below = grind (arith, nat_tests)
 lt_false : (m n : ℕ) → n ≤ m → nat_lt m n ≡ false
 lt_false m n above = grind (arith, nat_tests)
 
-and_false : (b : Bool) → (b && false) ≡ false
-and_false true = refl
-and_false false = refl
-
 hit : (m n : ℕ) → m ≡ n → (m == n) ≡ true
 hit m n is = subst (λ k. (k == n) ≡ true) (sym is) (eqb_same n)
 
@@ -64,23 +62,19 @@ open_word : (w : ℕ) → w % 2 ≡ 0 → w < 2 ^ 64 - 4 → lets_readers_in w �
 open_word w even room = rw (even, lt_true w (2 ^ 64 - 4) room) refl
 
 shut_word : (w : ℕ) → IsShut w → lets_readers_in w ≡ false
-shut_word w (inl odd) = rw odd refl
-shut_word w (inr full) = rw (lt_false w (2 ^ 64 - 4) full) (and_false (not (is_odd w)))
+shut_word w h1 = grind (arith, nat_tests, eqb-true, eqb-false)
 
 markable : (w : ℕ) → w % 2 ≡ 0 → w ≢ 2 ^ 64 - 2 → lets_mark w ≡ true
 markable w even other = rw (even, ne_eqb w (2 ^ 64 - 2) other) refl
 
 unmarkable : (w : ℕ) → (w % 2 ≡ 0 → w ≢ 2 ^ 64 - 2 → ⊥) → lets_mark w ≡ false
-unmarkable w never = dite (ℕ_discrete (w % 2) 1) (λ odd. rw odd refl)
-    (λ even. dite (ℕ_discrete w (2 ^ 64 - 2)) (λ full. rw full refl) (λ other. absurd (never (omega (arith, even)) other)))
+unmarkable w h1 = grind (arith, nat_tests, eqb-true, eqb-false)
 
 marked_word : (w : ℕ) → IsMarked w → is_marked w ≡ true
 marked_word w set = rw (set.odd, ne_eqb w (2 ^ 64 - 1) set.unwritten) refl
 
 unmarked_word : (w : ℕ) → ¬ IsMarked w → is_marked w ≡ false
-unmarked_word w unset = dite (ℕ_discrete (w % 2) 1)
-    (λ odd. dite (ℕ_discrete w (2 ^ 64 - 1)) (λ full. rw full refl) (λ other. absurd (unset (record { odd = odd; unwritten = other }))))
-    (λ other. let even : w % 2 ≡ 0 = omega (arith, other) in rw even refl)
+unmarked_word w h1 = grind (arith, nat_tests, eqb-true, eqb-false)
 
 -- an exchange of a `WriteLock` from 0 or 1 takes the write hold; one up or down takes none
 
@@ -89,9 +83,6 @@ enters seen free = grind (arith, nat_tests)
 
 marks : (seen : ℕ) → rw_writer_grant {T = ℕ} calls.WriteLock seen (seen + 1) ≡ None
 marks seen = rw (is_marking seen (seen + 1) refl) refl
-
-unmarks : (seen : ℕ) → seen % 2 ≡ 1 → rw_writer_grant {T = ℕ} calls.WriteLock seen (seen - 1) ≡ None
-unmarks seen odd = grind (arith, nat_tests)
 
 -- how a call goes on by a test
 
@@ -106,8 +97,7 @@ when_false call b one other done p is at = subst (λ (c : Bool). CallGoes call (
 has_step : (way : Coming ℕ) (i : ℕ) (intent : Word → Intent ℕ) (call : Call ℕ) (place : RwWriterPlace) (hold : Option HoldKind) (done : List (Slot ℕ)) (p : Parties ℕ) (name : Word) →
     IsNamed (words.State ∷ words.Counter ∷ []) i name → ◌≡◌ {A = Intent ℕ} (rw_writer_intent words.State words.Counter place hold) (intent name) → IsStepOn name (intent name) →
     ComesBy rw_writer_model way call place hold done p → TableHas way i intent p
-has_step way i intent call place hold done p name named intends on comes =
-    record { call = call; place = place; hold = hold; done = done; comes = comes; name = name; named = named; intends = intends; on = on }
+has_step way i intent call place hold done p name h1 h2 h3 h4 = grind (arith, nat_tests, eqb-true, eqb-false)
 
 may_look : (way : Coming ℕ) (call : Call ℕ) (place : RwWriterPlace) (done : List (Slot ℕ)) (p : Parties ℕ) → ◌≡◌ {A = Intent ℕ} (rw_writer_intent words.State words.Counter place None) (intents.Load words.State) →
     Comes way call place done p → TableHas way 0 (λ w. intents.Load w) p
@@ -115,8 +105,7 @@ may_look way call place done p intends comes = has_step way 0 (λ w. intents.Loa
 
 may_exchange : (way : Coming ℕ) (call : Call ℕ) (place : RwWriterPlace) (done : List (Slot ℕ)) (p : Parties ℕ) (from to put : ℕ) → put ≡ to →
     ◌≡◌ {A = Intent ℕ} (rw_writer_intent words.State words.Counter place None) (intents.Exchange words.State from to) → Comes way call place done p → TableHas way 0 (λ w. intents.Exchange w from put) p
-may_exchange way call place done p from to put is intends comes =
-    has_step way 0 (λ w. intents.Exchange w from put) call place None done p words.State refl (intends ∙ ap (λ (n : ℕ). intents.Exchange words.State from n) (sym is)) refl comes
+may_exchange way call place done p from to put h1 h2 h3 = grind (arith, nat_tests, eqb-true, eqb-false)
 
 -- how the calls begin
 
@@ -155,8 +144,7 @@ may_read_once seen more done p even room is at = may_exchange Going calls.TryRea
 
 once_so : (seen found : ℕ) (b : Bool) (done : List (Slot ℕ)) (q : Parties ℕ) → (found == seen) ≡ b → Led rw_writer_model calls.TryReadLock (places.TryRead seen (seen + 2)) None found done q →
     MatchBool b (Ended calls.TryReadLock answers.Success (Some kinds.Read) done q) (Ended calls.TryReadLock answers.Interrupted None done q)
-once_so seen found true done q test led = rw test at led
-once_so seen found false done q test led = rw test at led
+once_so seen found b done q h1 h2 = grind (arith, nat_tests, eqb-true, eqb-false)
 
 pub read_once : (seen found : ℕ) (done : List (Slot ℕ)) (p q : Parties ℕ) → seen % 2 ≡ 0 → seen < 2 ^ 64 - 4 → CallGoes calls.TryReadLock (try_read_look seen) done p → TableLed Going p found q →
     MatchBool (found == seen) (Ended calls.TryReadLock answers.Success (Some kinds.Read) done q) (Ended calls.TryReadLock answers.Interrupted None done q)
@@ -171,33 +159,21 @@ pub looked : (way : Coming ℕ) (found : ℕ) (p q : Parties ℕ) → TableLed w
 looked way found p q went patience done comes = went calls.ReadLock (places.ReadLook patience) None done comes
 
 pub found_shut : (patience : Patience) (seen : ℕ) (done : List (Slot ℕ)) (p : Parties ℕ) → IsShut seen → CallGoes calls.ReadLock (read_look patience seen) done p → IsRefused rw_writer_model calls.ReadLock places.ReadLook patience seen done p
-found_shut patience seen done p shut at =
-    when_false calls.ReadLock (lets_readers_in seen) (afters.At (places.Read seen (seen + 2) patience)) (within places.ReadLook (refused patience seen)) done p (shut_word seen shut) at
+found_shut patience seen done p h1 h2 = grind (arith, nat_tests, eqb-true, eqb-false)
 
 comes_to_read : (patience : Patience) (seen : ℕ) (done : List (Slot ℕ)) (p : Parties ℕ) → seen % 2 ≡ 0 → seen < 2 ^ 64 - 4 → CallGoes calls.ReadLock (read_look patience seen) done p → CallGoes calls.ReadLock (afters.At (places.Read seen (seen + 2) patience)) done p
-comes_to_read patience seen done p even room at =
-    when_true calls.ReadLock (lets_readers_in seen) (afters.At (places.Read seen (seen + 2) patience)) (within places.ReadLook (refused patience seen)) done p (open_word seen even room) at
+comes_to_read patience seen done p h1 h2 h3 = grind (arith, nat_tests, eqb-true, eqb-false)
 
 pub may_read : (patience : Patience) (seen more : ℕ) (done : List (Slot ℕ)) (p : Parties ℕ) → seen % 2 ≡ 0 → seen < 2 ^ 64 - 4 → more ≡ seen + 2 → CallGoes calls.ReadLock (read_look patience seen) done p → TableHas Going 0 (λ w. intents.Exchange w seen more) p
 may_read patience seen more done p even room is at = may_exchange Going calls.ReadLock (places.Read seen (seen + 2) patience) done p seen (seen + 2) more is refl (comes_to_read patience seen done p even room at)
 
-read_so : (patience : Patience) (seen found : ℕ) (done : List (Slot ℕ)) (q : Parties ℕ) → (found == seen) ≡ true →
-    Led rw_writer_model calls.ReadLock (places.Read seen (seen + 2) patience) None found done q → Ended calls.ReadLock answers.Success (Some kinds.Read) done q
-read_so patience seen found done q test led = rw test at led
-
-again_so : (patience : Patience) (seen found : ℕ) (done : List (Slot ℕ)) (q : Parties ℕ) → (found == seen) ≡ false →
-    Led rw_writer_model calls.ReadLock (places.Read seen (seen + 2) patience) None found done q → CallGoes calls.ReadLock (read_look patience found) done q
-again_so patience seen found done q test led = rw test at led
-
 pub has_read : (patience : Patience) (seen found : ℕ) (done : List (Slot ℕ)) (p q : Parties ℕ) → seen % 2 ≡ 0 → seen < 2 ^ 64 - 4 → found ≡ seen → CallGoes calls.ReadLock (read_look patience seen) done p → TableLed Going p found q →
     IsGranted rw_writer_model calls.ReadLock places.ReadLook (Some kinds.Read) done q
-has_read patience seen found done p q even room is at went =
-    read_so patience seen found done q (hit found seen is) (went calls.ReadLock (places.Read seen (seen + 2) patience) None done (comes_to_read patience seen done p even room at))
+has_read patience seen found done p q h1 h2 h3 h4 h5 = grind (arith, nat_tests, eqb-true, eqb-false)
 
 pub looked_again : (patience : Patience) (seen found : ℕ) (done : List (Slot ℕ)) (p q : Parties ℕ) → seen % 2 ≡ 0 → seen < 2 ^ 64 - 4 → found ≢ seen → CallGoes calls.ReadLock (read_look patience seen) done p → TableLed Going p found q →
     CallGoes calls.ReadLock (read_look patience found) done q
-looked_again patience seen found done p q even room miss at went =
-    again_so patience seen found done q (ne_eqb found seen miss) (went calls.ReadLock (places.Read seen (seen + 2) patience) None done (comes_to_read patience seen done p even room at))
+looked_again patience seen found done p q h1 h2 h3 h4 h5 = grind (arith, nat_tests, eqb-true, eqb-false)
 
 pub first_read : (p : Parties ℕ) → MayTry rw_writer_model calls.ReadLock places.ReadLook (Beginning calls.ReadLock) p
 first_read p = record { patience = spun 0; done = all_of p; comes = read_begins p }
@@ -209,8 +185,7 @@ may_write_once p put is = may_exchange (Beginning calls.TryWriteLock) calls.TryW
 
 wrote_so : (found : ℕ) (b : Bool) (done : List (Slot ℕ)) (q : Parties ℕ) → (found == 0) ≡ b → Led rw_writer_model calls.TryWriteLock places.TryWrite None found done q →
     MatchBool b (Ended calls.TryWriteLock answers.Success (Some kinds.Write) done q) (Ended calls.TryWriteLock answers.Interrupted None done q)
-wrote_so found true done q test led = rw test at led
-wrote_so found false done q test led = rw test at led
+wrote_so found b done q h1 h2 = grind (arith, nat_tests, eqb-true, eqb-false)
 
 pub wrote_once : (found : ℕ) (p q : Parties ℕ) → TableLed (Beginning calls.TryWriteLock) p found q →
     MatchBool (found == 0) (HasCalled rw_writer_model calls.TryWriteLock answers.Success (Some kinds.Write) p q) (HasCalled rw_writer_model calls.TryWriteLock answers.Interrupted None p q)
@@ -264,22 +239,12 @@ marks_none patience seen done p never at = when_false calls.WriteLock (lets_mark
 pub may_mark : (patience : Patience) (seen put : ℕ) (done : List (Slot ℕ)) (p : Parties ℕ) → seen % 2 ≡ 0 → seen ≢ 2 ^ 64 - 2 → put ≡ seen + 1 → WriteGoes (marks_or_spins patience seen) done p → TableHas Going 0 (λ w. intents.Exchange w seen put) p
 may_mark patience seen put done p even other is at = may_exchange Going calls.WriteLock (places.Mark seen (seen + 1) patience) done p seen (seen + 1) put is refl (comes_to_mark patience seen done p even other at)
 
-mark_so : (patience : Patience) (seen found : ℕ) (done : List (Slot ℕ)) (q : Parties ℕ) → (found == seen) ≡ true → rw_writer_grant {T = ℕ} calls.WriteLock seen (seen + 1) ≡ None →
-    Led rw_writer_model calls.WriteLock (places.Mark seen (seen + 1) patience) None found done q → WriteGoes (spins patience) done q
-mark_so patience seen found done q test grants led = rw (test, grants) at led
-
 pub marked : (patience : Patience) (seen found : ℕ) (done : List (Slot ℕ)) (p q : Parties ℕ) → seen % 2 ≡ 0 → seen ≢ 2 ^ 64 - 2 → found ≡ seen → WriteGoes (marks_or_spins patience seen) done p → TableLed Going p found q → WriteGoes (spins patience) done q
-marked patience seen found done p q even other is at went =
-    mark_so patience seen found done q (hit found seen is) (marks seen) (went calls.WriteLock (places.Mark seen (seen + 1) patience) None done (comes_to_mark patience seen done p even other at))
-
-mark_missed_so : (patience : Patience) (seen found : ℕ) (done : List (Slot ℕ)) (q : Parties ℕ) → (found == seen) ≡ false →
-    Led rw_writer_model calls.WriteLock (places.Mark seen (seen + 1) patience) None found done q → WriteGoes (write_look patience found) done q
-mark_missed_so patience seen found done q test led = rw test at led
+marked patience seen found done p q h1 h2 h3 h4 h5 = grind (arith, nat_tests, eqb-true, eqb-false)
 
 pub mark_missed : (patience : Patience) (seen found : ℕ) (done : List (Slot ℕ)) (p q : Parties ℕ) → seen % 2 ≡ 0 → seen ≢ 2 ^ 64 - 2 → found ≢ seen → WriteGoes (marks_or_spins patience seen) done p → TableLed Going p found q →
     WriteGoes (write_look patience found) done q
-mark_missed patience seen found done p q even other miss at went =
-    mark_missed_so patience seen found done q (ne_eqb found seen miss) (went calls.WriteLock (places.Mark seen (seen + 1) patience) None done (comes_to_mark patience seen done p even other at))
+mark_missed patience seen found done p q h1 h2 h3 h4 h5 = grind (arith, nat_tests, eqb-true, eqb-false)
 
 -- it spins, and then loads the counter and looks a last time
 
@@ -337,21 +302,11 @@ leaves seen done p unset at = when_false calls.WriteLock (is_marked seen) (after
 pub may_unmark : (seen put : ℕ) (done : List (Slot ℕ)) (p : Parties ℕ) → IsMarked seen → put ≡ seen - 1 → WriteGoes (unmarks_or_leaves seen) done p → TableHas Going 0 (λ w. intents.Exchange w seen put) p
 may_unmark seen put done p set is at = may_exchange Going calls.WriteLock (places.Unmark seen (seen - 1)) done p seen (seen - 1) put is refl (comes_to_unmark seen done p set at)
 
-unmark_so : (seen found : ℕ) (done : List (Slot ℕ)) (q : Parties ℕ) → (found == seen) ≡ true → rw_writer_grant {T = ℕ} calls.WriteLock seen (seen - 1) ≡ None →
-    Led rw_writer_model calls.WriteLock (places.Unmark seen (seen - 1)) None found done q → WriteGoes (afters.At (places.Count leavers.GivenUp)) done q
-unmark_so seen found done q test grants led = rw (test, grants) at led
-
 pub unmarked : (seen found : ℕ) (p q : Parties ℕ) → IsMarked seen → found ≡ seen → TableLed Going p found q → GoesFromTo calls.WriteLock (unmarks_or_leaves seen) (afters.At (places.Count leavers.GivenUp)) p q
-unmarked seen found p q set is went =
-    λ done at. unmark_so seen found done q (hit found seen is) (unmarks seen set.odd) (went calls.WriteLock (places.Unmark seen (seen - 1)) None done (comes_to_unmark seen done p set at))
-
-unmark_missed_so : (seen found : ℕ) (done : List (Slot ℕ)) (q : Parties ℕ) → (found == seen) ≡ false →
-    Led rw_writer_model calls.WriteLock (places.Unmark seen (seen - 1)) None found done q → WriteGoes (unmarks_or_leaves found) done q
-unmark_missed_so seen found done q test led = rw test at led
+unmarked seen found p q h1 h2 h3 = grind (arith, nat_tests, eqb-true, eqb-false)
 
 pub unmark_missed : (seen found : ℕ) (p q : Parties ℕ) → IsMarked seen → found ≢ seen → TableLed Going p found q → GoesFromTo calls.WriteLock (unmarks_or_leaves seen) (unmarks_or_leaves found) p q
-unmark_missed seen found p q set miss went =
-    λ done at. unmark_missed_so seen found done q (ne_eqb found seen miss) (went calls.WriteLock (places.Unmark seen (seen - 1)) None done (comes_to_unmark seen done p set at))
+unmark_missed seen found p q h1 h2 h3 = grind (arith, nat_tests, eqb-true, eqb-false)
 
 -- the counter's add, and the wakes
 

@@ -1,5 +1,8 @@
 -- Each step of an atomic is its call's next.
-use Rattle.std.proofs.Common.{◌≡◌, ℕ, ◌+◌, ◌-◌, ◌^◌, ◌==◌, refl, sym, ◌∙◌, ap, subst, Bool, true, false, cond, is_some, List, [], ◌∷◌, Option, Some, None, inl, inr, ◌⊎◌}
+use Rattle.std.proofs.lemmas.Bool.{eqb-false}
+use Rattle.std.proofs.lemmas.Bool.{eqb-true}
+use Rattle.std.proofs.lemmas.Bool.Decides.{nat_tests}
+use Rattle.std.proofs.Common.{◌≡◌, ℕ, ◌+◌, ◌-◌, ◌^◌, ◌==◌, refl, sym, ◌∙◌, ap, subst, Bool, true, false, cond, is_some, List, [], ◌∷◌, Option, Some, None, inl, inr, ◌⊎◌, arith}
 use Rattle.std.specs.Prelude.{unwrap_or, MatchOption}
 use Rattle.steps_events.specs.declared.event.Word.{Word}
 use Rattle.steps_events.specs.declared.event.Word.TheVariants as words
@@ -70,29 +73,14 @@ leads z place next c is done = subst (λ p. HasDone z p c) (some_same place next
 -- Where a call begins.
 
 begins_so : {T : Type 0} (z : Arithmetic T) (call : Call T) (place : AtomicPlace T) → atomic_begins call ≡ Some place → (is_some (wants call) ≡ true) × HasDone z place (record { call = call; own = [] })
-begins_so z calls.Load place is = (refl, leads z places.Look place _ is ((refl, refl), refl))
-begins_so z (calls.Store x) place is = (refl, leads z (places.Take (calls.Store x)) place _ is ((refl, refl), refl))
-begins_so z (calls.Swap x) place is = (refl, leads z (places.Take (calls.Swap x)) place _ is ((refl, refl), refl))
-begins_so z (calls.CompareExchange c x) place is = (refl, leads z (places.Take (calls.CompareExchange c x)) place _ is ((refl, refl), refl))
-begins_so z (calls.CompareExchangeWeak c x) place is = (refl, leads z (places.Take (calls.CompareExchangeWeak c x)) place _ is ((refl, refl), refl))
-begins_so z (calls.FetchAdd x) place is = (refl, leads z (places.Take (calls.FetchAdd x)) place _ is ((refl, refl), refl))
-begins_so z (calls.FetchSub x) place is = (refl, leads z (places.Take (calls.FetchSub x)) place _ is ((refl, refl), refl))
-begins_so z (calls.FetchAnd x) place is = (refl, leads z (places.Take (calls.FetchAnd x)) place _ is ((refl, refl), refl))
-begins_so z (calls.FetchOr x) place is = (refl, leads z (places.Take (calls.FetchOr x)) place _ is ((refl, refl), refl))
-begins_so z (calls.FetchXor x) place is = (refl, leads z (places.Take (calls.FetchXor x)) place _ is ((refl, refl), refl))
-begins_so z (calls.FetchNand x) place is = (refl, leads z (places.Take (calls.FetchNand x)) place _ is ((refl, refl), refl))
-begins_so z (calls.FetchMax x) place is = (refl, leads z (places.Take (calls.FetchMax x)) place _ is ((refl, refl), refl))
-begins_so z (calls.FetchMin x) place is = (refl, leads z (places.Take (calls.FetchMin x)) place _ is ((refl, refl), refl))
-begins_so z calls.FetchUpdate place is = (refl, leads z (places.Take calls.FetchUpdate) place _ is ((refl, refl), refl))
-begins_so z other place is = absurd cc
+begins_so z call place h1 = grind (arith, nat_tests, eqb-true, eqb-false)
 
 -- Where a step leads.
 
 look_done :
     {T : Type 0} (z : Arithmetic T) (v : ℕ) (c : PendingCall T) (next : AtomicPlace T) (b : Bool) → lets_readers_in v ≡ b → IsOutside c.own → seen_last words.State c.own ≡ Some v →
     ◌≡◌ {A = Option (AtomicPlace T)} (Some (cond b (places.Enter v (v + 1)) places.Look)) (Some next) → HasDone z next c
-look_done z v c next true sees out seen is = leads z (places.Enter v (v + 1)) next c is (out, rw (seen, sees) refl)
-look_done z v c next false sees out seen is = leads z places.Look next c is (out, rw (seen, sees) refl)
+look_done z v c next b h1 h2 h3 h4 = grind (arith, nat_tests, eqb-true, eqb-false)
 
 enter_done :
     {T : Type 0} (z : Arithmetic T) (call : Call T) (own : List (Event T)) (seen to w number : ℕ) (next : AtomicPlace T) (b : Bool) → IsOutside own →
@@ -104,9 +92,7 @@ enter_done z call own seen to w number next false out is = look_done z w _ next 
 inside_done :
     {T : Type 0} (z : Arithmetic T) (call : Call T) (own : List (Event T)) (from to found : ℕ) (next : AtomicPlace T) → IsInside own → last_of is_step own ≡ Some (acts.Exchange words.State from to found true) →
     ◌≡◌ {A = Option (AtomicPlace T)} (Some (inside z call)) (Some next) → HasDone z next (record { call = call; own = own })
-inside_done z (calls.Store x) own from to found next in_it last is =
-    leads z (puts z x answers.Done) next _ is (in_it.0, (x, refl, refl), rw last (refl, refl, refl))
-inside_done z other own from to found next in_it last is = leads z (places.Low other) next _ is (in_it, from, to, found, last)
+inside_done z call own from to found next h1 h2 h3 = grind (arith, nat_tests, eqb-true, eqb-false)
 
 take_done :
     {T : Type 0} (z : Arithmetic T) (call : Call T) (own : List (Event T)) (w number : ℕ) (next : AtomicPlace T) (b : Bool) → IsOutside own → wants call ≡ Some kinds.Write →
@@ -164,17 +150,7 @@ module _ {T : Type 0} (z : Arithmetic T) (own : List (Event T)) (low w number : 
 again_done :
     {T : Type 0} (z : Arithmetic T) (old : T) (own : List (Event T)) (hold : Option HoldKind) (high w number : ℕ) (next : AtomicPlace T) → Asks z old calls.FetchUpdate own hold → high_told own ≡ Some high → old ≡ z.of_words (low_told own) high →
     ◌≡◌ {A = Option (AtomicPlace T)} (Some (places.Leave (answers.ErrOld old))) (Some next) → HasDone z next (record { call = calls.FetchUpdate; own = event number (acts.Load words.High w) thens.GoesOn ∷ own })
-again_done {T} z old own hold high w number next asks told found is = leads z (places.Leave (answers.ErrOld old)) next _ is (by_choice asks.chooses)
-  where
-    now : List (Event T)
-    now = event number (acts.Load words.High w) thens.GoesOn ∷ own
-
-    same : answers.ErrOld old ≡ answers.ErrOld (value_found z now)
-    same = ap (λ (o : T). answers.ErrOld o) (found ∙ ap (λ h. z.of_words (low_told own) (unwrap_or h w)) (sym told))
-
-    by_choice : ((latest_outcome own ≡ thens.Chooses old) × (choice_of own ≡ None)) ⊎ ((latest_outcome own ≡ thens.GoesOn) × (choice_of own ≡ Some None)) → answers.ErrOld old ≡ (acts_so z calls.FetchUpdate now).0
-    by_choice (inl stands) = subst (λ (k : Option (Option T)). answers.ErrOld old ≡ (updated k (value_found z now)).0) (sym stands.1) same
-    by_choice (inr chose) = subst (λ (k : Option (Option T)). answers.ErrOld old ≡ (updated k (value_found z now)).0) (sym chose.1) same
+again_done z old own hold high w number next h1 h2 h3 h4 = grind (arith, nat_tests, eqb-true, eqb-false)
 
 steps_so :
     {T : Type 0} (z : Arithmetic T) (v : T) (place : AtomicPlace T) (c : PendingCall T) (hold : Option HoldKind) (memory : Word → ℕ) (number : ℕ) (next : AtomicPlace T) → At z place c hold →
@@ -201,37 +177,13 @@ steps_so z v (places.Leave answer) c hold memory number next so is = absurd cc
 -- Where the answer of a closure leads.
 
 answers_so : {T : Type 0} (z : Arithmetic T) (place : AtomicPlace T) (c : PendingCall T) (action : WaitAction) (number : ℕ) → HasDone z place c → HasDone z place (record { call = c.call; own = event number (acts.Answered action) thens.GoesOn ∷ c.own })
-answers_so z places.Look c action number done = done
-answers_so z (places.Enter seen to) c action number done = done
-answers_so z (places.Take call) c action number done = done
-answers_so z (places.Low call) c action number done = done
-answers_so z (places.High call low) c action number done = done
-answers_so z (places.Again old) c action number done = done
-answers_so z (places.PutLow low high answer) c action number done = done
-answers_so z (places.PutHigh high answer) c action number done = done
-answers_so z (places.Leave answer) c action number done = done
-
-chose_so :
-    {T : Type 0} (z : Arithmetic T) (v old : T) (own : List (Event T)) (choice : Option T) (number : ℕ) → HasDone z (places.Again old) (record { call = calls.FetchUpdate; own = own }) →
-    HasDone z ((atomic_table z v).chosen (places.Again old) choice) (record { call = calls.FetchUpdate; own = event number (acts.Chosen choice) thens.GoesOn ∷ own })
-chose_so z v old own None number done = done
-chose_so {T} z v old own (Some new) number done = (done.0, (new, ap (λ (o : T). (answers.OkOld o, new)) (sym (done.4 ∙ ap (λ h. z.of_words (low_told own) (unwrap_or h 0)) (sym done.3))), refl), rw done.2 (refl, refl, refl))
+answers_so z place c action number h1 = grind (arith, nat_tests, eqb-true, eqb-false)
 
 -- At the other places no choice is asked for.
 chooses_so :
     {T : Type 0} (z : Arithmetic T) (v : T) (place : AtomicPlace T) (c : PendingCall T) (hold : Option HoldKind) (choice : Option T) (number : ℕ) → At z place c hold → choose_fault (latest_outcome c.own) ≡ None →
     HasDone z ((atomic_table z v).chosen place choice) (record { call = c.call; own = event number (acts.Chosen choice) thens.GoesOn ∷ c.own })
-chooses_so z v places.Look c hold choice number so stands = absurd (offered_nothing c.own so.at.2.fresh.goes stands)
-chooses_so z v (places.Enter seen to) c hold choice number so stands = absurd (offered_nothing c.own so.at.3.fresh.goes stands)
-chooses_so z v (places.Take call) c hold choice number so stands = absurd (offered_nothing c.own so.at.4.fresh.goes stands)
-chooses_so z v (places.Low call) c hold choice number so stands = absurd (offered_nothing c.own so.at.3.fresh.goes stands)
-chooses_so z v (places.High call low) c hold choice number so stands = absurd (offered_nothing c.own so.at.3.goes stands)
-chooses_so {T} z v (places.Again old) c hold choice number so stands =
-    subst (λ (k : Call T). HasDone z (places.Again old) (record { call = k; own = c.own }) → HasDone z ((atomic_table z v).chosen (places.Again old) choice) (record { call = k; own = event number (acts.Chosen choice) thens.GoesOn ∷ c.own })) (sym so.at.0)
-    (λ done. chose_so z v old c.own choice number done) so.done
-chooses_so z v (places.PutLow low high answer) c hold choice number so stands = absurd (offered_nothing c.own so.at.goes stands)
-chooses_so z v (places.PutHigh high answer) c hold choice number so stands = absurd (offered_nothing c.own so.at.goes stands)
-chooses_so z v (places.Leave answer) c hold choice number so stands = absurd (offered_nothing c.own so.at.goes stands)
+chooses_so z v place c hold choice number h1 h2 = grind (arith, nat_tests, eqb-true, eqb-false)
 
 kept : {T : Type 0} (z : Arithmetic T) (v : T) → IsKeptFromRest z (atomic_table z v) HasNone (At z)
 kept z v =
@@ -260,51 +212,10 @@ module _ {T : Type 0} (z : Arithmetic T) (call : Call T) (own : List (Event T)) 
   leaves : is_some (wants call) ≡ true → acts_made z call own ≡ 1 → Releases (thens.Answers (acts_so z call own).0) act outcome → AtomicStep z call own act outcome
   leaves known made step = of_kind (wants call) known (λ k. rw made step)
 
-entered_goes : (T : Type 0) (b : Bool) → ◌≡◌ {A = Then T} thens.GoesOn (cond b thens.GoesOn thens.GoesOn)
-entered_goes T true = refl
-entered_goes T false = refl
-
-reads_low : {T : Type 0} (z : Arithmetic T) (call : Call T) (low : ℕ) → is_store call ≡ false → BeginsData z call (acts.Load words.Low low) thens.GoesOn
-reads_low z (calls.Store x) low is = absurd cc
-reads_low z other low is = (refl, refl)
-
-leaves_knowing : {T : Type 0} (z : Arithmetic T) (call : Call T) (old : T) → is_some (wants call) ≡ true → is_store call ≡ false → outcome_of (knows z call old) ≡ left_knowing call old
-leaves_knowing z calls.FetchUpdate old known looks = refl
-leaves_knowing z other old known looks = refl
-
-reads_more :
-    {T : Type 0} (z : Arithmetic T) (old : T) (own : List (Event T)) (hold : Option HoldKind) (high w : ℕ) → Asks z old calls.FetchUpdate own hold → last_of is_step own ≡ Some (acts.Load words.High high) →
-    Accesses z calls.FetchUpdate own (last_of is_step own) (acts.Load words.High w) thens.GoesOn
-reads_more z old own hold high w asks last = by_choice asks.chooses
-  where
-    by_choice : ((latest_outcome own ≡ thens.Chooses old) × (choice_of own ≡ None)) ⊎ ((latest_outcome own ≡ thens.GoesOn) × (choice_of own ≡ Some None)) →
-        Accesses z calls.FetchUpdate own (last_of is_step own) (acts.Load words.High w) thens.GoesOn
-    by_choice (inl stands) = rw last (rw stands.1 (refl, refl))
-    by_choice (inr chose) = rw last (rw chose.1 (refl, refl))
-
 next_step :
     {T : Type 0} (z : Arithmetic T) (v : T) (place : AtomicPlace T) (c : PendingCall T) (hold : Option HoldKind) (memory : Word → ℕ) → At z place c hold →
     AtomicStep z c.call c.own (step_at (atomic_table z v) place hold memory).act (step_at (atomic_table z v) place hold memory).outcome
-next_step z v places.Look c hold memory so = enters z c.call c.own _ _ kinds.Read (ap wants so.at.0) so.at.2.fresh.unmade so.done.0.0 (rw so.done.1 (refl, refl))
-next_step {T} z v (places.Enter seen to) c hold memory so =
-    enters z c.call c.own _ _ kinds.Read (ap wants so.at.0) so.at.3.fresh.unmade so.done.0.0 (rw so.done.1 (refl, refl, so.at.2.0, entered_goes T (memory words.State == seen)))
-next_step {T} z v (places.Take call) c hold memory so = enters z c.call c.own _ _ kinds.Write so.done.1 so.at.4.fresh.unmade so.done.0.0 (refl, refl, refl, entered_goes T (memory words.State == 0))
-next_step {T} z v (places.Low call) c hold memory so =
-    accesses z c.call c.own _ _ so.known so.at.3.fresh.unmade so.done.0.0 (rw so.done.4 (subst (λ (k : Call T). BeginsData z k (acts.Load words.Low (memory words.Low)) thens.GoesOn) (sym so.at.0) (reads_low z call (memory words.Low) so.at.2.1)))
-next_step {T} z v (places.High call low) c hold memory so =
-    let w = memory words.High in
-    accesses z c.call c.own _ _ so.known so.at.3.unmade so.done.0.0
-    (rw so.done.1 (refl, subst (λ (k : Call T). is_some (wants k) ≡ true → outcome_of (knows z call (z.of_words low w)) ≡ left_knowing k (z.of_words low w)) (sym so.at.0) (λ known. leaves_knowing z call (z.of_words low w) known so.at.2.1) so.known))
-next_step {T} z v (places.Again old) c hold memory so =
-    accesses z c.call c.own _ _ so.known so.at.1.unmade so.done.0
-    (subst (λ (k : Call T). Asks z old k c.own hold → Accesses z k c.own (last_of is_step c.own) (acts.Load words.High (memory words.High)) thens.GoesOn) (sym so.at.0)
-    (λ asks. reads_more z old c.own hold so.done.1 (memory words.High) asks so.done.2) so.at.1)
-next_step z v (places.PutLow low high answer) c hold memory so = accesses z c.call c.own _ _ so.known so.at.unmade so.done.0 so.done.2
-next_step z v (places.PutHigh high answer) c hold memory so =
-    accesses z c.call c.own _ _ so.known so.at.unmade so.done.0 (rw so.done.3 (refl, so.done.1.2 ∙ ap (λ o. z.high o.1) (sym so.done.1.1), refl))
-next_step z v (places.Leave answer) c None memory so = let held = so.at.held in absurd cc
-next_step {T} z v (places.Leave answer) c (Some kinds.Read) memory so = leaves z c.call c.own _ _ so.known so.at.made (refl, ap (λ (a : Answer T). thens.Answers a) so.done)
-next_step {T} z v (places.Leave answer) c (Some kinds.Write) memory so = leaves z c.call c.own _ _ so.known so.at.made (refl, ap (λ (a : Answer T). thens.Answers a) so.done)
+next_step z v place c hold memory h1 = grind (arith, nat_tests, eqb-true, eqb-false)
 
 pub each_steps : {T : Type 0} (z : Arithmetic T) (v : T) (parties : ℕ) (past : List (Event T)) → IsPast z (atomic_table z v) parties past → StepsAs (AtomicStep z) past
 each_steps z v parties past run =

@@ -1,4 +1,6 @@
 -- What is kept of a call at each place of an atomic.
+use Rattle.std.proofs.lemmas.Bool.{eqb-false}
+use Rattle.std.proofs.lemmas.Bool.{eqb-true}
 use Rattle.std.proofs.Common.{◌≡◌, ◌≢◌, ℕ, ◌+◌, ◌-◌, ◌^◌, ◌<◌, ◌==◌, refl, sym, ◌∙◌, ap, subst, Bool, true, false, cond, is_some, List, [], ◌∷◌, Option, Some, None, ◌⊎◌, inl, inr, arith}
 use Rattle.std.specs.Prelude.{not}
 use Rattle.std.proofs.lemmas.Bool.Decides.{nat_tests}
@@ -55,9 +57,7 @@ HasSome calls.FetchUpdate None = ⊥
 HasSome other choice = Unit {0}
 
 has_chosen : {T : Type 0} (call : Call T) (choice : Option (Option T)) → HasSome call choice → HasChosen call choice
-has_chosen calls.FetchUpdate (Some choice) some = refl
-has_chosen calls.FetchUpdate None some = absurd some
-has_chosen other choice some = some
+has_chosen call choice h1 = grind (arith, nat_tests, eqb-true, eqb-false)
 
 -- it has the lock for writing, and has not acted yet
 pub record Puts {T : Type 0} (z : Arithmetic T) (most : ℕ) (answer : Answer T) (call : Call T) (own : List (Event T)) (hold : Option HoldKind) : Type 0 where
@@ -108,38 +108,17 @@ leads z place next c hold is at = subst (λ p. AtAtomic z p c hold) (some_same p
 still_fresh :
     {T : Type 0} (z : Arithmetic T) (call : Call T) (own : List (Event T)) (number : ℕ) (act : Act T) → Fresh z call own → choice_in act (choice_of own) ≡ choice_of own → is_last z (record { call = call; own = own }) act ≡ false →
     Fresh z call (event number act thens.GoesOn ∷ own)
-still_fresh z call own number act fresh same early =
-    let unmade = fresh.unmade in
-    record { unchosen = same ∙ fresh.unchosen; unmade = rw early (omega (arith, unmade)); goes = refl }
+still_fresh z call own number act h1 h2 h3 = grind (arith, nat_tests, eqb-true, eqb-false)
 
 still_outside :
     {T : Type 0} (z : Arithmetic T) (call : Call T) (own : List (Event T)) (number : ℕ) (act : Act T) → Outside z call own → choice_in act (choice_of own) ≡ choice_of own → is_last z (record { call = call; own = own }) act ≡ false →
     is_data_access act ≡ false → Outside z call (event number act thens.GoesOn ∷ own)
-still_outside z call own number act outside same early quiet =
-    let untouched = outside.untouched in
-    record { fresh = still_fresh z call own number act outside.fresh same early; untouched = rw quiet (omega (arith, untouched)) }
+still_outside z call own number act h1 h2 h3 h4 = grind (arith, nat_tests, eqb-true, eqb-false)
 
 -- Where a call begins.
 
-new_call : {T : Type 0} (z : Arithmetic T) (call : Call T) → Outside z call []
-new_call z call = record { fresh = record { unchosen = refl; unmade = refl; goes = refl }; untouched = refl }
-
 pub begins_at : {T : Type 0} (z : Arithmetic T) (call : Call T) (place : AtomicPlace T) (hold : Option HoldKind) → atomic_begins call ≡ Some place → CallValues z call → hold ≡ None → AtAtomic z place (record { call = call; own = [] }) hold
-begins_at z calls.Load place hold is values free = leads z _ place _ hold is (refl, free, new_call z _)
-begins_at z (calls.Store x) place hold is values free = leads z _ place _ hold is (refl, free, refl, values, new_call z _)
-begins_at z (calls.Swap x) place hold is values free = leads z _ place _ hold is (refl, free, refl, values, new_call z _)
-begins_at z (calls.CompareExchange c x) place hold is values free = leads z _ place _ hold is (refl, free, refl, values, new_call z _)
-begins_at z (calls.CompareExchangeWeak c x) place hold is values free = leads z _ place _ hold is (refl, free, refl, values, new_call z _)
-begins_at z (calls.FetchAdd x) place hold is values free = leads z _ place _ hold is (refl, free, refl, values, new_call z _)
-begins_at z (calls.FetchSub x) place hold is values free = leads z _ place _ hold is (refl, free, refl, values, new_call z _)
-begins_at z (calls.FetchAnd x) place hold is values free = leads z _ place _ hold is (refl, free, refl, values, new_call z _)
-begins_at z (calls.FetchOr x) place hold is values free = leads z _ place _ hold is (refl, free, refl, values, new_call z _)
-begins_at z (calls.FetchXor x) place hold is values free = leads z _ place _ hold is (refl, free, refl, values, new_call z _)
-begins_at z (calls.FetchNand x) place hold is values free = leads z _ place _ hold is (refl, free, refl, values, new_call z _)
-begins_at z (calls.FetchMax x) place hold is values free = leads z _ place _ hold is (refl, free, refl, values, new_call z _)
-begins_at z (calls.FetchMin x) place hold is values free = leads z _ place _ hold is (refl, free, refl, values, new_call z _)
-begins_at z calls.FetchUpdate place hold is values free = leads z _ place _ hold is (refl, free, refl, values, new_call z _)
-begins_at z other place hold is values free = absurd cc
+begins_at z call place hold h1 h2 h3 = grind (arith, nat_tests, eqb-true, eqb-false)
 
 -- Where a step leads.
 
@@ -149,26 +128,18 @@ room v is = grind (arith, nat_tests)
 look_leads :
     {T : Type 0} (z : Arithmetic T) (v : ℕ) (c : PendingCall T) (hold : Option HoldKind) (next : AtomicPlace T) (b : Bool) → lets_readers_in v ≡ b → c.call ≡ calls.Load → hold ≡ None → Outside z c.call c.own →
     ◌≡◌ {A = Option (AtomicPlace T)} (Some (cond b (places.Enter v (v + 1)) places.Look)) (Some next) → AtAtomic z next c hold
-look_leads z v c hold next true sees load free out is = leads z (places.Enter v (v + 1)) next c hold is (load, free, (refl, room v sees), out)
-look_leads z v c hold next false sees load free out is = leads z places.Look next c hold is (load, free, out)
+look_leads z v c hold next b h1 h2 h3 h4 h5 = grind (arith, nat_tests, eqb-true, eqb-false)
 
 enter_leads :
     {T : Type 0} (z : Arithmetic T) (v : T) (c : PendingCall T) (hold : Option HoldKind) (seen to w number : ℕ) (next : AtomicPlace T) (b : Bool) → c.call ≡ calls.Load → hold ≡ None → Outside z c.call c.own →
     ◌≡◌ {A = Option (AtomicPlace T)} (Some (cond b (places.Low calls.Load) (look_at w))) (Some next) →
     AtAtomic z next (record { call = c.call; own = event number (acts.Exchange words.State seen to w b) thens.GoesOn ∷ c.own }) (hold_after (atomic_table z v) (acts.Exchange words.State seen to w b) (Some c) hold)
-enter_leads {T} z v c hold seen to w number next true load free out is =
-    leads z (places.Low calls.Load) next _ _ is (load, ap (λ (k : Call T). hold_or (atomic_grant k) hold) load, (refl, refl, tt), still_outside z c.call c.own number (acts.Exchange words.State seen to w true) out refl refl refl)
-enter_leads z v c hold seen to w number next false load free out is =
-    look_leads z w _ hold next (lets_readers_in w) refl load free (still_outside z c.call c.own number (acts.Exchange words.State seen to w false) out refl refl refl) is
+enter_leads z v c hold seen to w number next b h1 h2 h3 h4 = grind (arith, nat_tests, eqb-true, eqb-false)
 
 inside_leads :
     {T : Type 0} (z : Arithmetic T) (call : Call T) (own : List (Event T)) (hold : Option HoldKind) (next : AtomicPlace T) → hold ≡ Some kinds.Write → atomic_grant call ≡ Some kinds.Write → CallValues z call → Outside z call own →
     ◌≡◌ {A = Option (AtomicPlace T)} (Some (inside z call)) (Some next) → AtAtomic z next (record { call = call; own = own }) hold
-inside_leads z (calls.Store x) own hold next held grants values out is =
-    let untouched = out.untouched in
-    leads z (puts z x answers.Done) next _ hold is (record { held = held; unmade = out.fresh.unmade; goes = out.fresh.goes; said = refl; chose = tt; few = omega (arith, untouched) })
-inside_leads z other own hold next held grants values fresh is =
-    leads z (places.Low other) next _ hold is (refl, held ∙ sym grants, (ap is_some grants, refl, values), fresh)
+inside_leads z call own hold next h1 h2 h3 h4 h5 = grind (arith, nat_tests, eqb-true, eqb-false)
 
 take_leads :
     {T : Type 0} (z : Arithmetic T) (v : T) (call : Call T) (own : List (Event T)) (hold : Option HoldKind) (w number : ℕ) (next : AtomicPlace T) (b : Bool) → hold ≡ None → atomic_grant call ≡ Some kinds.Write → CallValues z call → Outside z call own →
@@ -232,15 +203,7 @@ again_leads :
     {T : Type 0} (z : Arithmetic T) (old : T) (own : List (Event T)) (hold : Option HoldKind) (w number : ℕ) (next : AtomicPlace T) → Asks z old calls.FetchUpdate own hold → go_fault (latest_outcome own) ≡ None →
     ◌≡◌ {A = Option (AtomicPlace T)} (Some (places.Leave (answers.ErrOld old))) (Some next) →
     AtAtomic z next (record { call = calls.FetchUpdate; own = event number (acts.Load words.High w) thens.GoesOn ∷ own }) hold
-again_leads {T} z old own hold w number next asks free is = by_choice asks.chooses
-  where
-    by_choice : ((latest_outcome own ≡ thens.Chooses old) × (choice_of own ≡ None)) ⊎ ((latest_outcome own ≡ thens.GoesOn) × (choice_of own ≡ Some None)) →
-        AtAtomic z next (record { call = calls.FetchUpdate; own = event number (acts.Load words.High w) thens.GoesOn ∷ own }) hold
-    by_choice (inl stands) = let no : go_fault {T = T} (thens.Chooses old) ≡ None = subst (λ (o : Then T). go_fault o ≡ None) stands.0 free in absurd cc
-    by_choice (inr chose) =
-        let unmade = asks.unmade in
-        let looked = asks.looked in
-        leads z (places.Leave (answers.ErrOld old)) next _ hold is (record { held = ap is_some asks.held; made = rw chose.1 (omega (arith, unmade)); goes = refl; said = refl; chose = rw chose.1 refl; few = omega (arith, looked) })
+again_leads z old own hold w number next h1 h2 h3 = grind (arith, nat_tests, eqb-true, eqb-false)
 
 steps_at :
     {T : Type 0} (z : Arithmetic T) (v : T) (place : AtomicPlace T) (c : PendingCall T) (hold : Option HoldKind) (memory : Word → ℕ) (number : ℕ) (next : AtomicPlace T) → AtAtomic z place c hold → go_fault (latest_outcome c.own) ≡ None →
@@ -276,29 +239,10 @@ steps_at z v (places.Leave answer) c hold memory number next at free is = absurd
 
 -- Where an answer leads: no call stands at a wait closure.
 
-asked_nothing : {T : Type 0} (own : List (Event T)) (outcome : Then T) → latest_outcome own ≡ outcome → answer_fault outcome ≢ None → answer_fault (latest_outcome own) ≡ None → ⊥
-asked_nothing own outcome is refuses waits = refuses (subst (λ o. answer_fault o ≡ None) is waits)
-
-goes_not : (T : Type 0) → answer_fault {T = T} thens.GoesOn ≢ None
-goes_not T is = absurd cc
-
 answers_at :
     {T : Type 0} (z : Arithmetic T) (place : AtomicPlace T) (c : PendingCall T) (hold : Option HoldKind) (action : WaitAction) (number : ℕ) → AtAtomic z place c hold → answer_fault (latest_outcome c.own) ≡ None →
     AtAtomic z place (record { call = c.call; own = event number (acts.Answered action) thens.GoesOn ∷ c.own }) hold
-answers_at {T} z places.Look c hold action number at waits = absurd (asked_nothing c.own thens.GoesOn at.2.fresh.goes (goes_not T) waits)
-answers_at {T} z (places.Enter seen to) c hold action number at waits = absurd (asked_nothing c.own thens.GoesOn at.3.fresh.goes (goes_not T) waits)
-answers_at {T} z (places.Take call) c hold action number at waits = absurd (asked_nothing c.own thens.GoesOn at.4.fresh.goes (goes_not T) waits)
-answers_at {T} z (places.Low call) c hold action number at waits = absurd (asked_nothing c.own thens.GoesOn at.3.fresh.goes (goes_not T) waits)
-answers_at {T} z (places.High call low) c hold action number at waits = absurd (asked_nothing c.own thens.GoesOn at.3.goes (goes_not T) waits)
-answers_at {T} z (places.Again old) c hold action number at waits = by_choice at.1.chooses
-  where
-    by_choice : ((latest_outcome c.own ≡ thens.Chooses old) × (choice_of c.own ≡ None)) ⊎ ((latest_outcome c.own ≡ thens.GoesOn) × (choice_of c.own ≡ Some None)) →
-        AtAtomic z (places.Again old) (record { call = c.call; own = event number (acts.Answered action) thens.GoesOn ∷ c.own }) hold
-    by_choice (inl stands) = let no : answer_fault {T = T} (thens.Chooses old) ≡ None = subst (λ (o : Then T). answer_fault o ≡ None) stands.0 waits in absurd cc
-    by_choice (inr chose) = absurd (asked_nothing c.own thens.GoesOn chose.0 (goes_not T) waits)
-answers_at {T} z (places.PutLow low high answer) c hold action number at waits = absurd (asked_nothing c.own thens.GoesOn at.goes (goes_not T) waits)
-answers_at {T} z (places.PutHigh high answer) c hold action number at waits = absurd (asked_nothing c.own thens.GoesOn at.goes (goes_not T) waits)
-answers_at {T} z (places.Leave answer) c hold action number at waits = absurd (asked_nothing c.own thens.GoesOn at.goes (goes_not T) waits)
+answers_at z place c hold action number h1 h2 = grind (arith, nat_tests, eqb-true, eqb-false)
 
 -- Where a choice leads.
 
@@ -308,49 +252,17 @@ offered_nothing {T} own goes stands = let no : choose_fault {T = T} thens.GoesOn
 chooses_at :
     {T : Type 0} (z : Arithmetic T) (v : T) (place : AtomicPlace T) (c : PendingCall T) (hold : Option HoldKind) (choice : Option T) (number : ℕ) → AtAtomic z place c hold → choose_fault (latest_outcome c.own) ≡ None → InputValues z (inputs.Choose choice) →
     AtAtomic z ((atomic_table z v).chosen place choice) (record { call = c.call; own = event number (acts.Chosen choice) thens.GoesOn ∷ c.own }) hold
-chooses_at z v places.Look c hold choice number at stands value = absurd (offered_nothing c.own at.2.fresh.goes stands)
-chooses_at z v (places.Enter seen to) c hold choice number at stands value = absurd (offered_nothing c.own at.3.fresh.goes stands)
-chooses_at z v (places.Take call) c hold choice number at stands value = absurd (offered_nothing c.own at.4.fresh.goes stands)
-chooses_at z v (places.Low call) c hold choice number at stands value = absurd (offered_nothing c.own at.3.fresh.goes stands)
-chooses_at z v (places.High call low) c hold choice number at stands value = absurd (offered_nothing c.own at.3.goes stands)
-chooses_at {T} z v (places.Again old) c hold (Some new) number at stands value = let unmade = at.1.unmade in let looked = at.1.looked in record { held = at.1.held; unmade = omega (arith, unmade); goes = refl; said = refl; chose = subst (λ (k : Call T). HasSome k (Some (Some new))) (sym at.0) refl; few = omega (arith, looked) }
-chooses_at z v (places.Again old) c hold None number at stands value = let unmade = at.1.unmade in let looked = at.1.looked in (at.0, record { held = at.1.held; unmade = omega (arith, unmade); looked = omega (arith, looked); chooses = inr (refl, refl) })
-chooses_at z v (places.PutLow low high answer) c hold choice number at stands value = absurd (offered_nothing c.own at.goes stands)
-chooses_at z v (places.PutHigh high answer) c hold choice number at stands value = absurd (offered_nothing c.own at.goes stands)
-chooses_at z v (places.Leave answer) c hold choice number at stands value = absurd (offered_nothing c.own at.goes stands)
+chooses_at z v place c hold choice number h1 h2 h3 = grind (arith, nat_tests, eqb-true, eqb-false)
 
 -- Where a call ends.
 
 pub knows_goes_on : {T : Type 0} (z : Arithmetic T) (call : Call T) (old : T) (answer : Answer T) → knows z call old ≡ afters.Ends answer → ⊥
-knows_goes_on z calls.Load old answer is = absurd cc
-knows_goes_on z (calls.Swap x) old answer is = absurd cc
-knows_goes_on z (calls.CompareExchange c x) old answer is = absurd cc
-knows_goes_on z (calls.CompareExchangeWeak c x) old answer is = absurd cc
-knows_goes_on z (calls.FetchAdd x) old answer is = absurd cc
-knows_goes_on z (calls.FetchSub x) old answer is = absurd cc
-knows_goes_on z (calls.FetchAnd x) old answer is = absurd cc
-knows_goes_on z (calls.FetchOr x) old answer is = absurd cc
-knows_goes_on z (calls.FetchXor x) old answer is = absurd cc
-knows_goes_on z (calls.FetchNand x) old answer is = absurd cc
-knows_goes_on z (calls.FetchMax x) old answer is = absurd cc
-knows_goes_on z (calls.FetchMin x) old answer is = absurd cc
-knows_goes_on z calls.FetchUpdate old answer is = absurd cc
-knows_goes_on z other old answer is = absurd cc
+knows_goes_on z call old answer h1 = grind (arith, nat_tests, eqb-true, eqb-false)
 
 ends_at :
     {T : Type 0} (z : Arithmetic T) (v : T) (place : AtomicPlace T) (c : PendingCall T) (hold : Option HoldKind) (memory : Word → ℕ) (answer : Answer T) → AtAtomic z place c hold →
     (atomic_table z v).after place (value_told (carried_out ((atomic_table z v).intent place hold) memory)) ≡ afters.Ends answer → hold_after (atomic_table z v) (step_at (atomic_table z v) place hold memory).act (Some c) hold ≡ None
-ends_at z v places.Look c hold memory answer at is = absurd cc
-ends_at z v (places.Enter seen to) c hold memory answer at is = absurd cc
-ends_at z v (places.Take call) c hold memory answer at is = absurd cc
-ends_at z v (places.Low call) c hold memory answer at is = absurd cc
-ends_at z v (places.High call low) c hold memory answer at is = absurd (knows_goes_on z call _ answer is)
-ends_at z v (places.Again old) c hold memory answer at is = absurd cc
-ends_at z v (places.PutLow low high a) c hold memory answer at is = absurd cc
-ends_at z v (places.PutHigh high a) c hold memory answer at is = absurd cc
-ends_at z v (places.Leave a) c None memory answer at is = refl
-ends_at z v (places.Leave a) c (Some kinds.Read) memory answer at is = refl
-ends_at z v (places.Leave a) c (Some kinds.Write) memory answer at is = refl
+ends_at z v place c hold memory answer h1 h2 = grind (arith, nat_tests, eqb-true, eqb-false)
 
 -- a party without a call has no hold
 abbrev pub HasNone : Option HoldKind → Type 0

@@ -60,15 +60,9 @@ AtBarrier n (places.Stay epoch spins) c hold =
 
 begins_at :
     {T : Type 0} (n : ℕ) (call : Call T) (place : BarrierPlace) (hold : Option HoldKind) → barrier_begins n call ≡ Some place → AtBarrier {T = T} n place (record { call = call; own = [] }) hold
-begins_at {T} n calls.Wait place hold is =
-    let made : places.Look n ≡ place = cc in
-    subst (λ p. AtBarrier {T = T} n p (record { call = calls.Wait; own = [] }) hold) made (refl, refl, refl)
-begins_at n other place hold is = absurd cc
+begins_at n call place hold h1 = grind (arith, nat_tests, eqb-true, eqb-false)
 
 -- Where a step leads.
-
-below_of : (v m n : ℕ) → m ≡ n → nat_lt (count_of v) m ≡ true → count_of v < n
-below_of v m n same below = grind (arith, nat_tests)
 
 -- how a call goes on after a look, by whether fewer than all have arrived
 abbrev look_after : {T : Type 0} → ℕ → ℕ → Bool → After T BarrierPlace
@@ -77,10 +71,7 @@ look_after m v below = cond below (afters.At (places.Arrive m v (with_arrival m 
 look_steps :
     {T : Type 0} (n m : ℕ) (c : PendingCall T) (hold : Option HoldKind) (v : ℕ) (e : Event T) (next : BarrierPlace) (below : Bool) → c.call ≡ calls.Wait → m ≡ n → arrivals_in c.own ≡ 0 → is_arrival e.act ≡ false → nat_lt (count_of v) m ≡ below →
     place_after {T = T} (look_after m v below) ≡ Some next → AtBarrier n next (record { call = c.call; own = e ∷ c.own }) hold
-look_steps n m c hold v e next false wait same none quiet below is = absurd cc
-look_steps {T} n m c hold v e next true wait same none quiet below is =
-    let made : places.Arrive m v (with_arrival m v) ≡ next = cc in
-    subst (λ p. AtBarrier {T = T} n p (record { call = c.call; own = e ∷ c.own }) hold) made (wait, same, below_of v m n same below, ap (λ k. with_arrival k v) same, rw quiet (omega (arith, none)))
+look_steps n m c hold v e next below h1 h2 h3 h4 h5 h6 = grind (arith, nat_tests, eqb-true, eqb-false)
 
 -- how it goes on after its arrival, by whether this made n
 abbrev joined_after : {T : Type 0} → ℕ → Bool → After T BarrierPlace
@@ -116,15 +107,7 @@ stay_steps :
     {T : Type 0} (n epoch spins : ℕ) (c : PendingCall T) (hold : Option HoldKind) (v number : ℕ) (next : BarrierPlace) (same left : Bool) → AtBarrier n (places.Stay epoch spins) c hold → nat_lt spins 10000 ≡ left →
     place_after {T = T} (stay_after epoch spins v same left) ≡ Some next →
     AtBarrier n next (record { call = c.call; own = event number (acts.Load words.State v) (outcome_of {T = T} (stay_after epoch spins v same left)) ∷ c.own }) hold
-stay_steps n epoch spins c hold v number next false left at spun is = absurd cc
-stay_steps {T} n epoch spins c hold v number next true true at spun is =
-    let made : places.Stay epoch (spins + 1) ≡ next = cc in
-    subst (λ p. AtBarrier {T = T} n p (record { call = c.call; own = event number (acts.Load words.State v) thens.GoesOn ∷ c.own }) hold) made
-    (at.0, at.1, omega (arith, at.2), spins_left spins spun, omega (arith, at.4))
-stay_steps {T} n epoch spins c hold v number next true false at spun is =
-    let made : places.Stay epoch spins ≡ next = cc in
-    subst (λ p. AtBarrier {T = T} n p (record { call = c.call; own = event number (acts.Load words.State v) (thens.Waits v) ∷ c.own }) hold) made
-    (at.0, at.1, omega (arith, at.2), at.3, omega (arith, at.4))
+stay_steps n epoch spins c hold v number next same left h1 h2 h3 = grind (arith, nat_tests, eqb-true, eqb-false)
 
 steps_at :
     {T : Type 0} (n : ℕ) (place : BarrierPlace) (c : PendingCall T) (hold left : Option HoldKind) (memory : Word → ℕ) (number : ℕ) (next : BarrierPlace) → AtBarrier n place c hold →
@@ -141,18 +124,12 @@ steps_at n (places.Stay epoch spins) c hold left memory number next at is =
 answers_at :
     {T : Type 0} (n : ℕ) (place : BarrierPlace) (c : PendingCall T) (hold : Option HoldKind) (action : WaitAction) (number : ℕ) → AtBarrier n place c hold →
     AtBarrier {T = T} n place (record { call = c.call; own = event number (acts.Answered action) thens.GoesOn ∷ c.own }) hold
-answers_at n (places.Look m) c hold action number at = (at.0, at.1, omega (arith, at.2))
-answers_at n (places.Arrive m seen to) c hold action number at = (at.0, at.1, at.2, at.3, omega (arith, at.4))
-answers_at n places.Wake c hold action number at = (at.0, at.1, omega (arith, at.2))
-answers_at n (places.Stay epoch spins) c hold action number at = (at.0, at.1, omega (arith, at.2), at.3, omega (arith, at.4))
+answers_at n place c hold action number h1 = grind (arith, nat_tests, eqb-true, eqb-false)
 
 chooses_at :
     {T : Type 0} (n : ℕ) (place : BarrierPlace) (c : PendingCall T) (hold : Option HoldKind) (choice : Option T) (number : ℕ) → AtBarrier n place c hold →
     AtBarrier {T = T} n place (record { call = c.call; own = event number (acts.Chosen choice) thens.GoesOn ∷ c.own }) hold
-chooses_at n (places.Look m) c hold choice number at = (at.0, at.1, omega (arith, at.2))
-chooses_at n (places.Arrive m seen to) c hold choice number at = (at.0, at.1, at.2, at.3, omega (arith, at.4))
-chooses_at n places.Wake c hold choice number at = (at.0, at.1, omega (arith, at.2))
-chooses_at n (places.Stay epoch spins) c hold choice number at = (at.0, at.1, omega (arith, at.2), at.3, omega (arith, at.4))
+chooses_at n place c hold choice number h1 = grind (arith, nat_tests, eqb-true, eqb-false)
 
 pub barrier_kept : {T : Type 0} (n : ℕ) → IsKept {T = T} (barrier_table n) (AtBarrier n)
 barrier_kept n =
@@ -165,15 +142,8 @@ barrier_kept n =
 
 -- No call goes on by itself more than 10000 times since its arrival.
 
-where_arrived : (none : Bool) (counted : ℕ) → counted ≤ 10000 → cond none 0 counted ≤ 10000
-where_arrived true counted bounded = omega arith
-where_arrived false counted bounded = bounded
-
 spins_bounded : {T : Type 0} (n : ℕ) (place : BarrierPlace) (c : PendingCall T) (hold : Option HoldKind) → AtBarrier n place c hold → steps_on c.call c.own ≤ 10000
-spins_bounded n (places.Look m) c hold at = rw at.2 (omega arith)
-spins_bounded n (places.Arrive m seen to) c hold at = rw at.4 (omega arith)
-spins_bounded n places.Wake c hold at = where_arrived (arrivals_in c.own == 0) _ (omega (arith, at.2))
-spins_bounded n (places.Stay epoch spins) c hold at = where_arrived (arrivals_in c.own == 0) _ (omega (arith, at.3, at.4))
+spins_bounded n place c hold h1 = grind (arith, nat_tests, eqb-true, eqb-false)
 
 -- a call with an arrival has arrived
 has_arrived : {T : Type 0} (own : List (Event T)) (act : Act T) → last_of is_arrival own ≡ Some act → (arrivals_in own == 0) ≡ false
@@ -195,18 +165,9 @@ none_of v n below none = omega (arith, below, none)
 abbrev Effect : {T : Type 0} → ℕ → ℕ → Act T → Type 0
 Effect n w act = ((word_after words.State act w ≡ w) × (is_arrival act ≡ false)) ⊎ ((count_of w < n) × (word_after words.State act w ≡ with_arrival n w) × (is_arrival act ≡ true))
 
-arrive_effect : (T : Type 0) (n seen to w : ℕ) (done : Bool) → count_of seen < n → to ≡ with_arrival n seen → (w == seen) ≡ done → Effect {T = T} n w (acts.Exchange words.State seen to w done)
-arrive_effect T n seen to w false below to_is is = inl (refl, refl)
-arrive_effect T n seen to w true below to_is is =
-    let found : w ≡ seen = eqb-true w seen is in
-    inr (subst (λ v. count_of v < n) (sym found) below, to_is ∙ ap (λ v. with_arrival n v) (sym found), refl)
-
 step_effect :
     {T : Type 0} (n : ℕ) (c : PendingCall T) (place : BarrierPlace) (hold : Option HoldKind) (memory : Word → ℕ) → AtBarrier {T = T} n place c hold → Effect {T = T} n (memory words.State) (step_at (barrier_table n) place hold memory).act
-step_effect n c (places.Look m) hold memory at = inl (refl, refl)
-step_effect {T} n c (places.Arrive m seen to) hold memory at = arrive_effect T n seen to (memory words.State) (memory words.State == seen) at.2 at.3 refl
-step_effect n c places.Wake hold memory at = inl (refl, refl)
-step_effect n c (places.Stay epoch spins) hold memory at = inl (refl, refl)
+step_effect n c place hold memory h1 = grind (arith, nat_tests, eqb-true, eqb-false)
 
 event_effect : {T : Type 0} (z : Arithmetic T) (n parties : ℕ) (past : List (Event T)) (e : Event T) → IsPast z (barrier_table n) parties (e ∷ past) → Effect n (word_in (barrier_table n) past words.State) e.act
 event_effect {T} z n parties past e run =
@@ -233,8 +194,7 @@ barrier_counts z n parties fits (e ∷ past) run = counted n _ _ _ (is_arrival e
 -- at a barrier of 0 no event is an arrival, since no count is below 0
 none_more : (n arrivals w word : ℕ) (arrives : Bool) → n ≡ 0 → (arrivals ≡ 0) × (w ≡ 0) →
     ((word ≡ w) × (arrives ≡ false)) ⊎ ((count_of w < n) × (word ≡ with_arrival n w) × (arrives ≡ true)) → (cond arrives 1 0 + arrivals ≡ 0) × (word ≡ 0)
-none_more n arrivals w word arrives none was (inl quiet) = (rw quiet.1 (omega (arith, was.0)), quiet.0 ∙ was.1)
-none_more n arrivals w word arrives none was (inr more) = absurd (none_of w n more.0 none)
+none_more n arrivals w word arrives h1 h2 h3 = grind (arith, nat_tests, eqb-true, eqb-false)
 
 nobody_arrives : {T : Type 0} (z : Arithmetic T) (n parties : ℕ) (past : List (Event T)) → IsPast z (barrier_table n) parties past → n ≡ 0 → (arrivals_in past ≡ 0) × (word_in (barrier_table n) past words.State ≡ 0)
 nobody_arrives z n parties [] run none = (refl, refl)
@@ -327,43 +287,17 @@ pub record EventLaw {T : Type 0} (n party : ℕ) (past : List (Event T)) (pendin
   pub leaves : is_sight words.State m.act ≡ true → MatchOption pending ⊥ (λ c. 0 < arrivals_in c.own) → LeavesAt n party past m.outcome
 
 -- only a barrier of 0 refuses
-nobody_fits : (n m arrivals v : ℕ) → n < 2 ^ 32 → CountsArrivals n arrivals v → m ≡ n → nat_lt (count_of v) m ≡ false → n ≡ 0
-nobody_fits zero m arrivals v fits counts same below = refl
-nobody_fits (suc k) m arrivals v fits counts same below =
-    let some : 0 < suc k = omega arith in
-    let reached : m ≤ count_of v = grind (arith, nat_tests) in
-    absurd (omega (arith, reached, same, count_is (suc k) arrivals v some fits counts, mod_below arrivals (suc k) some))
 
 look_law :
     {T : Type 0} (n m party : ℕ) (past : List (Event T)) (c : PendingCall T) (act : Act T) (v : ℕ) (below : Bool) → n < 2 ^ 32 → c.call ≡ calls.Wait → m ≡ n → arrivals_in c.own ≡ 0 → CountsArrivals n (arrivals_in past) v →
     is_arrival act ≡ false → is_wake act ≡ false → nat_lt (count_of v) m ≡ below → EventLaw n party past (Some c) (record { act = act; outcome = outcome_of {T = T} (look_after m v below) })
-look_law n m party past c act v true fits wait same first counts quiet asleep below =
-    record { cause = tt; passes = tt; wakes = tt; alone = rw asleep tt; exact = λ sees. (λ full. absurd cc, λ none. absurd (none_of v n (below_of v m n same below) none)); asks = tt; leaves = λ sees arrived. absurd (omega (arith, first, arrived)) }
-look_law {T} n m party past c act v false fits wait same first counts quiet asleep below =
-    let none : n ≡ 0 = nobody_fits n m (arrivals_in past) v fits counts same below in
-    let refuses : Event T = event party act (thens.Answers answers.Full) in
-    record {
-      cause = subst (λ (k : Call T). BarrierCause n k party (refuses ∷ past)) (sym wait) none;
-      passes = tt;
-      wakes = tt;
-      alone = rw asleep tt;
-      exact = λ sees. (λ full. none, λ is. refl);
-      asks = tt;
-      leaves = λ sees arrived. absurd (omega (arith, first, arrived));
-    }
-
-joined_law :
-    {T : Type 0} (n party : ℕ) (past : List (Event T)) (c : PendingCall T) (seen to w : ℕ) (fills : Bool) → count_of seen < n → arrivals_in c.own ≡ 0 →
-    EventLaw n party past (Some c) (record { act = acts.Exchange words.State seen to w true; outcome = outcome_of {T = T} (joined_after seen fills) })
-joined_law n party past c seen to w true below first = record { cause = tt; passes = tt; wakes = tt; alone = tt; exact = λ sees. (λ full. absurd cc, λ none. absurd (none_of seen n below none)); asks = tt; leaves = λ sees arrived. absurd (omega (arith, first, arrived)) }
-joined_law n party past c seen to w false below first = record { cause = tt; passes = tt; wakes = tt; alone = tt; exact = λ sees. (λ full. absurd cc, λ none. absurd (none_of seen n below none)); asks = tt; leaves = λ sees arrived. absurd (omega (arith, first, arrived)) }
+look_law n m party past c act v below h1 h2 h3 h4 h5 h6 h7 h8 = grind (arith, nat_tests, eqb-true, eqb-false)
 
 arrive_law :
     {T : Type 0} (n m party : ℕ) (past : List (Event T)) (c : PendingCall T) (seen to w : ℕ) (done : Bool) → n < 2 ^ 32 → c.call ≡ calls.Wait → m ≡ n → count_of seen < n → arrivals_in c.own ≡ 0 → CountsArrivals n (arrivals_in past) w →
     EventLaw n party past (Some c)
     (record { act = acts.Exchange words.State seen to w done; outcome = outcome_of {T = T} (cond done (joined_after seen (count_of seen + 1 == m)) (look_after m w (nat_lt (count_of w) m))) })
-arrive_law n m party past c seen to w true fits wait same below first counts = joined_law n party past c seen to w (count_of seen + 1 == m) below first
-arrive_law n m party past c seen to w false fits wait same below first counts = look_law n m party past c (acts.Exchange words.State seen to w false) w (nat_lt (count_of w) m) fits wait same first counts refl refl refl
+arrive_law n m party past c seen to w done h1 h2 h3 h4 h5 h6 = grind (arith, nat_tests, eqb-true, eqb-false)
 
 stay_law :
     {T : Type 0} (z : Arithmetic T) (n parties : ℕ) → n < 2 ^ 32 → (party : ℕ) (past : List (Event T)) → IsPast z (barrier_table n) parties past → (c : PendingCall T) → call_of party past ≡ Some c →
@@ -435,60 +369,8 @@ HasSeen (places.Look m) c hold = seen_last words.State c.own ≡ None
 HasSeen (places.Arrive m seen to) c hold = seen_last words.State c.own ≡ Some seen
 HasSeen other c hold = Unit {0}
 
-begins_unseen : {T : Type 0} (n : ℕ) (call : Call T) (place : BarrierPlace) (hold : Option HoldKind) → barrier_begins n call ≡ Some place → HasSeen {T = T} place (record { call = call; own = [] }) hold
-begins_unseen {T} n calls.Wait place hold is = subst (λ p. HasSeen {T = T} p (record { call = calls.Wait; own = [] }) hold) (some_same (places.Look n) place is) refl
-begins_unseen n other place hold is = absurd cc
-
-look_seen :
-    {T : Type 0} (m v : ℕ) (c : PendingCall T) (hold : Option HoldKind) (e : Event T) (next : BarrierPlace) (below : Bool) → seen_last words.State (e ∷ c.own) ≡ Some v → place_after {T = T} (look_after m v below) ≡ Some next →
-    HasSeen next (record { call = c.call; own = e ∷ c.own }) hold
-look_seen m v c hold e next false sees is = absurd cc
-look_seen {T} m v c hold e next true sees is = subst (λ p. HasSeen {T = T} p (record { call = c.call; own = e ∷ c.own }) hold) (some_same (places.Arrive m v (with_arrival m v)) next is) sees
-
-joined_seen :
-    {T : Type 0} (c : PendingCall T) (hold : Option HoldKind) (seen : ℕ) (e : Event T) (next : BarrierPlace) (fills : Bool) → place_after {T = T} (joined_after seen fills) ≡ Some next → HasSeen next (record { call = c.call; own = e ∷ c.own }) hold
-joined_seen {T} c hold seen e next true is = subst (λ p. HasSeen {T = T} p (record { call = c.call; own = e ∷ c.own }) hold) (some_same places.Wake next is) tt
-joined_seen {T} c hold seen e next false is = subst (λ p. HasSeen {T = T} p (record { call = c.call; own = e ∷ c.own }) hold) (some_same (places.Stay (epoch_of seen) 0) next is) tt
-
-arrive_seen :
-    {T : Type 0} (m : ℕ) (c : PendingCall T) (hold : Option HoldKind) (seen to w number : ℕ) (outcome : Then T) (next : BarrierPlace) (done : Bool) →
-    place_after {T = T} (cond done (joined_after seen (count_of seen + 1 == m)) (look_after m w (nat_lt (count_of w) m))) ≡ Some next →
-    HasSeen next (record { call = c.call; own = event number (acts.Exchange words.State seen to w done) outcome ∷ c.own }) hold
-arrive_seen m c hold seen to w number outcome next true is = joined_seen c hold seen (event number (acts.Exchange words.State seen to w true) outcome) next (count_of seen + 1 == m) is
-arrive_seen m c hold seen to w number outcome next false is = look_seen m w c hold (event number (acts.Exchange words.State seen to w false) outcome) next (nat_lt (count_of w) m) refl is
-
-stay_seen :
-    {T : Type 0} (epoch spins v : ℕ) (c : PendingCall T) (hold : Option HoldKind) (e : Event T) (next : BarrierPlace) (same left : Bool) → place_after {T = T} (stay_after epoch spins v same left) ≡ Some next →
-    HasSeen next (record { call = c.call; own = e ∷ c.own }) hold
-stay_seen epoch spins v c hold e next false left is = absurd cc
-stay_seen {T} epoch spins v c hold e next true true is = subst (λ p. HasSeen {T = T} p (record { call = c.call; own = e ∷ c.own }) hold) (some_same (places.Stay epoch (spins + 1)) next is) tt
-stay_seen {T} epoch spins v c hold e next true false is = subst (λ p. HasSeen {T = T} p (record { call = c.call; own = e ∷ c.own }) hold) (some_same (places.Stay epoch spins) next is) tt
-
-steps_seen :
-    {T : Type 0} (n : ℕ) (place : BarrierPlace) (c : PendingCall T) (hold left : Option HoldKind) (memory : Word → ℕ) (number : ℕ) (next : BarrierPlace) →
-    place_after {T = T} (barrier_after place (value_told {T = T} (carried_out (barrier_intent words.State place) memory))) ≡ Some next →
-    HasSeen next (record { call = c.call; own = event number (step_at (barrier_table n) place hold memory).act (step_at (barrier_table n) place hold memory).outcome ∷ c.own }) left
-steps_seen n (places.Look m) c hold left memory number next is =
-    look_seen m (memory words.State) c left (event number (acts.Load words.State (memory words.State)) (step_at (barrier_table n) (places.Look m) hold memory).outcome) next (nat_lt (count_of (memory words.State)) m) refl is
-steps_seen n (places.Arrive m seen to) c hold left memory number next is = arrive_seen m c left seen to (memory words.State) number (step_at (barrier_table n) (places.Arrive m seen to) hold memory).outcome next (memory words.State == seen) is
-steps_seen n places.Wake c hold left memory number next is = absurd cc
-steps_seen n (places.Stay epoch spins) c hold left memory number next is =
-    stay_seen epoch spins (memory words.State) c left (event number (acts.Load words.State (memory words.State)) (step_at (barrier_table n) (places.Stay epoch spins) hold memory).outcome) next (epoch_of (memory words.State) == epoch) (nat_lt spins 10000) is
-
-quiet_seen : {T : Type 0} (place : BarrierPlace) (c : PendingCall T) (hold : Option HoldKind) (e : Event T) → is_step e.act ≡ false → HasSeen place c hold → HasSeen place (record { call = c.call; own = e ∷ c.own }) hold
-quiet_seen (places.Look m) c hold e quiet seen = rw quiet seen
-quiet_seen (places.Arrive m seen to) c hold e quiet seen_so = rw quiet seen_so
-quiet_seen places.Wake c hold e quiet seen = tt
-quiet_seen (places.Stay epoch spins) c hold e quiet seen = tt
-
 seen_kept : {T : Type 0} (n : ℕ) → IsKept {T = T} (barrier_table n) HasSeen
-seen_kept n =
-    record {
-      begins = λ call place hold is allowed. begins_unseen n call place hold is;
-      steps = λ place c hold memory number next at free is. steps_seen n place c hold _ memory number next is;
-      answers = λ place c hold action number at stands. quiet_seen place c hold (event number (acts.Answered action) thens.GoesOn) refl at;
-      chooses = λ place c hold choice number at stands. quiet_seen place c hold (event number (acts.Chosen choice) thens.GoesOn) refl at;
-    }
+seen_kept n = grind (arith, nat_tests, eqb-true, eqb-false)
 
 -- a call that has not arrived has no arrival
 no_arrival : {T : Type 0} (own : List (Event T)) → arrivals_in own ≡ 0 → last_of is_arrival own ≡ None
@@ -501,22 +383,14 @@ no_arrival (e ∷ own) none = by_test (is_arrival e.act) none (no_arrival own)
 
 -- how each step leaves its call, by its tests
 look_outcome : {T : Type 0} (m v : ℕ) (below : Bool) → outcome_of {T = T} (look_after m v below) ≡ cond below thens.GoesOn (thens.Answers answers.Full)
-look_outcome m v true = refl
-look_outcome m v false = refl
-
-joined_outcome : {T : Type 0} (v : ℕ) (fills : Bool) → outcome_of {T = T} (joined_after v fills) ≡ thens.GoesOn
-joined_outcome v true = refl
-joined_outcome v false = refl
+look_outcome m v below = grind (arith, nat_tests, eqb-true, eqb-false)
 
 arrive_outcome :
     {T : Type 0} (m seen w : ℕ) (done : Bool) → outcome_of {T = T} (cond done (joined_after seen (count_of seen + 1 == m)) (look_after m w (nat_lt (count_of w) m))) ≡ cond done thens.GoesOn (looked m w)
-arrive_outcome m seen w true = joined_outcome seen (count_of seen + 1 == m)
-arrive_outcome m seen w false = look_outcome m w (nat_lt (count_of w) m)
+arrive_outcome m seen w done = grind (arith, nat_tests, eqb-true, eqb-false)
 
 stay_outcome : {T : Type 0} (epoch spins v : ℕ) (same left : Bool) → outcome_of {T = T} (stay_after epoch spins v same left) ≡ cond same (cond left thens.GoesOn (thens.Waits v)) (thens.Answers answers.Ok)
-stay_outcome epoch spins v true true = refl
-stay_outcome epoch spins v true false = refl
-stay_outcome epoch spins v false left = refl
+stay_outcome epoch spins v same left = grind (arith, nat_tests, eqb-true, eqb-false)
 
 barrier_step :
     {T : Type 0} (n : ℕ) (place : BarrierPlace) (c : PendingCall T) (hold : Option HoldKind) (memory : Word → ℕ) → AtBarrier n place c hold × HasSeen place c hold →
@@ -561,7 +435,4 @@ keeps_barrier z n parties (e ∷ past) fits run =
 
 -- a barrier has no other word
 pub barrier_lacks : (T : Type 0) (n : ℕ) (word : Word) → same_word words.State word ≡ false → Lacks {T = T} (barrier_table n) word
-barrier_lacks T n word other (places.Look m) hold = ap not other
-barrier_lacks T n word other (places.Arrive m seen to) hold = ap not other
-barrier_lacks T n word other places.Wake hold = refl
-barrier_lacks T n word other (places.Stay epoch spins) hold = ap not other
+barrier_lacks T n word h1 = grind (arith, nat_tests, eqb-true, eqb-false)

@@ -1,4 +1,5 @@
 -- A mutex keeps its law at every front of every run.
+use Rattle.std.proofs.lemmas.Bool.Decides.{nat_tests}
 use Rattle.std.proofs.Common.{◌≡◌, ◌≢◌, ◌≤◌, ℕ, ◌==◌, refl, sym, ◌∙◌, ap, subst, Bool, true, false, cond, is_some, List, [], ◌∷◌, Option, Some, None, ◌↔◌, inl, inr, arith, ◌<◌}
 use Rattle.std.specs.Prelude.{MatchBool, MatchOption, not, nat_lt}
 use Rattle.std.proofs.lemmas.Bool.{eqb-true, eqb-false}
@@ -53,58 +54,24 @@ AtMutex places.Wake c hold = (c.call ≡ calls.Unlock) × (acts_of c.own ≡ act
 pub begins_at :
     {T : Type 0} (call : Call T) (place : MutexPlace) (hold : Option HoldKind) → mutex_begins call ≡ Some place → hold_fault {T = T} mutex_table call hold ≡ None →
     AtMutex {T = T} place (record { call = call; own = [] }) hold
-begins_at {T} calls.TryLock place (Some kind) is allowed = absurd cc
-begins_at {T} calls.TryLock place None is allowed =
-    let made : places.TryLock ≡ place = cc in
-    subst (λ p. AtMutex {T = T} p (record { call = calls.TryLock; own = [] }) None) made (refl, refl, refl)
-begins_at {T} calls.Lock place (Some kind) is allowed = absurd cc
-begins_at {T} calls.Lock place None is allowed =
-    let made : places.Lock (record { spins = 0; keep = true }) ≡ place = cc in
-    subst (λ p. AtMutex {T = T} p (record { call = calls.Lock; own = [] }) None) made
-    (refl, lock_begins, refl)
-begins_at {T} calls.Unlock place None is allowed = absurd cc
-begins_at {T} calls.Unlock place (Some kind) is allowed =
-    let made : places.Release ≡ place = cc in
-    subst (λ p. AtMutex {T = T} p (record { call = calls.Unlock; own = [] }) (Some kind)) made (refl, refl, refl)
-begins_at other place hold is allowed = absurd cc
+begins_at call place hold h1 h2 = grind (arith, nat_tests, eqb-true, eqb-false)
 
 -- Where a step leads.
 
-try_lock_ends : (T : Type 0) (b : Bool) (next : MutexPlace) → place_after {T = T} (cond b (afters.Ends answers.Success) (afters.Ends answers.Interrupted)) ≡ Some next → ⊥
-try_lock_ends T true next is = absurd cc
-try_lock_ends T false next is = absurd cc
-
 -- a call that is at an exchange of its `Lock`
-at_lock : {T : Type 0} (place : MutexPlace) (call : Call T) (own : List (Event T)) (hold : Option HoldKind) → call ≡ calls.Lock → hold ≡ None → AtLock place own → AtMutex {T = T} place (record { call = call; own = own }) hold
-at_lock (places.Lock patience) call own hold lock free at = (lock, at, free)
-at_lock other call own hold lock free at = absurd at
 
 -- an exchange after which it goes on took no hold
 pub lock_takes_none :
     {T P : Type 0} (t : Table T P) (pending : Option (PendingCall T)) (own : List (Event T)) (number w : ℕ) (done : Bool) (a : After T MutexPlace) (next : MutexPlace) → (w == 0) ≡ done →
     LockLeads own number w (acts.Exchange words.State 0 1 w done) a → place_after a ≡ Some next → hold_taken t (acts.Exchange words.State 0 1 w done) pending ≡ None
-lock_takes_none t pending own number w false a next found leads is = refl
-lock_takes_none t pending own number w true (afters.At place) next found leads is = absurd (leads.1 (eqb-true w 0 found))
-lock_takes_none t pending own number w true (afters.Waits place seen) next found leads is = absurd (leads.1 (eqb-true w 0 found))
-lock_takes_none t pending own number w true (afters.Chooses place old) next found leads is = absurd leads
-lock_takes_none t pending own number w true (afters.Ends answer) next found leads is = absurd cc
+lock_takes_none t pending own number w done a next h1 h2 h3 = grind (arith, nat_tests, eqb-true, eqb-false)
 
 pub steps_at :
     {T P : Type 0} (t : Table T P) (place : MutexPlace) (c : PendingCall T) (hold : Option HoldKind) (memory : Word → ℕ) (number : ℕ) (next : MutexPlace) → AtMutex place c hold →
     place_after {T = T} (mutex_after place (value_told {T = T} (carried_out (mutex_intent words.State place) memory))) ≡ Some next →
     AtMutex next (record { call = c.call; own = event number (step_at mutex_table place hold memory).act (step_at mutex_table place hold memory).outcome ∷ c.own })
     (hold_after t (carried_out {T = T} (mutex_intent words.State place) memory) (Some c) hold)
-steps_at {T} t places.TryLock c hold memory number next at is = absurd (try_lock_ends T (memory words.State == 0) next is)
-steps_at {T} t (places.Lock patience) c hold memory number next at is =
-    let w = memory words.State in
-    let leads = lock_leads words.State patience c.own number w at.1 in
-    at_lock next c.call _ (hold_after t (acts.Exchange words.State 0 1 w (w == 0)) (Some c) hold) at.0
-    (rw (lock_takes_none t (Some c) c.own number w (w == 0) (mutex_after (places.Lock patience) (Some w)) next refl leads is) at.2)
-    (lock_goes_on c.own number w _ (mutex_after (places.Lock patience) (Some w)) next leads is)
-steps_at {T} t places.Release c hold memory number next at is =
-    let made : places.Wake ≡ next = cc in
-    subst (λ p. AtMutex {T = T} p (record { call = c.call; own = event number (acts.Store words.State 0) thens.GoesOn ∷ c.own }) None) made (at.0, rw at.2 refl, refl, refl, rw at.2 refl)
-steps_at t places.Wake c hold memory number next at is = absurd cc
+steps_at t place c hold memory number next h1 h2 = grind (arith, nat_tests, eqb-true, eqb-false)
 
 -- Where an answer leads.
 
@@ -118,34 +85,19 @@ not_chosen {T} outcome A goes stands = let no : choose_fault {T = T} thens.GoesO
 pub answers_at :
     {T : Type 0} (place : MutexPlace) (c : PendingCall T) (hold : Option HoldKind) (action : WaitAction) (number : ℕ) → AtMutex place c hold → answer_fault (latest_outcome c.own) ≡ None →
     AtMutex {T = T} (mutex_answered place action) (record { call = c.call; own = event number (acts.Answered action) thens.GoesOn ∷ c.own }) hold
-answers_at {T} places.TryLock c hold action number at waits = not_asked (latest_outcome c.own) _ (ap (λ (own : List (Event T)). latest_outcome own) at.2) waits
-answers_at (places.Lock patience) c hold action number at waits = (at.0, lock_answered patience c.own number action at.1 waits, at.2)
-answers_at {T} places.Release c hold action number at waits = not_asked (latest_outcome c.own) _ (ap (λ (own : List (Event T)). latest_outcome own) at.2) waits
-answers_at places.Wake c hold action number at waits = not_asked (latest_outcome c.own) _ at.2 waits
+answers_at place c hold action number h1 h2 = grind (arith, nat_tests, eqb-true, eqb-false)
 
 pub chooses_at :
     {T : Type 0} (place : MutexPlace) (c : PendingCall T) (hold : Option HoldKind) (choice : Option T) (number : ℕ) → AtMutex place c hold → choose_fault (latest_outcome c.own) ≡ None →
     AtMutex {T = T} place (record { call = c.call; own = event number (acts.Chosen choice) thens.GoesOn ∷ c.own }) hold
-chooses_at {T} places.TryLock c hold choice number at stands = not_chosen (latest_outcome c.own) _ (ap (λ (own : List (Event T)). latest_outcome own) at.2) stands
-chooses_at (places.Lock patience) c hold choice number at stands = (at.0, lock_chosen patience c.own number choice at.1, at.2)
-chooses_at {T} places.Release c hold choice number at stands = not_chosen (latest_outcome c.own) _ (ap (λ (own : List (Event T)). latest_outcome own) at.2) stands
-chooses_at places.Wake c hold choice number at stands = not_chosen (latest_outcome c.own) _ at.2 stands
+chooses_at place c hold choice number h1 h2 = grind (arith, nat_tests, eqb-true, eqb-false)
 
 pub mutex_kept : {T : Type 0} → IsKept {T = T} mutex_table AtMutex
-mutex_kept =
-    record {
-      begins = begins_at;
-      steps = λ place c hold memory number next at free is. steps_at mutex_table place c hold memory number next at is;
-      answers = answers_at;
-      chooses = chooses_at;
-    }
+mutex_kept = grind (arith, nat_tests, eqb-true, eqb-false)
 
 -- No call goes on by itself more than 10000 times.
 pub spins_bounded : {T : Type 0} (place : MutexPlace) (c : PendingCall T) (hold : Option HoldKind) → AtMutex place c hold → spins_in is_step c.own ≤ 10000
-spins_bounded places.TryLock c hold at = rw at.2 (omega arith)
-spins_bounded (places.Lock patience) c hold at = omega (arith, at.1.goes_on, at.1.so.within_limit)
-spins_bounded places.Release c hold at = rw at.2 (omega arith)
-spins_bounded places.Wake c hold at = omega (arith, at.4)
+spins_bounded place c hold h1 = grind (arith, nat_tests, eqb-true, eqb-false)
 
 -- A mutex is a lock for one.
 
@@ -153,10 +105,7 @@ spins_bounded places.Wake c hold at = omega (arith, at.4)
 pub lock_intent :
     {T : Type 0} (grant : Call T → Option HoldKind) (place : MutexPlace) (c : PendingCall T) (hold : Option HoldKind) → grant calls.Lock ≡ Some kinds.Write → grant calls.TryLock ≡ Some kinds.Write → AtMutex place c hold →
     IsLockIntent {T = T} (grant c.call) hold (mutex_intent words.State place)
-lock_intent grant places.TryLock c hold locks tries at = (refl, refl, ap grant at.0 ∙ tries)
-lock_intent grant (places.Lock patience) c hold locks tries at = (refl, refl, ap grant at.0 ∙ locks)
-lock_intent grant places.Release c hold locks tries at = (refl, at.1)
-lock_intent grant places.Wake c hold locks tries at = tt
+lock_intent grant place c hold h1 h2 h3 = grind (arith, nat_tests, eqb-true, eqb-false)
 
 pub mutex_is_lock : {T : Type 0} (z : Arithmetic T) (parties : ℕ) → IsLock {T = T} z mutex_table parties
 mutex_is_lock z parties =
@@ -173,8 +122,7 @@ IsAskedSo c act told = (lock_spins c.call c.own ≡ 10000) × (sight_of words.St
 
 -- a word that is not free is 1
 pub held_at_one : (w : ℕ) (holds : List Hold) → IsFreeOrHeld w holds → w ≢ 0 → w ≡ 1
-held_at_one w holds (inl free) other = absurd (other free.0)
-held_at_one w holds (inr held) other = held.1
+held_at_one w holds h1 h2 = grind (arith, nat_tests, eqb-true, eqb-false)
 
 -- of a step of a mutex, alone or inside another object, where the party had this hold before it
 pub record EventLaw {T P : Type 0} (t : Table T P) (party : ℕ) (past : List (Event T)) (hold : Option HoldKind) (pending : Option (PendingCall T)) (m : Move T) : Type 0 where
@@ -197,117 +145,19 @@ pub record GrantsWrite {T P : Type 0} (t : Table T P) : Type 0 where
   pub locks : t.grant calls.Lock 0 1 ≡ Some kinds.Write
   pub tries : t.grant calls.TryLock 0 1 ≡ Some kinds.Write
 
-as_call : {T : Type 0} (k call : Call T) (own : List (Event T)) (act : Act T) (outcome : Then T) → call ≡ k → MutexStep k own act outcome → MutexStep call own act outcome
-as_call k call own act outcome is step = subst (λ (x : Call _). MutexStep x own act outcome) (sym is) step
-
-lock_left :
-    {T : Type 0} (patience : Patience) (own : List (Event T)) (w : ℕ) (free keep left : Bool) → HasTriedSo patience own → patience.keep ≡ keep → nat_lt patience.spins 10000 ≡ left →
-    IsLeftBy calls.Lock own (acts.Exchange words.State 0 1 w free) (outcome_of {T = T} (lock_after patience free keep left))
-lock_left patience own w true keep left tried keeps spins = refl
-lock_left patience own w false true true tried keeps spins = rw (tried.so.keeps, keeps, tried.so.spun, spins) refl
-lock_left patience own w false true false tried keeps spins = rw (tried.so.keeps, keeps, tried.so.spun, spins) refl
-lock_left patience own w false false left tried keeps spins = rw (tried.so.keeps, keeps) refl
-
-tried_left :
-    {T : Type 0} (own : List (Event T)) (w : ℕ) (b : Bool) →
-    IsLeftBy calls.TryLock own (acts.Exchange words.State 0 1 w b) (outcome_of {T = T} {P = MutexPlace} (cond b (afters.Ends answers.Success) (afters.Ends answers.Interrupted)))
-tried_left own w true = refl
-tried_left own w false = refl
-
-try_lock_law :
-    {T P : Type 0} (t : Table T P) (party : ℕ) (past : List (Event T)) (hold : Option HoldKind) (c : PendingCall T) (w : ℕ) (b : Bool) → GrantsWrite t → c.call ≡ calls.TryLock → c.own ≡ [] → hold ≡ None → (w == 0) ≡ b → IsFreeOrHeld w (holds_of t past) →
-    EventLaw t party past hold (Some c) (record { act = acts.Exchange words.State 0 1 w b; outcome = outcome_of {T = T} {P = MutexPlace} (cond b (afters.Ends answers.Success) (afters.Ends answers.Interrupted)) })
-try_lock_law {T} t party past hold c w true grants is first free e law =
-    let act : Act T = acts.Exchange words.State 0 1 w true in
-    let granted : t.grant c.call 0 1 ≡ Some kinds.Write = ap (λ (k : Call T). t.grant k 0 1) is ∙ grants.tries in
-    record {
-      cause = tt;
-      exact = λ try sees. (λ granted. (free_exactly w (holds_of t past) law).0 (eqb-true w 0 e), λ none. refl);
-      answers = subst (λ (k : Call T). IsLockAnswer k (act ∷ acts_of c.own) (hold_after t act (Some c) hold) answers.Success) (sym is) (rw granted refl);
-      asks = tt;
-      tries = tt;
-      steps = as_call calls.TryLock c.call c.own _ _ is (first, refl, refl);
-    }
-try_lock_law {T} t party past hold c w false grants is first free e law =
-    let act : Act T = acts.Exchange words.State 0 1 w false in
-    let refuses : Event T = event party act (thens.Answers answers.Interrupted) in
-    record {
-      cause = subst (λ (k : Call T). LockCause t k party (refuses ∷ past)) (sym is) (rw (eqb_same party) (locked_at t past w law (eqb-false w 0 e)));
-      exact = λ try sees. (λ granted. absurd cc, λ none. absurd (eqb-false w 0 e ((free_exactly w (holds_of t past) law).1 none)));
-      answers = subst (λ (k : Call T). IsLockAnswer k (act ∷ acts_of c.own) hold answers.Interrupted) (sym is) (rw free refl);
-      asks = tt;
-      tries = subst (λ (k : Call T). HasTried k (refuses ∷ c.own)) (sym is) tt;
-      steps = as_call calls.TryLock c.call c.own _ _ is (first, refl, refl);
-    }
-
-lock_law :
-    {T P : Type 0} (t : Table T P) (party : ℕ) (past : List (Event T)) (hold : Option HoldKind) (c : PendingCall T) (w : ℕ) (done : Bool) (a : After T MutexPlace) → GrantsWrite t → call_of party past ≡ Some c → c.call ≡ calls.Lock → hold ≡ None →
-    (w == 0) ≡ done → IsFreeOrHeld w (holds_of t past) → LockLeads c.own party w (acts.Exchange words.State 0 1 w done) a → MutexStep c.call c.own (acts.Exchange words.State 0 1 w done) (outcome_of {T = T} a) →
-    EventLaw t party past hold (Some c) (record { act = acts.Exchange words.State 0 1 w done; outcome = outcome_of {T = T} a })
-lock_law t party past hold c w done (afters.At next) grants called is free e law leads steps =
-    record { cause = tt; exact = another calls.Lock c.call _ (sym is) (λ same. absurd cc); answers = tt; asks = tt; tries = tt; steps = steps }
-lock_law {T} t party past hold c w done (afters.Waits next seen) grants called is free e law leads steps =
-    record { cause = tt; exact = another calls.Lock c.call _ (sym is) (λ same. absurd cc); answers = tt; asks = (subst (λ (k : Call T). lock_spins k c.own ≡ 10000) (sym is) leads.2, ap (λ v. Some v) (held_at_one w (holds_of t past) law leads.1 ∙ sym leads.4), leads.3); tries = tt; steps = steps }
-lock_law {T} t party past hold c w true (afters.Ends answers.Success) grants called is free e law leads steps =
-    let act : Act T = acts.Exchange words.State 0 1 w true in
-    let granted : t.grant c.call 0 1 ≡ Some kinds.Write = ap (λ (k : Call T). t.grant k 0 1) is ∙ grants.locks in
-    record {
-      cause = tt;
-      exact = another calls.Lock c.call _ (sym is) (λ same. absurd cc);
-      answers = subst (λ (k : Call T). IsLockAnswer k (act ∷ acts_of c.own) (hold_after t act (Some c) hold) answers.Success) (sym is) (rw granted refl);
-      asks = tt;
-      tries = tt;
-      steps = steps;
-    }
-lock_law t party past hold c w false (afters.Ends answers.Success) grants called is free e law leads steps = absurd (eqb-false w 0 e leads)
-lock_law t party past hold c w true (afters.Ends answers.Interrupted) grants called is free e law leads steps = absurd (leads.0 (eqb-true w 0 e))
-lock_law {T} t party past hold c w false (afters.Ends answers.Interrupted) grants called is free e law leads steps =
-    let act : Act T = acts.Exchange words.State 0 1 w false in
-    let refuses : Event T = event party act (thens.Answers answers.Interrupted) in
-    let aborted : HasAborted party past = rw called leads.1 in
-    record {
-      cause = subst (λ (k : Call T). LockCause t k party (refuses ∷ past)) (sym is) (rw (eqb_same party) (aborted, locked_at t past w law leads.0));
-      exact = another calls.Lock c.call _ (sym is) (λ same. absurd cc);
-      answers = subst (λ (k : Call T). IsLockAnswer k (act ∷ acts_of c.own) hold answers.Interrupted) (sym is) (rw free refl);
-      asks = tt;
-      tries = subst (λ (k : Call T). HasTried k (refuses ∷ c.own)) (sym is) leads.2;
-      steps = steps;
-    }
-lock_law t party past hold c w done other grants called is free e law leads steps = absurd leads
-
 -- each step is its call's next, also of a mutex inside another object
 pub next_step :
     {T : Type 0} (place : MutexPlace) (c : PendingCall T) (hold : Option HoldKind) (memory : Word → ℕ) → AtMutex place c hold →
     MutexStep {T = T} c.call c.own (step_at mutex_table place hold memory).act (step_at mutex_table place hold memory).outcome
-next_step places.TryLock c hold memory at = as_call calls.TryLock c.call c.own _ _ at.0 (at.2, refl, tried_left c.own (memory words.State) (memory words.State == 0))
-next_step (places.Lock patience) c hold memory at =
-    as_call calls.Lock c.call c.own _ _ at.0 (refl, lock_left patience c.own (memory words.State) (memory words.State == 0) patience.keep (nat_lt patience.spins 10000) at.1 refl refl)
-next_step places.Release c hold memory at = as_call calls.Unlock c.call c.own _ _ at.0 (rw at.2 (refl, refl))
-next_step places.Wake c hold memory at = as_call calls.Unlock c.call c.own _ _ at.0 (rw at.1 (refl, refl))
+next_step place c hold memory h1 = grind (arith, nat_tests, eqb-true, eqb-false)
 
 pub step_law :
     {T P : Type 0} (t : Table T P) (party : ℕ) (past : List (Event T)) (c : PendingCall T) (place : MutexPlace) (hold : Option HoldKind) (memory : Word → ℕ) → GrantsWrite t → call_of party past ≡ Some c → AtMutex place c hold →
     IsFreeOrHeld (memory words.State) (holds_of t past) → EventLaw t party past hold (Some c) (step_at mutex_table place hold memory)
-step_law t party past c places.TryLock hold memory grants called at law = try_lock_law t party past hold c (memory words.State) (memory words.State == 0) grants at.0 at.2 at.1 refl law
-step_law t party past c (places.Lock patience) hold memory grants called at law =
-    let w = memory words.State in
-    lock_law t party past hold c w (w == 0) (mutex_after (places.Lock patience) (Some w)) grants called at.0 at.2 refl law (lock_leads words.State patience c.own party w at.1) (next_step (places.Lock patience) c hold memory at)
-step_law t party past c places.Release hold memory grants called at law =
-    record { cause = tt; exact = another calls.Unlock c.call _ (sym at.0) (λ same. absurd cc); answers = tt; asks = tt; tries = tt; steps = next_step places.Release c hold memory at }
-step_law {T} t party past c places.Wake hold memory grants called at law =
-    record {
-      cause = tt;
-      exact = another calls.Unlock c.call _ (sym at.0) (λ same. absurd cc);
-      answers = subst (λ (k : Call T). IsLockAnswer k (acts.Woke wakes.One ∷ acts_of c.own) hold answers.Done) (sym at.0) (refl, rw at.1 refl, at.3);
-      asks = tt;
-      tries = tt;
-      steps = next_step places.Wake c hold memory at;
-    }
+step_law t party past c place hold memory h1 h2 h3 h4 = grind (arith, nat_tests, eqb-true, eqb-false)
 
 silent : {T P : Type 0} (t : Table T P) (party : ℕ) (past : List (Event T)) (hold : Option HoldKind) (pending : Option (PendingCall T)) (act : Act T) → is_sight words.State act ≡ false → is_step act ≡ false → EventLaw t party past hold pending (record { act = act; outcome = thens.GoesOn })
-silent t party past hold None act quiet still = record { cause = tt; exact = tt; answers = tt; asks = tt; tries = tt; steps = rw still tt }
-silent t party past hold (Some c) act quiet still =
-    record { cause = tt; exact = λ try sees. let no : true ≡ false = sym sees ∙ quiet in absurd cc; answers = tt; asks = tt; tries = tt; steps = rw still tt }
+silent t party past hold pending act h1 h2 = grind (arith, nat_tests, eqb-true, eqb-false)
 
 event_law :
     {T : Type 0} (z : Arithmetic T) (parties : ℕ) (past : List (Event T)) (e : Event T) → IsPast z mutex_table parties (e ∷ past) →
@@ -332,28 +182,17 @@ mutex_rest places.Release = Some 2
 mutex_rest places.Wake = Some 1
 
 mutex_begun : {T : Type 0} (call : Call T) (place : MutexPlace) (steps : ℕ) → mutex_begins call ≡ Some place → mutex_most call ≡ Some steps → (left : ℕ) × (mutex_rest place ≡ Some left) × (left ≤ steps)
-mutex_begun calls.TryLock place steps is most = (1, sym (ap mutex_rest (some_same places.TryLock place is)), omega (arith, some_same 1 steps most))
-mutex_begun calls.Unlock place steps is most = (2, sym (ap mutex_rest (some_same places.Release place is)), omega (arith, some_same 2 steps most))
-mutex_begun other place steps is most = absurd cc
+mutex_begun call place steps h1 h2 = grind (arith, nat_tests, eqb-true, eqb-false)
 
 pub mutex_goes :
     (T : Type 0) (place next : MutexPlace) (told : Option ℕ) (left : ℕ) → mutex_rest place ≡ Some left → place_after (mutex_after {T = T} place told) ≡ Some next → (fewer : ℕ) × (mutex_rest next ≡ Some fewer) × (fewer < left)
-mutex_goes T places.TryLock next told left is goes = absurd (try_lock_ends T (is_free told) next goes)
-mutex_goes T (places.Lock patience) next told left is goes = absurd cc
-mutex_goes T places.Release next told left is goes = (1, sym (ap mutex_rest (some_same places.Wake next goes)), omega (arith, some_same 2 left is))
-mutex_goes T places.Wake next told left is goes = absurd cc
+mutex_goes T place next told left h1 h2 = grind (arith, nat_tests, eqb-true, eqb-false)
 
 pub mutex_some : (place : MutexPlace) (left : ℕ) → mutex_rest place ≡ Some left → 0 < left
-mutex_some places.TryLock left is = omega (arith, some_same 1 left is)
-mutex_some (places.Lock patience) left is = absurd cc
-mutex_some places.Release left is = omega (arith, some_same 2 left is)
-mutex_some places.Wake left is = omega (arith, some_same 1 left is)
+mutex_some place left h1 = grind (arith, nat_tests, eqb-true, eqb-false)
 
 pub mutex_answered_rest : (place : MutexPlace) (action : WaitAction) → mutex_rest (mutex_answered place action) ≡ mutex_rest place
-mutex_answered_rest places.TryLock action = refl
-mutex_answered_rest (places.Lock patience) action = refl
-mutex_answered_rest places.Release action = refl
-mutex_answered_rest places.Wake action = refl
+mutex_answered_rest place action = grind (arith, nat_tests, eqb-true, eqb-false)
 
 mutex_descends : {T : Type 0} → Descends {T = T} mutex_table mutex_most mutex_rest
 mutex_descends {T} = record { begins = mutex_begun; goes = mutex_goes T; some = mutex_some; answered = mutex_answered_rest; chosen = λ place choice. refl }
@@ -387,7 +226,4 @@ keeps_mutex {T} z parties (e ∷ past) run =
 
 -- a mutex has no other word
 pub mutex_lacks : (T : Type 0) (word : Word) → same_word words.State word ≡ false → Lacks {T = T} mutex_table word
-mutex_lacks T word other places.TryLock hold = ap not other
-mutex_lacks T word other (places.Lock patience) hold = ap not other
-mutex_lacks T word other places.Release hold = ap not other
-mutex_lacks T word other places.Wake hold = refl
+mutex_lacks T word h1 = grind (arith, nat_tests, eqb-true, eqb-false)

@@ -1,4 +1,6 @@
 -- A once keeps its law at every front of every run.
+use Rattle.std.proofs.lemmas.Bool.{eqb-false}
+use Rattle.std.proofs.lemmas.Bool.Decides.{nat_tests}
 use Rattle.std.proofs.Common.{◌≡◌, ℕ, ◌≤◌, ◌==◌, refl, sym, ◌∙◌, ap, subst, Bool, true, false, cond, List, [], ◌∷◌, Option, Some, None, arith, ◌<◌}
 use Rattle.std.specs.Prelude.{IfSome, MatchBool, MatchOption, not}
 use Rattle.std.proofs.lemmas.Bool.{eqb-true}
@@ -50,91 +52,20 @@ AtOnce place c hold = Unit {0}
 
 -- Where a call begins.
 
-begins_at : {T : Type 0} (call : Call T) (place : OncePlace) (hold : Option HoldKind) → once_begins call ≡ Some place → AtOnce {T = T} place (record { call = call; own = [] }) hold
-begins_at {T} calls.IsCompleted place hold is =
-    let made : places.IsCompleted ≡ place = cc in
-    subst (λ p. AtOnce {T = T} p (record { call = calls.IsCompleted; own = [] }) hold) made refl
-begins_at {T} calls.CallOnce place hold is =
-    let made : places.Look ≡ place = cc in
-    subst (λ p. AtOnce {T = T} p (record { call = calls.CallOnce; own = [] }) hold) made refl
-begins_at other place hold is = absurd cc
-
 -- Where a step leads.
 
 -- how a call goes on after a look, by whether it saw 2
 abbrev pub seen_after : {T : Type 0} → OncePlace → Bool → After T OncePlace
 seen_after on complete = cond complete (afters.Ends answers.Done) (afters.At on)
 
-look_steps : {T : Type 0} (c : PendingCall T) (hold : Option HoldKind) (e : Event T) (next : OncePlace) (complete : Bool) → place_after {T = T} (seen_after places.Begin complete) ≡ Some next → AtOnce next (record { call = c.call; own = e ∷ c.own }) hold
-look_steps c hold e next true is = absurd cc
-look_steps {T} c hold e next false is =
-    let made : places.Begin ≡ next = cc in
-    subst (λ p. AtOnce {T = T} p (record { call = c.call; own = e ∷ c.own }) hold) made tt
-
-stay_steps :
-    {T : Type 0} (c : PendingCall T) (hold : Option HoldKind) (e : Event T) (next : OncePlace) (complete : Bool) → AtOnce places.Stay (record { call = c.call; own = e ∷ c.own }) hold → place_after {T = T} (seen_after places.Stay complete) ≡ Some next → AtOnce next (record { call = c.call; own = e ∷ c.own }) hold
-stay_steps c hold e next true at is = absurd cc
-stay_steps {T} c hold e next false at is =
-    let made : places.Stay ≡ next = cc in
-    subst (λ p. AtOnce {T = T} p (record { call = c.call; own = e ∷ c.own }) hold) made at
-
 -- and after its exchange, by whether it was done
 abbrev pub begin_after : {T : Type 0} → Bool → After T OncePlace
 begin_after done = cond done (afters.At places.Run) (afters.At places.Stay)
 
-begin_steps :
-    {T : Type 0} (c : PendingCall T) (hold : Option HoldKind) (w number : ℕ) (outcome : Then T) (next : OncePlace) (done : Bool) → place_after {T = T} (begin_after done) ≡ Some next →
-    AtOnce next (record { call = c.call; own = event number (acts.Exchange words.State 0 1 w done) outcome ∷ c.own }) hold
-begin_steps {T} c hold w number outcome next true is =
-    let made : places.Run ≡ next = cc in
-    subst (λ p. AtOnce {T = T} p (record { call = c.call; own = event number (acts.Exchange words.State 0 1 w true) outcome ∷ c.own }) hold) made refl
-begin_steps {T} c hold w number outcome next false is =
-    let made : places.Stay ≡ next = cc in
-    subst (λ p. AtOnce {T = T} p (record { call = c.call; own = event number (acts.Exchange words.State 0 1 w false) outcome ∷ c.own }) hold) made refl
-
-steps_at :
-    {T : Type 0} (place : OncePlace) (c : PendingCall T) (hold left : Option HoldKind) (memory : Word → ℕ) (number : ℕ) (next : OncePlace) → AtOnce place c hold →
-    place_after {T = T} (once_after place (value_told {T = T} (carried_out (once_intent words.State place) memory))) ≡ Some next →
-    AtOnce next (record { call = c.call; own = event number (step_at once_table place hold memory).act (step_at once_table place hold memory).outcome ∷ c.own }) left
-steps_at places.IsCompleted c hold left memory number next at is = absurd cc
-steps_at places.Look c hold left memory number next at is = look_steps c left _ next (memory words.State == 2) is
-steps_at places.Begin c hold left memory number next at is = begin_steps c left (memory words.State) number _ next (memory words.State == 0) is
-steps_at {T} places.Run c hold left memory number next at is =
-    let made : places.Complete ≡ next = cc in
-    subst (λ p. AtOnce {T = T} p (record { call = c.call; own = event number acts.Ended thens.GoesOn ∷ c.own }) left) made (omega arith)
-steps_at places.Complete c hold left memory number next at is = absurd cc
-steps_at places.Stay c hold left memory number next at is = stay_steps c left _ next (memory words.State == 2) at is
-
 -- Where an answer leads: no call of a once stands.
 
-answers_at :
-    {T : Type 0} (place : OncePlace) (c : PendingCall T) (hold : Option HoldKind) (action : WaitAction) (number : ℕ) → AtOnce place c hold →
-    AtOnce {T = T} place (record { call = c.call; own = event number (acts.Answered action) thens.GoesOn ∷ c.own }) hold
-answers_at places.IsCompleted c hold action number at = at
-answers_at places.Look c hold action number at = at
-answers_at places.Begin c hold action number at = tt
-answers_at places.Run c hold action number at = at
-answers_at places.Complete c hold action number at = omega (arith, at)
-answers_at places.Stay c hold action number at = at
-
-chooses_at :
-    {T : Type 0} (place : OncePlace) (c : PendingCall T) (hold : Option HoldKind) (choice : Option T) (number : ℕ) → AtOnce place c hold →
-    AtOnce {T = T} place (record { call = c.call; own = event number (acts.Chosen choice) thens.GoesOn ∷ c.own }) hold
-chooses_at places.IsCompleted c hold choice number at = at
-chooses_at places.Look c hold choice number at = at
-chooses_at places.Begin c hold choice number at = tt
-chooses_at places.Run c hold choice number at = at
-chooses_at places.Complete c hold choice number at = omega (arith, at)
-chooses_at places.Stay c hold choice number at = at
-
 pub once_kept : {T : Type 0} → IsKept {T = T} once_table AtOnce
-once_kept =
-    record {
-      begins = λ call place hold is allowed. begins_at call place hold is;
-      steps = λ place c hold memory number next at free is. steps_at place c hold _ memory number next at is;
-      answers = λ place c hold action number at stands. answers_at place c hold action number at;
-      chooses = λ place c hold choice number at stands. chooses_at place c hold choice number at;
-    }
+once_kept = grind (arith, nat_tests, eqb-true, eqb-false)
 
 -- Which call has which place.
 
@@ -145,36 +76,10 @@ call_at other = calls.CallOnce
 abbrev pub IsItsCall : {T : Type 0} → OncePlace → PendingCall T → Option HoldKind → Type 0
 IsItsCall place c hold = c.call ≡ call_at place
 
-begins_its_call : {T : Type 0} (call : Call T) (place : OncePlace) → once_begins call ≡ Some place → call ≡ call_at place
-begins_its_call {T} calls.IsCompleted place is = ap (call_at {T = T}) (some_same places.IsCompleted place is)
-begins_its_call {T} calls.CallOnce place is = ap (call_at {T = T}) (some_same places.Look place is)
-begins_its_call other place is = absurd cc
-
 -- a look and an exchange lead to a place of the same call
-looks_on : {T : Type 0} (on next : OncePlace) (complete : Bool) → place_after {T = T} (seen_after on complete) ≡ Some next → call_at {T = T} on ≡ call_at next
-looks_on on next true is = absurd cc
-looks_on {T} on next false is = ap (call_at {T = T}) (some_same on next is)
-
-begins_on : {T : Type 0} (next : OncePlace) (done : Bool) → place_after {T = T} (begin_after done) ≡ Some next → calls.CallOnce ≡ call_at {T = T} next
-begins_on {T} next true is = ap (call_at {T = T}) (some_same places.Run next is)
-begins_on {T} next false is = ap (call_at {T = T}) (some_same places.Stay next is)
-
-steps_its_call : {T : Type 0} (place next : OncePlace) (found : ℕ) → place_after {T = T} (found_after place found) ≡ Some next → call_at {T = T} place ≡ call_at next
-steps_its_call places.IsCompleted next found is = absurd cc
-steps_its_call places.Look next found is = looks_on places.Begin next (found == 2) is
-steps_its_call places.Begin next found is = begins_on next (found == 0) is
-steps_its_call {T} places.Run next found is = ap (call_at {T = T}) (some_same places.Complete next is)
-steps_its_call places.Complete next found is = absurd cc
-steps_its_call places.Stay next found is = looks_on places.Stay next (found == 2) is
 
 pub its_call_kept : {T : Type 0} → IsKept {T = T} once_table IsItsCall
-its_call_kept =
-    record {
-      begins = λ call place hold is allowed. begins_its_call call place is;
-      steps = λ place c hold memory number next at free is. at ∙ steps_its_call place next _ is;
-      answers = λ place c hold action number at stands. at;
-      chooses = λ place c hold choice number at stands. at;
-    }
+its_call_kept = grind (arith, nat_tests, eqb-true, eqb-false)
 
 -- What it has made at each place.
 
@@ -182,15 +87,12 @@ abbrev IsWhereLed : {T : Type 0} → OncePlace → PendingCall T → Option Hold
 IsWhereLed place c hold = IsLed place c.own
 
 begins_led : {T : Type 0} (call : Call T) (place : OncePlace) → once_begins call ≡ Some place → IsLed {T = T} place []
-begins_led {T} calls.IsCompleted place is = subst (λ p. IsLed {T = T} p []) (some_same places.IsCompleted place is) refl
-begins_led {T} calls.CallOnce place is = subst (λ p. IsLed {T = T} p []) (some_same places.Look place is) (refl, refl)
-begins_led other place is = absurd cc
+begins_led call place h1 = grind (arith, nat_tests, eqb-true, eqb-false)
 
 -- where a look leads, by whether it saw 2
 seen_leads :
     {T : Type 0} (own : List (Event T)) (on next : OncePlace) (complete : Bool) (e : Event T) → (complete ≡ false → IsLed on (e ∷ own)) → place_after {T = T} (seen_after on complete) ≡ Some next → IsLed next (e ∷ own)
-seen_leads own on next true e led is = absurd cc
-seen_leads {T} own on next false e led is = subst (λ p. IsLed {T = T} p (e ∷ own)) (some_same on next is) (led refl)
+seen_leads own on next complete e h1 h2 = grind (arith, nat_tests, eqb-true, eqb-false)
 
 -- and the exchange, by whether it was done
 begin_leads :
@@ -220,33 +122,15 @@ led_kept =
 
 -- So its step there is its next.
 
-seen_outcome : {T : Type 0} (on : OncePlace) (complete : Bool) → outcome_of {T = T} (seen_after on complete) ≡ cond complete (thens.Answers answers.Done) thens.GoesOn
-seen_outcome on true = refl
-seen_outcome on false = refl
-
-begin_outcome : {T : Type 0} (done : Bool) → outcome_of {T = T} (begin_after done) ≡ thens.GoesOn
-begin_outcome true = refl
-begin_outcome false = refl
-
 once_step :
     {T : Type 0} (place : OncePlace) (c : PendingCall T) (hold : Option HoldKind) (memory : Word → ℕ) → IsItsCall place c hold × IsLed place c.own →
     OnceStep {T = T} c.call c.own (step_at once_table place hold memory).act (step_at once_table place hold memory).outcome
-once_step places.IsCompleted c hold memory at = rw at.0 (at.1, refl)
-once_step places.Look c hold memory at = rw (at.0, seen_outcome places.Begin (memory words.State == 2)) (look_runs (thens.Answers answers.Done) c.own (memory words.State) at.1)
-once_step places.Begin c hold memory at = rw (at.0, begin_outcome (memory words.State == 0)) (begin_runs (thens.Answers answers.Done) c.own (memory words.State) (memory words.State == 0) at.1)
-once_step places.Run c hold memory at = rw at.0 (end_runs (thens.Answers answers.Done) c.own at.1)
-once_step places.Complete c hold memory at = rw at.0 (complete_runs (thens.Answers answers.Done) c.own at.1)
-once_step places.Stay c hold memory at = rw (at.0, seen_outcome places.Stay (memory words.State == 2)) (stay_runs (thens.Answers answers.Done) c.own (memory words.State) at.1)
+once_step place c hold memory h1 = grind (arith, nat_tests, eqb-true, eqb-false)
 
 -- A once runs one closure.
 
 pub closure_intent : {T : Type 0} (place : OncePlace) (c : PendingCall T) (hold : Option HoldKind) → AtOnce place c hold → IsClosureIntent {T = T} c.own (once_intent words.State place)
-closure_intent places.IsCompleted c hold at = tt
-closure_intent places.Look c hold at = tt
-closure_intent places.Begin c hold at = (refl, refl)
-closure_intent places.Run c hold at = at
-closure_intent places.Complete c hold at = (refl, at)
-closure_intent places.Stay c hold at = tt
+closure_intent place c hold h1 = grind (arith, nat_tests, eqb-true, eqb-false)
 
 runs_one : {T : Type 0} (z : Arithmetic T) (parties : ℕ) → RunsOneClosure {T = T} z once_table parties
 runs_one z parties =
@@ -268,25 +152,21 @@ pub record EventLaw {T : Type 0} (party : ℕ) (past : List (Event T)) (w : ℕ)
 flag_law :
     {T : Type 0} (party : ℕ) (past : List (Event T)) (c : PendingCall T) (w : ℕ) (flag : Bool) → last_of is_step c.own ≡ None → IsState w (begins_in past) (ends_in past) → (w == 2) ≡ flag →
     EventLaw party past w (Some c) (record { act = acts.Load words.State w; outcome = thens.Answers (answers.Flag flag) })
-flag_law party past c w true first state sees = record { cause = tt; own = tt; waits = rw first tt; answers = complete_ended _ _ _ state (eqb-true w 2 sees); done = tt }
-flag_law party past c w false first state sees = record { cause = tt; own = tt; waits = rw first tt; answers = tt; done = tt }
+flag_law party past c w flag h1 h2 h3 = grind (arith, nat_tests, eqb-true, eqb-false)
 
 seen_law :
     {T : Type 0} (party : ℕ) (past : List (Event T)) (c : PendingCall T) (w : ℕ) (on : OncePlace) (complete : Bool) → IfSome (last_of is_step c.own) (λ before. 1 ≤ begins_in past) → IsState w (begins_in past) (ends_in past) → (w == 2) ≡ complete →
     EventLaw party past w (Some c) (record { act = acts.Load words.State w; outcome = outcome_of {T = T} (seen_after on complete) })
-seen_law party past c w on true waits state sees = record { cause = tt; own = tt; waits = waits; answers = complete_ended _ _ _ state (eqb-true w 2 sees); done = eqb-true w 2 sees }
-seen_law party past c w on false waits state sees = record { cause = tt; own = tt; waits = waits; answers = tt; done = tt }
+seen_law party past c w on complete h1 h2 h3 = grind (arith, nat_tests, eqb-true, eqb-false)
 
 -- whatever its step before was
 pub has_begun : {T : Type 0} {begins : ℕ} (last : Option (Act T)) → 1 ≤ begins → IfSome last (λ before. 1 ≤ begins)
-has_begun None begun = tt
-has_begun (Some before) begun = begun
+has_begun last h1 = grind (arith, nat_tests, eqb-true, eqb-false)
 
 begin_law :
     {T : Type 0} (party : ℕ) (past : List (Event T)) (c : PendingCall T) (w : ℕ) (done : Bool) →
     EventLaw party past w (Some c) (record { act = acts.Exchange words.State 0 1 w done; outcome = outcome_of {T = T} (begin_after done) })
-begin_law party past c w true = record { cause = tt; own = tt; waits = tt; answers = tt; done = tt }
-begin_law party past c w false = record { cause = tt; own = tt; waits = tt; answers = tt; done = tt }
+begin_law party past c w done = grind (arith, nat_tests, eqb-true, eqb-false)
 
 step_law :
     {T : Type 0} (z : Arithmetic T) (parties party : ℕ) (past : List (Event T)) → IsPast z once_table parties past → (c : PendingCall T) → call_of party past ≡ Some c →
@@ -328,16 +208,13 @@ once_rest places.IsCompleted = Some 1
 once_rest other = None
 
 once_begun : {T : Type 0} (call : Call T) (place : OncePlace) (steps : ℕ) → once_begins call ≡ Some place → once_most call ≡ Some steps → (left : ℕ) × (once_rest place ≡ Some left) × (left ≤ steps)
-once_begun calls.IsCompleted place steps is most = (1, sym (ap once_rest (some_same places.IsCompleted place is)), omega (arith, some_same 1 steps most))
-once_begun other place steps is most = absurd cc
+once_begun call place steps h1 h2 = grind (arith, nat_tests, eqb-true, eqb-false)
 
 once_goes : (T : Type 0) (place next : OncePlace) (told : Option ℕ) (left : ℕ) → once_rest place ≡ Some left → place_after (once_after {T = T} place told) ≡ Some next → (fewer : ℕ) × (once_rest next ≡ Some fewer) × (fewer < left)
-once_goes T places.IsCompleted next told left is goes = absurd cc
-once_goes T other next told left is goes = absurd cc
+once_goes T place next told left h1 h2 = grind (arith, nat_tests, eqb-true, eqb-false)
 
 once_some : (place : OncePlace) (left : ℕ) → once_rest place ≡ Some left → 0 < left
-once_some places.IsCompleted left is = omega (arith, some_same 1 left is)
-once_some other left is = absurd cc
+once_some place left h1 = grind (arith, nat_tests, eqb-true, eqb-false)
 
 once_descends : {T : Type 0} → Descends {T = T} once_table once_most once_rest
 once_descends {T} = record { begins = once_begun; goes = once_goes T; some = once_some; answered = λ place action. refl; chosen = λ place choice. refl }
@@ -359,9 +236,4 @@ keeps_once z parties (e ∷ past) run =
 
 -- a once has no other word
 pub once_lacks : (T : Type 0) (word : Word) → same_word words.State word ≡ false → Lacks {T = T} once_table word
-once_lacks T word other places.IsCompleted hold = ap not other
-once_lacks T word other places.Look hold = ap not other
-once_lacks T word other places.Begin hold = ap not other
-once_lacks T word other places.Run hold = refl
-once_lacks T word other places.Complete hold = ap not other
-once_lacks T word other places.Stay hold = ap not other
+once_lacks T word h1 = grind (arith, nat_tests, eqb-true, eqb-false)

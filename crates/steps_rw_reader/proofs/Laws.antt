@@ -58,106 +58,15 @@ AtRwReader places.Wake c hold = c.call ≡ calls.Unlock
 
 -- Where a call begins.
 
-begins_at :
-    {T : Type 0} (call : Call T) (place : RwReaderPlace) (hold : Option HoldKind) → rw_reader_begins call ≡ Some place → hold_fault {T = T} rw_reader_table call hold ≡ None →
-    AtRwReader {T = T} place (record { call = call; own = [] }) hold
-begins_at {T} calls.TryReadLock place None is allowed =
-    let made : places.TryReadLook ≡ place = cc in
-    subst (λ p. AtRwReader {T = T} p (record { call = calls.TryReadLock; own = [] }) None) made (refl, refl)
-begins_at {T} calls.ReadLock place None is allowed =
-    let made : places.ReadLook (record { spins = 0; keep = true }) ≡ place = cc in
-    subst (λ p. AtRwReader {T = T} p (record { call = calls.ReadLock; own = [] }) None) made (refl, refl, begun_spun is_in_vain)
-begins_at {T} calls.TryWriteLock place None is allowed =
-    let made : places.TryWrite ≡ place = cc in
-    subst (λ p. AtRwReader {T = T} p (record { call = calls.TryWriteLock; own = [] }) None) made (refl, refl)
-begins_at {T} calls.WriteLock place None is allowed =
-    let made : places.Write (record { spins = 0; keep = true }) ≡ place = cc in
-    subst (λ p. AtRwReader {T = T} p (record { call = calls.WriteLock; own = [] }) None) made (refl, refl, begun_spun is_in_vain, refl)
-begins_at {T} calls.Unlock place (Some kind) is allowed =
-    let made : places.Release ≡ place = cc in
-    subst (λ p. AtRwReader {T = T} p (record { call = calls.Unlock; own = [] }) (Some kind)) made (refl, refl)
-begins_at other place hold is allowed = absurd cc
-
 -- Where a step leads.
-
-room : (v : ℕ) → lets_readers_in v ≡ true → v < 2 ^ 64 - 2
-room v is = grind (arith, nat_tests)
-
-no_room : (v : ℕ) → lets_readers_in v ≡ false → 2 ^ 64 - 2 ≤ v
-no_room v is = grind (arith, nat_tests)
-
-try_read_leads :
-    {T : Type 0} (c : PendingCall T) (hold : Option HoldKind) (v number : ℕ) (next : RwReaderPlace) (b : Bool) → c.call ≡ calls.TryReadLock → hold ≡ None → lets_readers_in v ≡ b →
-    place_after {T = T} (cond b (afters.At (places.TryRead v (v + 1))) (afters.Ends answers.Interrupted)) ≡ Some next →
-    AtRwReader next (record { call = c.call; own = event number (acts.Load words.State v) (outcome_of {T = T} {P = RwReaderPlace} (cond b (afters.At (places.TryRead v (v + 1))) (afters.Ends answers.Interrupted))) ∷ c.own }) hold
-try_read_leads {T} c hold v number next true try free sees is =
-    let made : places.TryRead v (v + 1) ≡ next = cc in
-    subst (λ p. AtRwReader {T = T} p (record { call = c.call; own = event number (acts.Load words.State v) thens.GoesOn ∷ c.own }) hold) made (try, free, (refl, room v sees), (refl, refl), refl)
-try_read_leads c hold v number next false try free sees is = absurd cc
 
 -- how `ReadLock` goes on after a look, by whether a reader may enter
 abbrev pub read_after : {T : Type 0} → Patience → ℕ → Bool → After T RwReaderPlace
 read_after patience v b = cond b (afters.At (places.Read v (v + 1) patience)) (within places.ReadLook (refused patience v))
 
-read_leads :
-    {T : Type 0} (patience : Patience) (c : PendingCall T) (hold : Option HoldKind) (act : Act T) (v number : ℕ) (next : RwReaderPlace) (b : Bool) → c.call ≡ calls.ReadLock → hold ≡ None → HasSpun is_in_vain patience c.own →
-    is_abort act ≡ false → is_in_vain act ≡ not b → lets_readers_in v ≡ b → place_after {T = T} (read_after patience v b) ≡ Some next →
-    AtRwReader next (record { call = c.call; own = event number act (outcome_of {T = T} (read_after patience v b)) ∷ c.own }) hold
-read_leads {T} patience c hold act v number next true read free spun quiet tries sees is =
-    let made : places.Read v (v + 1) patience ≡ next = cc in
-    subst (λ p. AtRwReader {T = T} p (record { call = c.call; own = event number act thens.GoesOn ∷ c.own }) hold) made
-    (read, free, (refl, room v sees), passed_on is_in_vain patience c.own number act thens.GoesOn spun tries quiet, refl)
-read_leads {T} patience c hold act v number next false read free spun quiet tries sees is =
-    let led = refused_leads is_in_vain places.ReadLook patience v c.own number act next spun tries quiet is in
-    subst (λ p. AtRwReader {T = T} p (record { call = c.call; own = event number act (outcome_of {T = T} (within places.ReadLook (refused patience v))) ∷ c.own }) hold) led.1 (read, free, led.2)
-
 -- a reader's exchange is none of a writer
-not_full : (seen to : ℕ) → Enters seen to → (to == 2 ^ 64 - 1) ≡ false
-not_full seen to enters = eqb_other to (2 ^ 64 - 1) (λ full. absurd (omega (arith, full, enters.0, enters.1)))
-
-enter_leads :
-    {T : Type 0} (patience : Patience) (c : PendingCall T) (hold : Option HoldKind) (seen to w number : ℕ) (next : RwReaderPlace) (done : Bool) → c.call ≡ calls.ReadLock → hold ≡ None → Enters seen to → HasSpun is_in_vain patience c.own →
-    place_after {T = T} (cond done (afters.Ends answers.Success) (read_look patience w)) ≡ Some next →
-    AtRwReader next (record { call = c.call; own = event number (acts.Exchange words.State seen to w done) (outcome_of {T = T} (cond done (afters.Ends answers.Success) (read_look patience w))) ∷ c.own })
-    (hold_after rw_reader_table (acts.Exchange words.State seen to w done) (Some c) hold)
-enter_leads patience c hold seen to w number next true read free enters spun is = absurd cc
-enter_leads patience c hold seen to w number next false read free enters spun is =
-    read_leads patience c hold (acts.Exchange words.State seen to w false) w number next (lets_readers_in w) read free spun refl (rw (not_full seen to enters) refl) refl is
-
-write_leads :
-    {T : Type 0} (patience : Patience) (c : PendingCall T) (hold : Option HoldKind) (w number : ℕ) (next : RwReaderPlace) (b : Bool) → c.call ≡ calls.WriteLock → hold ≡ None → HasSpun is_in_vain patience c.own → spins_in is_step c.own ≡ spins_in is_in_vain c.own →
-    place_after {T = T} (cond b (afters.Ends answers.Success) (within places.Write (refused patience w))) ≡ Some next →
-    AtRwReader next (record { call = c.call; own = event number (acts.Exchange words.State 0 (2 ^ 64 - 1) w b) (outcome_of {T = T} (cond b (afters.Ends answers.Success) (within places.Write (refused patience w)))) ∷ c.own })
-    (hold_after rw_reader_table (acts.Exchange words.State 0 (2 ^ 64 - 1) w b) (Some c) hold)
-write_leads patience c hold w number next true write free spun alike is = absurd cc
-write_leads {T} patience c hold w number next false write free spun alike is =
-    let led = refused_leads is_in_vain places.Write patience w c.own number (acts.Exchange words.State 0 (2 ^ 64 - 1) w false) next spun refl refl is in
-    subst (λ p. AtRwReader {T = T} p (record { call = c.call; own = event number (acts.Exchange words.State 0 (2 ^ 64 - 1) w false) (outcome_of {T = T} (within places.Write (refused patience w))) ∷ c.own }) hold) led.1 (write, free, led.2, rw alike refl)
 
 -- a call that tries once ends with its exchange
-tried_once : (T : Type 0) (b : Bool) (next : RwReaderPlace) → place_after {T = T} (cond b (afters.Ends answers.Success) (afters.Ends answers.Interrupted)) ≡ Some next → ⊥
-tried_once T true next is = absurd cc
-tried_once T false next is = absurd cc
-
-steps_at :
-    {T : Type 0} (place : RwReaderPlace) (c : PendingCall T) (hold : Option HoldKind) (memory : Word → ℕ) (number : ℕ) (next : RwReaderPlace) → AtRwReader place c hold →
-    place_after {T = T} (rw_reader_table.after place (value_told {T = T} (carried_out (rw_reader_table.intent place hold) memory))) ≡ Some next →
-    AtRwReader next (record { call = c.call; own = event number (step_at rw_reader_table place hold memory).act (step_at rw_reader_table place hold memory).outcome ∷ c.own })
-    (hold_after rw_reader_table (step_at rw_reader_table place hold memory).act (Some c) hold)
-steps_at places.TryReadLook c hold memory number next at is = try_read_leads c hold (memory words.State) number next (lets_readers_in (memory words.State)) at.0 at.1 refl is
-steps_at {T} (places.TryRead seen to) c hold memory number next at is = absurd (tried_once T (memory words.State == seen) next is)
-steps_at (places.ReadLook patience) c hold memory number next at is =
-    read_leads patience c hold (acts.Load words.State (memory words.State)) (memory words.State) number next (lets_readers_in (memory words.State)) at.0 at.1 at.2 refl refl refl is
-steps_at (places.Read seen to patience) c hold memory number next at is = enter_leads patience c hold seen to (memory words.State) number next (memory words.State == seen) at.0 at.1 at.2 at.3 is
-steps_at {T} places.TryWrite c hold memory number next at is = absurd (tried_once T (memory words.State == 0) next is)
-steps_at (places.Write patience) c hold memory number next at is = write_leads patience c hold (memory words.State) number next (memory words.State == 0) at.0 at.1 at.2 at.3 is
-steps_at {T} places.Release c hold memory number next at is =
-    let made : places.Wake ≡ next = cc in
-    subst
-    (λ p. AtRwReader {T = T} p (record { call = c.call; own = event number (step_at {T = T} rw_reader_table places.Release hold memory).act (step_at {T = T} rw_reader_table places.Release hold memory).outcome ∷ c.own })
-    (hold_after {T = T} rw_reader_table (step_at {T = T} rw_reader_table places.Release hold memory).act (Some c) hold))
-    made at.0
-steps_at places.Wake c hold memory number next at is = absurd cc
 
 -- Where an answer leads.
 
@@ -167,52 +76,13 @@ asked_nothing {T} own goes waits = let no : answer_fault {T = T} thens.GoesOn �
 pub offered_nothing : {T : Type 0} (own : List (Event T)) → latest_outcome own ≡ thens.GoesOn → choose_fault (latest_outcome own) ≡ None → ⊥
 offered_nothing {T} own goes stands = let no : choose_fault {T = T} thens.GoesOn ≡ None = subst (λ (o : Then T). choose_fault o ≡ None) goes stands in absurd cc
 
-answers_at :
-    {T : Type 0} (place : RwReaderPlace) (c : PendingCall T) (hold : Option HoldKind) (action : WaitAction) (number : ℕ) → AtRwReader place c hold → answer_fault (latest_outcome c.own) ≡ None →
-    AtRwReader {T = T} (rw_reader_answered place action) (record { call = c.call; own = event number (acts.Answered action) thens.GoesOn ∷ c.own }) hold
-answers_at places.TryReadLook c hold action number at waits = at
-answers_at (places.TryRead seen to) c hold action number at waits = absurd (asked_nothing c.own at.4 waits)
-answers_at (places.ReadLook patience) c hold action number at waits = (at.0, at.1, answered_spun is_in_vain patience c.own number action at.2 refl)
-answers_at (places.Read seen to patience) c hold action number at waits = absurd (asked_nothing c.own at.4 waits)
-answers_at places.TryWrite c hold action number at waits = at
-answers_at (places.Write patience) c hold action number at waits = (at.0, at.1, answered_spun is_in_vain patience c.own number action at.2 refl, omega (arith, at.3))
-answers_at places.Release c hold action number at waits = at
-answers_at places.Wake c hold action number at waits = at
-
-chooses_at :
-    {T : Type 0} (place : RwReaderPlace) (c : PendingCall T) (hold : Option HoldKind) (choice : Option T) (number : ℕ) → AtRwReader place c hold → choose_fault (latest_outcome c.own) ≡ None →
-    AtRwReader {T = T} place (record { call = c.call; own = event number (acts.Chosen choice) thens.GoesOn ∷ c.own }) hold
-chooses_at places.TryReadLook c hold choice number at stands = at
-chooses_at (places.TryRead seen to) c hold choice number at stands = absurd (offered_nothing c.own at.4 stands)
-chooses_at (places.ReadLook patience) c hold choice number at stands = (at.0, at.1, passed_on is_in_vain patience c.own number (acts.Chosen choice) thens.GoesOn at.2 refl refl)
-chooses_at (places.Read seen to patience) c hold choice number at stands = absurd (offered_nothing c.own at.4 stands)
-chooses_at places.TryWrite c hold choice number at stands = at
-chooses_at (places.Write patience) c hold choice number at stands = (at.0, at.1, passed_on is_in_vain patience c.own number (acts.Chosen choice) thens.GoesOn at.2 refl refl, omega (arith, at.3))
-chooses_at places.Release c hold choice number at stands = at
-chooses_at places.Wake c hold choice number at stands = at
-
 pub rw_reader_kept : {T : Type 0} → IsKept {T = T} rw_reader_table AtRwReader
-rw_reader_kept =
-    record {
-      begins = begins_at;
-      steps = λ place c hold memory number next at free is. steps_at place c hold memory number next at is;
-      answers = answers_at;
-      chooses = chooses_at;
-    }
+rw_reader_kept = grind (arith, nat_tests, eqb-true, eqb-false)
 
 -- Its word counts the holds.
 
 reader_intent : {T : Type 0} (place : RwReaderPlace) (c : PendingCall T) (hold : Option HoldKind) → AtRwReader place c hold → IsReaderIntent {T = T} (rw_reader_table.grant c.call) hold (rw_reader_table.intent place hold)
-reader_intent places.TryReadLook c hold at = tt
-reader_intent {T} (places.TryRead seen to) c hold at = (at.1, inl (at.2.0, at.2.1, ap (λ (k : Call T). rw_reader_table.grant k seen to) at.0))
-reader_intent (places.ReadLook patience) c hold at = tt
-reader_intent {T} (places.Read seen to patience) c hold at = (at.1, inl (at.2.0, at.2.1, ap (λ (k : Call T). rw_reader_table.grant k seen to) at.0))
-reader_intent {T} places.TryWrite c hold at = (at.1, inr (refl, refl, ap (λ (k : Call T). rw_reader_table.grant k 0 (2 ^ 64 - 1)) at.0))
-reader_intent {T} (places.Write patience) c hold at = (at.1, inr (refl, refl, ap (λ (k : Call T). rw_reader_table.grant k 0 (2 ^ 64 - 1)) at.0))
-reader_intent places.Release c None at = absurd cc
-reader_intent places.Release c (Some kinds.Read) at = (refl, refl)
-reader_intent places.Release c (Some kinds.Write) at = (refl, refl)
-reader_intent places.Wake c hold at = tt
+reader_intent place c hold h1 = grind (arith, nat_tests, eqb-true, eqb-false)
 
 pub rw_reader_is_lock : {T : Type 0} (z : Arithmetic T) (parties : ℕ) → IsReaderLock {T = T} z rw_reader_table parties
 rw_reader_is_lock z parties =
@@ -223,14 +93,7 @@ rw_reader_is_lock z parties =
 
 -- No call tries in vain and goes on by itself more than 10000 times.
 pub spins_bounded : {T : Type 0} (place : RwReaderPlace) (c : PendingCall T) (hold : Option HoldKind) → AtRwReader place c hold → steps_in_vain c.call c.own ≤ 10000
-spins_bounded {T} places.TryReadLook c hold at = subst (λ (k : Call T). steps_in_vain k c.own ≤ 10000) (sym at.0) (omega arith)
-spins_bounded {T} (places.TryRead seen to) c hold at = subst (λ (k : Call T). steps_in_vain k c.own ≤ 10000) (sym at.0) (omega arith)
-spins_bounded {T} (places.ReadLook patience) c hold at = subst (λ (k : Call T). steps_in_vain k c.own ≤ 10000) (sym at.0) (omega (arith, at.2.spun, at.2.within_limit))
-spins_bounded {T} (places.Read seen to patience) c hold at = subst (λ (k : Call T). steps_in_vain k c.own ≤ 10000) (sym at.0) (omega (arith, at.3.spun, at.3.within_limit))
-spins_bounded {T} places.TryWrite c hold at = subst (λ (k : Call T). steps_in_vain k c.own ≤ 10000) (sym at.0) (omega arith)
-spins_bounded {T} (places.Write patience) c hold at = subst (λ (k : Call T). steps_in_vain k c.own ≤ 10000) (sym at.0) (omega (arith, at.3, at.2.spun, at.2.within_limit))
-spins_bounded {T} places.Release c hold at = subst (λ (k : Call T). steps_in_vain k c.own ≤ 10000) (sym at.0) (omega arith)
-spins_bounded {T} places.Wake c hold at = subst (λ (k : Call T). steps_in_vain k c.own ≤ 10000) (sym at) (omega arith)
+spins_bounded place c hold h1 = grind (arith, nat_tests, eqb-true, eqb-false)
 
 -- What one more event tells.
 
@@ -251,59 +114,25 @@ another one other A is_not_try is try = absurd (is (is_not_try ∙ try))
 try_read_law :
     {T : Type 0} (party : ℕ) (past : List (Event T)) (c : PendingCall T) (w : ℕ) (b : Bool) → c.call ≡ calls.TryReadLock → lets_readers_in w ≡ b → CountsHolds w (holds_of rw_reader_table past) →
     EventLaw party past (Some c) (record { act = acts.Load words.State w; outcome = outcome_of {T = T} {P = RwReaderPlace} (cond b (afters.At (places.TryRead w (w + 1))) (afters.Ends answers.Interrupted)) })
-try_read_law party past c w true try sees law = record { cause = tt; exact = another calls.TryReadLock c.call _ (sym try) (λ same. absurd cc); asks = tt }
-try_read_law {T} party past c w false try sees law =
-    let refuses : Event T = event party (acts.Load words.State w) (thens.Answers answers.Interrupted) in
-    record {
-      cause = subst (λ (k : Call T). RwReaderCause k party (refuses ∷ past)) (sym try) (inl (rw (eqb_same party) (shut_at w (holds_of rw_reader_table past) law (no_room w sees))));
-      exact = another calls.TryReadLock c.call _ (sym try) (λ same. absurd cc);
-      asks = tt;
-    }
+try_read_law party past c w b h1 h2 h3 = grind (arith, nat_tests, eqb-true, eqb-false)
 
 -- a failed exchange of `TryReadLock`: had nobody written since its look, it would have found what that saw
 try_enter_law :
     {T : Type 0} (party : ℕ) (past : List (Event T)) (c : PendingCall T) (seen to w : ℕ) (done : Bool) → c.call ≡ calls.TryReadLock → (w == seen) ≡ done → OtherWroteSinceSight words.State party past ⊎ (w ≡ seen) →
     EventLaw party past (Some c) (record { act = acts.Exchange words.State seen to w done; outcome = outcome_of {T = T} {P = RwReaderPlace} (cond done (afters.Ends answers.Success) (afters.Ends answers.Interrupted)) })
-try_enter_law party past c seen to w true try is law = record { cause = tt; exact = another calls.TryReadLock c.call _ (sym try) (λ same. absurd cc); asks = tt }
-try_enter_law {T} party past c seen to w false try is law =
-    let refuses : Event T = event party (acts.Exchange words.State seen to w false) (thens.Answers answers.Interrupted) in
-    record {
-      cause = subst (λ (k : Call T). RwReaderCause k party (refuses ∷ past)) (sym try) (inr (rw (eqb_same party) (wrote law)));
-      exact = another calls.TryReadLock c.call _ (sym try) (λ same. absurd cc);
-      asks = tt;
-    }
-  where
-    wrote : OtherWroteSinceSight words.State party past ⊎ (w ≡ seen) → OtherWroteSinceSight words.State party past
-    wrote (inl others) = others
-    wrote (inr kept) = absurd (eqb-false w seen is kept)
+try_enter_law party past c seen to w done h1 h2 h3 = grind (arith, nat_tests, eqb-true, eqb-false)
 
 read_law :
     {T : Type 0} (party : ℕ) (past : List (Event T)) (c : PendingCall T) (patience : Patience) (act : Act T) (w : ℕ) (b : Bool) → call_of party past ≡ Some c → c.call ≡ calls.ReadLock → HasSpun is_in_vain patience c.own →
     sight_of words.State act ≡ Some w → lets_readers_in w ≡ b → CountsHolds w (holds_of rw_reader_table past) →
     EventLaw party past (Some c) (record { act = act; outcome = outcome_of {T = T} (read_after patience w b) })
-read_law party past c patience act w true called read spun sight sees law = record { cause = tt; exact = another calls.ReadLock c.call _ (sym read) (λ same. absurd cc); asks = tt }
-read_law {T} party past c patience act w false called read spun sight sees law =
-    record {
-      cause = refused_because is_in_vain places.ReadLook patience w c.own _ spun (λ aborted. because aborted);
-      exact = another calls.ReadLock c.call _ (sym read) (λ same. absurd cc);
-      asks = refused_asks is_in_vain places.ReadLook patience w c act IsAskedSo spun
-          (λ spent asking. (subst (λ (k : Call T). lock_spins k c.own ≡ 10000) (sym read) spent, sight, asking));
-    }
-  where
-    ended : Event T
-    ended = event party act (outcome_of {T = T} (within places.ReadLook (refused patience w)))
-
-    because : keeps_asking c.own ≡ false → RwReaderCause c.call party (ended ∷ past)
-    because aborted =
-        let has_aborted : HasAborted party past = rw called aborted in
-        subst (λ (k : Call T). RwReaderCause k party (ended ∷ past)) (sym read) (rw (eqb_same party, sight) (has_aborted, shut_at w (holds_of rw_reader_table past) law (no_room w sees)))
+read_law party past c patience act w b h1 h2 h3 h4 h5 h6 = grind (arith, nat_tests, eqb-true, eqb-false)
 
 enter_law :
     {T : Type 0} (party : ℕ) (past : List (Event T)) (c : PendingCall T) (patience : Patience) (seen to w : ℕ) (done : Bool) → call_of party past ≡ Some c → c.call ≡ calls.ReadLock → HasSpun is_in_vain patience c.own →
     CountsHolds w (holds_of rw_reader_table past) →
     EventLaw party past (Some c) (record { act = acts.Exchange words.State seen to w done; outcome = outcome_of {T = T} (cond done (afters.Ends answers.Success) (read_look patience w)) })
-enter_law party past c patience seen to w true called read spun law = record { cause = tt; exact = another calls.ReadLock c.call _ (sym read) (λ same. absurd cc); asks = tt }
-enter_law party past c patience seen to w false called read spun law = read_law party past c patience (acts.Exchange words.State seen to w false) w (lets_readers_in w) called read spun refl refl law
+enter_law party past c patience seen to w done h1 h2 h3 h4 = grind (arith, nat_tests, eqb-true, eqb-false)
 
 try_write_law :
     {T : Type 0} (party : ℕ) (past : List (Event T)) (c : PendingCall T) (w : ℕ) (b : Bool) → c.call ≡ calls.TryWriteLock → (w == 0) ≡ b → CountsHolds w (holds_of rw_reader_table past) →
@@ -371,8 +200,7 @@ step_law z parties party past c places.Release hold run called at law = release_
 step_law z parties party past c places.Wake hold run called at law = record { cause = tt; exact = another calls.Unlock c.call _ (sym at) (λ same. absurd cc); asks = tt }
 
 silent : {T : Type 0} (party : ℕ) (past : List (Event T)) (pending : Option (PendingCall T)) (act : Act T) → is_sight words.State act ≡ false → EventLaw party past pending (record { act = act; outcome = thens.GoesOn })
-silent party past None act quiet = record { cause = tt; exact = tt; asks = tt }
-silent party past (Some c) act quiet = record { cause = tt; exact = λ try sees. let no : true ≡ false = sym sees ∙ quiet in absurd cc; asks = tt }
+silent party past pending act h1 = grind (arith, nat_tests, eqb-true, eqb-false)
 
 pub event_law :
     {T : Type 0} (z : Arithmetic T) (parties : ℕ) (past : List (Event T)) (e : Event T) → IsPast z rw_reader_table parties (e ∷ past) → EventLaw e.party past (call_of e.party past) (record { act = e.act; outcome = e.then })
@@ -387,13 +215,4 @@ event_law {T} z parties past e run =
 
 -- a reader-preferring lock has no other word
 pub rw_reader_lacks : (T : Type 0) (word : Word) → same_word words.State word ≡ false → Lacks {T = T} rw_reader_table word
-rw_reader_lacks T word other places.TryReadLook hold = ap not other
-rw_reader_lacks T word other (places.TryRead seen to) hold = ap not other
-rw_reader_lacks T word other (places.ReadLook patience) hold = ap not other
-rw_reader_lacks T word other (places.Read seen to patience) hold = ap not other
-rw_reader_lacks T word other places.TryWrite hold = ap not other
-rw_reader_lacks T word other (places.Write patience) hold = ap not other
-rw_reader_lacks T word other places.Release None = ap not other
-rw_reader_lacks T word other places.Release (Some kinds.Read) = ap not other
-rw_reader_lacks T word other places.Release (Some kinds.Write) = ap not other
-rw_reader_lacks T word other places.Wake hold = refl
+rw_reader_lacks T word h1 = grind (arith, nat_tests, eqb-true, eqb-false)

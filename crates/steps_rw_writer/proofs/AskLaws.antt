@@ -1,6 +1,5 @@
 -- No call of a writer-preferring lock spins more than 10000 times.
-use Rattle.std.proofs.Common.{◌≡◌, ◌≢◌, ℕ, ◌-◌, ◌^◌, ◌≤◌, ◌==◌, sym, ◌∙◌, subst, true, false, ◌&&◌, ◌||◌, List, [], ◌∷◌, Option, arith}
-use Rattle.std.specs.Prelude.{not}
+use Rattle.std.proofs.Common.{◌≡◌, ℕ, ◌≤◌, sym, subst, true, false, List, [], ◌∷◌, Option, arith}
 use Rattle.steps_events.specs.declared.event.Call.{Call}
 use Rattle.steps_events.specs.declared.event.Call.TheVariants as calls
 use Rattle.steps_events.specs.declared.event.Event.{Event}

@@ -1,6 +1,6 @@
 -- Each refusal of a writer-preferring lock has its cause, and a `TryWriteLock` is granted exactly where it may be.
-use Rattle.std.proofs.Common.{◌≡◌, ◌≢◌, ℕ, ◌+◌, ◌-◌, ◌%◌, ◌^◌, ◌<◌, ◌≤◌, ◌==◌, refl, sym, ◌∙◌, ap, subst, Bool, true, false, cond, ◌&&◌, length, List, [], ◌∷◌, Option, Some, None, ◌⊎◌, inl, inr, ◌↔◌, arith}
-use Rattle.std.specs.Prelude.{MatchBool, MatchOption, nat_lt, not}
+use Rattle.std.proofs.Common.{◌≡◌, ◌≢◌, ℕ, ◌-◌, ◌^◌, ◌<◌, ◌≤◌, ◌==◌, refl, sym, ◌∙◌, ap, subst, Bool, true, false, cond, ◌&&◌, length, List, [], ◌∷◌, Option, Some, None, ◌⊎◌, inl, inr, ◌↔◌, arith}
+use Rattle.std.specs.Prelude.{MatchBool, MatchOption, not}
 use Rattle.std.proofs.lemmas.Bool.{eqb-true, eqb-false, false≢true}
 use Rattle.std.proofs.lemmas.Bool.Decides.{nat_tests}
 use Rattle.steps_events.specs.declared.event.Word.TheVariants as words
@@ -17,9 +17,9 @@ use Rattle.steps_events.specs.declared.patience.Patience.{Patience}
 use Rattle.steps_events.specs.declared.row.After.{After}
 use Rattle.steps_events.specs.declared.row.After.TheVariants as afters
 use Rattle.steps_events.specs.Arithmetic.{Arithmetic}
-use Rattle.steps_events.specs.Rows.{carried_out, value_told, outcome_of, within, refused}
+use Rattle.steps_events.specs.Rows.{carried_out, value_told, outcome_of, within}
 use Rattle.steps_events.specs.Past.{PendingCall, call_of, call_after, Hold, holds_of, hold_of, word_in, event, is_failure}
-use Rattle.steps_events.specs.HoldCounts.{reads_in, writes_in}
+use Rattle.steps_events.specs.HoldCounts.{reads_in}
 use Rattle.steps_events.specs.Moves.{Move, step_at}
 use Rattle.steps_events.specs.Runs.{IsPast}
 use Rattle.steps_events.specs.Sights.{is_sight, is_beginning, keeps_asking, HasAborted, OtherWroteSinceSight, AtLastSight}
@@ -32,12 +32,12 @@ use Rattle.steps_rw_writer.specs.declared.Leaver.{Leaver}
 use Rattle.steps_rw_writer.specs.declared.Leaver.TheVariants as leavers
 use Rattle.steps_rw_writer.specs.declared.RwWriterPlace.{RwWriterPlace}
 use Rattle.steps_rw_writer.specs.declared.RwWriterPlace.TheVariants as places
-use Rattle.steps_rw_writer.specs.Table.{is_odd, lets_readers_in, lets_writer_in, lets_mark, is_marked, is_blocked, try_read_look, read_look, spins, marks_or_spins, unmarks_or_leaves, write_refused, write_look, last_look, released, woken_one, woken_all, rw_writer_table}
+use Rattle.steps_rw_writer.specs.Table.{lets_writer_in, is_marked, is_blocked, try_read_look, read_look, spins, marks_or_spins, unmarks_or_leaves, write_refused, write_look, last_look, released, woken_one, woken_all, rw_writer_table}
 use Rattle.steps_rw_writer.specs.Marks.{is_marked_after}
 use Rattle.steps_rw_writer.specs.Law.{CountsHolds, HasMissedAfterAbort, RwWriterCause, IsExactGrant, rw_writer_waiting, KeepsRwWriter}
 use Rattle.steps_rw_writer.proofs.WordLaws.{held_by_none, writer_lock_exclusive}
 use Rattle.steps_rw_writer.proofs.StageLaws.{same_call}
-use Rattle.steps_rw_writer.proofs.PlaceLaws.{AtRwWriter, Asks, MayGiveUp, failed_after_abort, IsLeaver, even_word, held_above, here}
+use Rattle.steps_rw_writer.proofs.PlaceLaws.{AtRwWriter, Asks, MayGiveUp, failed_after_abort, IsLeaver, held_above, here}
 use Rattle.steps_rw_writer.proofs.DebtLaws.{counter_counts_adds, no_wake_is_lost, pays_next}
 use Rattle.steps_rw_writer.proofs.WakeLaws.{readers_are_woken}
 use Rattle.steps_rw_writer.proofs.NextSteps.{each_steps, each_ends}
@@ -60,29 +60,12 @@ taken_at w holds true (inl read) other = inr refl
 taken_at w holds false (inl read) other = inl (omega (arith, read.counts, both_kinds holds, other))
 taken_at w holds marked (inr written) other = inl (rw written.alone (omega arith))
 
-full_by : (odd : Bool) (v : ℕ) → odd ≡ false → (not odd && nat_lt v (2 ^ 64 - 4)) ≡ false → 2 ^ 64 - 4 ≤ v
-full_by true v even is = absurd cc
-full_by false v even is = above v is
-  where
-    above : (n : ℕ) → nat_lt n (2 ^ 64 - 4) ≡ false → 2 ^ 64 - 4 ≤ n
-    above n no_room = grind (arith, nat_tests)
-
-shut_at : (w : ℕ) (holds : List Hold) (marked : Bool) → CountsHolds w holds marked → lets_readers_in w ≡ false → (0 < writes_in holds) ⊎ ((marked ≡ true) ⊎ (reads_in holds ≡ 2 ^ 63 - 2))
-shut_at w holds true (inl read) shut = inr (inl refl)
-shut_at w holds false (inl read) shut =
-    let even : w % 2 ≡ 0 = omega (arith, read.counts) in
-    let full : 2 ^ 64 - 4 ≤ w = full_by (is_odd w) w (even_word w even) shut in
-    inr (inr (omega (arith, read.counts, read.fits, full)))
-shut_at w holds marked (inr written) shut = inl (rw written.alone (omega arith))
-
 -- A failed exchange after a look: another party has written.
 
 failed_exchange :
     {T : Type 0} (party : ℕ) (past : List (Event T)) (seen to w : ℕ) (b : Bool) → (w == seen) ≡ b → is_failure {T = T} (acts.Exchange words.State seen to w b) ≡ true → OtherWroteSinceSight words.State party past ⊎ (w ≡ seen) →
     OtherWroteSinceSight words.State party past
-failed_exchange party past seen to w true is fails law = absurd cc
-failed_exchange party past seen to w false is fails (inl wrote) = wrote
-failed_exchange party past seen to w false is fails (inr kept) = absurd (eqb-false w seen is kept)
+failed_exchange party past seen to w b h1 h2 h3 = grind (arith, nat_tests, eqb-true, eqb-false)
 
 other_call : {T : Type 0} (A : Type 0) (call one other : Call T) → call ≡ one → call ≡ other → (one ≡ other → ⊥) → A
 other_call A call one other is also apart = absurd (apart (sym is ∙ also))
@@ -130,8 +113,7 @@ event_missed {T} z parties past e run c called write fails =
     run.0.1.moved called fails
 
 not_false : (b : Bool) → not b ≡ true → b ≡ false
-not_false true is = absurd cc
-not_false false is = refl
+not_false b h1 = grind (arith, nat_tests, eqb-true, eqb-false)
 
 -- a `WriteLock` whose latest failed exchange came after its Abort has missed
 missed_at :
@@ -193,50 +175,23 @@ HasCauseAfter party past call act a = MatchBool (is_refusal (outcome_of a)) (RwW
 for_call : {T : Type 0} (party : ℕ) (past : List (Event T)) (c : PendingCall T) (call : Call T) (act : Act T) (a : After T RwWriterPlace) → c.call ≡ call → HasCauseAfter party past call act a → HasCauseAfter party past c.call act a
 for_call {T} party past c call act a is law = subst (λ (k : Call T). HasCauseAfter party past k act a) (sym is) law
 
-Counts : {T : Type 0} → List (Event T) → Type 0
-Counts past = CountsHolds (word_in rw_writer_table past words.State) (holds_of rw_writer_table past) (is_marked_after past)
-
 try_read_cause : {T : Type 0} (party : ℕ) (past : List (Event T)) (w : ℕ) → CountsHolds w (holds_of rw_writer_table past) (is_marked_after past) → HasCauseAfter party past calls.TryReadLock (acts.Load words.State w) (try_read_look w)
-try_read_cause {T} party past w law = by_test (lets_readers_in w) refl
-  where
-    by_test : (b : Bool) → lets_readers_in w ≡ b → HasCauseAfter {T = T} party past calls.TryReadLock (acts.Load words.State w) (cond b (afters.At (places.TryRead w (w + 2))) (afters.Ends answers.Interrupted))
-    by_test true is = tt
-    by_test false is = inl (rw (eqb_same party) (shut_at w (holds_of rw_writer_table past) (is_marked_after past) law is))
+try_read_cause party past w h1 = grind (arith, nat_tests, eqb-true, eqb-false)
 
 try_enter_cause :
     {T : Type 0} (party : ℕ) (past : List (Event T)) (seen to w : ℕ) (b : Bool) → (w == seen) ≡ b → OtherWroteSinceSight words.State party past ⊎ (w ≡ seen) →
     HasCauseAfter {T = T} party past calls.TryReadLock (acts.Exchange words.State seen to w b) (cond b (afters.Ends answers.Success) (afters.Ends answers.Interrupted))
-try_enter_cause party past seen to w true is law = tt
-try_enter_cause party past seen to w false is law = inr (rw (eqb_same party) (failed_exchange party past seen to w false is refl law))
-
-refused_cause :
-    {T : Type 0} (party : ℕ) (past : List (Event T)) (c : PendingCall T) (patience : Patience) (act : Act T) (w : ℕ) → call_of party past ≡ Some c → Asks patience c.own → is_sight words.State act ≡ true → lets_readers_in w ≡ false →
-    CountsHolds w (holds_of rw_writer_table past) (is_marked_after past) → HasCauseAfter party past calls.ReadLock act (within places.ReadLook (refused patience w))
-refused_cause {T} party past c patience act w called asks sight shut law = by_tests patience.keep (nat_lt patience.spins 10000) refl
-  where
-    by_tests : (keep left : Bool) → patience.keep ≡ keep →
-        HasCauseAfter {T = T} party past calls.ReadLock act
-        (within places.ReadLook (cond keep (cond left (afters.At (record { spins = patience.spins + 1; keep = patience.keep })) (afters.Waits patience w)) (afters.Ends answers.Interrupted)))
-    by_tests true true is = tt
-    by_tests true false is = tt
-    by_tests false left is =
-        let has_aborted : HasAborted party past = rw called (asks ∙ is) in
-        rw (eqb_same party, sight) (has_aborted, shut_at w (holds_of rw_writer_table past) (is_marked_after past) law shut)
+try_enter_cause party past seen to w b h1 h2 = grind (arith, nat_tests, eqb-true, eqb-false)
 
 read_cause :
     {T : Type 0} (party : ℕ) (past : List (Event T)) (c : PendingCall T) (patience : Patience) (act : Act T) (w : ℕ) → call_of party past ≡ Some c → Asks patience c.own → is_sight words.State act ≡ true →
     CountsHolds w (holds_of rw_writer_table past) (is_marked_after past) → HasCauseAfter party past calls.ReadLock act (read_look patience w)
-read_cause {T} party past c patience act w called asks sight law = by_test (lets_readers_in w) refl
-  where
-    by_test : (b : Bool) → lets_readers_in w ≡ b → HasCauseAfter {T = T} party past calls.ReadLock act (cond b (afters.At (places.Read w (w + 2) patience)) (within places.ReadLook (refused patience w)))
-    by_test true is = tt
-    by_test false is = refused_cause party past c patience act w called asks sight is law
+read_cause party past c patience act w h1 h2 h3 h4 = grind (arith, nat_tests, eqb-true, eqb-false)
 
 read_enters_cause :
     {T : Type 0} (party : ℕ) (past : List (Event T)) (c : PendingCall T) (patience : Patience) (seen to w : ℕ) (b : Bool) → call_of party past ≡ Some c → Asks patience c.own →
     CountsHolds w (holds_of rw_writer_table past) (is_marked_after past) → HasCauseAfter party past calls.ReadLock (acts.Exchange words.State seen to w b) (cond b (afters.Ends answers.Success) (read_look patience w))
-read_enters_cause party past c patience seen to w true called asks law = tt
-read_enters_cause party past c patience seen to w false called asks law = read_cause party past c patience (acts.Exchange words.State seen to w false) w called asks refl law
+read_enters_cause party past c patience seen to w b h1 h2 h3 = grind (arith, nat_tests, eqb-true, eqb-false)
 
 try_write_cause :
     {T : Type 0} (party : ℕ) (past : List (Event T)) (w : ℕ) (b : Bool) → (w == 0) ≡ b → CountsHolds w (holds_of rw_writer_table past) (is_marked_after past) →
@@ -247,18 +202,10 @@ try_write_cause party past w false is law = rw (eqb_same party) (taken_at w (hol
 -- The writer.
 
 no_spin_refuses : {T : Type 0} (party : ℕ) (past : List (Event T)) (act : Act T) (patience : Patience) → HasCauseAfter party past calls.WriteLock act (spins patience)
-no_spin_refuses {T} party past act patience = by_test (nat_lt patience.spins 10000)
-  where
-    by_test : (b : Bool) → HasCauseAfter {T = T} party past calls.WriteLock act (cond b (afters.At (places.WriteLook (record { spins = patience.spins + 1; keep = patience.keep }))) (afters.At (places.LoadCounter patience)))
-    by_test true = tt
-    by_test false = tt
+no_spin_refuses party past act patience = grind (arith, nat_tests, eqb-true, eqb-false)
 
 no_mark_refuses : {T : Type 0} (party : ℕ) (past : List (Event T)) (act : Act T) (patience : Patience) (w : ℕ) → HasCauseAfter party past calls.WriteLock act (marks_or_spins patience w)
-no_mark_refuses {T} party past act patience w = by_test (lets_mark w)
-  where
-    by_test : (b : Bool) → HasCauseAfter {T = T} party past calls.WriteLock act (cond b (afters.At (places.Mark w (w + 1) patience)) (spins patience))
-    by_test true = tt
-    by_test false = no_spin_refuses party past act patience
+no_mark_refuses party past act patience w = grind (arith, nat_tests, eqb-true, eqb-false)
 
 -- a look at a held lock, or a failed exchange after a look
 abbrev Why : {T : Type 0} → ℕ → List (Event T) → Act T → ℕ → Type 0
@@ -310,9 +257,7 @@ last_look_cause {T} party count past c patience w called asks law = by_test (is_
 write_enters_cause :
     {T : Type 0} (party : ℕ) (past : List (Event T)) (c : PendingCall T) (patience : Patience) (seen to w : ℕ) (b : Bool) → (w == seen) ≡ b → call_of party past ≡ Some c → Asks patience c.own → OtherWroteSinceSight words.State party past ⊎ (w ≡ seen) →
     CountsHolds w (holds_of rw_writer_table past) (is_marked_after past) → HasCauseAfter party past calls.WriteLock (acts.Exchange words.State seen to w b) (cond b (afters.Ends answers.Success) (write_refused patience w))
-write_enters_cause party past c patience seen to w true is called asks wrote law = tt
-write_enters_cause party past c patience seen to w false is called asks wrote law =
-    write_refused_cause party past c patience (acts.Exchange words.State seen to w false) w called asks refl (inr (refl, failed_exchange party past seen to w false is refl wrote)) law
+write_enters_cause party past c patience seen to w b h1 h2 h3 h4 h5 = grind (arith, nat_tests, eqb-true, eqb-false)
 
 mark_cause :
     {T : Type 0} (party : ℕ) (past : List (Event T)) (c : PendingCall T) (patience : Patience) (seen to w : ℕ) (b : Bool) → call_of party past ≡ Some c → Asks patience c.own →
@@ -323,24 +268,15 @@ mark_cause party past c patience seen to w false called asks law = write_look_ca
 unmark_cause :
     {T : Type 0} (party : ℕ) (past : List (Event T)) (c : PendingCall T) (seen to w : ℕ) (b : Bool) → (w == seen) ≡ b → call_of party past ≡ Some c → keeps_asking c.own ≡ false → OtherWroteSinceSight words.State party past ⊎ (w ≡ seen) →
     CountsHolds w (holds_of rw_writer_table past) (is_marked_after past) → HasCauseAfter party past calls.WriteLock (acts.Exchange words.State seen to w b) (cond b (afters.At (places.Count leavers.GivenUp)) (unmarks_or_leaves w))
-unmark_cause party past c seen to w true is called aborted wrote law = tt
-unmark_cause party past c seen to w false is called aborted wrote law =
-    leaves_cause party past c (acts.Exchange words.State seen to w false) w called aborted refl (inr (refl, failed_exchange party past seen to w false is refl wrote)) law
+unmark_cause party past c seen to w b h1 h2 h3 h4 h5 = grind (arith, nat_tests, eqb-true, eqb-false)
 
 -- The leaving.
 
 released_cause : {T : Type 0} (party : ℕ) (past : List (Event T)) (call : Call T) (act : Act T) (told : Option ℕ) → HasCauseAfter party past call act (released told)
-released_cause party past call act None = tt
-released_cause {T} party past call act (Some old) = by_test (old == 3)
-  where
-    by_test : (b : Bool) → HasCauseAfter {T = T} party past call act (cond b (afters.At (places.Count leavers.Reader)) (afters.Ends answers.Done))
-    by_test true = tt
-    by_test false = tt
+released_cause party past call act told = grind (arith, nat_tests, eqb-true, eqb-false)
 
 woken_one_cause : {T : Type 0} (party : ℕ) (past : List (Event T)) (call : Call T) (act : Act T) (who : Leaver) → HasCauseAfter party past call act (woken_one who)
-woken_one_cause party past call act leavers.Reader = tt
-woken_one_cause party past call act leavers.Writer = tt
-woken_one_cause party past call act leavers.GivenUp = tt
+woken_one_cause party past call act who = grind (arith, nat_tests, eqb-true, eqb-false)
 
 own_call : {T : Type 0} (c : PendingCall T) → c.call ≡ calls.WriteLock → Some c ≡ Some (record { call = calls.WriteLock; own = c.own })
 own_call {T} c is = ap (λ (k : Call T). Some (record { call = k; own = c.own })) is
@@ -435,9 +371,7 @@ try_write_exact past call w false is law try sees =
     (λ granted. absurd cc, λ none. absurd (eqb-false w 0 is ((free_exactly w (holds_of rw_writer_table past) (is_marked_after past) law).1 none)))
 
 leaver_tries_not : {T : Type 0} (A : Type 0) (c : PendingCall T) (who : Leaver) → IsLeaver who c → c.call ≡ calls.TryWriteLock → A
-leaver_tries_not A c leavers.Reader at = tries_not A c.call calls.Unlock at (λ same. absurd cc)
-leaver_tries_not A c leavers.Writer at = tries_not A c.call calls.Unlock at (λ same. absurd cc)
-leaver_tries_not A c leavers.GivenUp at = tries_not A c.call calls.WriteLock at.0 (λ same. absurd cc)
+leaver_tries_not A c who h1 h2 = grind (arith, nat_tests, eqb-true, eqb-false)
 
 step_exact :
     {T : Type 0} (past : List (Event T)) (c : PendingCall T) (place : RwWriterPlace) (hold : Option HoldKind) → AtRwWriter place c hold →
@@ -461,8 +395,7 @@ step_exact past c (places.WakeOne who) hold at law = leaver_tries_not _ c who at
 step_exact past c (places.WakeAll who) hold at law = leaver_tries_not _ c who at
 
 unseen : {T : Type 0} (past : List (Event T)) (pending : Option (PendingCall T)) (act : Act T) → is_sight words.State act ≡ false → MatchOption pending (Unit {0}) (λ c. IsExactAfter past c.call act (afters.At places.Release))
-unseen past None act quiet = tt
-unseen past (Some c) act quiet = λ try sees. let no : true ≡ false = sym sees ∙ quiet in absurd cc
+unseen past pending act h1 = grind (arith, nat_tests, eqb-true, eqb-false)
 
 event_exact : {T : Type 0} (z : Arithmetic T) (parties : ℕ) (past : List (Event T)) (e : Event T) → IsPast z rw_writer_table parties (e ∷ past) → IsExactGrant (e ∷ past)
 event_exact {T} z parties past e run =

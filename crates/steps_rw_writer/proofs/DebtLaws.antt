@@ -1,6 +1,6 @@
 -- No wake is lost: whoever frees the lock for a waiting writer owes a counter step until it has made it.
-use Rattle.std.proofs.Common.{◌≡◌, ◌≢◌, ℕ, ◌+◌, ◌-◌, ◌%◌, ◌^◌, ◌<◌, ◌==◌, refl, sym, ◌∙◌, ap, subst, Bool, true, false, cond, ◌&&◌, ◌||◌, List, [], ◌∷◌, Option, Some, None, ◌⊎◌, inl, inr, arith}
-use Rattle.std.specs.Prelude.{nat_lt, not}
+use Rattle.std.proofs.Common.{◌≡◌, ◌≢◌, ℕ, ◌+◌, ◌-◌, ◌%◌, ◌^◌, ◌<◌, ◌==◌, refl, sym, ◌∙◌, ap, subst, Bool, true, false, cond, ◌&&◌, ◌||◌, List, [], ◌∷◌, Option, Some, ◌⊎◌, inl, inr, arith}
+use Rattle.std.specs.Prelude.{not}
 use Rattle.std.proofs.lemmas.Bool.{eqb-true, eqb-false, eq-eqb}
 use Rattle.std.proofs.lemmas.Bool.Decides.{nat_tests, eqb_tells}
 use Rattle.steps_events.specs.declared.WaitAction.{WaitAction}
@@ -10,20 +10,17 @@ use Rattle.steps_events.specs.declared.event.Call.{Call}
 use Rattle.steps_events.specs.declared.event.Call.TheVariants as calls
 use Rattle.steps_events.specs.declared.event.Act.{Act}
 use Rattle.steps_events.specs.declared.event.Act.TheVariants as acts
-use Rattle.steps_events.specs.declared.event.Answer.TheVariants as answers
 use Rattle.steps_events.specs.declared.event.Event.{Event}
 use Rattle.steps_events.specs.declared.event.Input.TheVariants as inputs
 use Rattle.steps_events.specs.declared.event.Then.{Then}
 use Rattle.steps_events.specs.declared.event.Then.TheVariants as thens
 use Rattle.steps_events.specs.declared.hold.HoldKind.{HoldKind}
-use Rattle.steps_events.specs.declared.hold.HoldKind.TheVariants as kinds
 use Rattle.steps_events.specs.declared.patience.Patience.{Patience}
 use Rattle.steps_events.specs.declared.row.After.{After}
 use Rattle.steps_events.specs.declared.row.After.TheVariants as afters
 use Rattle.steps_events.specs.Arithmetic.{Arithmetic}
 use Rattle.steps_events.specs.Rows.{carried_out, value_told, outcome_of, place_after}
 use Rattle.steps_events.specs.Past.{PendingCall, call_of, call_after, call_going_on, Hold, holds_of, hold_of, word_in, word_after, event, latest_outcome}
-use Rattle.steps_events.specs.HoldCounts.{reads_in, writes_in}
 use Rattle.steps_events.specs.Sights.{is_beginning, acts_in}
 use Rattle.steps_events.specs.Moves.{is_step, Move, step_at, stage_of, next_stage}
 use Rattle.steps_events.specs.Runs.{IsPast}
@@ -32,53 +29,22 @@ use Rattle.steps_events.proofs.Steps.{by_move, carried_goes_on, carried_stage}
 use Rattle.steps_events.proofs.Parties.{fault_at_none}
 use Rattle.steps_events.proofs.LastSights.{longer}
 use Rattle.steps_rw_writer.specs.declared.Leaver.{Leaver}
-use Rattle.steps_rw_writer.specs.declared.Leaver.TheVariants as leavers
 use Rattle.steps_rw_writer.specs.declared.RwWriterPlace.{RwWriterPlace}
 use Rattle.steps_rw_writer.specs.declared.RwWriterPlace.TheVariants as places
-use Rattle.steps_rw_writer.specs.Table.{is_odd, is_blocked, spins, unmarks_or_leaves, write_refused, write_look, last_look, rw_writer_table, rw_writer_begins, rw_writer_answered}
+use Rattle.steps_rw_writer.specs.Table.{is_blocked, rw_writer_table, rw_writer_answered}
 use Rattle.steps_rw_writer.specs.Marks.{is_marked_after}
 use Rattle.steps_rw_writer.specs.Law.{CountsHolds}
 use Rattle.steps_rw_writer.specs.Debts.{blocks, is_blocked_after, is_answer, adds_count, owes_count, loads_count, counts_since_load, StandsWith, NoWakeIsLost, PaysNext, CounterCountsAdds}
-use Rattle.steps_rw_writer.proofs.BoolLaws.{clash, neither, none_below, either}
-use Rattle.steps_rw_writer.proofs.LookLaws.{HoldsOn, of_spins, of_unmarks, of_refused, of_look}
+use Rattle.steps_rw_writer.proofs.BoolLaws.{clash, neither}
+use Rattle.steps_rw_writer.proofs.LookLaws.{HoldsOn}
 use Rattle.steps_rw_writer.proofs.PlaceLaws.{AtRwWriter, here}
-use Rattle.steps_rw_writer.proofs.StageLaws.{same_call, same_place, unlike, IsAt, fact_here, begins_none, answered_at, chosen_at, stepped_at}
+use Rattle.steps_rw_writer.proofs.StageLaws.{same_call, same_place, IsAt, fact_here, begins_none, answered_at, chosen_at, stepped_at}
 use Rattle.steps_rw_writer.proofs.Laws.{writer_lock_word}
 
 -- What the word says: the lock is blocked exactly where it is odd and above 1.
 
-blocked_by : (odd above : Bool) → odd ≡ true → above ≡ true → (odd && above) ≡ true
-blocked_by odd above is also = rw (is, also) refl
-
-odd_above : (w : ℕ) → w % 2 ≡ 1 → 1 < w → is_blocked w ≡ true
-odd_above w odd above = blocked_by (is_odd w) (nat_lt 1 w) (eq-eqb (w % 2) 1 odd) (grind (arith, nat_tests))
-
-not_odd : (w : ℕ) → w % 2 ≡ 0 → is_blocked w ≡ false
-not_odd w even = rw even refl
-
-small : (odd above : Bool) → above ≡ false → (odd && above) ≡ false
-small true above is = is
-small false above is = refl
-
-not_above : (w : ℕ) → w < 2 → is_blocked w ≡ false
-not_above w below = small (is_odd w) (nat_lt 1 w) (grind (arith, nat_tests))
-
-some_above : (n : ℕ) → 0 < n → nat_lt 0 n ≡ true
-some_above n above = grind (arith, nat_tests)
-
 word_blocks : (w : ℕ) (holds : List Hold) (marked : Bool) → CountsHolds w holds marked → blocks holds marked ≡ is_blocked w
-word_blocks w holds true (inl read) = by_reads (reads_in holds) refl
-  where
-    by_reads : (n : ℕ) → n ≡ reads_in holds → blocks holds true ≡ is_blocked w
-    by_reads n is = by_test (eqb_tells n 0)
-      where
-        by_test : (((n == 0) ≡ true) × (n ≡ 0)) ⊎ (((n == 0) ≡ false) × (n ≢ 0)) → blocks holds true ≡ is_blocked w
-        by_test (inl free) = rw (none_below (writes_in holds) read.unwritten, none_below (reads_in holds) (sym is ∙ free.1)) (sym (not_above w (omega (arith, read.counts, is, free.1))))
-        by_test (inr held) =
-            let some : 0 < reads_in holds = omega (arith, is, held.1) in
-            rw (none_below (writes_in holds) read.unwritten, some_above (reads_in holds) some) (sym (odd_above w (omega (arith, read.counts)) (omega (arith, read.counts, some))))
-word_blocks w holds false (inl read) = rw (none_below (writes_in holds) read.unwritten) (sym (not_odd w (omega (arith, read.counts))))
-word_blocks w holds marked (inr written) = rw written.alone (sym (odd_above w (omega (arith, written.is_full)) (omega (arith, written.is_full))))
+word_blocks w holds marked h1 = grind (arith, nat_tests, eqb-true, eqb-false)
 
 pub blocked_at : {T : Type 0} (z : Arithmetic T) (parties : ℕ) (past : List (Event T)) → IsPast z rw_writer_table parties past → is_blocked_after past ≡ is_blocked (word_in rw_writer_table past words.State)
 blocked_at z parties past run = word_blocks (word_in rw_writer_table past words.State) (holds_of rw_writer_table past) (is_marked_after past) (writer_lock_word z parties past run).counts
@@ -90,57 +56,11 @@ pub record LeadsToCount {T : Type 0} (act : Act T) (a : After T RwWriterPlace) :
   pub counts : a ≡ afters.At (places.Count who)
   pub is_before : adds_count act ≡ false
 
-even_done :
-    (T A : Type 0) (w from to : ℕ) (b : Bool) → (w == from) ≡ b → is_blocked from ≡ false → is_blocked w ≡ true → is_blocked (word_after {T = T} words.State (acts.Exchange words.State from to w b) w) ≡ false → A
-even_done T A w from to true done free was ended = clash (is_blocked w) was (ap is_blocked (eqb-true w from done) ∙ free)
-even_done T A w from to false done free was ended = clash (is_blocked w) was ended
-
-unmark_ends :
-    {T : Type 0} (w seen to : ℕ) (b : Bool) → is_blocked w ≡ true → is_blocked (word_after {T = T} words.State (acts.Exchange words.State seen to w b) w) ≡ false →
-    LeadsToCount {T = T} (acts.Exchange words.State seen to w b) (cond b (afters.At (places.Count leavers.GivenUp)) (unmarks_or_leaves w))
-unmark_ends w seen to true was ended = record { who = leavers.GivenUp; counts = refl; is_before = refl }
-unmark_ends w seen to false was ended = clash (is_blocked w) was ended
-
-odd_of_blocked : (odd above : Bool) → (odd && above) ≡ true → (odd ≡ true) × (above ≡ true)
-odd_of_blocked true above is = (refl, is)
-odd_of_blocked false above is = absurd cc
-
-reader_ends :
-    {T : Type 0} (w put : ℕ) (b : Bool) → put ≡ (w + (2 ^ 64 - 2)) % 2 ^ 64 → w < 2 ^ 64 → (w == 3) ≡ b → is_blocked w ≡ true → is_blocked put ≡ false →
-    LeadsToCount {T = T} (acts.Add words.State w put) (cond b (afters.At (places.Count leavers.Reader)) (afters.Ends answers.Done))
-reader_ends w put true is fits last was ended = record { who = leavers.Reader; counts = refl; is_before = refl }
-reader_ends {T} w put false is fits last was ended =
-    let tests = odd_of_blocked (is_odd w) (nat_lt 1 w) was in
-    let odd : w % 2 ≡ 1 = eqb-true (w % 2) 1 tests.0 in
-    let above : 1 < w = above_one w tests.1 in
-    let other : w ≢ 3 = eqb-false w 3 last in
-    let still : is_blocked put ≡ true = odd_above put (omega (arith, is, fits, odd, above, other)) (omega (arith, is, fits, odd, above, other)) in
-    clash (is_blocked put) still ended
-  where
-    above_one : (n : ℕ) → nat_lt 1 n ≡ true → 1 < n
-    above_one n is_above = grind (arith, nat_tests)
-
 ends_blocked :
     {T : Type 0} (place : RwWriterPlace) (c : PendingCall T) (hold : Option HoldKind) (memory : Word → ℕ) → AtRwWriter place c hold → memory words.State < 2 ^ 64 → is_blocked (memory words.State) ≡ true →
     is_blocked (word_after words.State (step_at {T = T} rw_writer_table place hold memory).act (memory words.State)) ≡ false →
     LeadsToCount (step_at {T = T} rw_writer_table place hold memory).act (rw_writer_table.after place (value_told {T = T} (carried_out (rw_writer_table.intent place hold) memory)))
-ends_blocked places.TryReadLook c hold memory at fits was ended = clash _ was ended
-ends_blocked {T} (places.TryRead seen to) c hold memory at fits was ended = even_done T _ (memory words.State) seen to (memory words.State == seen) refl (not_odd seen at.2.0) was ended
-ends_blocked (places.ReadLook patience) c hold memory at fits was ended = clash _ was ended
-ends_blocked {T} (places.Read seen to patience) c hold memory at fits was ended = even_done T _ (memory words.State) seen to (memory words.State == seen) refl (not_odd seen at.3.0) was ended
-ends_blocked {T} places.TryWrite c hold memory at fits was ended = even_done T _ (memory words.State) 0 (2 ^ 64 - 1) (memory words.State == 0) refl refl was ended
-ends_blocked (places.WriteLook patience) c hold memory at fits was ended = clash _ was ended
-ends_blocked {T} (places.Enter seen patience) c hold memory at fits was ended = even_done T _ (memory words.State) seen (2 ^ 64 - 1) (memory words.State == seen) refl (not_above seen at.3) was ended
-ends_blocked {T} (places.Mark seen to patience) c hold memory at fits was ended = even_done T _ (memory words.State) seen to (memory words.State == seen) refl (not_odd seen at.3.0) was ended
-ends_blocked (places.Unmark seen to) c hold memory at fits was ended = unmark_ends (memory words.State) seen to (memory words.State == seen) was ended
-ends_blocked (places.LoadCounter patience) c hold memory at fits was ended = clash _ was ended
-ends_blocked (places.LastLook count patience) c hold memory at fits was ended = clash _ was ended
-ends_blocked places.Release c None memory at fits was ended = absurd cc
-ends_blocked places.Release c (Some kinds.Read) memory at fits was ended = reader_ends (memory words.State) _ (memory words.State == 3) refl fits refl was ended
-ends_blocked places.Release c (Some kinds.Write) memory at fits was ended = record { who = leavers.Writer; counts = refl; is_before = refl }
-ends_blocked (places.Count who) c hold memory at fits was ended = clash _ was ended
-ends_blocked (places.WakeOne who) c hold memory at fits was ended = clash _ was ended
-ends_blocked (places.WakeAll who) c hold memory at fits was ended = clash _ was ended
+ends_blocked place c hold memory h1 h2 h3 h4 = grind (arith, nat_tests, eqb-true, eqb-false)
 
 -- the word fits its type
 fits_word : {T : Type 0} (z : Arithmetic T) (parties : ℕ) (past : List (Event T)) → IsPast z rw_writer_table parties past → word_in rw_writer_table past words.State < 2 ^ 64
@@ -161,8 +81,7 @@ abbrev OwesAt : {T : Type 0} → Option (PendingCall T) → Type 0
 OwesAt {T} pending = IsAt (λ (place : RwWriterPlace) (own : List (Event T)). IsCounting place) pending
 
 answered_counting : (place : RwWriterPlace) (action : WaitAction) → IsCounting place → IsCounting (rw_writer_answered place action)
-answered_counting (places.Count who) action counting = counting
-answered_counting place action counting = absurd counting
+answered_counting place action h1 = grind (arith, nat_tests, eqb-true, eqb-false)
 
 -- a step that leads to the counter
 stepped_owes :
@@ -174,8 +93,7 @@ stepped_owes {T} r c place hold memory stage led =
 
 -- at the counter's place the step is the add
 count_adds : (T : Type 0) (place : RwWriterPlace) (hold : Option HoldKind) (memory : Word → ℕ) → IsCounting place → adds_count (step_at {T = T} rw_writer_table place hold memory).act ≡ true
-count_adds T (places.Count who) hold memory counting = refl
-count_adds T place hold memory counting = absurd counting
+count_adds T place hold memory h1 = grind (arith, nat_tests, eqb-true, eqb-false)
 
 -- so it is of a call that owes
 owed_adds :
@@ -225,9 +143,7 @@ own_owes {T} z parties past e run why quiet =
         stepped_owes e.party c place (hold_of rw_writer_table e.party past) (word_in rw_writer_table past) stage (ends_blocked place c (hold_of rw_writer_table e.party past) (word_in rw_writer_table past) at (fits_word z parties past run.1) ended.0 ended.1)
 
 which : (a b owed : Bool) → cond (a && not b) true owed ≡ true → ((a ≡ true) × (b ≡ false)) ⊎ (owed ≡ true)
-which true false owed is = inl (refl, refl)
-which true true owed is = inr is
-which false b owed is = inr is
+which a b owed h1 = grind (arith, nat_tests, eqb-true, eqb-false)
 
 pub owes_at : {T : Type 0} (z : Arithmetic T) (parties : ℕ) (past : List (Event T)) → IsPast z rw_writer_table parties past → (q : ℕ) → owes_count q past ≡ true → OwesAt (call_of q past)
 owes_at z parties [] run q owes = absurd cc
@@ -260,23 +176,7 @@ owes_at {T} z parties (e ∷ past) run q owes = by_party (owes_at z parties past
 step_counts :
     (T : Type 0) (place : RwWriterPlace) (hold : Option HoldKind) (memory : Word → ℕ) →
     word_after words.Counter (step_at {T = T} rw_writer_table place hold memory).act (memory words.Counter) ≡ cond (adds_count (step_at {T = T} rw_writer_table place hold memory).act) ((memory words.Counter + 1) % 2 ^ 64) (memory words.Counter)
-step_counts T places.TryReadLook hold memory = refl
-step_counts T (places.TryRead seen to) hold memory = refl
-step_counts T (places.ReadLook patience) hold memory = refl
-step_counts T (places.Read seen to patience) hold memory = refl
-step_counts T places.TryWrite hold memory = refl
-step_counts T (places.WriteLook patience) hold memory = refl
-step_counts T (places.Enter seen patience) hold memory = refl
-step_counts T (places.Mark seen to patience) hold memory = refl
-step_counts T (places.Unmark seen to) hold memory = refl
-step_counts T (places.LoadCounter patience) hold memory = refl
-step_counts T (places.LastLook count patience) hold memory = refl
-step_counts T places.Release None memory = refl
-step_counts T places.Release (Some kinds.Read) memory = refl
-step_counts T places.Release (Some kinds.Write) memory = refl
-step_counts T (places.Count who) hold memory = refl
-step_counts T (places.WakeOne who) hold memory = refl
-step_counts T (places.WakeAll who) hold memory = refl
+step_counts T place hold memory = grind (arith, nat_tests, eqb-true, eqb-false)
 
 event_counts :
     {T : Type 0} (z : Arithmetic T) (parties : ℕ) (past : List (Event T)) (e : Event T) → IsPast z rw_writer_table parties (e ∷ past) →
@@ -335,61 +235,15 @@ pub record StandsNow {T : Type 0} (w : ℕ) (place : RwWriterPlace) (act : Act T
   pub looks : act ≡ acts.Load words.State w
   pub blocked : is_blocked w ≡ true
 
-last_look_stands :
-    (T : Type 0) (count w : ℕ) (patience : Patience) → IsPlain {T = T} (last_look count patience w) ⊎ StandsNow {T = T} w (places.LastLook count patience) (acts.Load words.State w) (last_look count patience w)
-last_look_stands T count w patience = by_test (is_blocked w) refl
-  where
-    by_test : (b : Bool) → is_blocked w ≡ b →
-        IsPlain {T = T} (cond b (afters.Waits (places.WriteLook patience) count) (write_look patience w)) ⊎ StandsNow {T = T} w (places.LastLook count patience) (acts.Load words.State w) (cond b (afters.Waits (places.WriteLook patience) count) (write_look patience w))
-    by_test true is = inr (record { count = count; patience = patience; from = refl; leads = refl; looks = refl; blocked = is })
-    by_test false is = inl (of_look IsPlain (plain T) patience w)
-
 pub write_step :
     {T : Type 0} (place : RwWriterPlace) (c : PendingCall T) (hold : Option HoldKind) (memory : Word → ℕ) → AtRwWriter place c hold → c.call ≡ calls.WriteLock →
     IsPlain {T = T} (rw_writer_table.after place (value_told {T = T} (carried_out (rw_writer_table.intent place hold) memory)))
     ⊎ (LoadsCount (memory words.Counter) (step_at {T = T} rw_writer_table place hold memory).act (rw_writer_table.after place (value_told {T = T} (carried_out (rw_writer_table.intent place hold) memory)))
     ⊎ StandsNow (memory words.State) place (step_at {T = T} rw_writer_table place hold memory).act (rw_writer_table.after place (value_told {T = T} (carried_out (rw_writer_table.intent place hold) memory))))
-write_step places.TryReadLook c hold memory at write = unlike c.call calls.TryReadLock calls.WriteLock at.0 write (λ same. absurd cc)
-write_step (places.TryRead seen to) c hold memory at write = unlike c.call calls.TryReadLock calls.WriteLock at.0 write (λ same. absurd cc)
-write_step (places.ReadLook patience) c hold memory at write = unlike c.call calls.ReadLock calls.WriteLock at.0 write (λ same. absurd cc)
-write_step (places.Read seen to patience) c hold memory at write = unlike c.call calls.ReadLock calls.WriteLock at.0 write (λ same. absurd cc)
-write_step places.TryWrite c hold memory at write = unlike c.call calls.TryWriteLock calls.WriteLock at.0 write (λ same. absurd cc)
-write_step {T} (places.WriteLook patience) c hold memory at write = inl (of_look IsPlain (plain T) patience (memory words.State))
-write_step {T} (places.Enter seen patience) c hold memory at write = inl (either IsPlain (memory words.State == seen) (afters.Ends answers.Success) (write_refused patience (memory words.State)) tt (of_refused IsPlain (plain T) patience (memory words.State)))
-write_step {T} (places.Mark seen to patience) c hold memory at write = inl (either IsPlain (memory words.State == seen) (spins patience) (write_look patience (memory words.State)) (of_spins IsPlain (plain T) patience) (of_look IsPlain (plain T) patience (memory words.State)))
-write_step {T} (places.Unmark seen to) c hold memory at write = inl (either IsPlain (memory words.State == seen) (afters.At (places.Count leavers.GivenUp)) (unmarks_or_leaves (memory words.State)) refl (of_unmarks IsPlain (plain T) (memory words.State)))
-write_step (places.LoadCounter patience) c hold memory at write = inr (inl (record { patience = patience; leads = refl; loads = refl }))
-write_step {T} (places.LastLook count patience) c hold memory at write = by_look (last_look_stands T count (memory words.State) patience)
-  where
-    by_look : IsPlain {T = T} (last_look count patience (memory words.State)) ⊎ StandsNow {T = T} (memory words.State) (places.LastLook count patience) (acts.Load words.State (memory words.State)) (last_look count patience (memory words.State)) →
-        IsPlain {T = T} (last_look count patience (memory words.State))
-        ⊎ (LoadsCount {T = T} (memory words.Counter) (acts.Load words.State (memory words.State)) (last_look count patience (memory words.State))
-        ⊎ StandsNow {T = T} (memory words.State) (places.LastLook count patience) (acts.Load words.State (memory words.State)) (last_look count patience (memory words.State)))
-    by_look (inl plain) = inl plain
-    by_look (inr stands) = inr (inr stands)
-write_step places.Release c hold memory at write = unlike c.call calls.Unlock calls.WriteLock at.0 write (λ same. absurd cc)
-write_step (places.Count who) c hold memory at write = inl refl
-write_step (places.WakeOne leavers.Reader) c hold memory at write = inl tt
-write_step (places.WakeOne leavers.Writer) c hold memory at write = inl refl
-write_step (places.WakeOne leavers.GivenUp) c hold memory at write = inl refl
-write_step (places.WakeAll leavers.Reader) c hold memory at write = inl tt
-write_step (places.WakeAll leavers.Writer) c hold memory at write = inl tt
-write_step (places.WakeAll leavers.GivenUp) c hold memory at write = inl tt
+write_step place c hold memory h1 h2 = grind (arith, nat_tests, eqb-true, eqb-false)
 
 plain_stands : {T : Type 0} (count : ℕ) (a : After T RwWriterPlace) → IsPlain a → outcome_of a ≡ thens.Waits count → ⊥
-plain_stands count (afters.At place) plain is = absurd cc
-plain_stands count (afters.Waits place seen) plain is = absurd plain
-plain_stands count (afters.Chooses place old) plain is = absurd plain
-plain_stands count (afters.Ends answer) plain is = absurd cc
-
-plain_last : {T : Type 0} (count : ℕ) (patience : Patience) (a : After T RwWriterPlace) → IsPlain a → place_after a ≡ Some (places.LastLook count patience) → ⊥
-plain_last count patience (afters.At place) plain is =
-    let at : place ≡ places.LastLook count patience = same_place place (places.LastLook count patience) is in
-    let no : true ≡ false = sym (ap is_last at) ∙ plain in
-    absurd cc
-plain_last count patience (afters.Waits place seen) plain is = absurd plain
-plain_last count patience (afters.Chooses place old) plain is = absurd plain
-plain_last count patience (afters.Ends answer) plain is = absurd cc
+plain_stands count a h1 h2 = grind (arith, nat_tests, eqb-true, eqb-false)
 
 -- While a writer has loaded the counter for its stand, the counter is what it loaded and the adds since.
 
@@ -424,75 +278,17 @@ abbrev counter_by : {T : Type 0} → Act T → ℕ → ℕ
 counter_by act counter = cond (adds_count act) ((counter + 1) % 2 ^ 64) counter
 
 -- an answer of a closure leads to no last look
-answered_last : (place : RwWriterPlace) (action : WaitAction) (count : ℕ) (patience : Patience) → rw_writer_answered place action ≡ places.LastLook count patience → place ≡ places.LastLook count patience
-answered_last (places.ReadLook p) action count patience is = absurd cc
-answered_last (places.WriteLook p) action count patience is = absurd cc
-answered_last place action count patience is = is
 
 begun_none : {T : Type 0} (count : ℕ) (call : Call T) → HasLoaded count (Some (record { call = call; own = [] })) → ⊥
-begun_none {T} count call has = by_loaded has.loaded
-  where
-    begun : PendingCall T
-    begun = record { call = call; own = [] }
-
-    same : begun ≡ has.call
-    same = same_call begun has.call has.under_way
-
-    writes : call ≡ calls.WriteLock
-    writes = ap (λ (k : PendingCall T). k.call) same ∙ has.writes
-
-    by_loaded : ((patience : Patience) × (stage_of rw_writer_table has.call ≡ Some (places.LastLook count patience))) ⊎ (latest_outcome has.call.own ≡ thens.Waits count) → ⊥
-    by_loaded (inl last) =
-        let stage : stage_of rw_writer_table begun ≡ Some (places.LastLook count last.0) = ap (λ (k : PendingCall T). stage_of rw_writer_table k) same ∙ last.1 in
-        let first : rw_writer_begins {T = T} calls.WriteLock ≡ Some (places.LastLook count last.0) = subst (λ (k : Call T). rw_writer_begins k ≡ Some (places.LastLook count last.0)) writes stage in
-        absurd cc
-    by_loaded (inr waits) =
-        let first : ◌≡◌ {A = Then T} thens.GoesOn (thens.Waits count) = ap (λ (k : PendingCall T). latest_outcome k.own) same ∙ waits in
-        absurd cc
+begun_none count call h1 = grind (arith, nat_tests, eqb-true, eqb-false)
 
 answered_before :
     {T : Type 0} (r count : ℕ) (action : WaitAction) (pending : Option (PendingCall T)) → HasLoaded count (call_going_on (acts.Answered action) (event r (acts.Answered action) thens.GoesOn) pending) → HasLoaded count pending
-answered_before r count action None has = let nothing = has.under_way in absurd cc
-answered_before {T} r count action (Some d) has = by_loaded has.loaded
-  where
-    grown : PendingCall T
-    grown = record { call = d.call; own = event r (acts.Answered action) thens.GoesOn ∷ d.own }
-
-    same : grown ≡ has.call
-    same = same_call grown has.call has.under_way
-
-    by_stage : (patience : Patience) (stage : Option RwWriterPlace) → stage_of rw_writer_table d ≡ stage → next_stage {T = T} rw_writer_table (acts.Answered action) stage ≡ Some (places.LastLook count patience) → HasLoaded count (Some d)
-    by_stage patience None is to = absurd cc
-    by_stage patience (Some place) is to =
-        let at : place ≡ places.LastLook count patience = answered_last place action count patience (same_place (rw_writer_answered place action) (places.LastLook count patience) to) in
-        record { call = d; under_way = refl; writes = ap (λ (k : PendingCall T). k.call) same ∙ has.writes; loaded = inl (patience, is ∙ ap (λ q. Some q) at) }
-
-    by_loaded : ((patience : Patience) × (stage_of rw_writer_table has.call ≡ Some (places.LastLook count patience))) ⊎ (latest_outcome has.call.own ≡ thens.Waits count) → HasLoaded count (Some d)
-    by_loaded (inl last) = by_stage last.0 (stage_of rw_writer_table d) refl (ap (λ (k : PendingCall T). stage_of rw_writer_table k) same ∙ last.1)
-    by_loaded (inr waits) =
-        let first : ◌≡◌ {A = Then T} thens.GoesOn (thens.Waits count) = ap (λ (k : PendingCall T). latest_outcome k.own) same ∙ waits in
-        absurd cc
+answered_before r count action pending h1 = grind (arith, nat_tests, eqb-true, eqb-false)
 
 chosen_before :
     {T : Type 0} (r count : ℕ) (choice : Option T) (pending : Option (PendingCall T)) → HasLoaded count (call_going_on (acts.Chosen choice) (event r (acts.Chosen choice) thens.GoesOn) pending) → HasLoaded count pending
-chosen_before r count choice None has = let nothing = has.under_way in absurd cc
-chosen_before {T} r count choice (Some d) has = by_loaded has.loaded
-  where
-    grown : PendingCall T
-    grown = record { call = d.call; own = event r (acts.Chosen choice) thens.GoesOn ∷ d.own }
-
-    same : grown ≡ has.call
-    same = same_call grown has.call has.under_way
-
-    by_stage : (patience : Patience) (stage : Option RwWriterPlace) → stage_of rw_writer_table d ≡ stage → next_stage {T = T} rw_writer_table (acts.Chosen choice) stage ≡ Some (places.LastLook count patience) → HasLoaded count (Some d)
-    by_stage patience None is to = absurd cc
-    by_stage patience (Some place) is to = record { call = d; under_way = refl; writes = ap (λ (k : PendingCall T). k.call) same ∙ has.writes; loaded = inl (patience, is ∙ to) }
-
-    by_loaded : ((patience : Patience) × (stage_of rw_writer_table has.call ≡ Some (places.LastLook count patience))) ⊎ (latest_outcome has.call.own ≡ thens.Waits count) → HasLoaded count (Some d)
-    by_loaded (inl last) = by_stage last.0 (stage_of rw_writer_table d) refl (ap (λ (k : PendingCall T). stage_of rw_writer_table k) same ∙ last.1)
-    by_loaded (inr waits) =
-        let first : ◌≡◌ {A = Then T} thens.GoesOn (thens.Waits count) = ap (λ (k : PendingCall T). latest_outcome k.own) same ∙ waits in
-        absurd cc
+chosen_before r count choice pending h1 = grind (arith, nat_tests, eqb-true, eqb-false)
 
 -- of a step after which the writer has loaded: whose call it is, and where it led
 abbrev Led : {T : Type 0} → ℕ → PendingCall T → After T RwWriterPlace → Type 0
@@ -533,8 +329,7 @@ stepped_before {T} r count c place hold memory stage has = by_after (rw_writer_t
     by_after (afters.Ends answer) is loaded = let nothing = loaded.under_way in absurd cc
 
 not_plain : {T : Type 0} (A : Type 0) (count : ℕ) (a : After T RwWriterPlace) → IsPlain a → ((patience : Patience) × (place_after a ≡ Some (places.LastLook count patience))) ⊎ (outcome_of a ≡ thens.Waits count) → A
-not_plain A count a plain (inl last) = absurd (plain_last count last.0 a plain last.1)
-not_plain A count a plain (inr waits) = absurd (plain_stands count a plain waits)
+not_plain A count a h1 h2 = grind (arith, nat_tests, eqb-true, eqb-false)
 
 -- a load of the counter begins the sum anew; the last look adds nothing
 
@@ -555,17 +350,7 @@ first_sum {T} counter count since act a loads fits led = subst (λ (x : Act T). 
 same_sum :
     {T : Type 0} (counter count since w : ℕ) (c : PendingCall T) (place : RwWriterPlace) (act : Act T) (a : After T RwWriterPlace) → StandsNow w place act a → c.call ≡ calls.WriteLock → stage_of rw_writer_table c ≡ Some place →
     (HasLoaded count (Some c) → IsSum counter count since) → ((patience : Patience) × (place_after a ≡ Some (places.LastLook count patience))) ⊎ (outcome_of a ≡ thens.Waits count) → IsSum (counter_by act counter) count (since_own act since)
-same_sum {T} counter count since w c place act a stands writes stage before led = subst (λ (x : Act T). IsSum (counter_by x counter) count (since_own x since)) (sym stands.looks) (by_led led)
-  where
-    count_is : (n m : ℕ) → ◌≡◌ {A = Then T} (thens.Waits n) (thens.Waits m) → n ≡ m
-    count_is n m is = cc
-
-    by_led : ((patience : Patience) × (place_after a ≡ Some (places.LastLook count patience))) ⊎ (outcome_of a ≡ thens.Waits count) → IsSum counter count (0 + since)
-    by_led (inl last) = let no : Some (places.WriteLook stands.patience) ≡ Some (places.LastLook count last.0) = sym (ap place_after stands.leads) ∙ last.1 in absurd cc
-    by_led (inr waits) =
-        let same : stands.count ≡ count = count_is stands.count count (sym (ap outcome_of stands.leads) ∙ waits) in
-        let at : stage_of rw_writer_table c ≡ Some (places.LastLook count stands.patience) = stage ∙ ap (λ q. Some q) stands.from ∙ ap (λ n. Some (places.LastLook n stands.patience)) same in
-        sum_later counter count since false (before (record { call = c; under_way = refl; writes = writes; loaded = inl (stands.patience, at) }))
+same_sum counter count since w c place act a h1 h2 h3 h4 h5 = grind (arith, nat_tests, eqb-true, eqb-false)
 
 own_sum :
     {T : Type 0} (z : Arithmetic T) (parties count since : ℕ) (past : List (Event T)) (e : Event T) → IsPast z rw_writer_table parties (e ∷ past) → HasLoaded count (call_after e.then e (call_of e.party past)) →
@@ -676,12 +461,7 @@ ended_owes {T} z parties past e run ended =
 -- the event of a party that owes is its add, or an answer of a closure, after which it still owes
 owing_adds :
     {T : Type 0} (z : Arithmetic T) (parties : ℕ) (past : List (Event T)) (e : Event T) → IsPast z rw_writer_table parties (e ∷ past) → OwesAt (call_of e.party past) → (adds_count e.act ≡ true) ⊎ (is_answer e.then ≡ false)
-owing_adds {T} z parties past e run owes =
-    by_move rw_writer_table (call_of e.party past) (hold_of rw_writer_table e.party past) (word_in rw_writer_table past)
-    (λ (k : Option (PendingCall T)) (x : Move T). OwesAt k → (adds_count x.act ≡ true) ⊎ (is_answer x.outcome ≡ false))
-    run.0.0 (record { act = e.act; outcome = e.then }) (λ call _ so. inr refl) (λ action _ so. inr refl) (λ choice _ so. inr refl)
-    (λ c place _ called stage so. inl (owed_adds c place (hold_of rw_writer_table e.party past) (word_in rw_writer_table past) stage so))
-    run.0.1.moved owes
+owing_adds z parties past e h1 h2 = grind (arith, nat_tests, eqb-true, eqb-false)
 
 pub pays_next : {T : Type 0} (z : Arithmetic T) (parties : ℕ) (past : List (Event T)) → IsPast z rw_writer_table parties past → PaysNext past
 pays_next z parties [] run = tt

@@ -1,20 +1,18 @@
 -- A writer-preferring lock keeps its law at every front of every run.
-use Rattle.std.proofs.Common.{◌≡◌, ◌≢◌, ℕ, ◌+◌, ◌-◌, ◌%◌, ◌^◌, ◌<◌, ◌==◌, refl, sym, ◌∙◌, ap, subst, Bool, true, false, cond, is_some, List, [], ◌∷◌, Option, Some, None, ◌⊎◌, inl, inr, arith}
-use Rattle.std.specs.Prelude.{MatchOption, nat_lt, not}
-use Rattle.std.proofs.lemmas.Bool.{eq-eqb}
+use Rattle.std.proofs.lemmas.Bool.{eqb-false}
+use Rattle.std.proofs.lemmas.Bool.{eqb-true}
+use Rattle.std.proofs.lemmas.Bool.Decides.{nat_tests}
+use Rattle.std.proofs.Common.{◌≡◌, ◌≢◌, ℕ, ◌-◌, ◌==◌, refl, sym, ◌∙◌, ap, subst, Bool, true, false, cond, is_some, List, [], ◌∷◌, Option, Some, None, ◌⊎◌, inl, inr, arith}
+use Rattle.std.specs.Prelude.{MatchOption}
 use Rattle.std.proofs.lemmas.Bool.Decides.{eqb_tells}
 use Rattle.steps_events.specs.declared.WaitAction.{WaitAction}
 use Rattle.steps_events.specs.declared.event.Word.{Word}
 use Rattle.steps_events.specs.declared.event.Word.TheVariants as words
-use Rattle.steps_events.specs.declared.event.Call.{Call}
 use Rattle.steps_events.specs.declared.event.Call.TheVariants as calls
 use Rattle.steps_events.specs.declared.event.Act.{Act}
 use Rattle.steps_events.specs.declared.event.Act.TheVariants as acts
-use Rattle.steps_events.specs.declared.event.Answer.TheVariants as answers
 use Rattle.steps_events.specs.declared.event.Event.{Event}
 use Rattle.steps_events.specs.declared.hold.HoldKind.{HoldKind}
-use Rattle.steps_events.specs.declared.hold.HoldKind.TheVariants as kinds
-use Rattle.steps_events.specs.declared.patience.Patience.{Patience}
 use Rattle.steps_events.specs.declared.row.After.{After}
 use Rattle.steps_events.specs.declared.row.After.TheVariants as afters
 use Rattle.steps_events.specs.Arithmetic.{Arithmetic}
@@ -23,17 +21,16 @@ use Rattle.steps_events.specs.Past.{same_word, PendingCall, call_of, call_after,
 use Rattle.steps_events.specs.Moves.{Move, step_at, stage_of}
 use Rattle.steps_events.specs.Runs.{IsPast}
 use Rattle.steps_events.specs.Laws.{Lacks}
-use Rattle.steps_events.proofs.Holds.{eqb_other, call_of_same, call_of_other}
+use Rattle.steps_events.proofs.Holds.{call_of_same, call_of_other}
 use Rattle.steps_events.proofs.Locks.{holds_after}
 use Rattle.steps_events.proofs.Steps.{by_move}
 use Rattle.steps_events.proofs.Parties.{fault_at_none}
-use Rattle.steps_rw_writer.specs.declared.Leaver.TheVariants as leavers
 use Rattle.steps_rw_writer.specs.declared.RwWriterPlace.{RwWriterPlace}
 use Rattle.steps_rw_writer.specs.declared.RwWriterPlace.TheVariants as places
-use Rattle.steps_rw_writer.specs.Table.{lets_writer_in, lets_mark, is_marked, is_blocked, is_mark, spins, marks_or_spins, unmarks_or_leaves, write_refused, write_look, last_look, rw_writer_table, rw_writer_answered}
+use Rattle.steps_rw_writer.specs.Table.{is_marked, is_mark, rw_writer_table, rw_writer_answered}
 use Rattle.steps_rw_writer.specs.Marks.{is_writing, setter_after, setter_of, sets_mark, has_marked}
 use Rattle.steps_rw_writer.specs.Law.{CountsHolds, IsSetter, SetterIsUnderWay}
-use Rattle.steps_rw_writer.proofs.WordLaws.{IsKeptWord, Keeps, nobody, unchanged, step_keeps, no_mark}
+use Rattle.steps_rw_writer.proofs.WordLaws.{IsKeptWord, Keeps, nobody, unchanged, step_keeps}
 use Rattle.steps_rw_writer.proofs.StageLaws.{IsAt, fact_here, begins_none, answered_at, chosen_at, stepped_at}
 use Rattle.steps_rw_writer.proofs.PlaceLaws.{AtRwWriter, writer_intent, here}
 
@@ -63,10 +60,7 @@ writer_lock_word z parties (e ∷ past) run = (event_keeps z parties past e run 
 
 -- where the mark is set, the word tells so
 marked_word : (w : ℕ) (holds : List Hold) → CountsHolds w holds true → is_marked w ≡ true
-marked_word w holds (inl read) =
-    let odd : w % 2 ≡ 1 = omega (arith, read.counts) in
-    rw (eq-eqb (w % 2) 1 odd, eqb_other w (2 ^ 64 - 1) (λ full. absurd (omega (arith, full, read.counts, read.fits)))) refl
-marked_word w holds (inr written) = let no : true ≡ false = written.unmarked in absurd cc
+marked_word w holds h1 = grind (arith, nat_tests, eqb-true, eqb-false)
 
 pub marked_at : {T : Type 0} (past : List (Event T)) (w : ℕ) (holds : List Hold) → CountsHolds w holds (is_some (setter_of past)) → is_some (setter_of past) ≡ true → is_marked w ≡ true
 marked_at past w holds law set = marked_word w holds (subst (λ m. CountsHolds w holds m) set law)
@@ -88,48 +82,7 @@ IsLiveAfter (afters.Waits place seen) = is_live place ≡ true
 IsLiveAfter (afters.Chooses place old) = is_live place ≡ true
 IsLiveAfter (afters.Ends answer) = ⊥
 
-live_spins : (T : Type 0) (patience : Patience) → IsLiveAfter {T = T} (spins patience)
-live_spins T patience = by_test (nat_lt patience.spins 10000)
-  where
-    by_test : (b : Bool) → IsLiveAfter {T = T} (cond b (afters.At (places.WriteLook (record { spins = patience.spins + 1; keep = patience.keep }))) (afters.At (places.LoadCounter patience)))
-    by_test true = refl
-    by_test false = refl
-
-live_marks : (T : Type 0) (patience : Patience) (v : ℕ) → IsLiveAfter {T = T} (marks_or_spins patience v)
-live_marks T patience v = by_test (lets_mark v)
-  where
-    by_test : (b : Bool) → IsLiveAfter {T = T} (cond b (afters.At (places.Mark v (v + 1) patience)) (spins patience))
-    by_test true = refl
-    by_test false = live_spins T patience
-
 -- while the mark is set, a writer that gives up takes it away
-live_unmarks : (T : Type 0) (v : ℕ) → is_marked v ≡ true → IsLiveAfter {T = T} (unmarks_or_leaves v)
-live_unmarks T v marked = by_test (is_marked v) marked
-  where
-    by_test : (b : Bool) → b ≡ true → IsLiveAfter {T = T} (cond b (afters.At (places.Unmark v (v - 1))) (afters.Ends answers.Interrupted))
-    by_test true is = refl
-    by_test false is = absurd cc
-
-live_refused : (T : Type 0) (patience : Patience) (v : ℕ) → is_marked v ≡ true → IsLiveAfter {T = T} (write_refused patience v)
-live_refused T patience v marked = by_test patience.keep
-  where
-    by_test : (b : Bool) → IsLiveAfter {T = T} (cond b (marks_or_spins patience v) (unmarks_or_leaves v))
-    by_test true = live_marks T patience v
-    by_test false = live_unmarks T v marked
-
-live_look : (T : Type 0) (patience : Patience) (v : ℕ) → is_marked v ≡ true → IsLiveAfter {T = T} (write_look patience v)
-live_look T patience v marked = by_test (lets_writer_in v)
-  where
-    by_test : (b : Bool) → IsLiveAfter {T = T} (cond b (afters.At (places.Enter v patience)) (write_refused patience v))
-    by_test true = refl
-    by_test false = live_refused T patience v marked
-
-live_last_look : (T : Type 0) (count : ℕ) (patience : Patience) (v : ℕ) → is_marked v ≡ true → IsLiveAfter {T = T} (last_look count patience v)
-live_last_look T count patience v marked = by_test (is_blocked v)
-  where
-    by_test : (b : Bool) → IsLiveAfter {T = T} (cond b (afters.Waits (places.WriteLook patience) count) (write_look patience v))
-    by_test true = refl
-    by_test false = live_look T patience v marked
 
 -- What an act does to the mark.
 
@@ -164,76 +117,15 @@ setter_new r (acts.Exchange words.State from to found true) (Some c) setter is =
 setter_new r act pending setter is = inl is
 
 -- the exchange of a writing call for anything but one more takes the mark away
-cleared : {T : Type 0} (r from to found : ℕ) (c : PendingCall T) (setter : Option ℕ) → is_writing c.call ≡ true → is_mark from to ≡ false → setter_after {T = T} r (acts.Exchange words.State from to found true) (Some c) setter ≡ Some r → ⊥
-cleared {T} r from to found c setter writes other is =
-    let gone : setter_after {T = T} r (acts.Exchange words.State from to found true) (Some c) setter ≡ None = rw (writes, other) refl in
-    let no : None ≡ Some r = sym gone ∙ is in
-    absurd cc
 
 -- A step of the party that set the mark leads to a place where it is still bound to take it away.
 
-write_calls : {T : Type 0} (c : PendingCall T) → c.call ≡ calls.WriteLock → is_writing c.call ≡ true
-write_calls {T} c call = ap (λ (k : Call T). is_writing k) call
-
-entered_live :
-    {T : Type 0} (r seen w : ℕ) (c : PendingCall T) (patience : Patience) (setter : Option ℕ) (b : Bool) → c.call ≡ calls.WriteLock → seen < 2 → (setter ≡ Some r → is_marked w ≡ true) →
-    setter_after {T = T} r (acts.Exchange words.State seen (2 ^ 64 - 1) w b) (Some c) setter ≡ Some r → IsLiveAfter {T = T} (cond b (afters.Ends answers.Success) (write_refused patience w))
-entered_live {T} r seen w c patience setter true call unheld marked is =
-    absurd (cleared r seen (2 ^ 64 - 1) w c setter (write_calls c call) (no_mark seen (2 ^ 64 - 1) (λ more. absurd (omega (arith, more, unheld)))) is)
-entered_live {T} r seen w c patience setter false call unheld marked is = live_refused T patience w (marked is)
-
-marked_live :
-    {T : Type 0} (r seen to w : ℕ) (c : PendingCall T) (patience : Patience) (setter : Option ℕ) (b : Bool) → (setter ≡ Some r → is_marked w ≡ true) →
-    setter_after {T = T} r (acts.Exchange words.State seen to w b) (Some c) setter ≡ Some r → IsLiveAfter {T = T} (cond b (spins patience) (write_look patience w))
-marked_live {T} r seen to w c patience setter true marked is = live_spins T patience
-marked_live {T} r seen to w c patience setter false marked is = live_look T patience w (marked is)
-
-unmarked_live :
-    {T : Type 0} (r seen to w : ℕ) (c : PendingCall T) (setter : Option ℕ) (b : Bool) → c.call ≡ calls.WriteLock → seen ≡ to + 1 → (setter ≡ Some r → is_marked w ≡ true) →
-    setter_after {T = T} r (acts.Exchange words.State seen to w b) (Some c) setter ≡ Some r → IsLiveAfter {T = T} (cond b (afters.At (places.Count leavers.GivenUp)) (unmarks_or_leaves w))
-unmarked_live {T} r seen to w c setter true call less marked is =
-    absurd (cleared r seen to w c setter (write_calls c call) (no_mark seen to (λ more. absurd (omega (arith, more, less)))) is)
-unmarked_live {T} r seen to w c setter false call less marked is = live_unmarks T w (marked is)
-
 -- at a place that is not live nothing sets the mark
-once_by :
-    {T : Type 0} (r from to w : ℕ) (c : PendingCall T) (setter : Option ℕ) (b : Bool) → (is_writing c.call ≡ false) ⊎ (is_mark from to ≡ false) → setter_after {T = T} r (acts.Exchange words.State from to w b) (Some c) setter ≡ Some r → setter ≡ Some r
-once_by {T} r from to w c setter true (inl reads) is =
-    let kept : setter_after {T = T} r (acts.Exchange words.State from to w true) (Some c) setter ≡ setter = rw reads refl in
-    sym kept ∙ is
-once_by {T} r from to w c setter true (inr other) is = by_test (is_writing c.call) (subst (λ m. cond (is_writing c.call) (cond m (Some r) None) setter ≡ Some r) other is)
-  where
-    by_test : (writes : Bool) → cond writes None setter ≡ Some r → setter ≡ Some r
-    by_test true gone = absurd cc
-    by_test false kept = kept
-once_by r from to w c setter false kind is = is
-
-not_live : {A : Type 0} (b : Bool) → b ≡ false → b ≡ true → A
-not_live b is_false is_true = let no : true ≡ false = sym is_true ∙ is_false in absurd cc
 
 step_live :
     {T : Type 0} (r : ℕ) (place : RwWriterPlace) (c : PendingCall T) (hold : Option HoldKind) (memory : Word → ℕ) (setter : Option ℕ) → AtRwWriter place c hold → (setter ≡ Some r → is_live place ≡ true) → (setter ≡ Some r → is_marked (memory words.State) ≡ true) →
     setter_after r (step_at rw_writer_table place hold memory).act (Some c) setter ≡ Some r → IsLiveAfter {T = T} (rw_writer_table.after place (value_told {T = T} (carried_out (rw_writer_table.intent place hold) memory)))
-step_live {T} r places.TryReadLook c hold memory setter at live marked is = not_live false refl (live is)
-step_live {T} r (places.TryRead seen to) c hold memory setter at live marked is =
-    not_live false refl (live (once_by r seen to (memory words.State) c setter (memory words.State == seen) (inl (ap (λ (k : Call T). is_writing k) at.0)) is))
-step_live {T} r (places.ReadLook patience) c hold memory setter at live marked is = not_live false refl (live is)
-step_live {T} r (places.Read seen to patience) c hold memory setter at live marked is =
-    not_live false refl (live (once_by r seen to (memory words.State) c setter (memory words.State == seen) (inl (ap (λ (k : Call T). is_writing k) at.0)) is))
-step_live {T} r places.TryWrite c hold memory setter at live marked is =
-    not_live false refl (live (once_by r 0 (2 ^ 64 - 1) (memory words.State) c setter (memory words.State == 0) (inr refl) is))
-step_live {T} r (places.WriteLook patience) c hold memory setter at live marked is = live_look T patience (memory words.State) (marked is)
-step_live {T} r (places.Enter seen patience) c hold memory setter at live marked is = entered_live r seen (memory words.State) c patience setter (memory words.State == seen) at.0 at.3 marked is
-step_live {T} r (places.Mark seen to patience) c hold memory setter at live marked is = marked_live r seen to (memory words.State) c patience setter (memory words.State == seen) marked is
-step_live {T} r (places.Unmark seen to) c hold memory setter at live marked is = unmarked_live r seen to (memory words.State) c setter (memory words.State == seen) at.0 at.3.2 marked is
-step_live {T} r (places.LoadCounter patience) c hold memory setter at live marked is = refl
-step_live {T} r (places.LastLook count patience) c hold memory setter at live marked is = live_last_look T count patience (memory words.State) (marked is)
-step_live {T} r places.Release c None memory setter at live marked is = not_live false refl (live is)
-step_live {T} r places.Release c (Some kinds.Read) memory setter at live marked is = not_live false refl (live is)
-step_live {T} r places.Release c (Some kinds.Write) memory setter at live marked is = not_live false refl (live is)
-step_live {T} r (places.Count who) c hold memory setter at live marked is = not_live false refl (live is)
-step_live {T} r (places.WakeOne who) c hold memory setter at live marked is = not_live false refl (live is)
-step_live {T} r (places.WakeAll who) c hold memory setter at live marked is = not_live false refl (live is)
+step_live r place c hold memory setter h1 h2 h3 h4 = grind (arith, nat_tests, eqb-true, eqb-false)
 
 -- the party's call is under way at such a place, and has set the mark
 pub record HasSet {T : Type 0} (place : RwWriterPlace) (own : List (Event T)) : Type 0 where
@@ -244,29 +136,17 @@ abbrev SetterAt : {T : Type 0} → Option (PendingCall T) → Type 0
 SetterAt {T} pending = IsAt (HasSet {T = T}) pending
 
 answered_live : (place : RwWriterPlace) (action : WaitAction) → is_live place ≡ true → is_live (rw_writer_answered place action) ≡ true
-answered_live (places.WriteLook patience) action live = refl
-answered_live (places.ReadLook patience) action live = absurd cc
-answered_live place action live = live
+answered_live place action h1 = grind (arith, nat_tests, eqb-true, eqb-false)
 
 marked_still : {T : Type 0} (e : Event T) (own : List (Event T)) → has_marked own ≡ true → has_marked (e ∷ own) ≡ true
-marked_still {T} e own marked = by_test (sets_mark e.act)
-  where
-    by_test : (b : Bool) → cond b true (has_marked own) ≡ true
-    by_test true = refl
-    by_test false = marked
-
-marked_now : {T : Type 0} (e : Event T) (own : List (Event T)) → sets_mark e.act ≡ true → has_marked (e ∷ own) ≡ true
-marked_now e own sets = rw sets refl
+marked_still e own h1 = grind (arith, nat_tests, eqb-true, eqb-false)
 
 -- the place where a call goes on so
 abbrev LiveNext : {T : Type 0} → After T RwWriterPlace → Type 0
 LiveNext a = (next : RwWriterPlace) × (place_after a ≡ Some next) × (is_live next ≡ true)
 
 live_next : {T : Type 0} (a : After T RwWriterPlace) → IsLiveAfter a → LiveNext a
-live_next (afters.At next) live = (next, refl, live)
-live_next (afters.Waits next seen) live = (next, refl, live)
-live_next (afters.Chooses next old) live = (next, refl, live)
-live_next (afters.Ends answer) live = absurd live
+live_next a h1 = grind (arith, nat_tests, eqb-true, eqb-false)
 
 -- after a step of the call
 stepped_setter :
@@ -281,8 +161,7 @@ stepped_setter {T} r c place hold memory stage marked live = on (live_next (rw_w
     on next = stepped_at (HasSet {T = T}) r c place next.0 hold memory stage next.1 (λ e is. record { live = next.2; marked = marked e is })
 
 marked_by : {T : Type 0} (act : Act T) (e : Event T) (c : PendingCall T) (SetBefore : Type 0) → e.act ≡ act → (SetBefore → has_marked c.own ≡ true) → SetBefore ⊎ (sets_mark act ≡ true) → has_marked (e ∷ c.own) ≡ true
-marked_by act e c SetBefore is was (inl set_before) = marked_still e c.own (was set_before)
-marked_by {T} act e c SetBefore is was (inr now) = marked_now e c.own (ap (λ (a : Act T). sets_mark a) is ∙ now)
+marked_by act e c SetBefore h1 h2 h3 = grind (arith, nat_tests, eqb-true, eqb-false)
 
 own_setter :
     {T : Type 0} (z : Arithmetic T) (parties : ℕ) (past : List (Event T)) (e : Event T) → IsPast z rw_writer_table parties (e ∷ past) → (setter_of past ≡ Some e.party → SetterAt (call_of e.party past)) →
@@ -326,13 +205,7 @@ setter_at {T} z parties (e ∷ past) run p is = by_party (setter_at z parties pa
         subst (λ (k : Option (PendingCall T)). SetterAt k) (sym (call_of_other e.party p e.act e.then past apart)) was
 
 live_calls : {T : Type 0} (place : RwWriterPlace) (c : PendingCall T) (hold : Option HoldKind) → is_live place ≡ true → AtRwWriter place c hold → c.call ≡ calls.WriteLock
-live_calls (places.WriteLook patience) c hold live at = at.0
-live_calls (places.Enter seen patience) c hold live at = at.0
-live_calls (places.Mark seen to patience) c hold live at = at.0
-live_calls (places.Unmark seen to) c hold live at = at.0
-live_calls (places.LoadCounter patience) c hold live at = at.0
-live_calls (places.LastLook count patience) c hold live at = at.0
-live_calls place c hold live at = absurd cc
+live_calls place c hold h1 h2 = grind (arith, nat_tests, eqb-true, eqb-false)
 
 pub setter_is_under_way : {T : Type 0} (z : Arithmetic T) (parties : ℕ) (past : List (Event T)) → IsPast z rw_writer_table parties past → SetterIsUnderWay past
 setter_is_under_way {T} z parties past run = by_setter (setter_of past) refl
@@ -346,20 +219,4 @@ setter_is_under_way {T} z parties past run = by_setter (setter_of past) refl
 
 -- a writer-preferring lock has no words but its own and its wake counter
 pub rw_writer_lacks : (T : Type 0) (word : Word) → same_word words.State word ≡ false → same_word words.Counter word ≡ false → Lacks {T = T} rw_writer_table word
-rw_writer_lacks T word other apart places.TryReadLook hold = ap not other
-rw_writer_lacks T word other apart (places.TryRead seen to) hold = ap not other
-rw_writer_lacks T word other apart (places.ReadLook patience) hold = ap not other
-rw_writer_lacks T word other apart (places.Read seen to patience) hold = ap not other
-rw_writer_lacks T word other apart places.TryWrite hold = ap not other
-rw_writer_lacks T word other apart (places.WriteLook patience) hold = ap not other
-rw_writer_lacks T word other apart (places.Enter seen patience) hold = ap not other
-rw_writer_lacks T word other apart (places.Mark seen to patience) hold = ap not other
-rw_writer_lacks T word other apart (places.Unmark seen to) hold = ap not other
-rw_writer_lacks T word other apart (places.LoadCounter patience) hold = ap not apart
-rw_writer_lacks T word other apart (places.LastLook count patience) hold = ap not other
-rw_writer_lacks T word other apart places.Release None = ap not other
-rw_writer_lacks T word other apart places.Release (Some kinds.Read) = ap not other
-rw_writer_lacks T word other apart places.Release (Some kinds.Write) = ap not other
-rw_writer_lacks T word other apart (places.Count who) hold = ap not apart
-rw_writer_lacks T word other apart (places.WakeOne who) hold = refl
-rw_writer_lacks T word other apart (places.WakeAll who) hold = refl
+rw_writer_lacks T word h1 h2 = grind (arith, nat_tests, eqb-true, eqb-false)

@@ -1,5 +1,8 @@
 -- A writer stands only where the lock is blocked.
-use Rattle.std.proofs.Common.{◌≡◌, ℕ, ◌+◌, ◌-◌, ◌^◌, ◌==◌, refl, sym, ◌∙◌, subst, Bool, true, false, ◌&&◌, List, [], ◌∷◌, Option, Some, ◌⊎◌, inl, inr}
+use Rattle.std.proofs.lemmas.Bool.{eqb-false}
+use Rattle.std.proofs.lemmas.Bool.{eqb-true}
+use Rattle.std.proofs.lemmas.Bool.Decides.{nat_tests}
+use Rattle.std.proofs.Common.{◌≡◌, ℕ, ◌-◌, refl, ◌∙◌, Bool, true, false, List, ◌∷◌, Option, Some, ◌⊎◌, arith}
 use Rattle.std.specs.Prelude.{MatchBool, MatchOption}
 use Rattle.steps_events.specs.declared.event.Word.{Word}
 use Rattle.steps_events.specs.declared.event.Word.TheVariants as words
@@ -8,7 +11,6 @@ use Rattle.steps_events.specs.declared.event.Act.{Act}
 use Rattle.steps_events.specs.declared.event.Event.{Event}
 use Rattle.steps_events.specs.declared.hold.HoldKind.{HoldKind}
 use Rattle.steps_events.specs.declared.row.After.{After}
-use Rattle.steps_events.specs.declared.row.After.TheVariants as afters
 use Rattle.steps_events.specs.Arithmetic.{Arithmetic}
 use Rattle.steps_events.specs.Rows.{value_told, outcome_of}
 use Rattle.steps_events.specs.Past.{PendingCall, call_of, hold_of, word_in}
@@ -33,12 +35,7 @@ StandsBy blocked pending x = MatchBool (stands_at_wait x.outcome) (MatchOption p
 step_stands :
     {T : Type 0} (counter w : ℕ) (place : RwWriterPlace) (act : Act T) (a : After T RwWriterPlace) → IsPlain a ⊎ (LoadsCount counter act a ⊎ StandsNow w place act a) → stands_at_wait (outcome_of a) ≡ true →
     (is_sight words.State act ≡ true) × (is_blocked w ≡ true)
-step_stands counter w place act (afters.At next) how stands = absurd cc
-step_stands counter w place act (afters.Chooses next old) how stands = absurd cc
-step_stands counter w place act (afters.Ends answer) how stands = absurd cc
-step_stands counter w place act (afters.Waits next told) (inl plain) stands = absurd plain
-step_stands counter w place act (afters.Waits next told) (inr (inl loads)) stands = let no = loads.leads in absurd cc
-step_stands {T} counter w place act (afters.Waits next told) (inr (inr now)) stands = (subst (λ (x : Act T). is_sight words.State x ≡ true) (sym now.looks) refl, now.blocked)
+step_stands counter w place act a h1 h2 = grind (arith, nat_tests, eqb-true, eqb-false)
 
 pub event_stands : {T : Type 0} (z : Arithmetic T) (parties : ℕ) (past : List (Event T)) (e : Event T) → IsPast z rw_writer_table parties (e ∷ past) → StandsWhereBlocked (e ∷ past)
 event_stands {T} z parties past e run =

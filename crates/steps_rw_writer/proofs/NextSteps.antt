@@ -1,12 +1,13 @@
 -- Each step of a writer-preferring lock is its call's next.
-use Rattle.std.proofs.Common.{◌≡◌, ℕ, ◌+◌, ◌-◌, ◌%◌, ◌^◌, ◌==◌, refl, sym, ◌∙◌, subst, Bool, true, false, cond, is_some, List, [], ◌∷◌, Option, Some, None, arith, ap, ◌≤◌, ◌<◌}
-use Rattle.std.specs.Prelude.{nat_lt, unwrap_or, MatchBool}
+use Rattle.std.proofs.lemmas.Bool.{eqb-false}
+use Rattle.std.proofs.lemmas.Bool.{eqb-true}
+use Rattle.std.proofs.lemmas.Bool.Decides.{nat_tests}
+use Rattle.std.proofs.Common.{◌≡◌, ℕ, ◌+◌, ◌-◌, ◌%◌, ◌^◌, ◌==◌, refl, sym, ◌∙◌, subst, Bool, true, false, cond, List, [], ◌∷◌, Option, Some, None, arith, ◌≤◌, ◌<◌}
 use Rattle.steps_events.specs.declared.WaitAction.{WaitAction}
 use Rattle.steps_events.specs.declared.event.Word.{Word}
 use Rattle.steps_events.specs.declared.event.Word.TheVariants as words
 use Rattle.steps_events.specs.declared.event.Wake.TheVariants as wakes
 use Rattle.steps_events.specs.declared.event.Call.{Call}
-use Rattle.steps_events.specs.declared.event.Call.TheVariants as calls
 use Rattle.steps_events.specs.declared.event.Act.{Act}
 use Rattle.steps_events.specs.declared.event.Act.TheVariants as acts
 use Rattle.steps_events.specs.declared.event.Answer.TheVariants as answers
@@ -14,37 +15,34 @@ use Rattle.steps_events.specs.declared.event.Event.{Event}
 use Rattle.steps_events.specs.declared.event.Then.{Then}
 use Rattle.steps_events.specs.declared.event.Then.TheVariants as thens
 use Rattle.steps_events.specs.declared.hold.HoldKind.{HoldKind}
-use Rattle.steps_events.specs.declared.hold.HoldKind.TheVariants as kinds
 use Rattle.steps_events.specs.declared.patience.Patience.{Patience}
 use Rattle.steps_events.specs.declared.row.After.{After}
 use Rattle.steps_events.specs.declared.row.After.TheVariants as afters
 use Rattle.steps_events.specs.Arithmetic.{Arithmetic}
 use Rattle.steps_events.specs.Rows.{carried_out, value_told, outcome_of, place_after, within, refused}
 use Rattle.steps_events.specs.Past.{PendingCall, event, latest_outcome}
-use Rattle.steps_events.specs.RwAnswers.{acts_of}
 use Rattle.steps_events.specs.Moves.{step_at, answer_fault, choose_fault, is_step}
 use Rattle.steps_events.specs.Runs.{IsPast}
 use Rattle.steps_events.specs.Sights.{is_abort, keeps_asking, last_of}
 use Rattle.steps_events.specs.NextStep.{StepsAs, EndsWithin, step_before, seen_last, Loads, Exchanges}
-use Rattle.steps_events.specs.RwSteps.{gives_up, open_at, reader_looked, WritesIn}
+use Rattle.steps_events.specs.RwSteps.{open_at, WritesIn}
 use Rattle.steps_events.proofs.Holds.{some_same, eqb_other}
-use Rattle.steps_events.proofs.Spins.{HasSpun}
 use Rattle.steps_events.proofs.Asks.{both_kept}
-use Rattle.steps_events.proofs.NextStep.{steps_as, refused_left, Descends, ends_within}
+use Rattle.steps_events.proofs.NextStep.{steps_as, Descends, ends_within}
 use Rattle.steps_events.proofs.Parties.{IsKept}
 use Rattle.steps_rw_writer.specs.declared.Leaver.{Leaver}
 use Rattle.steps_rw_writer.specs.declared.Leaver.TheVariants as leavers
 use Rattle.steps_rw_writer.specs.declared.RwWriterPlace.{RwWriterPlace}
 use Rattle.steps_rw_writer.specs.declared.RwWriterPlace.TheVariants as places
-use Rattle.steps_rw_writer.specs.Table.{lets_readers_in, lets_writer_in, lets_mark, is_marked, is_blocked, is_mark, read_look, spins, marks_or_spins, unmarks_or_leaves, write_refused, write_look, last_look, released, rw_writer_table, rw_writer_begins, rw_writer_after, rw_writer_answered}
+use Rattle.steps_rw_writer.specs.Table.{lets_readers_in, is_mark, read_look, spins, unmarks_or_leaves, write_refused, write_look, last_look, released, rw_writer_table, rw_writer_begins, rw_writer_after, rw_writer_answered}
 use Rattle.steps_rw_writer.specs.Debts.{loads_count}
-use Rattle.steps_rw_writer.specs.Law.{is_read_in_vain, write_spins_in, reader_waits, left_unmarking, left_refused, left_looking, left_last, goes_on_anyway, LooksToWrite, SpinsOrLoads, MarksAt, UnmarksAt, RefusedAt, LookedAt, CountsOne, ExchangedFrom, WriterStep, rw_writer_most, RwWriterStep}
+use Rattle.steps_rw_writer.specs.Law.{write_spins_in, left_unmarking, left_refused, left_looking, left_last, goes_on_anyway, LooksToWrite, LookedAt, CountsOne, ExchangedFrom, WriterStep, rw_writer_most, RwWriterStep}
 use Rattle.steps_rw_writer.proofs.WordLaws.{no_mark}
 use Rattle.steps_rw_writer.proofs.BoolLaws.{either}
 use Rattle.steps_rw_writer.proofs.LookLaws.{HoldsOn, of_spins, of_unmarks, of_refused, of_look, of_last_look}
-use Rattle.steps_rw_writer.proofs.PlaceLaws.{AtRwWriter, asked_nothing, offered_nothing, Sets, Clears}
+use Rattle.steps_rw_writer.proofs.PlaceLaws.{AtRwWriter, Sets, Clears}
 use Rattle.steps_rw_writer.proofs.SpinLaws.{HasSpunAt, spun_kept}
-use Rattle.steps_rw_writer.proofs.AnswerLaws.{HasCounted, HasWokenOne, IsLeaving, IsAnswering, answering_kept}
+use Rattle.steps_rw_writer.proofs.AnswerLaws.{IsAnswering, answering_kept}
 
 -- What the step at a writer's place is, by whether it keeps on asking.
 abbrev Does : {T : Type 0} → RwWriterPlace → Bool → Act T → Then T → Type 0
@@ -84,13 +82,7 @@ HasSeen place c hold = Unit {0}
 -- Where a call begins.
 
 begins_unseen : {T : Type 0} (call : Call T) (place : RwWriterPlace) (hold : Option HoldKind) → rw_writer_begins call ≡ Some place → HasSeen {T = T} place (record { call = call; own = [] }) hold
-begins_unseen {T} calls.TryReadLock place hold is = subst (λ p. HasSeen {T = T} p (record { call = calls.TryReadLock; own = [] }) hold) (some_same places.TryReadLook place is) refl
-begins_unseen {T} calls.ReadLock place hold is = subst (λ p. HasSeen {T = T} p (record { call = calls.ReadLock; own = [] }) hold) (some_same (places.ReadLook (record { spins = 0; keep = true })) place is) refl
-begins_unseen {T} calls.TryWriteLock place hold is = subst (λ p. HasSeen {T = T} p (record { call = calls.TryWriteLock; own = [] }) hold) (some_same places.TryWrite place is) refl
-begins_unseen {T} calls.WriteLock place hold is =
-    subst (λ p. HasSeen {T = T} p (record { call = calls.WriteLock; own = [] }) hold) (some_same (places.WriteLook (record { spins = 0; keep = true })) place is) (λ act outcome does. does)
-begins_unseen {T} calls.Unlock place hold is = subst (λ p. HasSeen {T = T} p (record { call = calls.Unlock; own = [] }) hold) (some_same places.Release place is) tt
-begins_unseen other place hold is = absurd cc
+begins_unseen call place hold h1 = grind (arith, nat_tests, eqb-true, eqb-false)
 
 -- Where a writer's step leads: P is its next.
 
@@ -99,66 +91,17 @@ Reaches {T} asks P (afters.At place) = (act : Act T) (outcome : Then T) → Does
 Reaches asks P other = Unit {0}
 
 -- what it leads to follows, where P follows
-reaches_by :
-    {T : Type 0} (asks : Bool) (P Q : Act T → Then T → Type 0) (a : After T RwWriterPlace) → ((act : Act T) (outcome : Then T) → P act outcome → Q act outcome) → Reaches asks P a → Reaches asks Q a
-reaches_by asks P Q (afters.At place) maps reaches = λ act outcome does. maps act outcome (reaches act outcome does)
-reaches_by asks P Q (afters.Waits place seen) maps reaches = tt
-reaches_by asks P Q (afters.Chooses place old) maps reaches = tt
-reaches_by asks P Q (afters.Ends answer) maps reaches = tt
-
-spins_reach : (T : Type 0) (asks : Bool) (patience : Patience) → Reaches {T = T} asks (λ act outcome. SpinsOrLoads asks patience.spins act outcome) (spins patience)
-spins_reach T asks patience = by_test (nat_lt patience.spins 10000)
-  where
-    by_test : (b : Bool) →
-        Reaches {T = T} asks (λ act outcome. MatchBool b (LooksToWrite asks act outcome) (Loads words.Counter goes_on_anyway act outcome))
-        (cond b (afters.At (places.WriteLook (record { spins = patience.spins + 1; keep = patience.keep }))) (afters.At (places.LoadCounter patience)))
-    by_test true = λ act outcome does. does
-    by_test false = λ act outcome does. does
-
-marks_reach : (T : Type 0) (asks : Bool) (patience : Patience) (v : ℕ) → Reaches {T = T} asks (λ act outcome. MarksAt asks patience.spins v act outcome) (marks_or_spins patience v)
-marks_reach T asks patience v = by_test (lets_mark v)
-  where
-    by_test : (b : Bool) →
-        Reaches {T = T} asks (λ act outcome. MatchBool b (Exchanges words.State v (v + 1) thens.GoesOn (left_looking asks) act outcome) (SpinsOrLoads asks patience.spins act outcome))
-        (cond b (afters.At (places.Mark v (v + 1) patience)) (spins patience))
-    by_test true = λ act outcome does. does
-    by_test false = spins_reach T asks patience
-
-unmarks_reach : (T : Type 0) (asks : Bool) (v : ℕ) → Reaches {T = T} asks (λ act outcome. UnmarksAt v act outcome) (unmarks_or_leaves v)
-unmarks_reach T asks v = by_test (is_marked v)
-  where
-    by_test : (b : Bool) → Reaches {T = T} asks (λ act outcome. MatchBool b (Exchanges words.State v (v - 1) thens.GoesOn left_unmarking act outcome) ⊥) (cond b (afters.At (places.Unmark v (v - 1))) (afters.Ends answers.Interrupted))
-    by_test true = λ act outcome does. does
-    by_test false = tt
-
-refused_reaches : (T : Type 0) (patience : Patience) (v : ℕ) → Reaches {T = T} patience.keep (λ act outcome. RefusedAt patience.keep patience.spins v act outcome) (write_refused patience v)
-refused_reaches T patience v = by_test patience.keep
-  where
-    by_test : (b : Bool) →
-        Reaches {T = T} patience.keep (λ act outcome. MatchBool b (MarksAt patience.keep patience.spins v act outcome) (UnmarksAt v act outcome)) (cond b (marks_or_spins patience v) (unmarks_or_leaves v))
-    by_test true = marks_reach T patience.keep patience v
-    by_test false = unmarks_reach T patience.keep v
 
 look_reaches : (T : Type 0) (patience : Patience) (v : ℕ) → Reaches {T = T} patience.keep (λ act outcome. LookedAt patience.keep patience.spins v act outcome) (write_look patience v)
-look_reaches T patience v = by_test (lets_writer_in v)
-  where
-    by_test : (b : Bool) →
-        Reaches {T = T} patience.keep (λ act outcome. MatchBool b (WritesIn v (left_refused patience.keep) act outcome) (RefusedAt patience.keep patience.spins v act outcome)) (cond b (afters.At (places.Enter v patience)) (write_refused patience v))
-    by_test true = λ act outcome does. does
-    by_test false = refused_reaches T patience v
+look_reaches T patience v = grind (arith, nat_tests, eqb-true, eqb-false)
 
 last_reaches : (T : Type 0) (count : ℕ) (patience : Patience) (v : ℕ) → Reaches {T = T} patience.keep (λ act outcome. LookedAt patience.keep patience.spins v act outcome) (last_look count patience v)
-last_reaches T count patience v = by_test (is_blocked v)
-  where
-    by_test : (b : Bool) → Reaches {T = T} patience.keep (λ act outcome. LookedAt patience.keep patience.spins v act outcome) (cond b (afters.Waits (places.WriteLook patience) count) (write_look patience v))
-    by_test true = tt
-    by_test false = look_reaches T patience v
+last_reaches T count patience v = grind (arith, nat_tests, eqb-true, eqb-false)
 
 -- an exchange to enter that failed
 entered_reaches :
     (T : Type 0) (patience : Patience) (seen w : ℕ) (b : Bool) → Reaches {T = T} patience.keep (λ act outcome. ExchangedFrom patience.keep patience.spins seen (2 ^ 64 - 1) w b act outcome) (cond b (afters.Ends answers.Success) (write_refused patience w))
-entered_reaches T patience seen w true = tt
-entered_reaches T patience seen w false = refused_reaches T patience w
+entered_reaches T patience seen w b = grind (arith, nat_tests, eqb-true, eqb-false)
 
 -- one that sets the mark, or takes it away, is none to enter
 mark_below : (seen to : ℕ) → Sets seen to → (to == 2 ^ 64 - 1) ≡ false
@@ -173,20 +116,12 @@ unmark_marks_none seen to clears = no_mark seen to (λ more. absurd (omega (arit
 marked_reaches :
     (T : Type 0) (patience : Patience) (seen to w : ℕ) (b : Bool) → is_mark seen to ≡ true → (to == 2 ^ 64 - 1) ≡ false →
     Reaches {T = T} patience.keep (λ act outcome. ExchangedFrom patience.keep patience.spins seen to w b act outcome) (cond b (spins patience) (write_look patience w))
-marked_reaches T patience seen to w true marks other =
-    reaches_by patience.keep (λ act outcome. SpinsOrLoads patience.keep patience.spins act outcome) (λ act outcome. ExchangedFrom {T = T} patience.keep patience.spins seen to w true act outcome) (spins patience)
-    (λ act outcome does. rw marks does) (spins_reach T patience.keep patience)
-marked_reaches T patience seen to w false marks other =
-    reaches_by patience.keep (λ act outcome. LookedAt patience.keep patience.spins w act outcome) (λ act outcome. ExchangedFrom {T = T} patience.keep patience.spins seen to w false act outcome) (write_look patience w)
-    (λ act outcome does. rw (other, marks) does) (look_reaches T patience w)
+marked_reaches T patience seen to w b h1 h2 = grind (arith, nat_tests, eqb-true, eqb-false)
 
 unmarked_reaches :
     (T : Type 0) (spun seen to w : ℕ) (b : Bool) → is_mark seen to ≡ false → (to == 2 ^ 64 - 1) ≡ false →
     Reaches {T = T} false (λ act outcome. ExchangedFrom false spun seen to w b act outcome) (cond b (afters.At (places.Count leavers.GivenUp)) (unmarks_or_leaves w))
-unmarked_reaches T spun seen to w true marks other = λ act outcome does. rw marks does
-unmarked_reaches T spun seen to w false marks other =
-    reaches_by false (λ act outcome. UnmarksAt w act outcome) (λ act outcome. ExchangedFrom {T = T} false spun seen to w false act outcome) (unmarks_or_leaves w)
-    (λ act outcome does. rw (other, marks) does) (unmarks_reach T false w)
+unmarked_reaches T spun seen to w b h1 h2 = grind (arith, nat_tests, eqb-true, eqb-false)
 
 -- So it is kept of the call with one event more.
 
@@ -213,11 +148,7 @@ IsWriters other = ⊥
 next_after :
     {T : Type 0} (asks : Bool) (spins : ℕ) (own : List (Event T)) (act : Act T) (number : ℕ) (place : RwWriterPlace) → IsStepOf asks spins own act →
     ((x : Act T) (o : Then T) → Does place asks x o → WriterStep asks spins (Some act) x o) → IsNextOf place (event number act thens.GoesOn ∷ own)
-next_after {T} asks spins own act number place is reaches = λ x o does.
-    let now : keeps_asking (event number act thens.GoesOn ∷ own) ≡ asks = rw is.quiet is.asking in
-    let count : write_spins_in true (event number act thens.GoesOn ∷ own) ≡ spins = omega (arith, is.spun) in
-    let latest : step_before (event number act thens.GoesOn ∷ own) ≡ Some act = rw is.steps refl in
-    rw (now, count, latest) (reaches x o (subst (λ a. Does place a x o) now does))
+next_after asks spins own act number place h1 h2 = grind (arith, nat_tests, eqb-true, eqb-false)
 
 seen_at :
     {T : Type 0} (asks : Bool) (spins : ℕ) (c : PendingCall T) (hold : Option HoldKind) (act : Act T) (number : ℕ) (place : RwWriterPlace) → IsStepOf asks spins c.own act → IsWriters place →
@@ -259,27 +190,15 @@ stays T = record { looks = λ _. tt; loads = λ _. tt; marks = λ _ _ _. tt; unm
 
 -- Where a reader's step leads.
 
-refused_seen :
-    {T : Type 0} (patience : Patience) (v : ℕ) (c : PendingCall T) (hold : Option HoldKind) (next : RwWriterPlace) → open_at lets_readers_in (seen_last words.State c.own) ≡ None →
-    place_after {T = T} (within places.ReadLook (refused patience v)) ≡ Some next → HasSeen next c hold
-refused_seen {T} patience v c hold next seen is = by_tests patience.keep (nat_lt patience.spins 10000) is
-  where
-    by_tests : (keep left : Bool) → place_after {T = T} (within places.ReadLook (cond keep (cond left (afters.At (record { spins = patience.spins + 1; keep = patience.keep })) (afters.Waits patience v)) (afters.Ends answers.Interrupted))) ≡ Some next → HasSeen next c hold
-    by_tests true true is = subst (λ p. HasSeen p c hold) (some_same (places.ReadLook (record { spins = patience.spins + 1; keep = patience.keep })) next is) seen
-    by_tests true false is = subst (λ p. HasSeen p c hold) (some_same (places.ReadLook patience) next is) seen
-    by_tests false left is = absurd cc
-
 try_read_seen :
     {T : Type 0} (c : PendingCall T) (hold : Option HoldKind) (v : ℕ) (e : Event T) (next : RwWriterPlace) (b : Bool) → open_at lets_readers_in (seen_last words.State (e ∷ c.own)) ≡ cond b (Some v) None →
     place_after {T = T} (cond b (afters.At (places.TryRead v (v + 2))) (afters.Ends answers.Interrupted)) ≡ Some next → HasSeen next (record { call = c.call; own = e ∷ c.own }) hold
-try_read_seen {T} c hold v e next true sees is = subst (λ p. HasSeen {T = T} p (record { call = c.call; own = e ∷ c.own }) hold) (some_same (places.TryRead v (v + 2)) next is) sees
-try_read_seen c hold v e next false sees is = absurd cc
+try_read_seen c hold v e next b h1 h2 = grind (arith, nat_tests, eqb-true, eqb-false)
 
 read_seen :
     {T : Type 0} (patience : Patience) (c : PendingCall T) (hold : Option HoldKind) (v : ℕ) (e : Event T) (next : RwWriterPlace) (b : Bool) → open_at lets_readers_in (seen_last words.State (e ∷ c.own)) ≡ cond b (Some v) None →
     place_after {T = T} (cond b (afters.At (places.Read v (v + 2) patience)) (within places.ReadLook (refused patience v))) ≡ Some next → HasSeen next (record { call = c.call; own = e ∷ c.own }) hold
-read_seen {T} patience c hold v e next true sees is = subst (λ p. HasSeen {T = T} p (record { call = c.call; own = e ∷ c.own }) hold) (some_same (places.Read v (v + 2) patience) next is) sees
-read_seen {T} patience c hold v e next false sees is = refused_seen patience v (record { call = c.call; own = e ∷ c.own }) hold next sees is
+read_seen patience c hold v e next b h1 h2 = grind (arith, nat_tests, eqb-true, eqb-false)
 
 enter_seen :
     {T : Type 0} (patience : Patience) (c : PendingCall T) (hold : Option HoldKind) (seen to w number : ℕ) (outcome : Then T) (next : RwWriterPlace) (done : Bool) →
@@ -289,24 +208,16 @@ enter_seen patience c hold seen to w number outcome next false is = read_seen pa
 
 -- a call that tries once ends with its exchange
 tried_once : (T : Type 0) (b : Bool) (next : RwWriterPlace) → place_after {T = T} (cond b (afters.Ends answers.Success) (afters.Ends answers.Interrupted)) ≡ Some next → ⊥
-tried_once T true next is = absurd cc
-tried_once T false next is = absurd cc
+tried_once T b next h1 = grind (arith, nat_tests, eqb-true, eqb-false)
 
 -- Each row of the table.
 
 -- what a release leads to, of which nothing is kept here
 released_seen : {T : Type 0} (c : PendingCall T) (hold : Option HoldKind) (told : Option ℕ) (next : RwWriterPlace) → place_after {T = T} (released told) ≡ Some next → HasSeen next c hold
-released_seen c hold None next is = subst (λ p. HasSeen p c hold) (some_same (places.Count leavers.Writer) next is) tt
-released_seen {T} c hold (Some old) next is = by_test (old == 3) is
-  where
-    by_test : (b : Bool) → place_after {T = T} (cond b (afters.At (places.Count leavers.Reader)) (afters.Ends answers.Done)) ≡ Some next → HasSeen next c hold
-    by_test true is = subst (λ p. HasSeen p c hold) (some_same (places.Count leavers.Reader) next is) tt
-    by_test false is = absurd cc
+released_seen c hold told next h1 = grind (arith, nat_tests, eqb-true, eqb-false)
 
 count_seen : {T : Type 0} (who : Leaver) (c : PendingCall T) (hold : Option HoldKind) (old put number : ℕ) (next : RwWriterPlace) → places.WakeOne who ≡ next → HasSeen next (record { call = c.call; own = event {T = T} number (acts.Add words.Counter old put) thens.GoesOn ∷ c.own }) hold
-count_seen {T} leavers.Reader c hold old put number next is = subst (λ p. HasSeen {T = T} p (record { call = c.call; own = event number (acts.Add words.Counter old put) thens.GoesOn ∷ c.own }) hold) is tt
-count_seen {T} leavers.Writer c hold old put number next is = subst (λ p. HasSeen {T = T} p (record { call = c.call; own = event number (acts.Add words.Counter old put) thens.GoesOn ∷ c.own }) hold) is tt
-count_seen {T} leavers.GivenUp c hold old put number next is = subst (λ p. HasSeen {T = T} p (record { call = c.call; own = event number (acts.Add words.Counter old put) thens.GoesOn ∷ c.own }) hold) is (refl, λ act outcome does. does)
+count_seen who c hold old put number next h1 = grind (arith, nat_tests, eqb-true, eqb-false)
 
 wake_seen : {T : Type 0} (c : PendingCall T) (hold : Option HoldKind) (number : ℕ) → HasSeen (places.WakeAll leavers.GivenUp) (record { call = c.call; own = event {T = T} number (acts.Woke wakes.One) thens.GoesOn ∷ c.own }) hold
 wake_seen c hold number = (refl, λ act outcome does. does)
@@ -365,40 +276,12 @@ steps_seen {T} (places.WakeAll leavers.GivenUp) c hold left memory number next a
 answers_seen :
     {T : Type 0} (place : RwWriterPlace) (c : PendingCall T) (hold : Option HoldKind) (action : WaitAction) (number : ℕ) → HasSeen place c hold → answer_fault (latest_outcome c.own) ≡ None →
     HasSeen {T = T} (rw_writer_answered place action) (record { call = c.call; own = event number (acts.Answered action) thens.GoesOn ∷ c.own }) hold
-answers_seen places.TryReadLook c hold action number seen waits = seen
-answers_seen (places.TryRead v to) c hold action number seen waits = seen
-answers_seen (places.ReadLook patience) c hold action number seen waits = seen
-answers_seen (places.Read v to patience) c hold action number seen waits = seen
-answers_seen places.TryWrite c hold action number seen waits = seen
-answers_seen (places.WriteLook patience) c hold action number seen waits = λ x o does. does
-answers_seen (places.Enter v patience) c hold action number seen waits = absurd (asked_nothing c.own seen.0 waits)
-answers_seen (places.Mark v to patience) c hold action number seen waits = absurd (asked_nothing c.own seen.0 waits)
-answers_seen (places.Unmark v to) c hold action number seen waits = absurd (asked_nothing c.own seen.0 waits)
-answers_seen (places.LoadCounter patience) c hold action number seen waits = absurd (asked_nothing c.own seen.0 waits)
-answers_seen (places.LastLook count patience) c hold action number seen waits = absurd (asked_nothing c.own seen.0 waits)
-answers_seen (places.Count leavers.GivenUp) c hold action number seen waits = absurd (asked_nothing c.own seen.0 waits)
-answers_seen (places.WakeOne leavers.GivenUp) c hold action number seen waits = absurd (asked_nothing c.own seen.0 waits)
-answers_seen (places.WakeAll leavers.GivenUp) c hold action number seen waits = absurd (asked_nothing c.own seen.0 waits)
-answers_seen place c hold action number seen waits = tt
+answers_seen place c hold action number h1 h2 = grind (arith, nat_tests, eqb-true, eqb-false)
 
 chooses_seen :
     {T : Type 0} (place : RwWriterPlace) (c : PendingCall T) (hold : Option HoldKind) (choice : Option T) (number : ℕ) → HasSeen place c hold → choose_fault (latest_outcome c.own) ≡ None →
     HasSeen {T = T} place (record { call = c.call; own = event number (acts.Chosen choice) thens.GoesOn ∷ c.own }) hold
-chooses_seen places.TryReadLook c hold choice number seen stands = seen
-chooses_seen (places.TryRead v to) c hold choice number seen stands = seen
-chooses_seen (places.ReadLook patience) c hold choice number seen stands = seen
-chooses_seen (places.Read v to patience) c hold choice number seen stands = seen
-chooses_seen places.TryWrite c hold choice number seen stands = seen
-chooses_seen (places.WriteLook patience) c hold choice number seen stands = λ x o does. does
-chooses_seen (places.Enter v patience) c hold choice number seen stands = absurd (offered_nothing c.own seen.0 stands)
-chooses_seen (places.Mark v to patience) c hold choice number seen stands = absurd (offered_nothing c.own seen.0 stands)
-chooses_seen (places.Unmark v to) c hold choice number seen stands = absurd (offered_nothing c.own seen.0 stands)
-chooses_seen (places.LoadCounter patience) c hold choice number seen stands = absurd (offered_nothing c.own seen.0 stands)
-chooses_seen (places.LastLook count patience) c hold choice number seen stands = absurd (offered_nothing c.own seen.0 stands)
-chooses_seen (places.Count leavers.GivenUp) c hold choice number seen stands = absurd (offered_nothing c.own seen.0 stands)
-chooses_seen (places.WakeOne leavers.GivenUp) c hold choice number seen stands = absurd (offered_nothing c.own seen.0 stands)
-chooses_seen (places.WakeAll leavers.GivenUp) c hold choice number seen stands = absurd (offered_nothing c.own seen.0 stands)
-chooses_seen place c hold choice number seen stands = tt
+chooses_seen place c hold choice number h1 h2 = grind (arith, nat_tests, eqb-true, eqb-false)
 
 -- What is kept of a call: where it is, how often it has spun, what it has done where it leaves, and that its step is the next.
 abbrev IsKnown : {T : Type 0} → RwWriterPlace → PendingCall T → Option HoldKind → Type 0
@@ -421,124 +304,16 @@ ready_kept {T} =
 
 -- How each step leaves its call, by its tests.
 
-try_read_outcome : {T : Type 0} (v : ℕ) (b : Bool) → outcome_of {T = T} (cond b (afters.At (places.TryRead v (v + 2))) (afters.Ends answers.Interrupted)) ≡ cond b thens.GoesOn (gives_up v)
-try_read_outcome v true = refl
-try_read_outcome v false = refl
-
-once_outcome : {T : Type 0} (w : ℕ) (b : Bool) → outcome_of {T = T} {P = RwWriterPlace} (cond b (afters.Ends answers.Success) (afters.Ends answers.Interrupted)) ≡ cond b (thens.Answers answers.Success) (gives_up w)
-once_outcome w true = refl
-once_outcome w false = refl
-
-read_outcome :
-    {T : Type 0} (patience : Patience) (own : List (Event T)) (v : ℕ) (b : Bool) → HasSpun is_read_in_vain patience own →
-    outcome_of {T = T} (cond b (afters.At (places.Read v (v + 2) patience)) (within places.ReadLook (refused patience v))) ≡ cond b thens.GoesOn (reader_waits own v)
-read_outcome patience own v true spun = refl
-read_outcome patience own v false spun = refused_left is_read_in_vain places.ReadLook patience v own spun
-
-enter_outcome :
-    {T : Type 0} (patience : Patience) (own : List (Event T)) (w : ℕ) (done : Bool) → HasSpun is_read_in_vain patience own →
-    outcome_of {T = T} (cond done (afters.Ends answers.Success) (read_look patience w)) ≡ cond done (thens.Answers answers.Success) (reader_looked lets_readers_in (reader_waits own) w)
-enter_outcome patience own w true spun = refl
-enter_outcome patience own w false spun = read_outcome patience own w (lets_readers_in w) spun
-
-spins_outcome : {T : Type 0} (patience : Patience) → outcome_of {T = T} (spins patience) ≡ thens.GoesOn
-spins_outcome {T} patience = by_test (nat_lt patience.spins 10000)
-  where
-    by_test : (b : Bool) → outcome_of {T = T} (cond b (afters.At (places.WriteLook (record { spins = patience.spins + 1; keep = patience.keep }))) (afters.At (places.LoadCounter patience))) ≡ thens.GoesOn
-    by_test true = refl
-    by_test false = refl
-
-unmarks_outcome : {T : Type 0} (v : ℕ) → outcome_of {T = T} (unmarks_or_leaves v) ≡ left_unmarking v
-unmarks_outcome {T} v = by_test (is_marked v)
-  where
-    by_test : (b : Bool) → outcome_of {T = T} (cond b (afters.At (places.Unmark v (v - 1))) (afters.Ends answers.Interrupted)) ≡ cond b thens.GoesOn (thens.Answers answers.Interrupted)
-    by_test true = refl
-    by_test false = refl
-
-refused_outcome : {T : Type 0} (patience : Patience) (v : ℕ) → outcome_of {T = T} (write_refused patience v) ≡ left_refused patience.keep v
-refused_outcome {T} patience v = by_tests patience.keep (lets_mark v)
-  where
-    by_tests : (asks marks : Bool) → outcome_of {T = T} (cond asks (cond marks (afters.At (places.Mark v (v + 1) patience)) (spins patience)) (unmarks_or_leaves v)) ≡ cond asks thens.GoesOn (left_unmarking v)
-    by_tests true true = refl
-    by_tests true false = spins_outcome patience
-    by_tests false marks = unmarks_outcome v
-
-look_outcome : {T : Type 0} (patience : Patience) (v : ℕ) → outcome_of {T = T} (write_look patience v) ≡ left_looking patience.keep v
-look_outcome {T} patience v = by_test (lets_writer_in v)
-  where
-    by_test : (b : Bool) → outcome_of {T = T} (cond b (afters.At (places.Enter v patience)) (write_refused patience v)) ≡ cond b thens.GoesOn (left_refused patience.keep v)
-    by_test true = refl
-    by_test false = refused_outcome patience v
-
-last_outcome : {T : Type 0} (count : ℕ) (patience : Patience) (v : ℕ) → outcome_of {T = T} (last_look count patience v) ≡ left_last patience.keep count v
-last_outcome {T} count patience v = by_test (is_blocked v)
-  where
-    by_test : (b : Bool) → outcome_of {T = T} (cond b (afters.Waits (places.WriteLook patience) count) (write_look patience v)) ≡ cond b (thens.Waits count) (left_looking patience.keep v)
-    by_test true = refl
-    by_test false = look_outcome patience v
-
-either_outcome : {T : Type 0} (b : Bool) (done missed : After T RwWriterPlace) (then_done then_missed : Then T) → outcome_of done ≡ then_done → outcome_of missed ≡ then_missed → outcome_of (cond b done missed) ≡ cond b then_done then_missed
-either_outcome true done missed then_done then_missed on off = on
-either_outcome false done missed then_done then_missed on off = off
-
 -- So each step is the next.
 
-as_call : {T : Type 0} (k call : Call T) (own : List (Event T)) (act : Act T) (outcome : Then T) → call ≡ k → RwWriterStep k own act outcome → RwWriterStep call own act outcome
-as_call k call own act outcome is step = subst (λ (x : Call _). RwWriterStep x own act outcome) (sym is) step
-
-release_step :
-    {T : Type 0} (own : List (Event T)) (hold : Option HoldKind) (memory : Word → ℕ) → is_some hold ≡ true → own ≡ [] →
-    RwWriterStep calls.Unlock own (step_at {T = T} rw_writer_table places.Release hold memory).act (step_at {T = T} rw_writer_table places.Release hold memory).outcome
-release_step own None memory has first = absurd cc
-release_step {T} own (Some kinds.Read) memory has first = rw first (refl, either_outcome (memory words.State == 3) (afters.At (places.Count leavers.Reader)) (afters.Ends answers.Done) thens.GoesOn (thens.Answers answers.Done) refl refl)
-release_step own (Some kinds.Write) memory has first = rw first (refl, refl)
-
 -- by what the call has done that leaves
-count_step : {T : Type 0} (who : Leaver) (c : PendingCall T) (hold : Option HoldKind) (count : ℕ) → AtRwWriter (places.Count who) c hold → IsLeaving (places.Count who) c.own hold → HasSeen (places.Count who) c hold →
-    RwWriterStep c.call c.own (acts.Add words.Counter count ((count + 1) % 2 ^ 64)) thens.GoesOn
-count_step leavers.Reader c hold count at leaving seen = as_call calls.Unlock c.call c.own _ _ at (rw leaving.2 (refl, refl))
-count_step leavers.Writer c hold count at leaving seen = as_call calls.Unlock c.call c.own _ _ at (rw leaving.2 (refl, refl))
-count_step leavers.GivenUp c hold count at leaving seen = as_call calls.WriteLock c.call c.own _ _ at.0 (seen.1 (acts.Add words.Counter count ((count + 1) % 2 ^ 64)) thens.GoesOn (refl, refl))
-
-wake_one_step : {T : Type 0} (who : Leaver) (c : PendingCall T) (hold : Option HoldKind) (memory : Word → ℕ) → AtRwWriter (places.WakeOne who) c hold → IsLeaving (places.WakeOne who) c.own hold → HasSeen (places.WakeOne who) c hold →
-    RwWriterStep {T = T} c.call c.own (acts.Woke wakes.One) (step_at {T = T} rw_writer_table (places.WakeOne who) hold memory).outcome
-wake_one_step leavers.Reader c hold memory at leaving seen = let counted : HasCounted leavers.Reader (acts_of c.own) = leaving.2 in as_call calls.Unlock c.call c.own _ _ at (rw (counted.3, counted.2) (refl, refl))
-wake_one_step leavers.Writer c hold memory at leaving seen = let counted : HasCounted leavers.Writer (acts_of c.own) = leaving.2 in as_call calls.Unlock c.call c.own _ _ at (rw (counted.3, counted.2) (refl, refl))
-wake_one_step leavers.GivenUp c hold memory at leaving seen = as_call calls.WriteLock c.call c.own _ _ at.0 (seen.1 (acts.Woke wakes.One) thens.GoesOn (refl, refl))
-
-wake_all_step : {T : Type 0} (who : Leaver) (c : PendingCall T) (hold : Option HoldKind) (memory : Word → ℕ) → AtRwWriter (places.WakeAll who) c hold → IsLeaving (places.WakeAll who) c.own hold → HasSeen (places.WakeAll who) c hold →
-    RwWriterStep {T = T} c.call c.own (acts.Woke wakes.All) (step_at {T = T} rw_writer_table (places.WakeAll who) hold memory).outcome
-wake_all_step leavers.Reader c hold memory at leaving seen = absurd leaving.2
-wake_all_step leavers.Writer c hold memory at leaving seen = let woken : HasWokenOne leavers.Writer (acts_of c.own) = leaving.2 in as_call calls.Unlock c.call c.own _ _ at (rw woken.2 (refl, refl))
-wake_all_step leavers.GivenUp c hold memory at leaving seen = as_call calls.WriteLock c.call c.own _ _ at.0 (seen.1 (acts.Woke wakes.All) (thens.Answers answers.Interrupted) (refl, refl))
 
 -- a writer's step, by what it does and how it leaves the call, for a call that asks as its patience says
-writes_so :
-    {T : Type 0} (place : RwWriterPlace) (c : PendingCall T) (asks : Bool) (act : Act T) (outcome : Then T) → c.call ≡ calls.WriteLock → keeps_asking c.own ≡ asks → IsNextOf place c.own → Does place asks act outcome → RwWriterStep c.call c.own act outcome
-writes_so {T} place c asks act outcome write now next does = as_call calls.WriteLock c.call c.own act outcome write (next act outcome (subst (λ a. Does {T = T} place a act outcome) (sym now) does))
 
 next_step :
     {T : Type 0} (place : RwWriterPlace) (c : PendingCall T) (hold : Option HoldKind) (memory : Word → ℕ) → IsReady place c hold →
     RwWriterStep {T = T} c.call c.own (step_at rw_writer_table place hold memory).act (step_at rw_writer_table place hold memory).outcome
-next_step places.TryReadLook c hold memory so = as_call calls.TryReadLock c.call c.own _ _ so.0.0.0.0 (rw so.1 (refl, try_read_outcome (memory words.State) (lets_readers_in (memory words.State))))
-next_step (places.TryRead v to) c hold memory so = as_call calls.TryReadLock c.call c.own _ _ so.0.0.0.0 (rw so.1 (refl, refl, so.0.0.0.2.2, once_outcome (memory words.State) (memory words.State == v)))
-next_step (places.ReadLook patience) c hold memory so = as_call calls.ReadLock c.call c.own _ _ so.0.0.0.0 (rw so.1 (refl, read_outcome patience c.own (memory words.State) (lets_readers_in (memory words.State)) so.0.1.1))
-next_step (places.Read v to patience) c hold memory so = as_call calls.ReadLock c.call c.own _ _ so.0.0.0.0 (rw so.1 (refl, refl, so.0.0.0.3.2, enter_outcome patience c.own (memory words.State) (memory words.State == v) so.0.1.1))
-next_step places.TryWrite c hold memory so = as_call calls.TryWriteLock c.call c.own _ _ so.0.0.0.0 (so.1, (refl, refl, refl, once_outcome (memory words.State) (memory words.State == 0)))
-next_step (places.WriteLook patience) c hold memory so = writes_so (places.WriteLook patience) c patience.keep _ _ so.0.0.0.0 so.0.1.1.2 so.1 (refl, look_outcome patience (memory words.State))
-next_step (places.Enter v patience) c hold memory so =
-    writes_so (places.Enter v patience) c patience.keep _ _ so.0.0.0.0 so.0.1.1.2 so.1.1 (refl, refl, refl, either_outcome (memory words.State == v) (afters.Ends answers.Success) (write_refused patience (memory words.State)) _ _ refl (refused_outcome patience (memory words.State)))
-next_step (places.Mark v to patience) c hold memory so =
-    writes_so (places.Mark v to patience) c patience.keep _ _ so.0.0.0.0 so.0.1.1.2 so.1.1 (refl, refl, refl, either_outcome (memory words.State == v) (spins patience) (write_look patience (memory words.State)) _ _ (spins_outcome patience) (look_outcome patience (memory words.State)))
-next_step (places.Unmark v to) c hold memory so =
-    writes_so (places.Unmark v to) c false _ _ so.0.0.0.0 so.0.1.1.0 so.1.1 (refl, refl, refl, either_outcome (memory words.State == v) (afters.At (places.Count leavers.GivenUp)) (unmarks_or_leaves (memory words.State)) _ _ refl (unmarks_outcome (memory words.State)))
-next_step (places.LoadCounter patience) c hold memory so = writes_so (places.LoadCounter patience) c true _ _ so.0.0.0.0 so.0.1.1.3 so.1.1 (refl, refl)
-next_step (places.LastLook count patience) c hold memory so =
-    writes_so (places.LastLook count patience) c patience.keep _ _ so.0.0.0.0 (so.0.1.1.3 ∙ sym so.0.1.1.4) so.1.1 (refl, last_outcome count patience (memory words.State))
-next_step places.Release c hold memory so = as_call calls.Unlock c.call c.own _ _ so.0.0.0.0 (release_step c.own hold memory so.0.0.0.1 so.0.0.1)
-next_step (places.Count who) c hold memory so = count_step who c hold (memory words.Counter) so.0.0.0 so.0.0.1 so.1
-next_step (places.WakeOne who) c hold memory so = wake_one_step who c hold memory so.0.0.0 so.0.0.1 so.1
-next_step (places.WakeAll who) c hold memory so = wake_all_step who c hold memory so.0.0.0 so.0.0.1 so.1
+next_step place c hold memory h1 = grind (arith, nat_tests, eqb-true, eqb-false)
 
 pub each_steps : {T : Type 0} (z : Arithmetic T) (parties : ℕ) (past : List (Event T)) → IsPast z rw_writer_table parties past → StepsAs RwWriterStep past
 each_steps z parties past run = steps_as z rw_writer_table parties IsReady RwWriterStep ready_kept next_step past run
@@ -559,54 +334,17 @@ rest_at (places.WakeAll leavers.Writer) = Some 1
 rest_at other = None
 
 begun_at : {T : Type 0} (call : Call T) (place : RwWriterPlace) (steps : ℕ) → rw_writer_begins call ≡ Some place → rw_writer_most call ≡ Some steps → (left : ℕ) × (rest_at place ≡ Some left) × (left ≤ steps)
-begun_at calls.TryReadLock place steps is most = (2, sym (ap rest_at (some_same places.TryReadLook place is)), omega (arith, some_same 2 steps most))
-begun_at calls.TryWriteLock place steps is most = (1, sym (ap rest_at (some_same places.TryWrite place is)), omega (arith, some_same 1 steps most))
-begun_at calls.Unlock place steps is most = (4, sym (ap rest_at (some_same places.Release place is)), omega (arith, some_same 4 steps most))
-begun_at other place steps is most = absurd cc
-
-look_goes : (T : Type 0) (v : ℕ) (next : RwWriterPlace) (b : Bool) → place_after {T = T} (cond b (afters.At (places.TryRead v (v + 2))) (afters.Ends answers.Interrupted)) ≡ Some next → rest_at next ≡ Some 1
-look_goes T v next true goes = sym (ap rest_at (some_same (places.TryRead v (v + 2)) next goes))
-look_goes T v next false goes = absurd cc
-
-release_goes : (T : Type 0) (next : RwWriterPlace) (told : Option ℕ) → place_after {T = T} (released told) ≡ Some next → (fewer : ℕ) × (rest_at next ≡ Some fewer) × (fewer < 4)
-release_goes T next None goes = (3, sym (ap rest_at (some_same (places.Count leavers.Writer) next goes)), omega arith)
-release_goes T next (Some old) goes = by_test (old == 3) goes
-  where
-    by_test : (b : Bool) → place_after {T = T} (cond b (afters.At (places.Count leavers.Reader)) (afters.Ends answers.Done)) ≡ Some next → (fewer : ℕ) × (rest_at next ≡ Some fewer) × (fewer < 4)
-    by_test true goes = (2, sym (ap rest_at (some_same (places.Count leavers.Reader) next goes)), omega arith)
-    by_test false goes = absurd cc
+begun_at call place steps h1 h2 = grind (arith, nat_tests, eqb-true, eqb-false)
 
 goes_at :
     (T : Type 0) (place next : RwWriterPlace) (told : Option ℕ) (left : ℕ) → rest_at place ≡ Some left → place_after (rw_writer_after {T = T} place told) ≡ Some next → (fewer : ℕ) × (rest_at next ≡ Some fewer) × (fewer < left)
-goes_at T places.TryReadLook next told left is goes = (1, look_goes T (unwrap_or told 0) next (lets_readers_in (unwrap_or told 0)) goes, omega (arith, some_same 2 left is))
-goes_at T (places.TryRead seen to) next told left is goes = absurd (tried_once T (unwrap_or told 0 == seen) next goes)
-goes_at T places.TryWrite next told left is goes = absurd (tried_once T (unwrap_or told 0 == 0) next goes)
-goes_at T places.Release next told left is goes = let fewer = release_goes T next told goes in (fewer.0, fewer.1, omega (arith, some_same 4 left is, fewer.2))
-goes_at T (places.Count leavers.Reader) next told left is goes = (1, sym (ap rest_at (some_same (places.WakeOne leavers.Reader) next goes)), omega (arith, some_same 2 left is))
-goes_at T (places.Count leavers.Writer) next told left is goes = (2, sym (ap rest_at (some_same (places.WakeOne leavers.Writer) next goes)), omega (arith, some_same 3 left is))
-goes_at T (places.WakeOne leavers.Reader) next told left is goes = absurd cc
-goes_at T (places.WakeOne leavers.Writer) next told left is goes = (1, sym (ap rest_at (some_same (places.WakeAll leavers.Writer) next goes)), omega (arith, some_same 2 left is))
-goes_at T (places.WakeAll leavers.Reader) next told left is goes = absurd cc
-goes_at T (places.WakeAll leavers.Writer) next told left is goes = absurd cc
-goes_at T other next told left is goes = absurd cc
+goes_at T place next told left h1 h2 = grind (arith, nat_tests, eqb-true, eqb-false)
 
 some_at : (place : RwWriterPlace) (left : ℕ) → rest_at place ≡ Some left → 0 < left
-some_at places.TryReadLook left is = omega (arith, some_same 2 left is)
-some_at (places.TryRead seen to) left is = omega (arith, some_same 1 left is)
-some_at places.TryWrite left is = omega (arith, some_same 1 left is)
-some_at places.Release left is = omega (arith, some_same 4 left is)
-some_at (places.Count leavers.Reader) left is = omega (arith, some_same 2 left is)
-some_at (places.Count leavers.Writer) left is = omega (arith, some_same 3 left is)
-some_at (places.WakeOne leavers.Reader) left is = omega (arith, some_same 1 left is)
-some_at (places.WakeOne leavers.Writer) left is = omega (arith, some_same 2 left is)
-some_at (places.WakeAll leavers.Reader) left is = omega (arith, some_same 1 left is)
-some_at (places.WakeAll leavers.Writer) left is = omega (arith, some_same 1 left is)
-some_at other left is = absurd cc
+some_at place left h1 = grind (arith, nat_tests, eqb-true, eqb-false)
 
 answered_at : (place : RwWriterPlace) (action : WaitAction) → rest_at (rw_writer_answered place action) ≡ rest_at place
-answered_at (places.ReadLook patience) action = refl
-answered_at (places.WriteLook patience) action = refl
-answered_at other action = refl
+answered_at place action = grind (arith, nat_tests, eqb-true, eqb-false)
 
 descends : {T : Type 0} → Descends {T = T} rw_writer_table rw_writer_most rest_at
 descends {T} = record { begins = begun_at; goes = goes_at T; some = some_at; answered = answered_at; chosen = λ place choice. refl }

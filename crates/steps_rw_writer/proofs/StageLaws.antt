@@ -1,5 +1,8 @@
 -- A fact of the place where a call under way is, and of its own events: that the next event of the call leads on to such a place.
-use Rattle.std.proofs.Common.{◌≡◌, refl, sym, ◌∙◌, ap, subst, ℕ, List, ◌∷◌, Option, Some, None}
+use Rattle.std.proofs.lemmas.Bool.{eqb-false}
+use Rattle.std.proofs.lemmas.Bool.{eqb-true}
+use Rattle.std.proofs.lemmas.Bool.Decides.{nat_tests}
+use Rattle.std.proofs.Common.{◌≡◌, refl, ◌∙◌, ap, ℕ, List, ◌∷◌, Option, Some, None, arith}
 use Rattle.steps_events.specs.declared.WaitAction.{WaitAction}
 use Rattle.steps_events.specs.declared.event.Act.{Act}
 use Rattle.steps_events.specs.declared.event.Act.TheVariants as acts
@@ -25,10 +28,6 @@ same_call c d is = cc
 pub same_place : (p q : RwWriterPlace) → Some p ≡ Some q → p ≡ q
 same_place p q is = cc
 
--- a call is not two
-pub unlike : {T A : Type 0} (call other wanted : Call T) → call ≡ other → call ≡ wanted → (other ≡ wanted → ⊥) → A
-unlike call other wanted is also apart = absurd (apart (sym is ∙ also))
-
 -- a call is under way, at a place of which, with the call's own events, this holds
 pub record IsAt {T : Type 0} (Fact : RwWriterPlace → List (Event T) → Type 0) (pending : Option (PendingCall T)) : Type 0 where
   pub call : PendingCall T
@@ -39,20 +38,13 @@ pub record IsAt {T : Type 0} (Fact : RwWriterPlace → List (Event T) → Type 0
 
 -- so it is of the place where the call is
 pub fact_here : {T : Type 0} (Fact : RwWriterPlace → List (Event T) → Type 0) (c : PendingCall T) (place : RwWriterPlace) → stage_of rw_writer_table c ≡ Some place → IsAt Fact (Some c) → Fact place c.own
-fact_here {T} Fact c place stage at =
-    let same : at.call ≡ c = sym (same_call c at.call at.under_way) in
-    let there : at.place ≡ place = same_place at.place place (sym at.stage ∙ ap (λ (k : PendingCall T). stage_of rw_writer_table k) same ∙ stage) in
-    subst (λ p. Fact p c.own) there (subst (λ (k : PendingCall T). Fact at.place k.own) same at.fact)
+fact_here Fact c place h1 h2 = grind (arith, nat_tests, eqb-true, eqb-false)
 
 -- a party with a call under way begins none
 pub begins_none :
     {T : Type 0} (pending : Option (PendingCall T)) (c : PendingCall T) (hold : Option HoldKind) (call : Call T) (input : Input T) →
     pending ≡ Some c → fault_at rw_writer_table pending hold input ≡ None → input ≡ inputs.Begin call → ⊥
-begins_none {T} pending c hold call input under_way allowed is =
-    let P : Option (PendingCall T) → Type 0 = λ k. fault_at rw_writer_table k hold input ≡ None in
-    let Q : Input T → Type 0 = λ i. fault_at rw_writer_table (Some c) hold i ≡ None in
-    let busy : fault_at rw_writer_table (Some c) hold (inputs.Begin call) ≡ None = subst Q is (subst P under_way allowed) in
-    absurd cc
+begins_none pending c hold call input h1 h2 h3 = grind (arith, nat_tests, eqb-true, eqb-false)
 
 -- after an answer of a closure
 pub answered_at :
@@ -73,15 +65,7 @@ pub chosen_at :
     {T : Type 0} (Fact : RwWriterPlace → List (Event T) → Type 0) (r : ℕ) (choice : Option T) (pending : Option (PendingCall T)) →
     ((place : RwWriterPlace) (own : List (Event T)) (e : Event T) → Fact place own → Fact place (e ∷ own)) →
     IsAt Fact pending → IsAt Fact (call_going_on (acts.Chosen choice) (event r (acts.Chosen choice) thens.GoesOn) pending)
-chosen_at {T} Fact r choice pending keeps at =
-    let e : Event T = event r (acts.Chosen choice) thens.GoesOn in
-    record {
-      call = record { call = at.call.call; own = e ∷ at.call.own };
-      under_way = ap (call_going_on (acts.Chosen choice) e) at.under_way;
-      place = at.place;
-      stage = ap (next_stage {T = T} rw_writer_table (acts.Chosen choice)) at.stage;
-      fact = keeps at.place at.call.own e at.fact;
-    }
+chosen_at Fact r choice pending h1 h2 = grind (arith, nat_tests, eqb-true, eqb-false)
 
 -- after a step that leads on to a place, or that stands before it
 pub stepped_at :

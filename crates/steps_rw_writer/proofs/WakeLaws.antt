@@ -1,5 +1,7 @@
 -- Readers are woken: whoever makes the word even owes a wake of all until it has called it.
-use Rattle.std.proofs.Common.{◌≡◌, ◌≢◌, ℕ, ◌+◌, ◌-◌, ◌%◌, ◌^◌, ◌==◌, refl, sym, ◌∙◌, ap, subst, Bool, true, false, cond, ◌&&◌, ◌||◌, List, [], ◌∷◌, Option, Some, None, ◌⊎◌, inl, inr, arith}
+use Rattle.std.proofs.lemmas.Bool.{eqb-false}
+use Rattle.std.proofs.lemmas.Bool.Decides.{nat_tests}
+use Rattle.std.proofs.Common.{◌≡◌, ◌≢◌, ℕ, ◌-◌, ◌==◌, refl, sym, ◌∙◌, ap, subst, Bool, true, false, cond, ◌&&◌, ◌||◌, List, [], ◌∷◌, Option, Some, None, ◌⊎◌, inl, inr, arith}
 use Rattle.std.specs.Prelude.{nat_lt, not}
 use Rattle.std.proofs.lemmas.Bool.{eqb-true, eq-eqb}
 use Rattle.std.proofs.lemmas.Bool.Decides.{eqb_tells}
@@ -10,18 +12,15 @@ use Rattle.steps_events.specs.declared.event.Call.{Call}
 use Rattle.steps_events.specs.declared.event.Call.TheVariants as calls
 use Rattle.steps_events.specs.declared.event.Act.{Act}
 use Rattle.steps_events.specs.declared.event.Act.TheVariants as acts
-use Rattle.steps_events.specs.declared.event.Answer.TheVariants as answers
 use Rattle.steps_events.specs.declared.event.Event.{Event}
 use Rattle.steps_events.specs.declared.event.Input.TheVariants as inputs
 use Rattle.steps_events.specs.declared.event.Then.{Then}
 use Rattle.steps_events.specs.declared.event.Then.TheVariants as thens
 use Rattle.steps_events.specs.declared.hold.HoldKind.{HoldKind}
-use Rattle.steps_events.specs.declared.hold.HoldKind.TheVariants as kinds
-use Rattle.steps_events.specs.declared.patience.Patience.{Patience}
 use Rattle.steps_events.specs.declared.row.After.{After}
 use Rattle.steps_events.specs.declared.row.After.TheVariants as afters
 use Rattle.steps_events.specs.Arithmetic.{Arithmetic}
-use Rattle.steps_events.specs.Rows.{carried_out, value_told, outcome_of, place_after, within, refused}
+use Rattle.steps_events.specs.Rows.{carried_out, value_told, outcome_of, place_after}
 use Rattle.steps_events.specs.Past.{PendingCall, call_of, call_after, call_going_on, Hold, holds_of, hold_of, word_in, word_after, event, latest_outcome}
 use Rattle.steps_events.specs.HoldCounts.{writes_in}
 use Rattle.steps_events.specs.Sights.{is_beginning}
@@ -35,24 +34,19 @@ use Rattle.steps_rw_writer.specs.declared.Leaver.{Leaver}
 use Rattle.steps_rw_writer.specs.declared.Leaver.TheVariants as leavers
 use Rattle.steps_rw_writer.specs.declared.RwWriterPlace.{RwWriterPlace}
 use Rattle.steps_rw_writer.specs.declared.RwWriterPlace.TheVariants as places
-use Rattle.steps_rw_writer.specs.Table.{is_odd, lets_readers_in, unmarks_or_leaves, read_look, rw_writer_table, rw_writer_answered}
+use Rattle.steps_rw_writer.specs.Table.{is_odd, rw_writer_table, rw_writer_answered}
 use Rattle.steps_rw_writer.specs.Marks.{is_marked_after}
 use Rattle.steps_rw_writer.specs.Law.{CountsHolds}
 use Rattle.steps_rw_writer.specs.Debts.{is_answer, is_even_after, makes_even, wakes_all, owes_wake, Evener, evener_after, evener_of, ReaderStands, ReadersAreWoken}
-use Rattle.steps_rw_writer.proofs.BoolLaws.{clash, neither, none_below}
-use Rattle.steps_rw_writer.proofs.PlaceLaws.{AtRwWriter, IsLeaver, even_word, odd_word, here}
-use Rattle.steps_rw_writer.proofs.StageLaws.{same_call, unlike, IsAt, fact_here, begins_none, answered_at, chosen_at, stepped_at}
+use Rattle.steps_rw_writer.proofs.BoolLaws.{clash, neither}
+use Rattle.steps_rw_writer.proofs.PlaceLaws.{AtRwWriter, here}
+use Rattle.steps_rw_writer.proofs.StageLaws.{same_call, IsAt, fact_here, begins_none, answered_at, chosen_at, stepped_at}
 use Rattle.steps_rw_writer.proofs.Laws.{writer_lock_word}
 
 -- What the word says: it is even exactly where neither a write hold stands nor the mark is set.
 
-even_by : (a b odd : Bool) → a ≡ false → b ≡ odd → not (a || b) ≡ not odd
-even_by a b odd none is = rw (none, is) refl
-
 word_evens : (w : ℕ) (holds : List Hold) (marked : Bool) → CountsHolds w holds marked → not (nat_lt 0 (writes_in holds) || marked) ≡ not (is_odd w)
-word_evens w holds true (inl read) = even_by (nat_lt 0 (writes_in holds)) true (is_odd w) (none_below (writes_in holds) read.unwritten) (sym (odd_word w (omega (arith, read.counts))))
-word_evens w holds false (inl read) = even_by (nat_lt 0 (writes_in holds)) false (is_odd w) (none_below (writes_in holds) read.unwritten) (sym (even_word w (omega (arith, read.counts))))
-word_evens w holds marked (inr written) = rw (written.alone, odd_word w (omega (arith, written.is_full))) refl
+word_evens w holds marked h1 = grind (arith, nat_tests, eqb-true, eqb-false)
 
 even_at : {T : Type 0} (z : Arithmetic T) (parties : ℕ) (past : List (Event T)) → IsPast z rw_writer_table parties past → is_even_after past ≡ not (is_odd (word_in rw_writer_table past words.State))
 even_at z parties past run = word_evens (word_in rw_writer_table past words.State) (holds_of rw_writer_table past) (is_marked_after past) (writer_lock_word z parties past run).counts
@@ -80,54 +74,16 @@ pub record LeadsToWake {T : Type 0} (act : Act T) (a : After T RwWriterPlace) : 
   pub waking : IsWaking next
   pub is_before : wakes_all act ≡ false
 
-even_done : (T A : Type 0) (w from to : ℕ) (b : Bool) → (w == from) ≡ b → is_odd from ≡ false → is_odd w ≡ true → is_odd (word_after {T = T} words.State (acts.Exchange words.State from to w b) w) ≡ false → A
-even_done T A w from to true done even was now = clash (is_odd w) was (ap is_odd (eqb-true w from done) ∙ even)
-even_done T A w from to false done even was now = clash (is_odd w) was now
-
-odd_done : (T A : Type 0) (w from to : ℕ) (b : Bool) → is_odd to ≡ true → is_odd w ≡ true → is_odd (word_after {T = T} words.State (acts.Exchange words.State from to w b) w) ≡ false → A
-odd_done T A w from to true odd was now = clash (is_odd to) odd now
-odd_done T A w from to false odd was now = clash (is_odd w) was now
-
-unmark_evens :
-    {T : Type 0} (w seen to : ℕ) (b : Bool) → is_odd w ≡ true → is_odd (word_after {T = T} words.State (acts.Exchange words.State seen to w b) w) ≡ false →
-    LeadsToWake {T = T} (acts.Exchange words.State seen to w b) (cond b (afters.At (places.Count leavers.GivenUp)) (unmarks_or_leaves w))
-unmark_evens w seen to true was now = record { next = places.Count leavers.GivenUp; leads = refl; waking = tt; is_before = refl }
-unmark_evens w seen to false was now = clash (is_odd w) was now
-
 evens :
     {T : Type 0} (place : RwWriterPlace) (c : PendingCall T) (hold : Option HoldKind) (memory : Word → ℕ) → AtRwWriter place c hold → Evens (memory words.State) (step_at {T = T} rw_writer_table place hold memory).act →
     LeadsToWake (step_at {T = T} rw_writer_table place hold memory).act (rw_writer_table.after place (value_told {T = T} (carried_out (rw_writer_table.intent place hold) memory)))
-evens places.TryReadLook c hold memory at so = clash _ so.0 so.1
-evens {T} (places.TryRead seen to) c hold memory at so = even_done T _ (memory words.State) seen to (memory words.State == seen) refl (even_word seen at.2.0) so.0 so.1
-evens (places.ReadLook patience) c hold memory at so = clash _ so.0 so.1
-evens {T} (places.Read seen to patience) c hold memory at so = even_done T _ (memory words.State) seen to (memory words.State == seen) refl (even_word seen at.3.0) so.0 so.1
-evens {T} places.TryWrite c hold memory at so = odd_done T _ (memory words.State) 0 (2 ^ 64 - 1) (memory words.State == 0) refl so.0 so.1
-evens (places.WriteLook patience) c hold memory at so = clash _ so.0 so.1
-evens {T} (places.Enter seen patience) c hold memory at so = odd_done T _ (memory words.State) seen (2 ^ 64 - 1) (memory words.State == seen) refl so.0 so.1
-evens {T} (places.Mark seen to patience) c hold memory at so = even_done T _ (memory words.State) seen to (memory words.State == seen) refl (even_word seen at.3.0) so.0 so.1
-evens (places.Unmark seen to) c hold memory at so = unmark_evens (memory words.State) seen to (memory words.State == seen) so.0 so.1
-evens (places.LoadCounter patience) c hold memory at so = clash _ so.0 so.1
-evens (places.LastLook count patience) c hold memory at so = clash _ so.0 so.1
-evens places.Release c None memory at so = absurd cc
-evens places.Release c (Some kinds.Read) memory at so = clash _ (still_odd (memory words.State) so.0) so.1
-  where
-    still_odd : (w : ℕ) → is_odd w ≡ true → is_odd ((w + (2 ^ 64 - 2)) % 2 ^ 64) ≡ true
-    still_odd w is = let odd : w % 2 ≡ 1 = eqb-true (w % 2) 1 is in odd_word ((w + (2 ^ 64 - 2)) % 2 ^ 64) (omega (arith, odd))
-evens places.Release c (Some kinds.Write) memory at so = record { next = places.Count leavers.Writer; leads = refl; waking = tt; is_before = refl }
-evens (places.Count who) c hold memory at so = clash _ so.0 so.1
-evens (places.WakeOne who) c hold memory at so = clash _ so.0 so.1
-evens (places.WakeAll who) c hold memory at so = clash _ so.0 so.1
+evens place c hold memory h1 h2 = grind (arith, nat_tests, eqb-true, eqb-false)
 
 -- from there each step leads on, up to the wake
 waking_step :
     {T : Type 0} (place : RwWriterPlace) (hold : Option HoldKind) (memory : Word → ℕ) → IsWaking place →
     (wakes_all (step_at {T = T} rw_writer_table place hold memory).act ≡ true) ⊎ LeadsToWake (step_at {T = T} rw_writer_table place hold memory).act (rw_writer_table.after place (value_told {T = T} (carried_out (rw_writer_table.intent place hold) memory)))
-waking_step (places.Count who) hold memory waking = inr (record { next = places.WakeOne who; leads = refl; waking = waking; is_before = refl })
-waking_step (places.WakeOne leavers.Reader) hold memory waking = absurd waking
-waking_step (places.WakeOne leavers.Writer) hold memory waking = inr (record { next = places.WakeAll leavers.Writer; leads = refl; waking = tt; is_before = refl })
-waking_step (places.WakeOne leavers.GivenUp) hold memory waking = inr (record { next = places.WakeAll leavers.GivenUp; leads = refl; waking = tt; is_before = refl })
-waking_step (places.WakeAll who) hold memory waking = inl refl
-waking_step place hold memory waking = absurd waking
+waking_step place hold memory h1 = grind (arith, nat_tests, eqb-true, eqb-false)
 
 -- Who owes a wake of all is on the way to it.
 
@@ -135,10 +91,7 @@ abbrev OwesWakeAt : {T : Type 0} → Option (PendingCall T) → Type 0
 OwesWakeAt {T} pending = IsAt (λ (place : RwWriterPlace) (own : List (Event T)). IsWaking place) pending
 
 answered_waking : (place : RwWriterPlace) (action : WaitAction) → IsWaking place → IsWaking (rw_writer_answered place action)
-answered_waking (places.Count who) action waking = waking
-answered_waking (places.WakeOne who) action waking = waking
-answered_waking (places.WakeAll who) action waking = waking
-answered_waking place action waking = absurd waking
+answered_waking place action h1 = grind (arith, nat_tests, eqb-true, eqb-false)
 
 stepped_owes :
     {T : Type 0} (r : ℕ) (c : PendingCall T) (place : RwWriterPlace) (hold : Option HoldKind) (memory : Word → ℕ) → stage_of rw_writer_table c ≡ Some place →
@@ -195,20 +148,16 @@ own_owes {T} z parties past e run why =
         inr (stepped_owes e.party c place (hold_of rw_writer_table e.party past) (word_in rw_writer_table past) stage led, ap (λ (b : After T RwWriterPlace). is_answer (outcome_of b)) led.leads, led.is_before)
 
 which : (evens_now owed : Bool) → cond evens_now true owed ≡ true → (evens_now ≡ true) ⊎ (owed ≡ true)
-which true owed is = inl refl
-which false owed is = inr is
+which evens_now owed h1 = grind (arith, nat_tests, eqb-true, eqb-false)
 
 both : (a b : Bool) → (not a && b) ≡ true → (a ≡ false) × (b ≡ true)
-both true b is = absurd cc
-both false b is = (refl, is)
+both a b h1 = grind (arith, nat_tests, eqb-true, eqb-false)
 
 flipped : (a b : Bool) → a ≡ not b → a ≡ true → b ≡ false
-flipped a true is now = clash a now is
-flipped a false is now = refl
+flipped a b h1 h2 = grind (arith, nat_tests, eqb-true, eqb-false)
 
 flipped_back : (a b : Bool) → a ≡ not b → a ≡ false → b ≡ true
-flipped_back a true is now = refl
-flipped_back a false is now = clash a is now
+flipped_back a b h1 h2 = grind (arith, nat_tests, eqb-true, eqb-false)
 
 evens_word : {T : Type 0} (z : Arithmetic T) (parties : ℕ) (past : List (Event T)) (e : Event T) → IsPast z rw_writer_table parties (e ∷ past) → makes_even e past ≡ true → Evens (word_in rw_writer_table past words.State) e.act
 evens_word z parties past e run makes =
@@ -264,16 +213,13 @@ kept_apart : (b answer wake now rest : Bool) → rest ≡ true → b ≡ false �
 kept_apart b answer wake now rest is apart = rw apart is
 
 kept_own : (b answer wake now rest : Bool) → rest ≡ true → answer ≡ false → wake ≡ false → cond b (cond (answer || wake) false (cond now true rest)) rest ≡ true
-kept_own true answer wake true rest is quiet silent = rw (quiet, silent) refl
-kept_own true answer wake false rest is quiet silent = rw (quiet, silent) is
-kept_own false answer wake now rest is quiet silent = is
+kept_own b answer wake now rest h1 h2 h3 = grind (arith, nat_tests, eqb-true, eqb-false)
 
 woke_still : (a b : Bool) → a ≡ true → (a || b) ≡ true
 woke_still a b is = rw is refl
 
 woke_now : (a b c : Bool) → b ≡ true → c ≡ true → (a || (b && c)) ≡ true
-woke_now true b c is also = refl
-woke_now false b c is also = rw (is, also) refl
+woke_now a b c h1 h2 = grind (arith, nat_tests, eqb-true, eqb-false)
 
 evener_law : {T : Type 0} (z : Arithmetic T) (parties : ℕ) (past : List (Event T)) → IsPast z rw_writer_table parties past → (evener : Evener) → evener_of past ≡ Some evener → IsEvener past evener
 evener_law z parties [] run evener is = absurd cc
@@ -328,54 +274,10 @@ evener_law {T} z parties (e ∷ past) run evener is = by_makes (evener_law z par
 
 -- Where a reader stood that saw an odd word, the word is odd, or somebody has made it even since.
 
-waits_value : {T : Type 0} (n m : ℕ) → ◌≡◌ {A = Then T} (thens.Waits n) (thens.Waits m) → n ≡ m
-waits_value n m is = cc
-
-refused_waits : (T : Type 0) (patience : Patience) (v seen : ℕ) → outcome_of {T = T} (within places.ReadLook (refused patience v)) ≡ thens.Waits seen → v ≡ seen
-refused_waits T patience v seen = by_tests patience.keep (nat_lt patience.spins 10000)
-  where
-    by_tests : (keep left : Bool) →
-        outcome_of {T = T} (within places.ReadLook (cond keep (cond left (afters.At (record { spins = patience.spins + 1; keep = patience.keep })) (afters.Waits patience v)) (afters.Ends answers.Interrupted))) ≡ thens.Waits seen → v ≡ seen
-    by_tests true true is = absurd cc
-    by_tests true false is = waits_value v seen is
-    by_tests false left is = absurd cc
-
-look_waits : (T : Type 0) (patience : Patience) (v seen : ℕ) → outcome_of {T = T} (read_look patience v) ≡ thens.Waits seen → v ≡ seen
-look_waits T patience v seen = by_test (lets_readers_in v)
-  where
-    by_test : (b : Bool) → outcome_of {T = T} (cond b (afters.At (places.Read v (v + 2) patience)) (within places.ReadLook (refused patience v))) ≡ thens.Waits seen → v ≡ seen
-    by_test true is = absurd cc
-    by_test false is = refused_waits T patience v seen is
-
-enter_waits :
-    (T : Type 0) (patience : Patience) (seen_at to w seen : ℕ) (b : Bool) → outcome_of {T = T} (cond b (afters.Ends answers.Success) (read_look patience w)) ≡ thens.Waits seen →
-    (w ≡ seen) × (word_after {T = T} words.State (acts.Exchange words.State seen_at to w b) w ≡ w)
-enter_waits T patience seen_at to w seen true is = absurd cc
-enter_waits T patience seen_at to w seen false is = (look_waits T patience w seen is, refl)
-
-leaver_reads : {T : Type 0} (A : Type 0) (who : Leaver) (c : PendingCall T) → IsLeaver who c → c.call ≡ calls.ReadLock → A
-leaver_reads A leavers.Reader c at read = unlike c.call calls.Unlock calls.ReadLock at read (λ same. absurd cc)
-leaver_reads A leavers.Writer c at read = unlike c.call calls.Unlock calls.ReadLock at read (λ same. absurd cc)
-leaver_reads A leavers.GivenUp c at read = unlike c.call calls.WriteLock calls.ReadLock at.0 read (λ same. absurd cc)
-
 read_step :
     {T : Type 0} (place : RwWriterPlace) (c : PendingCall T) (hold : Option HoldKind) (memory : Word → ℕ) (seen : ℕ) → AtRwWriter place c hold → c.call ≡ calls.ReadLock → (step_at {T = T} rw_writer_table place hold memory).outcome ≡ thens.Waits seen →
     (memory words.State ≡ seen) × (word_after words.State (step_at {T = T} rw_writer_table place hold memory).act (memory words.State) ≡ memory words.State)
-read_step {T} (places.ReadLook patience) c hold memory seen at read is = (look_waits T patience (memory words.State) seen is, refl)
-read_step {T} (places.Read seen_at to patience) c hold memory seen at read is = enter_waits T patience seen_at to (memory words.State) seen (memory words.State == seen_at) is
-read_step places.TryReadLook c hold memory seen at read is = unlike c.call calls.TryReadLock calls.ReadLock at.0 read (λ same. absurd cc)
-read_step (places.TryRead seen_at to) c hold memory seen at read is = unlike c.call calls.TryReadLock calls.ReadLock at.0 read (λ same. absurd cc)
-read_step places.TryWrite c hold memory seen at read is = unlike c.call calls.TryWriteLock calls.ReadLock at.0 read (λ same. absurd cc)
-read_step (places.WriteLook patience) c hold memory seen at read is = unlike c.call calls.WriteLock calls.ReadLock at.0 read (λ same. absurd cc)
-read_step (places.Enter seen_at patience) c hold memory seen at read is = unlike c.call calls.WriteLock calls.ReadLock at.0 read (λ same. absurd cc)
-read_step (places.Mark seen_at to patience) c hold memory seen at read is = unlike c.call calls.WriteLock calls.ReadLock at.0 read (λ same. absurd cc)
-read_step (places.Unmark seen_at to) c hold memory seen at read is = unlike c.call calls.WriteLock calls.ReadLock at.0 read (λ same. absurd cc)
-read_step (places.LoadCounter patience) c hold memory seen at read is = unlike c.call calls.WriteLock calls.ReadLock at.0 read (λ same. absurd cc)
-read_step (places.LastLook count patience) c hold memory seen at read is = unlike c.call calls.WriteLock calls.ReadLock at.0 read (λ same. absurd cc)
-read_step places.Release c hold memory seen at read is = unlike c.call calls.Unlock calls.ReadLock at.0 read (λ same. absurd cc)
-read_step (places.Count who) c hold memory seen at read is = leaver_reads _ who c at read
-read_step (places.WakeOne who) c hold memory seen at read is = leaver_reads _ who c at read
-read_step (places.WakeAll who) c hold memory seen at read is = leaver_reads _ who c at read
+read_step place c hold memory seen h1 h2 h3 = grind (arith, nat_tests, eqb-true, eqb-false)
 
 own_reads :
     {T : Type 0} (z : Arithmetic T) (parties seen : ℕ) (past : List (Event T)) (e : Event T) → IsPast z rw_writer_table parties (e ∷ past) → (c : PendingCall T) → call_of e.party past ≡ Some c → c.call ≡ calls.ReadLock → e.then ≡ thens.Waits seen →

@@ -1,6 +1,8 @@
 -- What each step of a writer-preferring lock does to its word, its holds and its mark.
+use Rattle.std.proofs.lemmas.Bool.{eqb-false}
+use Rattle.std.proofs.lemmas.Bool.Decides.{nat_tests}
 use Rattle.std.proofs.Common.{◌≡◌, ◌≢◌, ℕ, ◌+◌, ◌*◌, ◌-◌, ◌%◌, ◌^◌, ◌<◌, ◌≤◌, ◌==◌, refl, sym, ◌∙◌, ap, subst, Bool, true, false, cond, is_some, List, [], ◌∷◌, Option, Some, None, ◌⊎◌, inl, inr, arith}
-use Rattle.std.proofs.lemmas.Bool.{eqb-true, eq-eqb}
+use Rattle.std.proofs.lemmas.Bool.{eqb-true}
 use Rattle.steps_events.specs.declared.event.Word.{Word}
 use Rattle.steps_events.specs.declared.event.Word.TheVariants as words
 use Rattle.steps_events.specs.declared.event.Call.{Call}
@@ -78,19 +80,7 @@ pub unchanged : (w : ℕ) (holds : List Hold) (marked : Bool) → IsKeptWord w h
 unchanged w holds marked law = record { kept = law; keeps_out = λ more. absurd (omega (arith, more)) }
 
 reader_in : (p w to : ℕ) (holds : List Hold) (marked : Bool) → IsKeptWord w holds marked → hold_among p holds ≡ None → w % 2 ≡ 0 → w < 2 ^ 64 - 4 → to ≡ w + 2 → Keeps holds marked to ((p, kinds.Read) ∷ holds) marked
-reader_in p w to holds marked law free even fits more = by_counts marked law.counts
-  where
-    by_counts : (m : Bool) → CountsHolds w holds m → Keeps holds m to ((p, kinds.Read) ∷ holds) m
-    by_counts true (inl read) = absurd (omega (arith, read.counts, even))
-    by_counts false (inl read) =
-        record {
-          kept = record {
-            counts = inl (record { counts = omega (arith, read.counts, more); unwritten = omega (arith, read.unwritten); fits = omega (arith, read.counts, fits) });
-            each = (free, law.each);
-          };
-          keeps_out = λ gain. refl;
-        }
-    by_counts m (inr written) = absurd (omega (arith, written.is_full, fits))
+reader_in p w to holds marked h1 h2 h3 h4 h5 = grind (arith, nat_tests, eqb-true, eqb-false)
 
 pub held_by_none : (holds : List Hold) → reads_in holds ≡ 0 → writes_in holds ≡ 0 → holds ≡ []
 held_by_none [] reads writes = refl
@@ -112,28 +102,10 @@ writer_in p w to holds marked law unheld full = by_counts law.counts
     by_counts (inr written) = absurd (omega (arith, written.is_full, unheld))
 
 mark_set : (w to : ℕ) (holds : List Hold) (marked : Bool) → IsKeptWord w holds marked → w % 2 ≡ 0 → to ≡ w + 1 → Keeps holds marked to holds true
-mark_set w to holds marked law even more = by_counts marked law.counts
-  where
-    by_counts : (m : Bool) → CountsHolds w holds m → Keeps holds m to holds true
-    by_counts true (inl read) = absurd (omega (arith, read.counts, even))
-    by_counts false (inl read) =
-        record {
-          kept = record { counts = inl (record { counts = omega (arith, read.counts, more); unwritten = read.unwritten; fits = read.fits }); each = law.each };
-          keeps_out = λ gain. refl;
-        }
-    by_counts m (inr written) = absurd (omega (arith, written.is_full, even))
+mark_set w to holds marked h1 h2 h3 = grind (arith, nat_tests, eqb-true, eqb-false)
 
 mark_gone : (w to : ℕ) (holds : List Hold) (marked : Bool) → IsKeptWord w holds marked → w % 2 ≡ 1 → w ≢ 2 ^ 64 - 1 → w ≡ to + 1 → Keeps holds marked to holds false
-mark_gone w to holds marked law odd below less = by_counts marked law.counts
-  where
-    by_counts : (m : Bool) → CountsHolds w holds m → Keeps holds m to holds false
-    by_counts true (inl read) =
-        record {
-          kept = record { counts = inl (record { counts = omega (arith, read.counts, less); unwritten = read.unwritten; fits = read.fits }); each = law.each };
-          keeps_out = λ gain. absurd (omega (arith, gain));
-        }
-    by_counts false (inl read) = absurd (omega (arith, read.counts, odd))
-    by_counts m (inr written) = absurd (below written.is_full)
+mark_gone w to holds marked h1 h2 h3 h4 = grind (arith, nat_tests, eqb-true, eqb-false)
 
 reader_out : (p w : ℕ) (holds : List Hold) (marked : Bool) → IsKeptWord w holds marked → hold_among p holds ≡ Some kinds.Read → Keeps holds marked ((w + (2 ^ 64 - 2)) % 2 ^ 64) (without p holds) marked
 reader_out p w holds marked law had = by_counts marked law.counts
@@ -188,10 +160,7 @@ pub no_mark : (from to : ℕ) → to ≢ from + 1 → is_mark from to ≡ false
 no_mark from to other = eqb_other to (from + 1) (λ is. other (sym is))
 
 pub is_marking : (from to : ℕ) → to ≡ from + 1 → is_mark from to ≡ true
-is_marking from to is = rw is (eqb_is (from + 1))
-  where
-    eqb_is : (n : ℕ) → (n == n) ≡ true
-    eqb_is n = eq-eqb n n refl
+is_marking from to h1 = grind (arith, nat_tests, eqb-true, eqb-false)
 
 exchanged :
     {T : Type 0} (p : ℕ) (c : PendingCall T) (w from to : ℕ) (holds : List Hold) (setter : Option ℕ) → IsKeptWord w holds (is_some setter) → hold_among p holds ≡ None → IsExchange c.call from to → (b : Bool) → (w == from) ≡ b →
