@@ -11,6 +11,8 @@ use atomic_table::{Play, Shared, Table};
 use std::alloc::{AllocError, Allocator, Global};
 use std::marker::Brand;
 use std::ops::Deref;
+use std::sync::Wait;
+use std::time::Duration;
 
 /// The words of an object under its rule. A step on one tells what its `Deed` says, where it keeps the rule. A type keeps them to
 /// itself: who has them can make steps that tell what is not so, though none that breaks the rule.
@@ -46,6 +48,26 @@ impl<K, T: Rule<(), K>> Word<'_, K, T> {
     #[inline(always)]
     pub fn load(&self) -> u64 {
         self.shared.peek(self.index)
+    }
+
+    /// Sleeps if the low 32 bits of the word are `seen`, until a wake of this word. It may also return for no reason.
+    pub fn park<R: Wait>(&self, rt: &R, seen: u32) {
+        self.shared.park(rt, self.index, seen);
+    }
+
+    /// The same, for no longer than `most`.
+    pub fn park_timeout<R: Wait>(&self, rt: &R, seen: u32, most: Duration) {
+        self.shared.park_timeout(rt, self.index, seen, most);
+    }
+
+    /// Wakes one that sleeps on this word, if there is one.
+    pub fn wake_one(&self) {
+        self.shared.wake_one(self.index);
+    }
+
+    /// Wakes all that sleep on this word.
+    pub fn wake_all(&self) {
+        self.shared.wake_all(self.index);
     }
 }
 

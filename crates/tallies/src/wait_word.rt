@@ -4,6 +4,8 @@ ghost use Rattle.std.specs.Prelude.{◌≡◌};
 use crate::{PlayedBarrier, PlayedMutex, PlayedRwReader, PlayedRwWriter, PlayedSemaphore};
 use passes::Word;
 use playing::Shown;
+use std::sync::Wait;
+use std::time::Duration;
 
 /// A word of an object, as wait and wake closures see it. It can be loaded, and no more.
 #[derive(Drop)]
@@ -31,6 +33,52 @@ impl WaitWord<'_> {
             AnyWord::WriterLock(word) => word.load(),
             AnyWord::Semaphore(word) => word.load(),
             AnyWord::Barrier(word) => word.load(),
+        }
+    }
+
+    /// Sleeps if the low 32 bits of the word are those of `seen`, until a wake of this word. It may also return for no reason.
+    pub fn park<R: Wait>(&self, rt: &R, seen: u64) {
+        let low = (seen & 0xffff_ffff) as u32;
+        match &self.word {
+            AnyWord::Mutex(word) => word.park(rt, low),
+            AnyWord::ReaderLock(word) => word.park(rt, low),
+            AnyWord::WriterLock(word) => word.park(rt, low),
+            AnyWord::Semaphore(word) => word.park(rt, low),
+            AnyWord::Barrier(word) => word.park(rt, low),
+        }
+    }
+
+    /// The same, for no longer than `most`.
+    pub fn park_timeout<R: Wait>(&self, rt: &R, seen: u64, most: Duration) {
+        let low = (seen & 0xffff_ffff) as u32;
+        match &self.word {
+            AnyWord::Mutex(word) => word.park_timeout(rt, low, most),
+            AnyWord::ReaderLock(word) => word.park_timeout(rt, low, most),
+            AnyWord::WriterLock(word) => word.park_timeout(rt, low, most),
+            AnyWord::Semaphore(word) => word.park_timeout(rt, low, most),
+            AnyWord::Barrier(word) => word.park_timeout(rt, low, most),
+        }
+    }
+
+    /// Wakes one that sleeps on this word, if there is one.
+    pub fn wake_one(&self) {
+        match &self.word {
+            AnyWord::Mutex(word) => word.wake_one(),
+            AnyWord::ReaderLock(word) => word.wake_one(),
+            AnyWord::WriterLock(word) => word.wake_one(),
+            AnyWord::Semaphore(word) => word.wake_one(),
+            AnyWord::Barrier(word) => word.wake_one(),
+        }
+    }
+
+    /// Wakes all that sleep on this word.
+    pub fn wake_all(&self) {
+        match &self.word {
+            AnyWord::Mutex(word) => word.wake_all(),
+            AnyWord::ReaderLock(word) => word.wake_all(),
+            AnyWord::WriterLock(word) => word.wake_all(),
+            AnyWord::Semaphore(word) => word.wake_all(),
+            AnyWord::Barrier(word) => word.wake_all(),
         }
     }
 }
