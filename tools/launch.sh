@@ -5,7 +5,7 @@
 # reads, and the file that says how that is written; and `arguments`, where it is called with some.
 #
 # A program that stands is run, and one whose sources are no longer those that it was built of is built again first. Where none has been
-# built, the sources are run as they are, unproved, by `rt try`: that takes a minute, and a build many.
+# built, the sources are run as they are, unproved, by `rt try`: each call takes up to a minute, and a build many.
 # Status: the program's own, or 3 where it could not be built or started, or the arguments are none that are known.
 set -euo pipefail
 shopt -s execfail lastpipe globstar nullglob
@@ -167,7 +167,7 @@ build_crate() {
 play_unproved() {
     local said=() line
     need_rt
-    say "not built yet: this is a run of the sources, unproved; ./$name --build proves and builds the program, once"
+    say "not built yet: each call runs the sources, unproved, in up to a minute; ./$name --build proves and builds the program, once"
     { { cd -- "$folder" && rt try; } 2>&1 >&3 3>&- | readarray -t said; } 3>&1 || true
     if ((${#said[@]} == 0)) || [[ ! ${said[-1]} =~ ^run=ended\ status=([0-9]+) ]]; then
         printf '%s\n' "${said[@]}" | { grep -v '^|' || true; } | tail -n 5 >&2 || true

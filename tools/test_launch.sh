@@ -129,7 +129,7 @@ launches() {
 
 # Where nothing is built the sources are run: the text's output, what the program says, and its status come through.
 plays_unproved() {
-    local says="sync-play: not built yet: this is a run of the sources, unproved; ./sync-play --build proves and builds the program, once"
+    local says="sync-play: not built yet: each call runs the sources, unproved, in up to a minute; ./sync-play --build proves and builds the program, once"
     attempt "$top/sync-play" <<<$'1 success\nline 6: waiting\n2'
     judge_line "a text that is played unproved" 2 "1 success" "$says
 line 6: waiting"

@@ -1,7 +1,7 @@
-# `rt ci`, whose last line counts what passed and failed. Its own count goes into the test's. What each crate cost goes to standard error.
-test_ci() {
+# The kit's own gate, from nothing, which tries each edit alone. Its last line counts what passed and failed.
+test_anew() {
     local ended last
-    python3 tools/cost.py rt ci | tee -- "$room/ci"
+    rt ci --anew | tee -- "$room/ci"
     ended=${PIPESTATUS[0]}
     last=$(tail -n 1 -- "$room/ci")
     if [[ ! $last =~ ^([0-9]+)\ passed,\ ([0-9]+)\ failed$ ]]; then
