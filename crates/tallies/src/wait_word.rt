@@ -1,9 +1,7 @@
 //! The word that wait and wake closures see.
-ghost use Rattle.std.specs.Prelude.{◌≡◌};
-
 use crate::{PlayedBarrier, PlayedMutex, PlayedRwReader, PlayedRwWriter, PlayedSemaphore};
 use passes::Word;
-use playing::Shown;
+use playing::{OfWord, Shown};
 use std::sync::Wait;
 use std::time::Duration;
 
@@ -92,28 +90,26 @@ impl Shown for WaitWord<'_> {
     ghost index = { index_shown };
 }
 
-impl<'t> From<Word<'t, (), PlayedMutex>> for WaitWord<'t> {
-    ghost use Rattle.tallies.specs.Shown.{object_shown, index_shown};
+impl<'t> OfWord<Word<'t, (), PlayedMutex>> for WaitWord<'t> {
+    ghost use Rattle.tallies.specs.Shown.{Shows};
+
+    ghost shows = { Shows };
 
     #[inline(always)]
-    fn from(word: Word<'t, (), PlayedMutex>) -> WaitWord<'t>
-        ensures object { object_shown result ≡ word.entry.shared.now.table_id }
-        ensures index { index_shown result ≡ word.entry.index }
-    {
+    fn of(word: Word<'t, (), PlayedMutex>) -> WaitWord<'t> {
         WaitWord {
             word: AnyWord::Mutex(word),
         }
     }
 }
 
-impl<'t> From<Word<'t, (), PlayedRwReader>> for WaitWord<'t> {
-    ghost use Rattle.tallies.specs.Shown.{object_shown, index_shown};
+impl<'t> OfWord<Word<'t, (), PlayedRwReader>> for WaitWord<'t> {
+    ghost use Rattle.tallies.specs.Shown.{Shows};
+
+    ghost shows = { Shows };
 
     #[inline(always)]
-    fn from(word: Word<'t, (), PlayedRwReader>) -> WaitWord<'t>
-        ensures object { object_shown result ≡ word.entry.shared.now.table_id }
-        ensures index { index_shown result ≡ word.entry.index }
-    {
+    fn of(word: Word<'t, (), PlayedRwReader>) -> WaitWord<'t> {
         WaitWord {
             word: AnyWord::ReaderLock(word),
         }
@@ -121,42 +117,39 @@ impl<'t> From<Word<'t, (), PlayedRwReader>> for WaitWord<'t> {
 }
 
 /// Either word of a writer-preferring lock: its own, or its wake counter.
-impl<'t> From<Word<'t, (), PlayedRwWriter>> for WaitWord<'t> {
-    ghost use Rattle.tallies.specs.Shown.{object_shown, index_shown};
+impl<'t> OfWord<Word<'t, (), PlayedRwWriter>> for WaitWord<'t> {
+    ghost use Rattle.tallies.specs.Shown.{Shows};
+
+    ghost shows = { Shows };
 
     #[inline(always)]
-    fn from(word: Word<'t, (), PlayedRwWriter>) -> WaitWord<'t>
-        ensures object { object_shown result ≡ word.entry.shared.now.table_id }
-        ensures index { index_shown result ≡ word.entry.index }
-    {
+    fn of(word: Word<'t, (), PlayedRwWriter>) -> WaitWord<'t> {
         WaitWord {
             word: AnyWord::WriterLock(word),
         }
     }
 }
 
-impl<'t> From<Word<'t, u64, PlayedSemaphore>> for WaitWord<'t> {
-    ghost use Rattle.tallies.specs.Shown.{object_shown, index_shown};
+impl<'t> OfWord<Word<'t, u64, PlayedSemaphore>> for WaitWord<'t> {
+    ghost use Rattle.tallies.specs.Shown.{Shows};
+
+    ghost shows = { Shows };
 
     #[inline(always)]
-    fn from(word: Word<'t, u64, PlayedSemaphore>) -> WaitWord<'t>
-        ensures object { object_shown result ≡ word.entry.shared.now.table_id }
-        ensures index { index_shown result ≡ word.entry.index }
-    {
+    fn of(word: Word<'t, u64, PlayedSemaphore>) -> WaitWord<'t> {
         WaitWord {
             word: AnyWord::Semaphore(word),
         }
     }
 }
 
-impl<'t> From<Word<'t, u32, PlayedBarrier>> for WaitWord<'t> {
-    ghost use Rattle.tallies.specs.Shown.{object_shown, index_shown};
+impl<'t> OfWord<Word<'t, u32, PlayedBarrier>> for WaitWord<'t> {
+    ghost use Rattle.tallies.specs.Shown.{Shows};
+
+    ghost shows = { Shows };
 
     #[inline(always)]
-    fn from(word: Word<'t, u32, PlayedBarrier>) -> WaitWord<'t>
-        ensures object { object_shown result ≡ word.entry.shared.now.table_id }
-        ensures index { index_shown result ≡ word.entry.index }
-    {
+    fn of(word: Word<'t, u32, PlayedBarrier>) -> WaitWord<'t> {
         WaitWord {
             word: AnyWord::Barrier(word),
         }
