@@ -2,7 +2,7 @@
 #
 # Sourced, with the call's arguments, by a script at the top that bears the program's name and sets `top`, the repository's folder,
 # `crate`, the program's, and `does`, what it does, in a few words; `reads` and `usage`, where it reads no schedule text: what it
-# reads, and the file that says how that is written; and `arguments`, where it is called with some.
+# reads, and the file that says how that is written; `arguments`, where it is called with some; and `also`, a further form of call.
 #
 # A program that stands is run, and one whose sources are no longer those that it was built of is built again first. Where none has been
 # built, the sources are run as they are, unproved, by `rt try`: each call takes up to a minute, and a build many.
@@ -183,7 +183,7 @@ play_unproved() {
 
 tell_usage() {
     printf '%s\n' "$name: $does" "    ./$name < FILE      does so with $reads, read from standard input" \
-        "    ./$name --build     proves and builds the program, where it is not built of these sources" ""
+        "    ./$name --build     proves and builds the program, where it is not built of these sources" "${also:+$also$'\n'}"
     cat -- "$usage"
 }
 
