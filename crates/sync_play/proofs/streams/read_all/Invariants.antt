@@ -1,6 +1,6 @@
 use Rattle.std.proofs.Common.{◌^◌, ◌-◌, vec_len}
 use Rattle.std.specs.Io.KnownBytes.{Consumes}
-use Rattle.sync_play.proofs.run.read_all.Given as goal
+use Rattle.sync_play.proofs.streams.read_all.Given as goal
 
 abbrev pub invariant-loop-text : goal.invariant-loop-text
 invariant-loop-text g l = Consumes (g.R.Read.remaining l.initial.reader) (g.R.Read.remaining l.reader) l.text.items
