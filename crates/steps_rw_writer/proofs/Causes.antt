@@ -17,7 +17,7 @@ use Rattle.steps_events.specs.declared.patience.Patience.{Patience}
 use Rattle.steps_events.specs.declared.row.After.{After}
 use Rattle.steps_events.specs.declared.row.After.TheVariants as afters
 use Rattle.steps_events.specs.Arithmetic.{Arithmetic}
-use Rattle.steps_events.specs.Rows.{carried_out, value_told, outcome_of, within}
+use Rattle.steps_events.specs.Rows.{carried_out, value_told, outcome_of}
 use Rattle.steps_events.specs.Past.{PendingCall, call_of, call_after, Hold, holds_of, hold_of, word_in, event, is_failure}
 use Rattle.steps_events.specs.HoldCounts.{reads_in}
 use Rattle.steps_events.specs.Moves.{Move, step_at}
