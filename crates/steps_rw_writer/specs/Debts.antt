@@ -61,10 +61,10 @@ pub record StandsWith {T : Type 0} (party count : ℕ) (past : List (Event T)) :
   pub writes : call.call ≡ calls.WriteLock
   pub stands : latest_outcome call.own ≡ thens.Waits count
 
--- No wake is lost: while a writer stands, and fewer than 2 ^ 64 adds came on the counter since it loaded it, some party owes a counter
+-- No count is lost: while a writer stands, and fewer than 2 ^ 64 adds came on the counter since it loaded it, some party owes a counter
 -- step wherever the counter is what it loaded and the lock is not blocked.
-abbrev pub NoWakeIsLost : {T : Type 0} → List (Event T) → Type 0
-NoWakeIsLost past =
+abbrev pub NoCountIsLost : {T : Type 0} → List (Event T) → Type 0
+NoCountIsLost past =
     (party count : ℕ) → StandsWith party count past → counts_since_load party past < 2 ^ 64 → word_in rw_writer_table past words.Counter ≡ count → is_blocked_after past ≡ false →
     (q : ℕ) × (owes_count q past ≡ true)
 

@@ -23,7 +23,7 @@ use Rattle.steps_events.specs.Asks.{SpinCount, but_last_try, Refusing, whole_cal
 use Rattle.steps_events.specs.Laws.{IsLocked, Keeps}
 use Rattle.steps_rw_writer.specs.Table.{rw_writer_table}
 use Rattle.steps_rw_writer.specs.Marks.{is_one_more, setter_of, is_marked_after, has_marked}
-use Rattle.steps_rw_writer.specs.Debts.{loads_count, is_blocked_after, NoWakeIsLost, PaysNext, ReadersAreWoken, CounterCountsAdds}
+use Rattle.steps_rw_writer.specs.Debts.{loads_count, is_blocked_after, NoCountIsLost, PaysNext, ReadersAreWoken, CounterCountsAdds}
 
 -- What the word lets a call do, in numbers: no test is the table's, which would turn with it.
 
@@ -321,7 +321,7 @@ pub record RwWriterLaw {T : Type 0} (past : List (Event T)) : Type 0 where
   -- the counter is the number of adds on it so far, modulo 2 ^ 64
   pub adds : CounterCountsAdds past
   -- while a writer stands, whoever frees the lock owes a counter step until it has made it
-  pub counted : NoWakeIsLost past
+  pub counted : NoCountIsLost past
   -- and makes it in its next step
   pub pays : PaysNext past
   -- while a reader stands that saw an odd word, whoever makes the word even owes a wake of all until it has made it

@@ -13,7 +13,7 @@ ghost use Rattle.sync_steps.specs.Machine.Places.{TellsWatched};
 use steps_events::atomic::internal::AtomicInteger;
 
 /// At every front of every run, of any object and any number of parties, the headline holds: each lock has one writer or
-/// only readers, a writer-preferring lock loses no wake and leaves no mark, no more permits are taken than given, a wait at a
+/// only readers, a writer-preferring lock loses no count and leaves no mark, no more permits are taken than given, a wait at a
 /// condition variable tells whether it was signalled, a barrier's call passes only once its round is full, a once's one
 /// closure ends before any call tells of it, and every refusal has its cause. It says so of the definitions alone, and
 /// does nothing.
