@@ -184,7 +184,7 @@ def test(lane, crate, jobs):
 
 
 def attempt(lane, crate, jobs):
-    status, said = lane.run(crate, ["rt", "try", "--test", "--seconds", "600"])
+    status, said = lane.run(crate, ["rt", "try", "--test", "--seconds", "1800"])
     found = RESULT.search(said)
     if not found or status and found[2] == "0":
         return Told(0, 1, "its tests could not be run", why_of(said))
@@ -222,7 +222,7 @@ def play(lane, crate, jobs):
             shutil.copy(read.format(name), f"{room}/{name}")
             shutil.copy(shown, f"{room}/{name}.stdout")
             number += 1
-        status, said = lane.run(crate, ["rt", "try", "--seconds", "600", "--cases", room])
+        status, said = lane.run(crate, ["rt", "try", "--seconds", "1800", "--cases", room])
     if status:
         return Told(0, 1, "an example is not as it should be", why_of(said))
     return Told(number, 0, f"{number} examples are as they should be, unproved")
