@@ -7,6 +7,7 @@ use crate::origin::Origin;
 use crate::pass::Pass;
 use crate::rule::{Rule, SumRule};
 use crate::view::View;
+use crate::watched::low_half;
 use atomic_table::{Play, Shared, Table};
 use std::alloc::{AllocError, Allocator, Global};
 use std::marker::Brand;
@@ -35,7 +36,7 @@ impl<K, T: Rule<(), K>, A: Allocator> Deref for Words<K, T, A> {
     }
 }
 
-/// One of the words, which can be loaded, and no more.
+/// One of the words, which can be loaded and slept on, and no more.
 #[derive(Drop)]
 pub struct Word<'t, K, T: Rule<(), K>> {
     pub(crate) shared: &'t Shared<(), View<T>, K, SumRule<T>>,
@@ -50,22 +51,24 @@ impl<K, T: Rule<(), K>> Word<'_, K, T> {
         self.shared.peek(self.index)
     }
 
-    /// Sleeps if the low 32 bits of the word are `seen`, until a wake of this word. It may also return for no reason.
-    pub fn park<R: Wait>(&self, rt: &R, seen: u32) {
-        self.shared.park(rt, self.index, seen);
+    /// Sleeps until this word is woken, as on a futex; it does not fall asleep where the word's low 32 bits are no longer those of
+    /// `seen`, and sees no change above them. It may also return for no reason, so who calls it looks again. No word is changed.
+    pub fn park<R: Wait>(&self, rt: &R, seen: u64) {
+        self.shared.park(rt, self.index, low_half(seen));
     }
 
     /// The same, for no longer than `most`.
-    pub fn park_timeout<R: Wait>(&self, rt: &R, seen: u32, most: Duration) {
-        self.shared.park_timeout(rt, self.index, seen, most);
+    pub fn park_timeout<R: Wait>(&self, rt: &R, seen: u64, most: Duration) {
+        self.shared
+            .park_timeout(rt, self.index, low_half(seen), most);
     }
 
-    /// Wakes one that sleeps on this word, if there is one.
+    /// Wakes one that sleeps on this word, if there is one: a call of the system, also where nobody sleeps.
     pub fn wake_one(&self) {
         self.shared.wake_one(self.index);
     }
 
-    /// Wakes all that sleep on this word.
+    /// Wakes all that sleep on this word, likewise.
     pub fn wake_all(&self) {
         self.shared.wake_all(self.index);
     }

@@ -3,10 +3,12 @@ ghost use Rattle.std.specs.Prelude.{◌≡◌};
 
 use crate::rule::GuardedRule;
 use atomic_table::Shared;
-use passes::View;
+use passes::{View, Watched, low_half};
+use std::sync::Wait;
+use std::time::Duration;
 use tallies::PlayedMutex;
 
-/// The word of a guarded value, as wait and wake closures see it. It can be loaded, and no more.
+/// The word of a guarded value, as wait and wake closures see it. It can be loaded and slept on, and no more.
 #[derive(Drop)]
 pub struct GuardedWord<'t, T> {
     pub(crate) shared: &'t Shared<Option<T>, View<PlayedMutex>, (), GuardedRule>,
@@ -19,5 +21,32 @@ impl<T> GuardedWord<'_, T> {
     #[inline(always)]
     pub fn load(&self) -> u64 {
         self.shared.peek(0)
+    }
+    /// Sleeps until this word is woken, as on a futex, and does not fall asleep where its low 32 bits, which are all that it uses, are no
+    /// longer those of `seen`. It may also return for no reason. No word is changed.
+    pub fn park<R: Wait>(&self, rt: &R, seen: u64) {
+        self.shared.park(rt, 0, low_half(seen));
+    }
+
+    /// The same, for no longer than `most`.
+    pub fn park_timeout<R: Wait>(&self, rt: &R, seen: u64, most: Duration) {
+        self.shared.park_timeout(rt, 0, low_half(seen), most);
+    }
+
+    /// Wakes one that sleeps on this word, if there is one: a call of the system, also where nobody sleeps.
+    pub fn wake_one(&self) {
+        self.shared.wake_one(0);
+    }
+
+    /// Wakes all that sleep on this word, likewise.
+    pub fn wake_all(&self) {
+        self.shared.wake_all(0);
+    }
+}
+
+impl<T> Watched for GuardedWord<'_, T> {
+    #[inline(always)]
+    fn load(&self) -> u64 {
+        GuardedWord::load(self)
     }
 }

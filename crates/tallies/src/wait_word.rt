@@ -2,12 +2,12 @@
 ghost use Rattle.std.specs.Prelude.{◌≡◌};
 
 use crate::{PlayedBarrier, PlayedMutex, PlayedRwReader, PlayedRwWriter, PlayedSemaphore};
-use passes::Word;
+use passes::{Watched, Word};
 use playing::Shown;
 use std::sync::Wait;
 use std::time::Duration;
 
-/// A word of an object, as wait and wake closures see it. It can be loaded, and no more.
+/// A word of an object, as wait and wake closures see it. It can be loaded and slept on, and no more.
 #[derive(Drop)]
 pub struct WaitWord<'t> {
     word: AnyWord<'t>,
@@ -36,31 +36,31 @@ impl WaitWord<'_> {
         }
     }
 
-    /// Sleeps if the low 32 bits of the word are those of `seen`, until a wake of this word. It may also return for no reason.
+    /// Sleeps until this word is woken, as on a futex, and does not fall asleep where it is no longer `seen`. Of the two only the low 32
+    /// bits are compared: that is all of what a mutex or a reader-writer lock waits for, but not of a barrier's rounds, nor of 2^32
+    /// permits, where `park_timeout` or `Sleepers` are right. It may also return for no reason. No word is changed.
     pub fn park<R: Wait>(&self, rt: &R, seen: u64) {
-        let low = (seen & 0xffff_ffff) as u32;
         match &self.word {
-            AnyWord::Mutex(word) => word.park(rt, low),
-            AnyWord::ReaderLock(word) => word.park(rt, low),
-            AnyWord::WriterLock(word) => word.park(rt, low),
-            AnyWord::Semaphore(word) => word.park(rt, low),
-            AnyWord::Barrier(word) => word.park(rt, low),
+            AnyWord::Mutex(word) => word.park(rt, seen),
+            AnyWord::ReaderLock(word) => word.park(rt, seen),
+            AnyWord::WriterLock(word) => word.park(rt, seen),
+            AnyWord::Semaphore(word) => word.park(rt, seen),
+            AnyWord::Barrier(word) => word.park(rt, seen),
         }
     }
 
     /// The same, for no longer than `most`.
     pub fn park_timeout<R: Wait>(&self, rt: &R, seen: u64, most: Duration) {
-        let low = (seen & 0xffff_ffff) as u32;
         match &self.word {
-            AnyWord::Mutex(word) => word.park_timeout(rt, low, most),
-            AnyWord::ReaderLock(word) => word.park_timeout(rt, low, most),
-            AnyWord::WriterLock(word) => word.park_timeout(rt, low, most),
-            AnyWord::Semaphore(word) => word.park_timeout(rt, low, most),
-            AnyWord::Barrier(word) => word.park_timeout(rt, low, most),
+            AnyWord::Mutex(word) => word.park_timeout(rt, seen, most),
+            AnyWord::ReaderLock(word) => word.park_timeout(rt, seen, most),
+            AnyWord::WriterLock(word) => word.park_timeout(rt, seen, most),
+            AnyWord::Semaphore(word) => word.park_timeout(rt, seen, most),
+            AnyWord::Barrier(word) => word.park_timeout(rt, seen, most),
         }
     }
 
-    /// Wakes one that sleeps on this word, if there is one.
+    /// Wakes one that sleeps on this word, if there is one: a call of the system, also where nobody sleeps.
     pub fn wake_one(&self) {
         match &self.word {
             AnyWord::Mutex(word) => word.wake_one(),
@@ -71,7 +71,7 @@ impl WaitWord<'_> {
         }
     }
 
-    /// Wakes all that sleep on this word.
+    /// Wakes all that sleep on this word, likewise.
     pub fn wake_all(&self) {
         match &self.word {
             AnyWord::Mutex(word) => word.wake_all(),
@@ -80,6 +80,13 @@ impl WaitWord<'_> {
             AnyWord::Semaphore(word) => word.wake_all(),
             AnyWord::Barrier(word) => word.wake_all(),
         }
+    }
+}
+
+impl Watched for WaitWord<'_> {
+    #[inline(always)]
+    fn load(&self) -> u64 {
+        WaitWord::load(self)
     }
 }
 
