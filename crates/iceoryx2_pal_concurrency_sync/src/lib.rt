@@ -16,7 +16,7 @@ pub mod strategy;
 mod tests;
 
 pub use closures::{Sleepers, wake_nobody, yield_and_go_on};
-pub use passes::WaitResult;
+pub use passes::{WaitResult, Watched};
 pub use sharing::{Shares, in_threads};
 pub use sync_steps::{SPIN_REPETITIONS, WaitAction, steps};
 pub use tallies::WaitWord;

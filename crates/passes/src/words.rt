@@ -7,7 +7,7 @@ use crate::origin::Origin;
 use crate::pass::Pass;
 use crate::rule::{Rule, SumRule};
 use crate::view::View;
-use crate::watched::low_half;
+use crate::watched::{Watched, low_half};
 use atomic_table::{Play, Shared, Table};
 use std::alloc::{AllocError, Allocator, Global};
 use std::marker::Brand;
@@ -50,26 +50,28 @@ impl<K, T: Rule<(), K>> Word<'_, K, T> {
     pub fn load(&self) -> u64 {
         self.shared.peek(self.index)
     }
+}
 
-    /// Sleeps until this word is woken, as on a futex; it does not fall asleep where the word's low 32 bits are no longer those of
-    /// `seen`, and sees no change above them. It may also return for no reason, so who calls it looks again. No word is changed.
-    pub fn park<R: Wait>(&self, rt: &R, seen: u64) {
+impl<K, T: Rule<(), K>> Watched for Word<'_, K, T> {
+    #[inline(always)]
+    fn load(&self) -> u64 {
+        Word::load(self)
+    }
+
+    fn park<R: Wait>(&self, rt: &R, seen: u64) {
         self.shared.park(rt, self.index, low_half(seen));
     }
 
-    /// The same, for no longer than `most`.
-    pub fn park_timeout<R: Wait>(&self, rt: &R, seen: u64, most: Duration) {
+    fn park_timeout<R: Wait>(&self, rt: &R, seen: u64, most: Duration) {
         self.shared
             .park_timeout(rt, self.index, low_half(seen), most);
     }
 
-    /// Wakes one that sleeps on this word, if there is one: a call of the system, also where nobody sleeps.
-    pub fn wake_one(&self) {
+    fn wake_one(&self) {
         self.shared.wake_one(self.index);
     }
 
-    /// Wakes all that sleep on this word, likewise.
-    pub fn wake_all(&self) {
+    fn wake_all(&self) {
         self.shared.wake_all(self.index);
     }
 }

@@ -22,31 +22,27 @@ impl<T> GuardedWord<'_, T> {
     pub fn load(&self) -> u64 {
         self.shared.peek(0)
     }
-    /// Sleeps until this word is woken, as on a futex, and does not fall asleep where its low 32 bits, which are all that it uses, are no
-    /// longer those of `seen`. It may also return for no reason. No word is changed.
-    pub fn park<R: Wait>(&self, rt: &R, seen: u64) {
-        self.shared.park(rt, 0, low_half(seen));
-    }
-
-    /// The same, for no longer than `most`.
-    pub fn park_timeout<R: Wait>(&self, rt: &R, seen: u64, most: Duration) {
-        self.shared.park_timeout(rt, 0, low_half(seen), most);
-    }
-
-    /// Wakes one that sleeps on this word, if there is one: a call of the system, also where nobody sleeps.
-    pub fn wake_one(&self) {
-        self.shared.wake_one(0);
-    }
-
-    /// Wakes all that sleep on this word, likewise.
-    pub fn wake_all(&self) {
-        self.shared.wake_all(0);
-    }
 }
 
 impl<T> Watched for GuardedWord<'_, T> {
     #[inline(always)]
     fn load(&self) -> u64 {
         GuardedWord::load(self)
+    }
+
+    fn park<R: Wait>(&self, rt: &R, seen: u64) {
+        self.shared.park(rt, 0, low_half(seen));
+    }
+
+    fn park_timeout<R: Wait>(&self, rt: &R, seen: u64, most: Duration) {
+        self.shared.park_timeout(rt, 0, low_half(seen), most);
+    }
+
+    fn wake_one(&self) {
+        self.shared.wake_one(0);
+    }
+
+    fn wake_all(&self) {
+        self.shared.wake_all(0);
     }
 }

@@ -35,11 +35,15 @@ impl WaitWord<'_> {
             AnyWord::Barrier(word) => word.load(),
         }
     }
+}
 
-    /// Sleeps until this word is woken, as on a futex, and does not fall asleep where it is no longer `seen`. Of the two only the low 32
-    /// bits are compared: that is all of what a mutex or a reader-writer lock waits for, but not of a barrier's rounds, nor of 2^32
-    /// permits, where `park_timeout` or `Sleepers` are right. It may also return for no reason. No word is changed.
-    pub fn park<R: Wait>(&self, rt: &R, seen: u64) {
+impl Watched for WaitWord<'_> {
+    #[inline(always)]
+    fn load(&self) -> u64 {
+        WaitWord::load(self)
+    }
+
+    fn park<R: Wait>(&self, rt: &R, seen: u64) {
         match &self.word {
             AnyWord::Mutex(word) => word.park(rt, seen),
             AnyWord::ReaderLock(word) => word.park(rt, seen),
@@ -49,8 +53,7 @@ impl WaitWord<'_> {
         }
     }
 
-    /// The same, for no longer than `most`.
-    pub fn park_timeout<R: Wait>(&self, rt: &R, seen: u64, most: Duration) {
+    fn park_timeout<R: Wait>(&self, rt: &R, seen: u64, most: Duration) {
         match &self.word {
             AnyWord::Mutex(word) => word.park_timeout(rt, seen, most),
             AnyWord::ReaderLock(word) => word.park_timeout(rt, seen, most),
@@ -60,8 +63,7 @@ impl WaitWord<'_> {
         }
     }
 
-    /// Wakes one that sleeps on this word, if there is one: a call of the system, also where nobody sleeps.
-    pub fn wake_one(&self) {
+    fn wake_one(&self) {
         match &self.word {
             AnyWord::Mutex(word) => word.wake_one(),
             AnyWord::ReaderLock(word) => word.wake_one(),
@@ -71,8 +73,7 @@ impl WaitWord<'_> {
         }
     }
 
-    /// Wakes all that sleep on this word, likewise.
-    pub fn wake_all(&self) {
+    fn wake_all(&self) {
         match &self.word {
             AnyWord::Mutex(word) => word.wake_all(),
             AnyWord::ReaderLock(word) => word.wake_all(),
@@ -80,13 +81,6 @@ impl WaitWord<'_> {
             AnyWord::Semaphore(word) => word.wake_all(),
             AnyWord::Barrier(word) => word.wake_all(),
         }
-    }
-}
-
-impl Watched for WaitWord<'_> {
-    #[inline(always)]
-    fn load(&self) -> u64 {
-        WaitWord::load(self)
     }
 }
 
