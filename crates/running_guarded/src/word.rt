@@ -3,11 +3,13 @@ ghost use Rattle.std.specs.Prelude.{◌≡◌};
 
 use crate::rule::GuardedRule;
 use atomic_table::Shared;
-use passes::View;
+use passes::{View, Watched, low_half};
 use playing::{Sealed, Shown};
+use std::sync::Wait;
+use std::time::Duration;
 use tallies::PlayedMutex;
 
-/// The word of a guarded value, as wait and wake closures see it. It can be loaded, and no more.
+/// The word of a guarded value, as wait and wake closures see it. It can be loaded and slept on, and no more.
 #[derive(Drop)]
 pub struct GuardedWord<'t, T> {
     shared: &'t Shared<Option<T>, View<PlayedMutex>, (), GuardedRule>,
@@ -42,5 +44,28 @@ impl<'t, T> GuardedWord<'t, T> {
     #[inline(always)]
     pub fn load(&self) -> u64 {
         self.shared.peek(0)
+    }
+}
+
+impl<T> Watched for GuardedWord<'_, T> {
+    #[inline(always)]
+    fn load(&self) -> u64 {
+        GuardedWord::load(self)
+    }
+
+    fn park<R: Wait>(&self, rt: &R, seen: u64) {
+        self.shared.park(rt, 0, low_half(seen));
+    }
+
+    fn park_timeout<R: Wait>(&self, rt: &R, seen: u64, most: Duration) {
+        self.shared.park_timeout(rt, 0, low_half(seen), most);
+    }
+
+    fn wake_one(&self) {
+        self.shared.wake_one(0);
+    }
+
+    fn wake_all(&self) {
+        self.shared.wake_all(0);
     }
 }
