@@ -3,8 +3,8 @@ test_copy() {
     local to=$room/copy names="passes playing running_once steps_events steps_once"
     attempt tools/copy-library "$to" once
     judge_line "a once" 0 "copied: 5 crates" ""
-    ls -- "$to/crates" >"$room/out"
-    attempt paste -sd ' ' "$room/out"
+    ls -- "$to/crates" >"$room/names"
+    attempt paste -sd " " -- "$room/names"
     judge_line "its crates" 0 "$names" ""
     attempt grep -cxFf "$to/crates.txt" crates.txt
     judge_line "their lines" 0 5 ""
