@@ -7,7 +7,7 @@ test_pages() {
         judge "$page" 0 "$page" /dev/null
     done
     if ! command -v chromium >/dev/null; then
-        echo "pages: no chromium is at hand, so no page was opened"
+        skip pages "no chromium is at hand, so no page was opened"
         return
     fi
     shows "" "" "step 1" "word 0 counter 0, nobody holds, nobody waits"
