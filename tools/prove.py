@@ -16,6 +16,7 @@ which goes to the file too.
 """
 import argparse
 import concurrent.futures
+import fcntl
 import glob
 import os
 import re
@@ -420,6 +421,13 @@ def main(words):
             if ("edits", name) in tasks:
                 tasks["edits", name].behind += 1_000_000 * (at + 1)
     at, began = lanes_at(top), os.times()
+    os.makedirs(at, exist_ok=True)
+    held = open(f"{at}/lock", "w", encoding="utf-8")
+    try:
+        fcntl.flock(held, fcntl.LOCK_EX | fcntl.LOCK_NB)
+    except BlockingIOError:
+        print("waiting for another call in this checkout to end", flush=True)
+        fcntl.flock(held, fcntl.LOCK_EX)
     lanes = [Lane(top, f"{at}/{number}") for number in range(max(1, min(asked.lanes, len(tasks))))]
     try:
         given = run_all(tasks, lanes, Progress(tasks))

@@ -11,3 +11,4 @@ pub mod Attempts
 pub mod Patience
 pub mod Holding
 pub mod OfARun
+pub mod Over

@@ -24,13 +24,13 @@ use Rattle.steps_events.specs.Rows.{carried_out, value_told, outcome_of, place_a
 use Rattle.steps_events.specs.Past.{PendingCall, word_after, call_of, call_after, call_going_on, hold_of, hold_after, hold_taken, hold_or, is_release, word_in, latest_outcome, event}
 use Rattle.steps_events.specs.Moves.{stage_of, next_stage, begin_fault, IsNext}
 use Rattle.steps_events.specs.Runs.{IsPast}
-use Rattle.steps_events.proofs.Holds.{call_of_same, hold_of_same}
+use Rattle.steps_events.proofs.Holds.{eqb_same, call_of_same, hold_of_same}
 use Rattle.steps_events.proofs.Steps.{carried_goes_on, carried_stage}
 use Rattle.playing.specs.Models.{Model}
 use Rattle.playing.specs.Slots.{Slot, Free, Mine, Torn, both, all, slot_at, only, Parties, parties, all_of, both_parties}
 use Rattle.playing.specs.SlotLaws.{free_adds, group_all, all_of_both, slot_of_all, slot_of_only, slot_of_other, slot_past_end}
 use Rattle.playing.specs.Words.{AllHold, AreApart, IsNamed, IsStepOn, IsAside, IsOnNoWord, effect}
-use Rattle.playing.specs.Plays.{events_of, Matches, fresh_call, Coming, Going, Beginning, Continuing, Answered, Choosing, Aside, IsPlayed, IsAt, WasAnswered, HasEnded, MayBegin, Begins, BeginsHolding, GoesOnAfter, GoesOnChoosing, ComesBy, act_at, hold_then, Leads, Led}
+use Rattle.playing.specs.Plays.{events_of, Matches, IsQuietSince, fresh_call, Coming, Going, Beginning, Continuing, Answered, Choosing, Aside, IsPlayed, IsAt, WasAnswered, HasEnded, MayBegin, Begins, BeginsHolding, GoesOnAfter, GoesOnChoosing, ComesBy, act_at, hold_then, Leads, Led}
 use Rattle.playing.proofs.Own.{events_of_other, own_call, own_hold, absent}
 use Rattle.playing.proofs.Next.{run_of_more, begins_next, answers_next, chooses_next, goes_next}
 use Rattle.playing.proofs.Asides.{aside_tells_nothing, aside_leaves_words, aside_leaves_holds}
@@ -312,6 +312,46 @@ module _ {V P : Type 0} (m : Model V P) (names : List Word) where
   still Says quiet (Choosing choice) found p rest call place hold done r comes is = quiet r.past _ tt is
   still Says quiet Aside found p rest call place hold done r comes is = quiet r.past _ (is_on_no_word (m.table.intent comes.from hold) (word_in m.table r.past) comes.aside) is
 
+  -- What the party had made right before the step.
+  pub record Came (p : Parties V) (done : List (Slot V)) (q : ℕ) (past : List (Event V)) : Type 0 where
+    pub own : List (Event V)
+    pub was : ((all_of p ≡ done) × (own ≡ [])) ⊎ (all_of p ≡ all (only q (Mine own)) done)
+    pub since : IsQuietSince own (events_of q past)
+
+  acted : (p : Parties V) (done acting : List (Slot V)) → p.acting ≡ acting → p.resting ≡ done → all_of p ≡ all acting done
+  acted p done acting first second = λ i. all (first i) (second i)
+
+  own_again : (q : ℕ) (act : Act V) (past : List (Event V)) (own : List (Event V)) → events_of q past ≡ own → events_of q (event q act thens.GoesOn ∷ past) ≡ event q act thens.GoesOn ∷ own
+  own_again q act past own is = rw (eqb_same q) (ap (λ (o : List (Event V)). event q act thens.GoesOn ∷ o) is)
+
+  pub came : (coming : Coming V) (found : List ℕ) (p rest : Parties V) (call : Call V) (place : P) (hold : Option HoldKind) (done : List (Slot V)) →
+      (r : IsPlayed m names found (both_parties p rest)) (comes : ComesBy m coming call place hold done p) →
+      Came p done (ready coming found p rest call place hold done r comes).party (ready coming found p rest call place hold done r comes).past
+  unfolding ready ready_at ready_begins begin_of ready_continues ready_answered ready_chooses step_aside
+  came Going found p rest call place hold done r comes =
+      let here = parted (all done (all_of rest)) r.past comes.party comes.own (moved r.past _ _ (with_acting p rest done (only comes.party (Mine comes.own)) comes.acting comes.resting) r.each) in
+      record { own = comes.own; was = inr (acted p done _ comes.acting comes.resting); since = inl here.1 }
+  came (Beginning begun) found p rest call place hold done r comes =
+      let q : ℕ = r.parties + length (all done (all_of rest)) in
+      record { own = []; was = inl (comes.1.others, refl); since = inr (event q (acts.Begun call) thens.GoesOn, tt, own_again q (acts.Begun call) r.past [] (absent m r.parties q r.past (omega arith) r.run)) }
+  came (Continuing begun) found p rest call place hold done r comes =
+      let h = comes.1.holding in
+      let here = parted (all done (all_of rest)) r.past h.party h.own (moved r.past _ _ (with_acting p rest done (only h.party (Mine h.own)) h.acting h.resting) r.each) in
+      record { own = h.own; was = inr (acted p done _ h.acting h.resting); since = inr (event h.party (acts.Begun call) thens.GoesOn, tt, own_again h.party (acts.Begun call) r.past h.own here.1) }
+  came (Answered action) found p rest call place hold done r comes =
+      let at = comes.at in
+      let here = parted (all done (all_of rest)) r.past at.party at.own (moved r.past _ _ (with_acting p rest done (only at.party (Mine at.own)) at.acting at.resting) r.each) in
+      record { own = at.own; was = inr (acted p done _ at.acting at.resting); since = inr (event at.party (acts.Answered action) thens.GoesOn, tt, own_again at.party (acts.Answered action) r.past at.own here.1) }
+  came (Choosing choice) found p rest call place hold done r comes =
+      let at = comes.at in
+      let here = parted (all done (all_of rest)) r.past at.party at.own (moved r.past _ _ (with_acting p rest done (only at.party (Mine at.own)) at.acting at.resting) r.each) in
+      record { own = at.own; was = inr (acted p done _ at.acting at.resting); since = inr (event at.party (acts.Chosen choice) thens.GoesOn, tt, own_again at.party (acts.Chosen choice) r.past at.own here.1) }
+  came Aside found p rest call place hold done r comes =
+      let at = comes.at in
+      let here = parted (all done (all_of rest)) r.past at.party at.own (moved r.past _ _ (with_acting p rest done (only at.party (Mine at.own)) at.acting at.resting) r.each) in
+      let act : Act V = carried_out (m.table.intent comes.from hold) (word_in m.table r.past) in
+      record { own = at.own; was = inr (acted p done _ at.acting at.resting); since = inr (event at.party act thens.GoesOn, is_on_no_word (m.table.intent comes.from hold) (word_in m.table r.past) comes.aside, own_again at.party act r.past at.own here.1) }
+
   -- The step is made.
 
   -- the hold that an act takes depends on the call alone
@@ -324,7 +364,7 @@ module _ {V P : Type 0} (m : Model V P) (names : List Word) where
   then_by_call act c hold = ap (λ (k : Option HoldKind). cond (is_release act) None (hold_or k hold)) (taken_by_call act c)
 
   -- What the pass is after the step, and the words: they stand at a run that is this event longer.
-  pub record Stepped (found : List ℕ) (rest : Parties V) (i y : ℕ) (past : List (Event V)) (e : Event V) (leads : Parties V → Type 0) : Type 0 where
+  pub record Stepped (found : List ℕ) (done : List (Slot V)) (rest : Parties V) (i y : ℕ) (past : List (Event V)) (e : Event V) (leads : Parties V → Type 0) : Type 0 where
     pub after : Parties V
     pub parties : ℕ
     pub run : IsPast m.arithmetic m.table parties (e ∷ past)
@@ -332,6 +372,7 @@ module _ {V P : Type 0} (m : Model V P) (names : List Word) where
     pub hold : AllHold names (set found i y) (word_in m.table (e ∷ past))
     pub each : AllMatch (all_of (both_parties after rest)) (e ∷ past)
     pub led : leads after
+    pub now : all_of after ≡ all (only e.party (Mine (events_of e.party (e ∷ past)))) done
 
   -- the event of the step, which found this
   abbrev pub step_event : ℕ → P → Option HoldKind → ℕ → Event V
@@ -340,7 +381,7 @@ module _ {V P : Type 0} (m : Model V P) (names : List Word) where
   pub steps :
       ((n : ℕ) (past : List (Event V)) → IsPast m.arithmetic m.table n past → m.law past) → AreApart names → (found : List ℕ) (done : List (Slot V)) (rest : Parties V) (call : Call V) (place : P) (hold : Option HoldKind) (i y : ℕ) (w : Word) →
       (r : Ready found (all done (all_of rest)) call place hold) → IsNamed names i w → IsStepOn w (m.table.intent place hold) → effect (m.table.intent place hold) (get_or found i 0) ≡ y →
-      Stepped found rest i y r.past (step_event r.party place hold (get_or found i 0)) (Led m call place hold (get_or found i 0) done)
+      Stepped found done rest i y r.past (step_event r.party place hold (get_or found i 0)) (Led m call place hold (get_or found i 0) done)
   steps lawful apart found done rest call place hold i y w r named on leaves = by_after (m.table.after place (value_told (act_at m place hold x))) refl
     where
       x : ℕ
@@ -402,20 +443,20 @@ module _ {V P : Type 0} (m : Model V P) (names : List Word) where
       all_match : AllMatch (all (only q (Mine own)) others) new
       all_match = joined others new q (others_on others r.past q act outcome r.apart)
 
-      stands : (leads : Parties V → Type 0) (p : Parties V) → all_of (both_parties p rest) ≡ all (only q (Mine own)) others → leads p → Stepped found rest i y r.past e leads
-      stands leads p is led = record { after = p; parties = r.parties; run = run; law = law; hold = words_now; each = moved new _ _ (sym is) all_match; led = led }
+      stands : (leads : Parties V → Type 0) (p : Parties V) → all_of p ≡ all (only q (Mine own)) done → all_of (both_parties p rest) ≡ all (only q (Mine own)) others → leads p → Stepped found done rest i y r.past e leads
+      stands leads p now is led = record { now = now; after = p; parties = r.parties; run = run; law = law; hold = words_now; each = moved new _ _ (sym is) all_match; led = led }
 
       -- the party acts on
-      acting : (leads : Parties V → Type 0) → leads (parties (only q (Mine own)) done) → Stepped found rest i y r.past e leads
-      acting leads = stands leads (parties (only q (Mine own)) done) (with_acting (parties (only q (Mine own)) done) rest done (only q (Mine own)) refl refl)
+      acting : (leads : Parties V → Type 0) → leads (parties (only q (Mine own)) done) → Stepped found done rest i y r.past e leads
+      acting leads = stands leads (parties (only q (Mine own)) done) refl (with_acting (parties (only q (Mine own)) done) rest done (only q (Mine own)) refl refl)
 
       -- or rests
-      resting : (leads : Parties V → Type 0) → leads (parties [] (all (only q (Mine own)) done)) → Stepped found rest i y r.past e leads
-      resting leads = stands leads (parties [] (all (only q (Mine own)) done)) (with_all (parties [] (all (only q (Mine own)) done)) rest (all (only q (Mine own)) done) refl ∙ group_all (only q (Mine own)) done (all_of rest))
+      resting : (leads : Parties V → Type 0) → leads (parties [] (all (only q (Mine own)) done)) → Stepped found done rest i y r.past e leads
+      resting leads = stands leads (parties [] (all (only q (Mine own)) done)) refl (with_all (parties [] (all (only q (Mine own)) done)) rest (all (only q (Mine own)) done) refl ∙ group_all (only q (Mine own)) done (all_of rest))
 
       on_from : (a : After V P) (next : P) → m.table.after place (value_told act) ≡ a → place_after a ≡ Some next →
           ((k : Option (PendingCall V)) → call_after (outcome_of a) e k ≡ call_going_on act e k) →
-          Stepped found rest i y r.past e (IsAt m call next (outcome_of a) (hold_then m call place hold x) done)
+          Stepped found done rest i y r.past e (IsAt m call next (outcome_of a) (hold_then m call place hold x) done)
       on_from a next is to goes =
           let c : PendingCall V = record { call = r.pending.call; own = e ∷ r.pending.own } in
           acting (IsAt m call next (outcome_of a) (hold_then m call place hold x) done) (record {
@@ -448,7 +489,7 @@ module _ {V P : Type 0} (m : Model V P) (names : List Word) where
       }
 
       ended : (answer : Answer V) → m.table.after place (value_told act) ≡ afters.Ends answer → (h : Option HoldKind) → hold_of m.table q own ≡ h →
-          Stepped found rest i y r.past e (HasEnded m call answer h done)
+          Stepped found done rest i y r.past e (HasEnded m call answer h done)
       ended answer is None none = resting (HasEnded m call answer None done) (record { party = q; own = own; all_is = refl; answered = answered answer is; rests = refl })
       ended answer is (Some kind) has = acting (HasEnded m call answer (Some kind) done) (record {
         party = q;
@@ -465,7 +506,7 @@ module _ {V P : Type 0} (m : Model V P) (names : List Word) where
         };
       })
 
-      by_after : (a : After V P) → m.table.after place (value_told (act_at m place hold x)) ≡ a → Stepped found rest i y r.past e (Leads m call a (hold_then m call place hold x) done)
+      by_after : (a : After V P) → m.table.after place (value_told (act_at m place hold x)) ≡ a → Stepped found done rest i y r.past e (Leads m call a (hold_then m call place hold x) done)
       by_after (afters.At next) is = on_from (afters.At next) next is refl (λ k. refl)
       by_after (afters.Waits next told) is = on_from (afters.Waits next told) next is refl (λ k. refl)
       by_after (afters.Chooses next old) is = on_from (afters.Chooses next old) next is refl (λ k. refl)

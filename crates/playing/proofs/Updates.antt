@@ -12,18 +12,28 @@ use Rattle.steps_events.specs.Rows.{carried_out, value_told}
 use Rattle.steps_events.specs.Past.{hold_after, word_in}
 use Rattle.steps_events.specs.Runs.{IsPast}
 use Rattle.passes.specs.declared.view.View.{View}
+use Rattle.passes.specs.declared.part.Sights.{Sights}
 use Rattle.passes.specs.Tallies.{IsTally}
 use Rattle.passes.specs.Views.{Updates, view_of}
 use Rattle.playing.specs.Models.{Model}
 use Rattle.playing.specs.declared.played.Played.{Played}
-use Rattle.playing.specs.Slots.{all_of, Parties, no_parties, both_parties}
-use Rattle.playing.specs.SlotLaws.{no_parties_add}
+use Rattle.playing.specs.Slots.{Slot, Free, Mine, Torn, both, all, slot_at, only, all_of, Parties, no_parties, both_parties}
+use Rattle.playing.specs.SlotLaws.{no_parties_add, slot_of_all}
 use Rattle.playing.specs.Words.{AllHold, AreApart, IsStepOn, IsOnNoWord, effect}
-use Rattle.playing.specs.Plays.{fresh_call, Coming, IsPlayed, act_at, Leads, Led, IsStepAt, MayStep, StoodAlone, Went, WentAlone}
-use Rattle.playing.specs.Passes.{played, none_played, both_played, counted_in, PlaysAndCounts, GoesOnCounting, StaysCounting, StaysOnNoWord, Stepped, Looked}
+use Rattle.playing.specs.Plays.{fresh_call, Coming, IsPlayed, act_at, Leads, Led, IsStepAt, MayStep, StoodAlone, Went, HasStepped, WentBy, StoodBeside, WentBeside, WentAlone, events_of}
+use Rattle.playing.specs.Passes.{played, none_played, both_played, counted_in, PlaysAndCounts, GoesOnCounting, StaysCounting, GoesOnByActs, StaysOnNoWord, Stepped, SteppedByAct, Looked}
 use Rattle.playing.proofs.Words.{hold_at, carried_here}
 use Rattle.playing.proofs.Same.{same_coming}
-use Rattle.playing.proofs.Ready.{AllMatch, ready, still, step_event, steps}
+use Rattle.playing.proofs.Ready.{AllMatch, ready, still, came, step_event, steps}
+use Rattle.steps_events.proofs.Holds.{eqb_same}
+use Rattle.playing.proofs.Own.{own_call}
+
+free_first : {V : Type 0} (s r : Slot V) → both s r ≡ Free → s ≡ Free
+free_first Free r is = refl
+free_first (Mine own) Free is = is
+free_first (Mine own) (Mine more) is = absurd cc
+free_first (Mine own) Torn is = absurd cc
+free_first Torn r is = is
 
 -- to set a word to what it holds changes nothing
 set_as_it_was : (found : List ℕ) (i : ℕ) → set found i (get_or found i 0) ≡ found
@@ -48,6 +58,8 @@ module _ {V P : Type 0} (m : Model V P) (names : List Word) where
     pub hold_now : AllHold names (set found i y) (word_in m.table (latest ∷ past))
     pub each : AllMatch (all_of (both_parties after rest)) (latest ∷ past)
     pub went : Went m coming p told after
+    pub by : WentBy m coming p told after
+    pub beside : WentBeside m Says coming p told
     pub alone : rest ≡ no_parties → WentAlone m Says coming p told
 
   -- and so the words stand at the run that is longer by the step's event
@@ -65,6 +77,7 @@ module _ {V P : Type 0} (m : Model V P) (names : List Word) where
       let on : IsStepOn may.name (m.table.intent may.place may.hold) = subst (IsStepOn may.name) (sym may.intends) may.on in
       let left : effect (m.table.intent may.place may.hold) x ≡ y = ap (λ (k : Intent V). effect k x) may.intends ∙ leaves may.name in
       let before = ready m names coming found p rest may.call may.place may.hold may.done r may.comes in
+      let was = came m names coming found p rest may.call may.place may.hold may.done r may.comes in
       let made = steps m names lawful apart found may.done rest may.call may.place may.hold i y may.name before may.named on left in
       let same : act_at m may.place may.hold x ≡ act_at m may.place may.hold told =
       ap (λ (k : Intent V). carried_out k (λ _. x)) may.intends ∙ tells may.name ∙ sym (ap (λ (k : Intent V). carried_out k (λ _. told)) may.intends) in
@@ -103,6 +116,31 @@ module _ {V P : Type 0} (m : Model V P) (names : List Word) where
             (subst (λ s. Led m may.call s hold told done made.after) here.same_place
             (subst (λ h. Led m may.call may.place h told done made.after) here.same_hold
             (subst (λ d. Led m may.call may.place may.hold told d made.after) here.same_done led)));
+        by = λ call place hold done comes.
+            let here = same_coming m coming may.call call may.place place may.hold hold may.done done p may.comes comes in
+            subst (λ c. HasStepped m c place hold told done p made.after) here.same_call
+            (subst (λ s. HasStepped m may.call s hold told done p made.after) here.same_place
+            (subst (λ h. HasStepped m may.call may.place h told done p made.after) here.same_hold
+            (subst (λ d. HasStepped m may.call may.place may.hold told d p made.after) here.same_done (record {
+              party = before.party;
+              own = was.own;
+              before = events_of before.party before.past;
+              latest = step_event m names before.party may.place may.hold x;
+              pending = before.pending;
+              was = was.was;
+              since = was.since;
+              under_way = own_call before.party before.past ∙ before.under_way;
+              called = before.called;
+              its_own = refl;
+              act = same;
+              free = free_first (slot_at before.party may.done) (slot_at before.party (all_of rest)) (sym (slot_of_all before.party may.done (all_of rest)) ∙ before.apart.free);
+              now = made.now ∙ ap (λ (o : List (Event V)). all (only before.party (Mine o)) may.done) (rw (eqb_same before.party) refl);
+            }))));
+        beside = λ call place hold done comes.
+            let here = same_coming m coming may.call call may.place place may.hold hold may.done done p may.comes comes in
+            subst (λ s. StoodBeside m Says s hold told p) here.same_place
+            (subst (λ h. StoodBeside m Says may.place h told p) here.same_hold
+            (record { parties = r.parties; past = r.past; run = r.run; law = r.law; says = says; others = rest; each = r.each; found_is = act_in r.past r.hold }));
         alone = λ none call place hold done comes.
             let here = same_coming m coming may.call call may.place place may.hold hold may.done done p may.comes comes in
             let nobody : both_parties p rest ≡ p = ap (both_parties p) none ∙ no_parties_add p in
@@ -146,6 +184,40 @@ module _ {V P : Type 0} (m : Model V P) (names : List Word) where
                   let none_is : add v.tally.counts rest.counts ≡ v.tally.counts = ap (λ (u : Played M Q V C). add v.tally.counts u.counts) (alone whole) ∙ unit v.tally.counts in
                   subst (λ (c : C). WentAlone m (λ past. follow past c) coming v.tally.parties (shows x)) none_is (a.alone (ap (λ (u : Played M Q V C). u.parties) (alone whole)));
               told = b.3;
+            },
+          );
+    }
+
+    -- or what its act does, where the words are asked for nothing
+    pub updates_by_act :
+        ((n : ℕ) (past : List (Event V)) → IsPast m.arithmetic m.table n past → m.law past) → AreApart names → StaysOnNoWord follow → ((found : List ℕ) (homes : List (maybe.Option (Unit {0}))) (c : C) → agree found homes c) →
+        (sees : Act V → Sights → Sights) (after : Act V → Call V → C → C) → GoesOnByActs m add follow after → (coming : Coming V) (v : View (Played M Q V C)) (i : ℕ) (intent : Word → Intent V) (f shows : ℕ → ℕ) →
+        MayStep m names coming i intent v.tally.parties → ((w : Word) (n : ℕ) → effect (intent w) n ≡ f n) → ((w : Word) (n : ℕ) → carried_out (intent w) (λ _. n) ≡ carried_out (intent w) (λ _. shows n)) →
+        Updates (none_played none) (both_played add) (PlaysAndCounts m names agree follow) v i f (λ found. SteppedByAct m add follow sees after coming v (shows found))
+    updates_by_act lawful apart quiet free sees after goes coming v i intent f shows may leaves so = record {
+      may = λ found homes rest r alone fits.
+          let x : ℕ = get_or found i 0 in
+          let Says : List (Event V) → Type 0 = λ past. follow past (add v.tally.counts rest.counts) in
+          let a = makes lawful apart coming found v.tally.parties rest.parties i (f x) (shows x) intent may (λ w. leaves w x) (λ w. so w x) r.played Says (λ past e silent is. quiet past e (add v.tally.counts rest.counts) silent is) r.follows in
+          let act : Act V = act_at m may.place may.hold (shows x) in (
+            view_of v.part (sees act v.sights) (played a.after (after act may.call v.tally.counts)),
+            refl,
+            record {
+              played = made_run _ _ _ _ _ _ _ _ _ _ _ _ a;
+              agrees = free _ _ _;
+              follows = subst (λ (act : Act V). follow (a.latest ∷ a.past) (add (after act may.call v.tally.counts) rest.counts)) a.step.act
+                  (goes may.call may.place may.hold a.past a.latest (shows x) a.step v.tally.counts rest.counts a.says);
+            },
+            record {
+              went = a.went;
+              by = a.by;
+              beside = record { rest = rest.counts; beside = a.beside };
+              alone = λ whole.
+                  let none_is : add v.tally.counts rest.counts ≡ v.tally.counts = ap (λ (u : Played M Q V C). add v.tally.counts u.counts) (alone whole) ∙ unit v.tally.counts in
+                  subst (λ (c : C). WentAlone m (λ past. follow past c) coming v.tally.parties (shows x)) none_is (a.alone (ap (λ (u : Played M Q V C). u.parties) (alone whole)));
+              told = λ call place hold done comes.
+                  let here = same_coming m coming may.call call may.place place may.hold hold may.done done v.tally.parties may.comes comes in
+                  λ j. view_of v.part (sees (act_at m (here.same_place j) (here.same_hold j) (shows x)) v.sights) (after (act_at m (here.same_place j) (here.same_hold j) (shows x)) (here.same_call j) v.tally.counts);
             },
           );
     }

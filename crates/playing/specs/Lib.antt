@@ -10,3 +10,5 @@ pub mod Answers
 pub mod Tries
 pub mod Holding
 pub mod Sums
+pub mod Turns
+pub mod Sees

@@ -20,7 +20,26 @@ use Rattle.steps_events.specs.Rows.{carried_out}
 use Rattle.steps_events.specs.Past.{word_in}
 use Rattle.steps_events.specs.Runs.{IsPast}
 use Rattle.playing.specs.Words.{AllHold, IsNamed, IsOnNoWord}
-use Rattle.playing.specs.Plays.{events_of, Matches, IsPlayed, Coming, ComesBy, IsStepAt, Went, WentAlone}
+use Rattle.steps_events.specs.declared.event.Act.{Act}
+use Rattle.passes.specs.declared.part.Sights.{Sights}
+use Rattle.playing.specs.Plays.{events_of, Matches, IsPlayed, Coming, ComesBy, IsStepAt, act_at, Went, WentBy, WentBeside, WentAlone}
+
+-- the act of the step that found this makes this of what the pass saw and counts, and nothing else does
+abbrev pub Told : {V C P : Type 0} → Model V P → (Act V → Sights → Sights) → (Act V → Call V → C → C) → Coming V → Parties V → ℕ → View C → View C → Type 0
+Told {V} {C} {P} m sees after coming p found v w =
+    (call : Call V) (place : P) (hold : Option HoldKind) (done : List (Slot V)) → ComesBy m coming call place hold done p →
+    w ≡ view_of v.part (sees (act_at m place hold found) v.sights) (after (act_at m place hold found) call v.tally)
+
+-- with what others count, the run before the step says of what the pass counts
+pub record IsShare {V C P : Type 0} (m : Model V P) (add : C → C → C) (follow : List (Event V) → C → Type 0) (coming : Coming V) (p : Parties V) (found : ℕ) (counts : C) : Type 0 where
+  pub rest : C
+  pub beside : WentBeside m (λ past. follow past (add counts rest)) coming p found
+
+-- What each party counts by its act, all count: if the run says of what all passes count, then it says so of it after the next step.
+abbrev pub GoesOnByActs : {V C P : Type 0} → Model V P → (C → C → C) → (List (Event V) → C → Type 0) → (Act V → Call V → C → C) → Type 0
+GoesOnByActs {V} {C} {P} m add follow after =
+    (call : Call V) (place : P) (hold : Option HoldKind) (past : List (Event V)) (e : Event V) (found : ℕ) → IsStepAt m call place hold found past e →
+    (counts rest : C) → follow past (add counts rest) → follow (e ∷ past) (add (after e.act call counts) rest)
 
 module _ {M Q V C : Type 0} where
   abbrev pub played : Parties V → C → Played M Q V C
@@ -88,6 +107,15 @@ module _ {M Q V C : Type 0} where
     pub went : Went m coming v.tally.parties found w.tally.parties
     pub alone : IsWhole v.part → WentAlone m (λ past. follow past v.tally.counts) coming v.tally.parties found
     pub told : tells (counted_in v) found (counted_in w)
+
+  -- what a step by a pass with this view tells: where it led; beside whom; where no other pass was left, of which run; and what its act made of what
+  -- the pass counts
+  pub record SteppedByAct {P : Type 0} (m : Model V P) (add : C → C → C) (follow : List (Event V) → C → Type 0) (sees : Act V → Sights → Sights) (after : Act V → Call V → C → C) (coming : Coming V) (v : View (Played M Q V C)) (found : ℕ) (w : View (Played M Q V C)) : Type 0 where
+    pub went : Went m coming v.tally.parties found w.tally.parties
+    pub by : WentBy m coming v.tally.parties found w.tally.parties
+    pub beside : IsShare m add follow coming v.tally.parties found v.tally.counts
+    pub alone : IsWhole v.part → WentAlone m (λ past. follow past v.tally.counts) coming v.tally.parties found
+    pub told : Told m sees after coming v.tally.parties found (counted_in v) (counted_in w)
 
 -- What all passes counted agreed with the words of this run; and what they count after a step agrees with words again, those that it has made.
 pub record StillAgrees {V P S C : Type 0} (m : Model V P) (names : List Word) (agree : List ℕ → List (maybe.Option S) → C → Type 0) (past : List (Event V)) (before after : C) : Type 0 where

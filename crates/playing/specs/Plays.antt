@@ -1,5 +1,5 @@
 -- The rule of an object that plays a model: its words are those of some run of the model, in which the passes are parties.
-use Rattle.std.specs.Prelude.{◌≡◌, ℕ, ◌==◌, if◌then◌else◌, List, [], ◌∷◌, Option, Some, None}
+use Rattle.std.specs.Prelude.{◌≡◌, ◌⊎◌, ℕ, ◌==◌, if◌then◌else◌, List, [], ◌∷◌, Option, Some, None}
 use Rattle.steps_events.specs.declared.WaitAction.{WaitAction}
 use Rattle.steps_events.specs.declared.event.Word.{Word}
 use Rattle.steps_events.specs.declared.event.Call.{Call}
@@ -18,8 +18,8 @@ use Rattle.steps_events.specs.Past.{PendingCall, call_of, hold_of, hold_after, w
 use Rattle.steps_events.specs.Moves.{stage_of, hold_fault, CallValues, InputValues}
 use Rattle.steps_events.specs.Runs.{IsPast}
 use Rattle.playing.specs.Models.{Model}
-use Rattle.playing.specs.Slots.{Slot, Free, Mine, Torn, all, slot_at, only, Parties, all_of}
-use Rattle.playing.specs.Words.{AllHold, IsNamed, IsStepOn, IsAside}
+use Rattle.playing.specs.Slots.{Slot, Free, Mine, Torn, all, slot_at, only, Parties, all_of, both_parties}
+use Rattle.playing.specs.Words.{AllHold, IsNamed, IsStepOn, IsAside, IsOnNoWord}
 
 -- the events of a party
 abbrev pub events_of : {V : Type 0} → ℕ → List (Event V) → List (Event V)
@@ -33,6 +33,10 @@ abbrev pub Matches : {V : Type 0} → Slot V → List (Event V) → Type 0
 Matches Free made = made ≡ []
 Matches (Mine own) made = made ≡ own
 Matches Torn made = ⊥
+
+-- the same events, and at most one more, on no word
+abbrev pub IsQuietSince : {V : Type 0} → List (Event V) → List (Event V) → Type 0
+IsQuietSince {V} own before = (before ≡ own) ⊎ ((e : Event V) × IsOnNoWord e.act × (before ≡ e ∷ own))
 
 -- a call that has made no step yet
 abbrev pub fresh_call : {V : Type 0} → Call V → PendingCall V
@@ -221,6 +225,18 @@ module _ {V P : Type 0} (m : Model V P) where
     pub each : (q : ℕ) → Matches (slot_at q (all_of p)) (events_of q past)
     pub found_is : act_at place hold found ≡ carried_out (m.table.intent place hold) (word_in m.table past)
 
+  -- Before the step there was a run in which the pass and others were the parties, of which this is known, and the step did what it does at
+  -- the words of that run.
+  pub record StoodBeside (Says : List (Event V) → Type 0) (place : P) (hold : Option HoldKind) (found : ℕ) (p : Parties V) : Type 0 where
+    pub parties : ℕ
+    pub past : List (Event V)
+    pub run : IsPast m.arithmetic m.table parties past
+    pub law : m.law past
+    pub says : Says past
+    pub others : Parties V
+    pub each : (q : ℕ) → Matches (slot_at q (all_of (both_parties p others))) (events_of q past)
+    pub found_is : act_at place hold found ≡ carried_out (m.table.intent place hold) (word_in m.table past)
+
   -- Right after these events a party made the step of this call at this place, which found this; and this is its event.
   pub record IsStepAt (call : Call V) (place : P) (hold : Option HoldKind) (found : ℕ) (past : List (Event V)) (e : Event V) : Type 0 where
     pub parties : ℕ
@@ -234,9 +250,34 @@ module _ {V P : Type 0} (m : Model V P) where
     pub act : e.act ≡ act_at place hold found
     pub found_is : act_at place hold found ≡ carried_out (m.table.intent place hold) (word_in m.table past)
 
+  -- The step of this call at this place, which found this, is one more event of a party of the pass, right after those that it had made; or, where
+  -- it began its call, was answered, has chosen or has made a step on no word, after that event. `done` are the other parties of the pass.
+  pub record HasStepped (call : Call V) (place : P) (hold : Option HoldKind) (found : ℕ) (done : List (Slot V)) (p q : Parties V) : Type 0 where
+    pub party : ℕ
+    pub own : List (Event V)
+    pub before : List (Event V)
+    pub latest : Event V
+    pub pending : PendingCall V
+    pub was : ((all_of p ≡ done) × (own ≡ [])) ⊎ (all_of p ≡ all (only party (Mine own)) done)
+    pub since : IsQuietSince own before
+    pub under_way : call_of party before ≡ Some pending
+    pub called : pending.call ≡ call
+    pub its_own : latest.party ≡ party
+    pub act : latest.act ≡ act_at place hold found
+    pub free : slot_at party done ≡ Free
+    pub now : all_of q ≡ all (only party (Mine (latest ∷ before))) done
+
+  -- it has made its step, which found this, and it alone
+  abbrev pub WentBy : Coming V → Parties V → ℕ → Parties V → Type 0
+  WentBy coming p found q = (call : Call V) (place : P) (hold : Option HoldKind) (done : List (Slot V)) → ComesBy coming call place hold done p → HasStepped call place hold found done p q
+
   -- it has made its step, which found this
   abbrev pub Went : Coming V → Parties V → ℕ → Parties V → Type 0
   Went coming p found q = (call : Call V) (place : P) (hold : Option HoldKind) (done : List (Slot V)) → ComesBy coming call place hold done p → Led call place hold found done q
+
+  -- and whichever others there were
+  abbrev pub WentBeside : (List (Event V) → Type 0) → Coming V → Parties V → ℕ → Type 0
+  WentBeside Says coming p found = (call : Call V) (place : P) (hold : Option HoldKind) (done : List (Slot V)) → ComesBy coming call place hold done p → StoodBeside Says place hold found p
 
   -- and no other pass was left
   abbrev pub WentAlone : (List (Event V) → Type 0) → Coming V → Parties V → ℕ → Type 0

@@ -175,7 +175,7 @@ pub(crate) fn hear<X, W: Fn(&X, &u64) -> WaitAction>(word: &X, told: u64, wait: 
 
 /// Calls it, and says what it has answered.
 #[inline(always)]
-fn answer<X, W: Fn(&X, &u64) -> WaitAction>(word: &X, told: u64, wait: &W) -> WaitAction
+pub(crate) fn answer<X, W: Fn(&X, &u64) -> WaitAction>(word: &X, told: u64, wait: &W) -> WaitAction
     requires may { W.IsAlwaysCallable wait.now }
     ensures answered { MayAnswer W.Fn wait.now (λ n. n ≡ told) result }
 {

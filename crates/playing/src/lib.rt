@@ -2,7 +2,9 @@
 //! parties, and the steps that its table has.
 #![tactic(auto)]
 
+mod acting;
 mod attempt;
+mod calling;
 mod counts;
 mod ending;
 mod entry;
@@ -10,10 +12,13 @@ mod played;
 mod script;
 mod seat;
 mod stage;
+mod step;
+mod tries;
+pub mod turn;
 mod wait;
 
 pub use attempt::{Attempt, ask, try_again};
-pub use counts::Counts;
+pub use counts::{Counts, CountsByActs};
 pub use entry::{Aborted, AddEntry, AfterAside, Answered, By, Continued, Entry, GoesOn, Way};
 pub use played::{Parties, Played};
 pub use script::Script;

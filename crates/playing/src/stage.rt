@@ -66,7 +66,7 @@ impl<K, P, V, M: Script<K, P, V>, C: Counts<K, V>, D: Deed<K, C>> Deed<K, Played
 /// The words of an object that plays a model. A pass makes the step that the table has at the place of its call, and no other.
 #[derive(Drop)]
 pub struct Stage<K, M: Script<K, P, V>, P, V, C: Counts<K, V>, A: Allocator = Global> {
-    words: Words<K, Played<M, P, V, C>, A>,
+    pub(crate) words: Words<K, Played<M, P, V, C>, A>,
 }
 
 /// What the passes of these words come from.

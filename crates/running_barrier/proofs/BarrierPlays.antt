@@ -24,6 +24,7 @@ use Rattle.tallies.specs.BarrierScript.{barrier_model}
 use Rattle.playing.specs.Slots.{Slot, Parties, all_of}
 use Rattle.playing.specs.Words.{IsNamed}
 use Rattle.playing.specs.Plays.{Coming, Going, Beginning, Answered, ComesBy, IsAt, Led, Leads, HasEnded, MayStep, Went}
+use Rattle.playing.specs.Turns.{IsOverAside}
 use Rattle.playing.specs.Tries.{spun, StandsToWait, IsToWake}
 use Rattle.running_barrier.specs.BarrierShown.{IsNextWord}
 use Rattle.running_barrier.specs.BarrierParties.{HasLooked, HasJoined, ComesToStay, Looks, HasLeft}
@@ -145,6 +146,9 @@ module _ (n : ℕ) where
     wakes = refl;
     word = subst (λ (k : ℕ). IsNamed (words.State ∷ []) k words.State) (sym is) refl;
   }
+
+  pub is_over_woken : (done : List (Slot ℕ)) (p : Parties ℕ) → IsAt (barrier_model n) calls.Wait places.Wake thens.GoesOn None done p → IsOverAside (barrier_model n) p
+  is_over_woken done p at = record { call = calls.Wait; place = places.Wake; hold = None; done = done; at = at; aside = tt; answer = answers.Ok; ends = refl }
 
   -- the looks of a call that has arrived
 

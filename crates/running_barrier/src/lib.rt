@@ -12,7 +12,8 @@ ghost use Rattle.running_barrier.specs.BarrierSteps.{ArrivalsAreOfARun, OpenRoun
 ghost use Rattle.steps_barrier.specs.Rounds.{epoch_of, count_of};
 
 use passes::{Deed, Origin, Pass};
-use playing::{Entry, GoesOn, Sealed, Stage};
+use playing::turn::{Called, Goes, Turn, Way, begin_new};
+use playing::{Sealed, Stage};
 use std::alloc::{AllocError, Allocator, Global};
 use std::hint::spin_loop;
 use std::ops::Deref;
@@ -71,23 +72,19 @@ impl Deed<u32, Rounds> for Arrive {
     ghost tells = { λ key from _. Exchanged (key % 2 ^ 32) from };
 }
 
-/// A `Wait` begins.
-#[derive(Drop)]
-struct WaitBegins;
+/// A `Wait`.
+struct WaitCall;
 
-impl Entry<u64> for WaitBegins {
+impl Called<u64> for WaitCall {
     ghost use Rattle.steps_events.specs.declared.event.Call.TheVariants as calls;
-    ghost use Rattle.playing.specs.Plays.{Beginning};
 
-    ghost coming = { Beginning calls.Wait };
-
-    #[inline(always)]
-    fn spend(self) {}
+    ghost call = { calls.Wait };
 }
 
 impl<A: Allocator> Barrier<A> {
     ghost use Rattle.std.specs.Prelude.{true, false, ◌+◌, ◌%◌, ◌/◌, ◌*◌, ◌^◌, ◌≢◌, [], ◌∷◌, MatchBool, MatchOption, IfSome, IfErr, is_ok, is_err, Some, List};
     ghost use Rattle.steps_events.specs.declared.event.Word.TheVariants as words;
+    ghost use Rattle.steps_events.specs.declared.event.Call.TheVariants as calls;
     ghost use Rattle.steps_events.specs.declared.event.Answer.TheVariants as answers;
     ghost use Rattle.steps_events.specs.declared.row.Intent.TheVariants as intents;
     ghost use Rattle.tallies.specs.BarrierScript.{barrier_model};
@@ -96,7 +93,7 @@ impl<A: Allocator> Barrier<A> {
     ghost use Rattle.passes.specs.Views.{first_view};
     ghost use Rattle.passes.specs.Passes.{view, part_of, sights_of, IsSamePass};
     ghost use Rattle.playing.specs.Slots.{Slot, no_parties};
-    ghost use Rattle.playing.specs.Plays.{MayStep, Went};
+    ghost use Rattle.playing.specs.Plays.{MayStep, Went, Beginning};
     ghost use Rattle.playing.specs.Passes.{played};
     ghost use Rattle.playing.specs.Counts.{HasSeen};
     ghost use Rattle.playing.specs.Stages.{id_of};
@@ -150,162 +147,216 @@ impl<A: Allocator> Barrier<A> {
     {
         // Read once: it would be loaded again after the exchange.
         let number_of_waiters = self.number_of_waiters;
-        let seen = self.look(WaitBegins, pass);
+        let (seen, turn) = self.first_look(pass);
         let Some(next) = arrived(seen, number_of_waiters) else {
+            let _pass = turn.end(&self.stage);
             return Err(BarrierFull);
         };
-        let from = self.arrive(rt, pass, seen, next);
+        let (from, joined) = self.arrive(rt, turn, seen, next);
         if fills(from, number_of_waiters) {
-            self.stage.wake(pass, &self.word(), &wake_all);
+            let woken = joined.wake(&self.stage, &self.word(), &wake_all);
+            let _pass = woken.end_aside(&self.stage);
             return Ok(());
         }
-        self.stay(rt, pass, epoch_of(from), &wait);
+        let left = self.stay(rt, joined, epoch_of(from), &wait);
+        let _pass = left.end(&self.stage);
         Ok(())
     }
 
     /// Arrives from the value that was seen, or from the one that an exchange found which failed. The value that the arrival was made
     /// from.
     #[inline(always)]
-    fn arrive<R: Wait>(&self, rt: &R, pass: &mut BarrierPass, seen: u64, next: u64) -> u64
-        requires own { IsBarrierPass self.now pass.old }
+    fn arrive<'p, R: Wait>(
+        &self,
+        rt: &R,
+        turn: Turn<'p, BarrierPass, Goes>,
+        seen: u64,
+        next: u64,
+    ) -> (u64, Turn<'p, BarrierPass, Goes>)
+        requires own { IsBarrierPass self.now turn.pass.now }
         requires next { IsNextWord (waiters_of self.now) seen next }
-        requires last { (sights_of pass.old).last ≡ seen }
-        requires alone { IsWhole (part_of pass.old) → seen ≡ word_of (waiters_of self.now) (tally_of pass.old) }
-        requires looked { (done : List (Slot ℕ)) × HasLooked (waiters_of self.now) seen done (parties_of pass.old) }
-        ensures arrived { HasArrived (waiters_of self.now) result pass.old pass.new }
-        ensures all { HasAll (waiters_of self.now) (counted pass.new) }
-        ensures once { IsWhole (part_of pass.old) → sights_of pass.new ≡ stale (sights_of pass.old) }
-        ensures joined { OnceLooked (waiters_of self.now) seen (parties_of pass.old) (λ done. HasJoined (waiters_of self.now) result done (parties_of pass.new)) }
+        requires last { (sights_of turn.pass.now).last ≡ seen }
+        requires alone { IsWhole (part_of turn.pass.now) → seen ≡ word_of (waiters_of self.now) (tally_of turn.pass.now) }
+        requires looked { (done : List (Slot ℕ)) × HasLooked (waiters_of self.now) seen done (parties_of turn.pass.now) }
+        ensures same_borrow { result.1.pass.ghost_name ≡ turn.entry.pass.ghost_name }
+        ensures arrived { HasArrived (waiters_of self.now) result.0 turn.entry.pass.now result.1.pass.now }
+        ensures all { HasAll (waiters_of self.now) (counted result.1.pass.now) }
+        ensures once { IsWhole (part_of turn.entry.pass.now) → sights_of result.1.pass.now ≡ stale (sights_of turn.entry.pass.now) }
+        ensures joined { OnceLooked (waiters_of self.now) seen (parties_of turn.entry.pass.now) (λ done. HasJoined (waiters_of self.now) result.0 done (parties_of result.1.pass.now)) }
     {
-        let found = self.exchange(pass, seen, next);
+        let (found, after) = self.exchange(turn, seen, next);
         if found == seen {
-            return seen;
+            return (seen, after);
         }
-        self.arrive_later(rt, pass, found)
+        self.arrive_later(rt, after, found)
     }
 
     /// Arrives after an exchange that failed, which found this: the value that the arrival was made from.
-    fn arrive_later<R: Wait>(&self, rt: &R, pass: &mut BarrierPass, found: u64) -> u64
-        requires own { IsBarrierPass self.now pass.old }
+    fn arrive_later<'p, R: Wait>(
+        &self,
+        rt: &R,
+        turn: Turn<'p, BarrierPass, Goes>,
+        found: u64,
+    ) -> (u64, Turn<'p, BarrierPass, Goes>)
+        requires own { IsBarrierPass self.now turn.pass.now }
         requires room { count_of found < waiters_of self.now }
-        requires last { (sights_of pass.old).last ≡ found }
-        requires looked { (done : List (Slot ℕ)) × HasLooked (waiters_of self.now) found done (parties_of pass.old) }
-        ensures arrived { HasArrived (waiters_of self.now) result pass.old pass.new }
-        ensures all { HasAll (waiters_of self.now) (counted pass.new) }
-        ensures joined { OnceLooked (waiters_of self.now) found (parties_of pass.old) (λ done. HasJoined (waiters_of self.now) result done (parties_of pass.new)) }
+        requires last { (sights_of turn.pass.now).last ≡ found }
+        requires looked { (done : List (Slot ℕ)) × HasLooked (waiters_of self.now) found done (parties_of turn.pass.now) }
+        ensures same_borrow { result.1.pass.ghost_name ≡ turn.entry.pass.ghost_name }
+        ensures arrived { HasArrived (waiters_of self.now) result.0 turn.entry.pass.now result.1.pass.now }
+        ensures all { HasAll (waiters_of self.now) (counted result.1.pass.now) }
+        ensures joined { OnceLooked (waiters_of self.now) found (parties_of turn.entry.pass.now) (λ done. HasJoined (waiters_of self.now) result.0 done (parties_of result.1.pass.now)) }
     {
         let mut seen = found;
+        let mut missed = turn;
         for _ in rt.forever() {
             let Some(next) = arrived(seen, self.number_of_waiters) else {
                 unreachable!()
             };
-            let found = self.exchange(pass, seen, next);
+            let (found, after) = self.exchange(missed, seen, next);
             if found == seen {
-                return seen;
+                return (seen, after);
             }
             seen = found;
+            missed = after;
         }
         unreachable!()
     }
 
     /// Waits until the epoch is another than this one, which was that of the last look or arrival.
-    fn stay<R: Wait, W: Fn(&WaitWord, &u64)>(
+    fn stay<'p, R: Wait, W: Fn(&WaitWord, &u64)>(
         &self,
         rt: &R,
-        pass: &mut BarrierPass,
+        turn: Turn<'p, BarrierPass, Goes>,
         own_epoch: u64,
         wait: &W,
-    )
-        requires own { IsBarrierPass self.now pass.old }
-        requires own_epoch { own_epoch ≡ reached_of pass.old % 2 ^ 32 }
-        requires comes { (done : List (Slot ℕ)) × ComesToStay (waiters_of self.now) own_epoch done (parties_of pass.old) }
+    ) -> Turn<'p, BarrierPass, Goes>
+        requires own { IsBarrierPass self.now turn.pass.now }
+        requires own_epoch { own_epoch ≡ reached_of turn.pass.now % 2 ^ 32 }
+        requires comes { (done : List (Slot ℕ)) × ComesToStay (waiters_of self.now) own_epoch done (parties_of turn.pass.now) }
         requires may { W.IsAlwaysCallable wait.now }
-        ensures stayed { HasStayed pass.old pass.new }
-        ensures reached { reached_of pass.old < reached_of pass.new }
-        ensures all { HasAll (waiters_of self.now) (counted pass.new) }
-        ensures left { OnceToStay (waiters_of self.now) own_epoch (parties_of pass.old) (λ done. HasLeft (waiters_of self.now) done (parties_of pass.new)) }
+        ensures same_borrow { result.pass.ghost_name ≡ turn.entry.pass.ghost_name }
+        ensures stayed { HasStayed turn.entry.pass.now result.pass.now }
+        ensures reached { reached_of turn.entry.pass.now < reached_of result.pass.now }
+        ensures all { HasAll (waiters_of self.now) (counted result.pass.now) }
+        ensures left { OnceToStay (waiters_of self.now) own_epoch (parties_of turn.entry.pass.now) (λ done. HasLeft (waiters_of self.now) done (parties_of result.pass.now)) }
     {
-        let seen = self.spin(pass, own_epoch);
-        self.ask(rt, pass, own_epoch, seen, wait);
+        let (seen, spun) = self.spin(turn, own_epoch);
+        self.ask(rt, spun, own_epoch, seen, wait)
     }
 
     /// Looks, up to 10000 times more while the epoch is this one. The value seen last.
-    fn spin(&self, pass: &mut BarrierPass, own_epoch: u64) -> u64
-        requires own { IsBarrierPass self.now pass.old }
-        requires comes { (done : List (Slot ℕ)) × ComesToStay (waiters_of self.now) own_epoch done (parties_of pass.old) }
-        ensures stayed { HasStayed pass.old pass.new }
-        ensures epoch { epoch_of result ≡ reached_of pass.new % 2 ^ 32 }
-        ensures spun { epoch_of result ≡ own_epoch → (sights_of pass.new).count ≡ (sights_of pass.old).count + 10001 }
-        ensures all { HasAll (waiters_of self.now) (counted pass.new) }
-        ensures looks { OnceToStay (waiters_of self.now) own_epoch (parties_of pass.old) (λ done. Looks (waiters_of self.now) own_epoch 10000 result done (parties_of pass.new)) }
+    fn spin<'p>(
+        &self,
+        turn: Turn<'p, BarrierPass, Goes>,
+        own_epoch: u64,
+    ) -> (u64, Turn<'p, BarrierPass, Goes>)
+        requires own { IsBarrierPass self.now turn.pass.now }
+        requires comes { (done : List (Slot ℕ)) × ComesToStay (waiters_of self.now) own_epoch done (parties_of turn.pass.now) }
+        ensures same_borrow { result.1.pass.ghost_name ≡ turn.entry.pass.ghost_name }
+        ensures stayed { HasStayed turn.entry.pass.now result.1.pass.now }
+        ensures epoch { epoch_of result.0 ≡ reached_of result.1.pass.now % 2 ^ 32 }
+        ensures spun { epoch_of result.0 ≡ own_epoch → (sights_of result.1.pass.now).count ≡ (sights_of turn.entry.pass.now).count + 10001 }
+        ensures all { HasAll (waiters_of self.now) (counted result.1.pass.now) }
+        ensures looks { OnceToStay (waiters_of self.now) own_epoch (parties_of turn.entry.pass.now) (λ done. Looks (waiters_of self.now) own_epoch 10000 result.0 done (parties_of result.1.pass.now)) }
     {
-        let mut seen = self.look(GoesOn, pass);
+        let (first, after) = self.look(turn);
+        let mut seen = first;
+        let mut next = after;
         for _ in 0..SPIN_REPETITIONS {
             if epoch_of(seen) != own_epoch {
-                return seen;
+                return (seen, next);
             }
             spin_loop();
-            seen = self.look(GoesOn, pass);
+            let (found, again) = self.look(next);
+            seen = found;
+            next = again;
         }
-        seen
+        (seen, next)
     }
 
     /// The wait closure before each further look, until the epoch is another than this one.
-    fn ask<R: Wait, W: Fn(&WaitWord, &u64)>(
+    fn ask<'p, R: Wait, W: Fn(&WaitWord, &u64)>(
         &self,
         rt: &R,
-        pass: &mut BarrierPass,
+        turn: Turn<'p, BarrierPass, Goes>,
         own_epoch: u64,
         seen: u64,
         wait: &W,
-    )
-        requires own { IsBarrierPass self.now pass.old }
-        requires epoch { epoch_of seen ≡ reached_of pass.old % 2 ^ 32 }
-        requires all { HasAll (waiters_of self.now) (counted pass.old) }
-        requires looks { (done : List (Slot ℕ)) × Looks (waiters_of self.now) own_epoch 10000 seen done (parties_of pass.old) }
+    ) -> Turn<'p, BarrierPass, Goes>
+        requires own { IsBarrierPass self.now turn.pass.now }
+        requires epoch { epoch_of seen ≡ reached_of turn.pass.now % 2 ^ 32 }
+        requires all { HasAll (waiters_of self.now) (counted turn.pass.now) }
+        requires looks { (done : List (Slot ℕ)) × Looks (waiters_of self.now) own_epoch 10000 seen done (parties_of turn.pass.now) }
         requires may { W.IsAlwaysCallable wait.now }
-        ensures stayed { HasStayed pass.old pass.new }
-        ensures other { reached_of pass.new % 2 ^ 32 ≢ own_epoch }
-        ensures all { HasAll (waiters_of self.now) (counted pass.new) }
-        ensures left { OnceLooking (waiters_of self.now) own_epoch 10000 seen (parties_of pass.old) (λ done. HasLeft (waiters_of self.now) done (parties_of pass.new)) }
+        ensures same_borrow { result.pass.ghost_name ≡ turn.entry.pass.ghost_name }
+        ensures stayed { HasStayed turn.entry.pass.now result.pass.now }
+        ensures other { reached_of result.pass.now % 2 ^ 32 ≢ own_epoch }
+        ensures all { HasAll (waiters_of self.now) (counted result.pass.now) }
+        ensures left { OnceLooking (waiters_of self.now) own_epoch 10000 seen (parties_of turn.entry.pass.now) (λ done. HasLeft (waiters_of self.now) done (parties_of result.pass.now)) }
     {
         let word = self.word();
         let mut seen = seen;
+        let mut next = turn;
         for _ in rt.forever() {
             if epoch_of(seen) != own_epoch {
-                return;
+                return next;
             }
-            let continued = self.stage.tell(pass, &word, seen, wait);
-            seen = self.look(continued, pass);
+            let continued = next.tell(&self.stage, &word, seen, wait);
+            let (found, again) = self.look(continued);
+            seen = found;
+            next = again;
         }
         unreachable!()
     }
 
     /// A load.
     #[inline(always)]
-    fn look<E: Entry<u64>>(&self, entry: E, pass: &mut BarrierPass) -> u64
-        requires own { IsBarrierPass self.now pass.old }
-        requires may { MayStep (barrier_model (waiters_of self.now)) (words.State ∷ []) E.coming 0 (λ w. intents.Load w) (parties_of pass.old) }
-        ensures same { IsSamePass pass.old pass.new }
-        ensures told { Loaded (waiters_of self.now) (counted pass.old) result (counted pass.new) }
-        ensures went { Went (barrier_model (waiters_of self.now)) E.coming (parties_of pass.old) result (parties_of pass.new) }
+    fn look<'p, W: Way<u64>>(
+        &self,
+        turn: Turn<'p, BarrierPass, W>,
+    ) -> (u64, Turn<'p, BarrierPass, Goes>)
+        requires own { IsBarrierPass self.now turn.pass.now }
+        requires may { MayStep (barrier_model (waiters_of self.now)) (words.State ∷ []) W.coming 0 (λ w. intents.Load w) (parties_of turn.pass.now) }
+        ensures same_borrow { result.1.pass.ghost_name ≡ turn.entry.pass.ghost_name }
+        ensures same { IsSamePass turn.entry.pass.now result.1.pass.now }
+        ensures told { Loaded (waiters_of self.now) (counted turn.entry.pass.now) result.0 (counted result.1.pass.now) }
+        ensures went { Went (barrier_model (waiters_of self.now)) W.coming (parties_of turn.entry.pass.now) result.0 (parties_of result.1.pass.now) }
     {
-        self.stage.load::<_, Look>(entry, pass, 0)
+        turn.load_by::<u32, A, Look>(&self.stage, 0)
+    }
+
+    /// The load with which a `Wait` begins.
+    #[inline(always)]
+    fn first_look<'p>(&self, pass: &'p mut BarrierPass) -> (u64, Turn<'p, BarrierPass, Goes>)
+        requires own { IsBarrierPass self.now pass.old }
+        ensures same_borrow { result.1.pass.ghost_name ≡ pass.entry.ghost_name }
+        ensures same { IsSamePass pass.old result.1.pass.now }
+        ensures told { Loaded (waiters_of self.now) (counted pass.old) result.0 (counted result.1.pass.now) }
+        ensures went { Went (barrier_model (waiters_of self.now)) (Beginning calls.Wait) (parties_of pass.old) result.0 (parties_of result.1.pass.now) }
+    {
+        let begun = begin_new::<WaitCall, BarrierPass>(pass);
+        self.look(begun)
     }
 
     /// An exchange of the value seen for the one after an arrival, and the value that it found.
     #[inline(always)]
-    fn exchange(&self, pass: &mut BarrierPass, seen: u64, next: u64) -> u64
-        requires own { IsBarrierPass self.now pass.old }
+    fn exchange<'p>(
+        &self,
+        turn: Turn<'p, BarrierPass, Goes>,
+        seen: u64,
+        next: u64,
+    ) -> (u64, Turn<'p, BarrierPass, Goes>)
+        requires own { IsBarrierPass self.now turn.pass.now }
         requires next { IsNextWord (waiters_of self.now) seen next }
-        requires looked { (done : List (Slot ℕ)) × HasLooked (waiters_of self.now) seen done (parties_of pass.old) }
-        ensures same { IsSamePass pass.old pass.new }
-        ensures told { Exchanged (waiters_of self.now) seen (counted pass.old) result (counted pass.new) }
-        ensures joined { result ≡ seen → OnceLooked (waiters_of self.now) seen (parties_of pass.old) (λ done. HasJoined (waiters_of self.now) seen done (parties_of pass.new)) }
-        ensures again { result ≢ seen → OnceLooked (waiters_of self.now) seen (parties_of pass.old) (λ done. HasLooked (waiters_of self.now) result done (parties_of pass.new)) }
+        requires looked { (done : List (Slot ℕ)) × HasLooked (waiters_of self.now) seen done (parties_of turn.pass.now) }
+        ensures same_borrow { result.1.pass.ghost_name ≡ turn.entry.pass.ghost_name }
+        ensures same { IsSamePass turn.entry.pass.now result.1.pass.now }
+        ensures told { Exchanged (waiters_of self.now) seen (counted turn.entry.pass.now) result.0 (counted result.1.pass.now) }
+        ensures joined { result.0 ≡ seen → OnceLooked (waiters_of self.now) seen (parties_of turn.entry.pass.now) (λ done. HasJoined (waiters_of self.now) seen done (parties_of result.1.pass.now)) }
+        ensures again { result.0 ≢ seen → OnceLooked (waiters_of self.now) seen (parties_of turn.entry.pass.now) (λ done. HasLooked (waiters_of self.now) result.0 done (parties_of result.1.pass.now)) }
     {
-        self.stage
-            .exchange::<_, Arrive>(GoesOn, pass, 0, seen, next)
+        turn.exchange_by::<u32, A, Arrive>(&self.stage, 0, seen, next)
     }
 
     /// The barrier's word, as closures see it.

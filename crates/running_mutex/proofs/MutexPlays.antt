@@ -19,6 +19,7 @@ use Rattle.playing.specs.Slots.{Slot, Parties, all_of}
 use Rattle.playing.specs.Words.{IsNamed}
 use Rattle.playing.specs.Plays.{Coming, Beginning, Continuing, ComesBy, IsHolding, Led, HasCalled, MayStep, Went}
 use Rattle.playing.specs.Tries.{spun, IsRefused, IsGranted, MayTry, IsToWake}
+use Rattle.playing.specs.Turns.{IsOverAside}
 use Rattle.playing.proofs.Holding.{holding_told, holding_is}
 use Rattle.running_mutex.specs.MutexParties.{HasMutex, Unlocks}
 
@@ -121,4 +122,18 @@ is_to_wake i p q is has unlocked = record {
   who = wakes.One;
   wakes = refl;
   word = subst (λ (n : ℕ). IsNamed (words.State ∷ []) n words.State) (sym is) refl;
+}
+
+-- how it is over
+
+pub unlock_is_over : (p q : Parties ℕ) → HasMutex p → Unlocks p q → IsOverAside mutex_model q
+unlock_is_over p q has unlocked = record {
+  call = calls.Unlock;
+  place = places.Wake;
+  hold = None;
+  done = p.resting;
+  at = unlocked p.resting (holding_told mutex_model kinds.Write p has);
+  aside = tt;
+  answer = answers.Done;
+  ends = refl;
 }

@@ -14,7 +14,10 @@ ghost use Rattle.running_mutex.specs.MutexSteps.{GrantsAreOfARun, OneHolder};
 pub mod condition_variable;
 
 use passes::{Deed, Origin, Pass, WaitResult};
-use playing::{Attempt, Entry, Sealed, Stage, try_again};
+use playing::turn::{
+    Attempt, Called, Continues, Goes, Turn, Way, begin_held, begin_new, try_again,
+};
+use playing::{Sealed, Stage};
 use std::alloc::{AllocError, Allocator, Global};
 use std::ops::Deref;
 use std::sync::Wait;
@@ -72,46 +75,31 @@ impl Deed<(), Holds> for Release {
     ghost tells = { λ _ _ _ before _ after. Stored before after };
 }
 
-/// A `TryLock` begins.
-#[derive(Drop)]
-struct TryLockBegins;
+/// A `TryLock`.
+struct TryLockCall;
 
-impl Entry<u64> for TryLockBegins {
+impl Called<u64> for TryLockCall {
     ghost use Rattle.steps_events.specs.declared.event.Call.TheVariants as calls;
-    ghost use Rattle.playing.specs.Plays.{Beginning};
 
-    ghost coming = { Beginning calls.TryLock };
-
-    #[inline(always)]
-    fn spend(self) {}
+    ghost call = { calls.TryLock };
 }
 
-/// A `Lock` begins.
-#[derive(Drop)]
-struct LockBegins;
+/// A `Lock`.
+struct LockCall;
 
-impl Entry<u64> for LockBegins {
+impl Called<u64> for LockCall {
     ghost use Rattle.steps_events.specs.declared.event.Call.TheVariants as calls;
-    ghost use Rattle.playing.specs.Plays.{Beginning};
 
-    ghost coming = { Beginning calls.Lock };
-
-    #[inline(always)]
-    fn spend(self) {}
+    ghost call = { calls.Lock };
 }
 
-/// An `Unlock` begins, by the party that has the hold.
-#[derive(Drop)]
-struct UnlockBegins;
+/// An `Unlock`.
+struct UnlockCall;
 
-impl Entry<u64> for UnlockBegins {
+impl Called<u64> for UnlockCall {
     ghost use Rattle.steps_events.specs.declared.event.Call.TheVariants as calls;
-    ghost use Rattle.playing.specs.Plays.{Continuing};
 
-    ghost coming = { Continuing calls.Unlock };
-
-    #[inline(always)]
-    fn spend(self) {}
+    ghost call = { calls.Unlock };
 }
 
 impl<A: Allocator> Mutex<A> {
@@ -130,7 +118,7 @@ impl<A: Allocator> Mutex<A> {
     ghost use Rattle.passes.specs.contracts.pass.Pass.{the_row};
     ghost use Rattle.playing.specs.contracts.played.Played as played_row;
     ghost use Rattle.playing.specs.Slots.{no_parties};
-    ghost use Rattle.playing.specs.Plays.{MayStep};
+    ghost use Rattle.playing.specs.Plays.{MayStep, Beginning};
     ghost use Rattle.playing.specs.Passes.{played};
     ghost use Rattle.playing.specs.Counts.{HasGivenUp};
     ghost use Rattle.playing.specs.Stages.{id_of};
@@ -257,7 +245,14 @@ impl<A: Allocator> Mutex<A> {
         ensures exact { IsAlone pass.old → result ≡ true }
         ensures aborted { result ≡ false → MayAnswerAbort W.Fn wait.now IsLocked }
     {
-        self.exchange(LockBegins, pass) || try_again(rt, self, pass, &self.word(), locked(), wait)
+        let (free, turn) = self.first::<LockCall>(pass);
+        if free {
+            let _pass = turn.end(&self.stage);
+            return true;
+        }
+        let (granted, last) = try_again(rt, turn, self, &self.word(), locked(), wait);
+        let _pass = last.end(&self.stage);
+        granted
     }
 
     /// What `try_lock` does, and whether the hold is on.
@@ -269,7 +264,9 @@ impl<A: Allocator> Mutex<A> {
         ensures has { result ≡ true → HasMutex (parties_of pass.new) }
         ensures exact { IsAlone pass.old → result ≡ true }
     {
-        self.exchange(TryLockBegins, pass)
+        let (free, turn) = self.first::<TryLockCall>(pass);
+        let _pass = turn.end(&self.stage);
+        free
     }
 
     /// What `unlock` does, by the pass that has the hold.
@@ -283,34 +280,60 @@ impl<A: Allocator> Mutex<A> {
         ensures played { HasPlayedUnlock pass.old pass.new }
         ensures woke { HasWoken W.Fn wake_one.now }
     {
-        self.release(pass);
-        self.stage.wake(pass, &self.word(), wake_one);
+        let begun = begin_held::<UnlockCall, MutexPass>(pass);
+        let turn = self.release(begun);
+        let woken = turn.wake(&self.stage, &self.word(), wake_one);
+        let _pass = woken.end_aside(&self.stage);
     }
 
     /// One exchange of 0 for 1, and whether it was done.
     #[inline(always)]
-    fn exchange<E: Entry<u64>>(&self, entry: E, pass: &mut MutexPass) -> bool
-        requires own { IsMutexPass self.now pass.old }
-        requires may { (put : ℕ) → put ≡ 1 → MayStep mutex_model (words.State ∷ []) E.coming 0 (λ w. intents.Exchange w 0 put) (parties_of pass.old) }
-        ensures locked { MatchBool result (HasLocked pass.old pass.new) (HasSeenLocked pass.old pass.new) }
-        ensures tried { HasTried E.coming result pass.old pass.new }
-        ensures exact { IsAlone pass.old → result ≡ true }
+    fn exchange<'p, W: Way<u64>>(
+        &self,
+        turn: Turn<'p, MutexPass, W>,
+    ) -> (bool, Turn<'p, MutexPass, Goes>)
+        requires own { IsMutexPass self.now turn.pass.now }
+        requires may { (put : ℕ) → put ≡ 1 → MayStep mutex_model (words.State ∷ []) W.coming 0 (λ w. intents.Exchange w 0 put) (parties_of turn.pass.now) }
+        ensures same_borrow { result.1.pass.ghost_name ≡ turn.entry.pass.ghost_name }
+        ensures locked { MatchBool result.0 (HasLocked turn.entry.pass.now result.1.pass.now) (HasSeenLocked turn.entry.pass.now result.1.pass.now) }
+        ensures tried { HasTried W.coming result.0 turn.entry.pass.now result.1.pass.now }
+        ensures exact { IsAlone turn.entry.pass.now → result.0 ≡ true }
     {
-        self.stage
-            .exchange::<_, Exchange>(entry, pass, 0, 0, locked())
-            == 0
+        let (found, next) = turn.exchange_by::<(), A, Exchange>(&self.stage, 0, 0, locked());
+        (found == 0, next)
+    }
+
+    /// The first exchange of a call, which begins with it.
+    #[inline(always)]
+    fn first<'p, L: Called<u64>>(
+        &self,
+        pass: &'p mut MutexPass,
+    ) -> (bool, Turn<'p, MutexPass, Goes>)
+        requires own { IsMutexPass self.now pass.old }
+        requires may { (put : ℕ) → put ≡ 1 → MayStep mutex_model (words.State ∷ []) (Beginning L.call) 0 (λ w. intents.Exchange w 0 put) (parties_of pass.old) }
+        ensures same_borrow { result.1.pass.ghost_name ≡ pass.entry.ghost_name }
+        ensures locked { MatchBool result.0 (HasLocked pass.old result.1.pass.now) (HasSeenLocked pass.old result.1.pass.now) }
+        ensures tried { HasTried (Beginning L.call) result.0 pass.old result.1.pass.now }
+        ensures exact { IsAlone pass.old → result.0 ≡ true }
+    {
+        let begun = begin_new::<L, MutexPass>(pass);
+        self.exchange(begun)
     }
 
     /// A store of 0, by the pass that has the hold.
     #[inline(always)]
-    fn release(&self, pass: &mut MutexPass)
-        requires own { IsMutexPass self.now pass.old }
-        requires on { holds_of pass.old ≡ 1 }
-        requires has { HasMutex (parties_of pass.old) }
-        ensures released { HasUnlocked pass.old pass.new }
-        ensures played { HasPlayedUnlock pass.old pass.new }
+    fn release<'p>(
+        &self,
+        turn: Turn<'p, MutexPass, Continues<UnlockCall>>,
+    ) -> Turn<'p, MutexPass, Goes>
+        requires own { IsMutexPass self.now turn.pass.now }
+        requires on { holds_of turn.pass.now ≡ 1 }
+        requires has { HasMutex (parties_of turn.pass.now) }
+        ensures same_borrow { result.pass.ghost_name ≡ turn.entry.pass.ghost_name }
+        ensures released { HasUnlocked turn.entry.pass.now result.pass.now }
+        ensures played { HasPlayedUnlock turn.entry.pass.now result.pass.now }
     {
-        self.stage.store::<_, Release>(UnlockBegins, pass, 0, 0);
+        turn.store_by::<(), A, Release>(&self.stage, 0, 0)
     }
 
     /// The mutex's word, as closures see it.
@@ -325,7 +348,11 @@ impl<A: Allocator> Mutex<A> {
 
 /// An exchange of `lock`.
 impl<A: Allocator> Attempt<(), MutexScript, MutexPlace, u64, Holds> for Mutex<A> {
-    ghost use Rattle.std.specs.Prelude.{Some};
+    ghost use Rattle.std.specs.Prelude.{◌+◌, Some, IfErr};
+    ghost use Rattle.passes.specs.Passes.{object_of, sights_of};
+    ghost use Rattle.playing.specs.Counts.{HasMoved, WasRefusedAt};
+    ghost use Rattle.playing.specs.Tries.{MayTry, Tried, IsGranted, IsRefused};
+    ghost use Rattle.tallies.specs.MutexScript.{mutex_model};
     ghost use Rattle.std.proofs.Common.{refl};
     ghost use Rattle.steps_events.specs.declared.event.Call.TheVariants as calls;
     ghost use Rattle.steps_events.specs.declared.hold.HoldKind.TheVariants as kinds;
@@ -352,17 +379,27 @@ impl<A: Allocator> Attempt<(), MutexScript, MutexPlace, u64, Holds> for Mutex<A>
     ghost answers = { λ _ _ _. refl };
 
     #[inline(always)]
-    fn attempt<E: Entry<u64>, R: Wait>(
+    fn attempt<'p, W: Way<u64>, R: Wait>(
         &self,
-        entry: E,
+        turn: Turn<'p, MutexPass, W>,
         rt: &R,
-        pass: &mut MutexPass,
-    ) -> Result<(), u64> {
+    ) -> Result<Turn<'p, MutexPass, Goes>, (u64, Turn<'p, MutexPass, Goes>)>
+        requires own { object_of turn.pass.now ≡ id_of self.now.stage }
+        requires comes { MayTry mutex_model calls.Lock places.Lock W.coming (parties_of turn.pass.now) }
+        ensures same_borrow { IfOk result (λ next. next.pass.ghost_name ≡ turn.entry.pass.ghost_name) }
+        ensures same_borrow_too { IfErr result (λ missed. missed.1.pass.ghost_name ≡ turn.entry.pass.ghost_name) }
+        ensures moved { IfOk result (λ next. HasMoved Enters turn.entry.pass.now next.pass.now) }
+        ensures refused { IfErr result (λ missed. WasRefusedAt IsLocked missed.0 1 turn.entry.pass.now missed.1.pass.now) }
+        ensures once { IfErr result (λ missed. Unit {0} → (sights_of missed.1.pass.now).count ≡ (sights_of turn.entry.pass.now).count + 1) }
+        ensures granted { IfOk result (λ next. Tried mutex_model calls.Lock places.Lock W.coming (parties_of turn.entry.pass.now) (λ _ done. IsGranted mutex_model calls.Lock places.Lock (Some kinds.Write) done (parties_of next.pass.now))) }
+        ensures failed { IfErr result (λ missed. Tried mutex_model calls.Lock places.Lock W.coming (parties_of turn.entry.pass.now) (λ patience done. IsRefused mutex_model calls.Lock places.Lock patience missed.0 done (parties_of missed.1.pass.now))) }
+    {
         let _rt = rt;
-        if self.exchange(entry, pass) {
-            Ok(())
+        let (free, next) = self.exchange(turn);
+        if free {
+            Ok(next)
         } else {
-            Err(locked())
+            Err((locked(), next))
         }
     }
 }

@@ -5,9 +5,11 @@
 #![tactic(auto)]
 
 mod begins;
+mod calls;
 mod hold;
 
 pub use begins::{ReadBegins, TryReadBegins, TryWriteBegins, UnlockBegins, WriteBegins};
+pub use calls::{ReadCall, TryReadCall, TryWriteCall, UnlockCall, WriteCall};
 pub use hold::{
     ReadHold, RwHold, RwPass, WriteHold, end_read_hold, end_write_hold, read_hold, write_hold,
 };

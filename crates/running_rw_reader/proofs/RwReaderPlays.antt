@@ -24,6 +24,7 @@ use Rattle.tallies.specs.RwReaderScript.{rw_reader_model}
 use Rattle.playing.specs.Slots.{Slot, Parties, all_of}
 use Rattle.playing.specs.Words.{IsNamed}
 use Rattle.playing.specs.Plays.{Coming, Going, Beginning, Continuing, ComesBy, IsAt, IsHolding, Led, Leads, HasCalled, HasEnded, MayStep, Went}
+use Rattle.playing.specs.Turns.{IsOverAside}
 use Rattle.playing.specs.Tries.{spun, IsRefused, IsGranted, MayTry, IsToWake}
 use Rattle.playing.proofs.Holding.{holding_told, holding_is}
 use Rattle.running_rw_reader.specs.RwReaderParties.{has_hold, HasLookedOnce, HasLooked, Unlocks}
@@ -273,4 +274,16 @@ is_to_wake kind i p q is has unlocked = record {
   who = wakes.One;
   wakes = refl;
   word = subst (λ (n : ℕ). IsNamed (words.State ∷ []) n words.State) (sym is) refl;
+}
+
+pub unlock_is_over : (kind : HoldKind) (p q : Parties ℕ) → has_hold kind p ≡ true → Unlocks kind p q → IsOverAside rw_reader_model q
+unlock_is_over kind p q has unlocked = record {
+  call = calls.Unlock;
+  place = places.Wake;
+  hold = None;
+  done = p.resting;
+  at = unlocked p.resting (holding_told rw_reader_model kind p has);
+  aside = tt;
+  answer = answers.Done;
+  ends = refl;
 }

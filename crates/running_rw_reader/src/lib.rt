@@ -12,9 +12,12 @@ ghost use Rattle.playing.specs.Stages.{count_of};
 ghost use Rattle.running_rw_reader.specs.RwReaderSteps.{HoldsAreOfARun, NoHoldBesideAWriteHold};
 
 use passes::{Deed, Origin, Pass, WaitResult};
-use playing::{Attempt, Entry, GoesOn, Sealed, Stage, try_again};
+use playing::turn::{
+    Attempt, Called, Continues, Goes, Turn, Way, begin_held, begin_new, try_again,
+};
+use playing::{Sealed, Stage};
 use running_rw_hold::{
-    ReadBegins, RwHold, TryReadBegins, TryWriteBegins, UnlockBegins, WriteBegins, end_read_hold,
+    ReadCall, RwHold, TryReadCall, TryWriteCall, UnlockCall, WriteCall, end_read_hold,
     end_write_hold, read_hold, write_hold,
 };
 use std::alloc::{AllocError, Allocator, Global};
@@ -111,7 +114,7 @@ impl<A: Allocator> RwLockReaderPreference<A> {
     ghost use Rattle.passes.specs.contracts.pass.Pass.{the_row};
     ghost use Rattle.playing.specs.contracts.played.Played as played_row;
     ghost use Rattle.playing.specs.Slots.{no_parties};
-    ghost use Rattle.playing.specs.Plays.{Going, MayStep, Went};
+    ghost use Rattle.playing.specs.Plays.{Beginning, Going, MayStep, Went};
     ghost use Rattle.playing.specs.Passes.{played};
     ghost use Rattle.playing.specs.Counts.{HasSeen, HasMissed, HasDone, WasRefused, WasRefusedAt, HasGivenUp};
     ghost use Rattle.playing.specs.Stages.{id_of};
@@ -273,42 +276,74 @@ impl<A: Allocator> RwLockReaderPreference<A> {
         ensures at_once { result ≡ true → HasReadAtOnce pass.old pass.new }
         ensures exact { IsAlone pass.old → result ≡ true }
     {
-        let seen = self.look(TryReadBegins, pass);
+        let (seen, turn) = self.first_look::<TryReadCall>(pass);
         match reader_enters(seen) {
-            Some(more) => self.come_to_read(pass, seen, more) == seen,
-            None => false,
+            Some(more) => {
+                let (found, last) = self.come_to_read(turn, seen, more);
+                let _pass = last.end(&self.stage);
+                found == seen
+            }
+            None => {
+                let _pass = turn.end(&self.stage);
+                false
+            }
         }
     }
 
     /// Looks, and turns a read hold on while there is room. `Err` with a value at which there was none.
     #[inline(always)]
-    fn read_unless_shut<E: Entry<u64>, R: Wait>(
+    fn read_unless_shut<'p, W: Way<u64>, R: Wait>(
         &self,
-        entry: E,
+        turn: Turn<'p, RwReaderPass, W>,
         rt: &R,
-        pass: &mut RwReaderPass,
-    ) -> Result<(), u64>
-        requires own { IsRwReaderPass self.now pass.old }
-        requires comes { MayTry rw_reader_model calls.ReadLock places.ReadLook E.coming (parties_of pass.old) }
-        ensures entered { IfOk result (λ _. HasEnteredToRead pass.old pass.new) }
-        ensures refused { IfErr result (λ seen. WasRefusedAt IsShut seen 1 pass.old pass.new) }
-        ensures once { IfErr result (λ _. IsWhole (part_of pass.old) → (sights_of pass.new).count ≡ (sights_of pass.old).count + 1) }
-        ensures granted { IfOk result (λ _. Tried rw_reader_model calls.ReadLock places.ReadLook E.coming (parties_of pass.old) (λ _ done. IsGranted rw_reader_model calls.ReadLock places.ReadLook (Some kinds.Read) done (parties_of pass.new))) }
-        ensures failed { IfErr result (λ seen. Tried rw_reader_model calls.ReadLock places.ReadLook E.coming (parties_of pass.old) (λ patience done. IsRefused rw_reader_model calls.ReadLock places.ReadLook patience seen done (parties_of pass.new))) }
-        ensures exact { IsAlone pass.old → is_ok result ≡ true }
+    ) -> Result<Turn<'p, RwReaderPass, Goes>, (u64, Turn<'p, RwReaderPass, Goes>)>
+        requires own { IsRwReaderPass self.now turn.pass.now }
+        requires comes { MayTry rw_reader_model calls.ReadLock places.ReadLook W.coming (parties_of turn.pass.now) }
+        ensures same_borrow { IfOk result (λ next. next.pass.ghost_name ≡ turn.entry.pass.ghost_name) }
+        ensures same_borrow_too { IfErr result (λ missed. missed.1.pass.ghost_name ≡ turn.entry.pass.ghost_name) }
+        ensures entered { IfOk result (λ next. HasEnteredToRead turn.entry.pass.now next.pass.now) }
+        ensures refused { IfErr result (λ missed. WasRefusedAt IsShut missed.0 1 turn.entry.pass.now missed.1.pass.now) }
+        ensures once { IfErr result (λ missed. IsWhole (part_of turn.entry.pass.now) → (sights_of missed.1.pass.now).count ≡ (sights_of turn.entry.pass.now).count + 1) }
+        ensures granted { IfOk result (λ next. Tried rw_reader_model calls.ReadLock places.ReadLook W.coming (parties_of turn.entry.pass.now) (λ _ done. IsGranted rw_reader_model calls.ReadLock places.ReadLook (Some kinds.Read) done (parties_of next.pass.now))) }
+        ensures failed { IfErr result (λ missed. Tried rw_reader_model calls.ReadLock places.ReadLook W.coming (parties_of turn.entry.pass.now) (λ patience done. IsRefused rw_reader_model calls.ReadLock places.ReadLook patience missed.0 done (parties_of missed.1.pass.now))) }
+        ensures exact { IsAlone turn.entry.pass.now → is_ok result ≡ true }
     {
-        let mut seen = self.look(entry, pass);
+        let (first, after) = self.look(turn);
+        let mut seen = first;
+        let mut next = after;
         for _ in rt.forever() {
             let Some(more) = reader_enters(seen) else {
-                return Err(seen);
+                return Err((seen, next));
             };
-            let found = self.come_to_read(pass, seen, more);
+            let (found, again) = self.come_to_read(next, seen, more);
             if found == seen {
-                return Ok(());
+                return Ok(again);
             }
             seen = found;
+            next = again;
         }
         unreachable!()
+    }
+
+    /// The same, with which a `ReadLock` begins.
+    #[inline(always)]
+    fn first_read<'p, R: Wait>(
+        &self,
+        rt: &R,
+        pass: &'p mut RwReaderPass,
+    ) -> Result<Turn<'p, RwReaderPass, Goes>, (u64, Turn<'p, RwReaderPass, Goes>)>
+        requires own { IsRwReaderPass self.now pass.old }
+        ensures same_borrow { IfOk result (λ next. next.pass.ghost_name ≡ pass.entry.ghost_name) }
+        ensures same_borrow_too { IfErr result (λ missed. missed.1.pass.ghost_name ≡ pass.entry.ghost_name) }
+        ensures entered { IfOk result (λ next. HasEnteredToRead pass.old next.pass.now) }
+        ensures refused { IfErr result (λ missed. WasRefusedAt IsShut missed.0 1 pass.old missed.1.pass.now) }
+        ensures once { IfErr result (λ missed. IsWhole (part_of pass.old) → (sights_of missed.1.pass.now).count ≡ (sights_of pass.old).count + 1) }
+        ensures granted { IfOk result (λ next. Tried rw_reader_model calls.ReadLock places.ReadLook (Beginning calls.ReadLock) (parties_of pass.old) (λ _ done. IsGranted rw_reader_model calls.ReadLock places.ReadLook (Some kinds.Read) done (parties_of next.pass.now))) }
+        ensures failed { IfErr result (λ missed. Tried rw_reader_model calls.ReadLock places.ReadLook (Beginning calls.ReadLock) (parties_of pass.old) (λ patience done. IsRefused rw_reader_model calls.ReadLock places.ReadLook patience missed.0 done (parties_of missed.1.pass.now))) }
+        ensures exact { IsAlone pass.old → is_ok result ≡ true }
+    {
+        let begun = begin_new::<ReadCall, RwReaderPass>(pass);
+        self.read_unless_shut(begun, rt)
     }
 
     /// What `read_lock` does, and whether the hold is on.
@@ -328,11 +363,16 @@ impl<A: Allocator> RwLockReaderPreference<A> {
         ensures aborted { result ≡ false → MayAnswerAbort W.Fn wait.now IsShut }
         ensures asked { IsWhole (part_of pass.old) → result ≡ false → HasAsked W.Fn wait.now IsShut 10001 pass.old pass.new }
     {
-        match self.read_unless_shut(ReadBegins, rt, pass) {
-            Ok(()) => true,
-            Err(seen) => {
+        match self.first_read(rt, pass) {
+            Ok(granted) => {
+                let _pass = granted.end(&self.stage);
+                true
+            }
+            Err((seen, next)) => {
                 let reader = Reader { lock: self };
-                try_again(rt, &reader, pass, &self.word(), seen, wait)
+                let (entered, last) = try_again(rt, next, &reader, &self.word(), seen, wait);
+                let _pass = last.end(&self.stage);
+                entered
             }
         }
     }
@@ -353,9 +393,10 @@ impl<A: Allocator> RwLockReaderPreference<A> {
         ensures played { Unlocks kinds.Read (parties_of pass.old) (parties_of result.now) }
         ensures woke { HasWoken W.Fn wake_one }
     {
-        self.leave_reading(pass);
-        self.stage.wake(pass, &self.word(), &wake_one);
-        pass
+        let begun = begin_held::<UnlockCall, RwReaderPass>(pass);
+        let turn = self.leave_reading(begun);
+        let woken = turn.wake(&self.stage, &self.word(), &wake_one);
+        woken.end_aside(&self.stage)
     }
 
     /// What `unlock` does with a write hold.
@@ -374,9 +415,10 @@ impl<A: Allocator> RwLockReaderPreference<A> {
         ensures played { Unlocks kinds.Write (parties_of pass.old) (parties_of result.now) }
         ensures woke { HasWoken W.Fn wake_one }
     {
-        self.leave_writing(pass);
-        self.stage.wake(pass, &self.word(), &wake_one);
-        pass
+        let begun = begin_held::<UnlockCall, RwReaderPass>(pass);
+        let turn = self.leave_writing(begun);
+        let woken = turn.wake(&self.stage, &self.word(), &wake_one);
+        woken.end_aside(&self.stage)
     }
 
     /// What `try_write_lock` does, and whether the hold is on.
@@ -389,28 +431,61 @@ impl<A: Allocator> RwLockReaderPreference<A> {
         ensures at_once { result ≡ true → HasWrittenAtOnce pass.old pass.new }
         ensures exact { IsAlone pass.old → result ≡ true }
     {
-        match self.try_to_write(TryWriteBegins, pass) {
-            Ok(()) => true,
-            Err(_) => false,
+        match self.first_write::<TryWriteCall>(pass) {
+            Ok(granted) => {
+                let _pass = granted.end(&self.stage);
+                true
+            }
+            Err((_, refused)) => {
+                let _pass = refused.end(&self.stage);
+                false
+            }
         }
     }
 
     /// Turns the write hold on by one exchange. `Err` with the value that it found, where that was not 0.
     #[inline(always)]
-    fn try_to_write<E: Entry<u64>>(&self, entry: E, pass: &mut RwReaderPass) -> Result<(), u64>
+    fn try_to_write<'p, W: Way<u64>>(
+        &self,
+        turn: Turn<'p, RwReaderPass, W>,
+    ) -> Result<Turn<'p, RwReaderPass, Goes>, (u64, Turn<'p, RwReaderPass, Goes>)>
+        requires own { IsRwReaderPass self.now turn.pass.now }
+        requires may { (put : ℕ) → put ≡ 2 ^ 64 - 1 → MayStep rw_reader_model (words.State ∷ []) W.coming 0 (λ w. intents.Exchange w 0 put) (parties_of turn.pass.now) }
+        ensures same_borrow { IfOk result (λ next. next.pass.ghost_name ≡ turn.entry.pass.ghost_name) }
+        ensures same_borrow_too { IfErr result (λ missed. missed.1.pass.ghost_name ≡ turn.entry.pass.ghost_name) }
+        ensures entered { IfOk result (λ next. HasEnteredToWrite turn.entry.pass.now next.pass.now) }
+        ensures at_once { IfOk result (λ next. HasWrittenAtOnce turn.entry.pass.now next.pass.now) }
+        ensures refused { IfErr result (λ missed. HasSeenTaken turn.entry.pass.now missed.1.pass.now × ((sights_of missed.1.pass.now).last ≡ missed.0)) }
+        ensures went { IfOk result (λ next. Went rw_reader_model W.coming (parties_of turn.entry.pass.now) 0 (parties_of next.pass.now)) }
+        ensures missed { IfErr result (λ missed. (missed.0 ≢ 0) × Went rw_reader_model W.coming (parties_of turn.entry.pass.now) missed.0 (parties_of missed.1.pass.now)) }
+        ensures exact { IsAlone turn.entry.pass.now → is_ok result ≡ true }
+    {
+        let (found, next) = self.come_to_write(turn);
+        match found {
+            0 => Ok(next),
+            _ => Err((found, next)),
+        }
+    }
+
+    /// The same, with which a call begins.
+    #[inline(always)]
+    fn first_write<'p, L: Called<u64>>(
+        &self,
+        pass: &'p mut RwReaderPass,
+    ) -> Result<Turn<'p, RwReaderPass, Goes>, (u64, Turn<'p, RwReaderPass, Goes>)>
         requires own { IsRwReaderPass self.now pass.old }
-        requires may { (put : ℕ) → put ≡ 2 ^ 64 - 1 → MayStep rw_reader_model (words.State ∷ []) E.coming 0 (λ w. intents.Exchange w 0 put) (parties_of pass.old) }
-        ensures entered { IfOk result (λ _. HasEnteredToWrite pass.old pass.new) }
-        ensures at_once { IfOk result (λ _. HasWrittenAtOnce pass.old pass.new) }
-        ensures refused { IfErr result (λ seen. HasSeenTaken pass.old pass.new × ((sights_of pass.new).last ≡ seen)) }
-        ensures went { IfOk result (λ _. Went rw_reader_model E.coming (parties_of pass.old) 0 (parties_of pass.new)) }
-        ensures missed { IfErr result (λ seen. (seen ≢ 0) × Went rw_reader_model E.coming (parties_of pass.old) seen (parties_of pass.new)) }
+        requires may { (put : ℕ) → put ≡ 2 ^ 64 - 1 → MayStep rw_reader_model (words.State ∷ []) (Beginning L.call) 0 (λ w. intents.Exchange w 0 put) (parties_of pass.old) }
+        ensures same_borrow { IfOk result (λ next. next.pass.ghost_name ≡ pass.entry.ghost_name) }
+        ensures same_borrow_too { IfErr result (λ missed. missed.1.pass.ghost_name ≡ pass.entry.ghost_name) }
+        ensures entered { IfOk result (λ next. HasEnteredToWrite pass.old next.pass.now) }
+        ensures at_once { IfOk result (λ next. HasWrittenAtOnce pass.old next.pass.now) }
+        ensures refused { IfErr result (λ missed. HasSeenTaken pass.old missed.1.pass.now × ((sights_of missed.1.pass.now).last ≡ missed.0)) }
+        ensures went { IfOk result (λ next. Went rw_reader_model (Beginning L.call) (parties_of pass.old) 0 (parties_of next.pass.now)) }
+        ensures missed { IfErr result (λ missed. (missed.0 ≢ 0) × Went rw_reader_model (Beginning L.call) (parties_of pass.old) missed.0 (parties_of missed.1.pass.now)) }
         ensures exact { IsAlone pass.old → is_ok result ≡ true }
     {
-        match self.come_to_write(entry, pass) {
-            0 => Ok(()),
-            found => Err(found),
-        }
+        let begun = begin_new::<L, RwReaderPass>(pass);
+        self.try_to_write(begun)
     }
 
     /// What `write_lock` does, and whether the hold is on.
@@ -429,85 +504,126 @@ impl<A: Allocator> RwLockReaderPreference<A> {
         ensures exact { IsAlone pass.old → result ≡ true }
         ensures aborted { result ≡ false → MayAnswerAbort W.Fn wait.now IsTaken }
     {
-        match self.try_to_write(WriteBegins, pass) {
-            Ok(()) => true,
-            Err(seen) => {
+        match self.first_write::<WriteCall>(pass) {
+            Ok(granted) => {
+                let _pass = granted.end(&self.stage);
+                true
+            }
+            Err((seen, next)) => {
                 let writer = Writer { lock: self };
-                try_again(rt, &writer, pass, &self.word(), seen, wait)
+                let (entered, last) = try_again(rt, next, &writer, &self.word(), seen, wait);
+                let _pass = last.end(&self.stage);
+                entered
             }
         }
     }
 
     /// A load.
     #[inline(always)]
-    fn look<E: Entry<u64>>(&self, entry: E, pass: &mut RwReaderPass) -> u64
-        requires own { IsRwReaderPass self.now pass.old }
-        requires may { MayStep rw_reader_model (words.State ∷ []) E.coming 0 (λ w. intents.Load w) (parties_of pass.old) }
-        ensures saw { HasSeen result pass.old pass.new }
-        ensures went { Went rw_reader_model E.coming (parties_of pass.old) result (parties_of pass.new) }
-        ensures exact { IsWhole (part_of pass.old) → result ≡ word_of (tally_of pass.old) }
+    fn look<'p, W: Way<u64>>(
+        &self,
+        turn: Turn<'p, RwReaderPass, W>,
+    ) -> (u64, Turn<'p, RwReaderPass, Goes>)
+        requires own { IsRwReaderPass self.now turn.pass.now }
+        requires may { MayStep rw_reader_model (words.State ∷ []) W.coming 0 (λ w. intents.Load w) (parties_of turn.pass.now) }
+        ensures same_borrow { result.1.pass.ghost_name ≡ turn.entry.pass.ghost_name }
+        ensures saw { HasSeen result.0 turn.entry.pass.now result.1.pass.now }
+        ensures went { Went rw_reader_model W.coming (parties_of turn.entry.pass.now) result.0 (parties_of result.1.pass.now) }
+        ensures exact { IsWhole (part_of turn.entry.pass.now) → result.0 ≡ word_of (tally_of turn.entry.pass.now) }
     {
-        self.stage.load::<_, Look>(entry, pass, 0)
+        turn.load_by::<(), A, Look>(&self.stage, 0)
+    }
+
+    /// The load with which a call begins.
+    #[inline(always)]
+    fn first_look<'p, L: Called<u64>>(
+        &self,
+        pass: &'p mut RwReaderPass,
+    ) -> (u64, Turn<'p, RwReaderPass, Goes>)
+        requires own { IsRwReaderPass self.now pass.old }
+        requires may { MayStep rw_reader_model (words.State ∷ []) (Beginning L.call) 0 (λ w. intents.Load w) (parties_of pass.old) }
+        ensures same_borrow { result.1.pass.ghost_name ≡ pass.entry.ghost_name }
+        ensures saw { HasSeen result.0 pass.old result.1.pass.now }
+        ensures went { Went rw_reader_model (Beginning L.call) (parties_of pass.old) result.0 (parties_of result.1.pass.now) }
+        ensures exact { IsWhole (part_of pass.old) → result.0 ≡ word_of (tally_of pass.old) }
+    {
+        let begun = begin_new::<L, RwReaderPass>(pass);
+        self.look(begun)
     }
 
     /// An exchange of the value seen for one more, and the value that it found.
     #[inline(always)]
-    fn come_to_read(&self, pass: &mut RwReaderPass, seen: u64, more: u64) -> u64
-        requires own { IsRwReaderPass self.now pass.old }
+    fn come_to_read<'p>(
+        &self,
+        turn: Turn<'p, RwReaderPass, Goes>,
+        seen: u64,
+        more: u64,
+    ) -> (u64, Turn<'p, RwReaderPass, Goes>)
+        requires own { IsRwReaderPass self.now turn.pass.now }
         requires room { seen < 2 ^ 64 - 2 }
         requires more { more ≡ seen + 1 }
-        requires may { MayStep rw_reader_model (words.State ∷ []) Going 0 (λ w. intents.Exchange w seen more) (parties_of pass.old) }
-        ensures done { result ≡ seen → HasDone read pass.old pass.new }
-        ensures reads { result ≡ seen → reads_of pass.new ≡ reads_of pass.old + 1 }
-        ensures writes { result ≡ seen → (writes_of pass.old ≡ 0) × (writes_of pass.new ≡ 0) }
-        ensures failed { result ≢ seen → HasMissed seen result pass.old pass.new }
-        ensures went { Went rw_reader_model Going (parties_of pass.old) result (parties_of pass.new) }
-        ensures exact { IsWhole (part_of pass.old) → result ≡ word_of (tally_of pass.old) }
+        requires may { MayStep rw_reader_model (words.State ∷ []) Going 0 (λ w. intents.Exchange w seen more) (parties_of turn.pass.now) }
+        ensures same_borrow { result.1.pass.ghost_name ≡ turn.entry.pass.ghost_name }
+        ensures done { result.0 ≡ seen → HasDone read turn.entry.pass.now result.1.pass.now }
+        ensures reads { result.0 ≡ seen → reads_of result.1.pass.now ≡ reads_of turn.entry.pass.now + 1 }
+        ensures writes { result.0 ≡ seen → (writes_of turn.entry.pass.now ≡ 0) × (writes_of result.1.pass.now ≡ 0) }
+        ensures failed { result.0 ≢ seen → HasMissed seen result.0 turn.entry.pass.now result.1.pass.now }
+        ensures went { Went rw_reader_model Going (parties_of turn.entry.pass.now) result.0 (parties_of result.1.pass.now) }
+        ensures exact { IsWhole (part_of turn.entry.pass.now) → result.0 ≡ word_of (tally_of turn.entry.pass.now) }
     {
-        self.stage
-            .exchange::<_, ComeToRead>(GoesOn, pass, 0, seen, more)
+        turn.exchange_by::<(), A, ComeToRead>(&self.stage, 0, seen, more)
     }
 
     /// A subtraction of 1, by a pass that has a read hold.
     #[inline(always)]
-    fn leave_reading(&self, pass: &mut RwReaderPass)
-        requires own { IsRwReaderPass self.now pass.old }
-        requires on { 0 < reads_of pass.old }
-        requires has { has_hold kinds.Read (parties_of pass.old) ≡ true }
-        ensures released { HasLeftReading pass.old pass.new }
-        ensures played { Unlocks kinds.Read (parties_of pass.old) (parties_of pass.new) }
+    fn leave_reading<'p>(
+        &self,
+        turn: Turn<'p, RwReaderPass, Continues<UnlockCall>>,
+    ) -> Turn<'p, RwReaderPass, Goes>
+        requires own { IsRwReaderPass self.now turn.pass.now }
+        requires on { 0 < reads_of turn.pass.now }
+        requires has { has_hold kinds.Read (parties_of turn.pass.now) ≡ true }
+        ensures same_borrow { result.pass.ghost_name ≡ turn.entry.pass.ghost_name }
+        ensures released { HasLeftReading turn.entry.pass.now result.pass.now }
+        ensures played { Unlocks kinds.Read (parties_of turn.entry.pass.now) (parties_of result.pass.now) }
     {
-        self.stage
-            .subtract::<_, LeaveReading>(UnlockBegins, pass, 0, 1);
+        let (_, next) = turn.subtract_by::<(), A, LeaveReading>(&self.stage, 0, 1);
+        next
     }
 
     /// An exchange of 0 for 2^64 - 1, and the value that it found.
     #[inline(always)]
-    fn come_to_write<E: Entry<u64>>(&self, entry: E, pass: &mut RwReaderPass) -> u64
-        requires own { IsRwReaderPass self.now pass.old }
-        requires may { (put : ℕ) → put ≡ 2 ^ 64 - 1 → MayStep rw_reader_model (words.State ∷ []) E.coming 0 (λ w. intents.Exchange w 0 put) (parties_of pass.old) }
-        ensures done { result ≡ 0 → HasDone (λ _. written) pass.old pass.new }
-        ensures off { result ≡ 0 → (reads_of pass.old ≡ 0) × (writes_of pass.old ≡ 0) }
-        ensures on { result ≡ 0 → (reads_of pass.new ≡ 0) × (writes_of pass.new ≡ 1) }
-        ensures failed { result ≢ 0 → HasMissed 0 result pass.old pass.new }
-        ensures went { Went rw_reader_model E.coming (parties_of pass.old) result (parties_of pass.new) }
-        ensures exact { IsWhole (part_of pass.old) → result ≡ word_of (tally_of pass.old) }
+    fn come_to_write<'p, W: Way<u64>>(
+        &self,
+        turn: Turn<'p, RwReaderPass, W>,
+    ) -> (u64, Turn<'p, RwReaderPass, Goes>)
+        requires own { IsRwReaderPass self.now turn.pass.now }
+        requires may { (put : ℕ) → put ≡ 2 ^ 64 - 1 → MayStep rw_reader_model (words.State ∷ []) W.coming 0 (λ w. intents.Exchange w 0 put) (parties_of turn.pass.now) }
+        ensures same_borrow { result.1.pass.ghost_name ≡ turn.entry.pass.ghost_name }
+        ensures done { result.0 ≡ 0 → HasDone (λ _. written) turn.entry.pass.now result.1.pass.now }
+        ensures off { result.0 ≡ 0 → (reads_of turn.entry.pass.now ≡ 0) × (writes_of turn.entry.pass.now ≡ 0) }
+        ensures on { result.0 ≡ 0 → (reads_of result.1.pass.now ≡ 0) × (writes_of result.1.pass.now ≡ 1) }
+        ensures failed { result.0 ≢ 0 → HasMissed 0 result.0 turn.entry.pass.now result.1.pass.now }
+        ensures went { Went rw_reader_model W.coming (parties_of turn.entry.pass.now) result.0 (parties_of result.1.pass.now) }
+        ensures exact { IsWhole (part_of turn.entry.pass.now) → result.0 ≡ word_of (tally_of turn.entry.pass.now) }
     {
-        self.stage
-            .exchange::<_, ComeToWrite>(entry, pass, 0, 0, write_locked())
+        turn.exchange_by::<(), A, ComeToWrite>(&self.stage, 0, 0, write_locked())
     }
 
     /// A store of 0, by the pass that has the write hold.
     #[inline(always)]
-    fn leave_writing(&self, pass: &mut RwReaderPass)
-        requires own { IsRwReaderPass self.now pass.old }
-        requires on { writes_of pass.old ≡ 1 }
-        requires has { has_hold kinds.Write (parties_of pass.old) ≡ true }
-        ensures released { HasLeftWriting pass.old pass.new }
-        ensures played { Unlocks kinds.Write (parties_of pass.old) (parties_of pass.new) }
+    fn leave_writing<'p>(
+        &self,
+        turn: Turn<'p, RwReaderPass, Continues<UnlockCall>>,
+    ) -> Turn<'p, RwReaderPass, Goes>
+        requires own { IsRwReaderPass self.now turn.pass.now }
+        requires on { writes_of turn.pass.now ≡ 1 }
+        requires has { has_hold kinds.Write (parties_of turn.pass.now) ≡ true }
+        ensures same_borrow { result.pass.ghost_name ≡ turn.entry.pass.ghost_name }
+        ensures released { HasLeftWriting turn.entry.pass.now result.pass.now }
+        ensures played { Unlocks kinds.Write (parties_of turn.entry.pass.now) (parties_of result.pass.now) }
     {
-        self.stage
-            .store::<_, LeaveWriting>(UnlockBegins, pass, 0, 0);
+        turn.store_by::<(), A, LeaveWriting>(&self.stage, 0, 0)
     }
 
     /// The lock's word, as closures see it.
@@ -528,12 +644,16 @@ struct Reader<'l, A: Allocator> {
 
 /// A look of `read_lock`, and its exchanges.
 impl<A: Allocator> Attempt<(), RwReaderScript, RwReaderPlace, u64, Held<()>> for Reader<'_, A> {
-    ghost use Rattle.std.specs.Prelude.{Some};
+    ghost use Rattle.std.specs.Prelude.{◌+◌, Some, IfErr};
     ghost use Rattle.std.proofs.Common.{refl};
     ghost use Rattle.steps_events.specs.declared.event.Call.TheVariants as calls;
     ghost use Rattle.steps_events.specs.declared.hold.HoldKind.TheVariants as kinds;
     ghost use Rattle.steps_rw_reader.specs.declared.RwReaderPlace.TheVariants as places;
     ghost use Rattle.passes.specs.Parts.{IsWhole};
+    ghost use Rattle.passes.specs.Passes.{object_of, part_of, sights_of};
+    ghost use Rattle.playing.specs.Counts.{HasMoved, WasRefusedAt};
+    ghost use Rattle.playing.specs.Tries.{MayTry, Tried, IsGranted, IsRefused};
+    ghost use Rattle.tallies.specs.RwReaderScript.{rw_reader_model};
     ghost use Rattle.playing.specs.Stages.{id_of};
     ghost use Rattle.running_rw_reader.specs.RwReaderShown.{IsShut, EntersToRead};
 
@@ -556,13 +676,22 @@ impl<A: Allocator> Attempt<(), RwReaderScript, RwReaderPlace, u64, Held<()>> for
     ghost answers = { λ _ _ _. refl };
 
     #[inline(always)]
-    fn attempt<E: Entry<u64>, R: Wait>(
+    fn attempt<'p, W: Way<u64>, R: Wait>(
         &self,
-        entry: E,
+        turn: Turn<'p, RwReaderPass, W>,
         rt: &R,
-        pass: &mut RwReaderPass,
-    ) -> Result<(), u64> {
-        self.lock.read_unless_shut(entry, rt, pass)
+    ) -> Result<Turn<'p, RwReaderPass, Goes>, (u64, Turn<'p, RwReaderPass, Goes>)>
+        requires own { object_of turn.pass.now ≡ id_of self.now.lock.now.stage }
+        requires comes { MayTry rw_reader_model calls.ReadLock places.ReadLook W.coming (parties_of turn.pass.now) }
+        ensures same_borrow { IfOk result (λ next. next.pass.ghost_name ≡ turn.entry.pass.ghost_name) }
+        ensures same_borrow_too { IfErr result (λ missed. missed.1.pass.ghost_name ≡ turn.entry.pass.ghost_name) }
+        ensures moved { IfOk result (λ next. HasMoved EntersToRead turn.entry.pass.now next.pass.now) }
+        ensures refused { IfErr result (λ missed. WasRefusedAt IsShut missed.0 1 turn.entry.pass.now missed.1.pass.now) }
+        ensures once { IfErr result (λ missed. IsWhole (part_of turn.entry.pass.now) → (sights_of missed.1.pass.now).count ≡ (sights_of turn.entry.pass.now).count + 1) }
+        ensures granted { IfOk result (λ next. Tried rw_reader_model calls.ReadLock places.ReadLook W.coming (parties_of turn.entry.pass.now) (λ _ done. IsGranted rw_reader_model calls.ReadLock places.ReadLook (Some kinds.Read) done (parties_of next.pass.now))) }
+        ensures failed { IfErr result (λ missed. Tried rw_reader_model calls.ReadLock places.ReadLook W.coming (parties_of turn.entry.pass.now) (λ patience done. IsRefused rw_reader_model calls.ReadLock places.ReadLook patience missed.0 done (parties_of missed.1.pass.now))) }
+    {
+        self.lock.read_unless_shut(turn, rt)
     }
 }
 
@@ -574,11 +703,15 @@ struct Writer<'l, A: Allocator> {
 
 /// An exchange of `write_lock`.
 impl<A: Allocator> Attempt<(), RwReaderScript, RwReaderPlace, u64, Held<()>> for Writer<'_, A> {
-    ghost use Rattle.std.specs.Prelude.{Some};
+    ghost use Rattle.std.specs.Prelude.{◌+◌, Some, IfErr};
     ghost use Rattle.std.proofs.Common.{refl};
     ghost use Rattle.steps_events.specs.declared.event.Call.TheVariants as calls;
     ghost use Rattle.steps_events.specs.declared.hold.HoldKind.TheVariants as kinds;
     ghost use Rattle.steps_rw_reader.specs.declared.RwReaderPlace.TheVariants as places;
+    ghost use Rattle.passes.specs.Passes.{object_of, sights_of};
+    ghost use Rattle.playing.specs.Counts.{HasMoved, WasRefusedAt};
+    ghost use Rattle.playing.specs.Tries.{MayTry, Tried, IsGranted, IsRefused};
+    ghost use Rattle.tallies.specs.RwReaderScript.{rw_reader_model};
     ghost use Rattle.playing.specs.Stages.{id_of};
     ghost use Rattle.running_rw_reader.specs.RwReaderShown.{IsTaken, EntersToWrite};
 
@@ -601,14 +734,23 @@ impl<A: Allocator> Attempt<(), RwReaderScript, RwReaderPlace, u64, Held<()>> for
     ghost answers = { λ _ _ _. refl };
 
     #[inline(always)]
-    fn attempt<E: Entry<u64>, R: Wait>(
+    fn attempt<'p, W: Way<u64>, R: Wait>(
         &self,
-        entry: E,
+        turn: Turn<'p, RwReaderPass, W>,
         rt: &R,
-        pass: &mut RwReaderPass,
-    ) -> Result<(), u64> {
+    ) -> Result<Turn<'p, RwReaderPass, Goes>, (u64, Turn<'p, RwReaderPass, Goes>)>
+        requires own { object_of turn.pass.now ≡ id_of self.now.lock.now.stage }
+        requires comes { MayTry rw_reader_model calls.WriteLock places.Write W.coming (parties_of turn.pass.now) }
+        ensures same_borrow { IfOk result (λ next. next.pass.ghost_name ≡ turn.entry.pass.ghost_name) }
+        ensures same_borrow_too { IfErr result (λ missed. missed.1.pass.ghost_name ≡ turn.entry.pass.ghost_name) }
+        ensures moved { IfOk result (λ next. HasMoved EntersToWrite turn.entry.pass.now next.pass.now) }
+        ensures refused { IfErr result (λ missed. WasRefusedAt IsTaken missed.0 1 turn.entry.pass.now missed.1.pass.now) }
+        ensures once { IfErr result (λ missed. Unit {0} → (sights_of missed.1.pass.now).count ≡ (sights_of turn.entry.pass.now).count + 1) }
+        ensures granted { IfOk result (λ next. Tried rw_reader_model calls.WriteLock places.Write W.coming (parties_of turn.entry.pass.now) (λ _ done. IsGranted rw_reader_model calls.WriteLock places.Write (Some kinds.Write) done (parties_of next.pass.now))) }
+        ensures failed { IfErr result (λ missed. Tried rw_reader_model calls.WriteLock places.Write W.coming (parties_of turn.entry.pass.now) (λ patience done. IsRefused rw_reader_model calls.WriteLock places.Write patience missed.0 done (parties_of missed.1.pass.now))) }
+    {
         let _rt = rt;
-        self.lock.try_to_write(entry, pass)
+        self.lock.try_to_write(turn)
     }
 }
 

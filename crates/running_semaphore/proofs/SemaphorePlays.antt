@@ -23,6 +23,7 @@ use Rattle.playing.specs.Slots.{Slot, Parties, all_of}
 use Rattle.playing.specs.Words.{IsNamed}
 use Rattle.playing.specs.Plays.{Coming, Going, Beginning, ComesBy, IsAt, Led, HasCalled, MayStep, Went}
 use Rattle.playing.specs.Tries.{spun, MayTry, Tried, IsGranted, IsRefused, IsToWake}
+use Rattle.playing.specs.Turns.{IsOverAside}
 use Rattle.running_semaphore.specs.SemaphoreParties.{Wanting, Trying, Waiting, call_of, look_of, take_of, MayWant, HasLooked, FoundNone, HasOne, HasWanted}
 use Rattle.running_semaphore.specs.SemaphoreShown.{answer_of, Posts}
 
@@ -167,6 +168,9 @@ module _ (initial : ℕ) where
     wakes = refl;
     word = subst (λ (k : ℕ). IsNamed (words.State ∷ []) k words.State) (sym is) refl;
   }
+
+  pub post_is_over : (n : ℕ) (p q : Parties ℕ) → Posts initial n p q → IsOverAside (semaphore_model initial) q
+  post_is_over n p q posted = record { call = calls.Post n; place = places.Wake; hold = None; done = all_of p; at = posted; aside = tt; answer = answers.Done; ends = refl }
 
 -- the answer of a call that comes for no hold
 

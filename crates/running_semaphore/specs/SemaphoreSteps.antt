@@ -1,10 +1,10 @@
 -- What holds whenever the rule of a semaphore does, and what a step changes in a pass.
-use Rattle.std.specs.Prelude.{◌≡◌, ◌≢◌, ℕ, ◌+◌, ◌≤◌, ◌<◌, ◌^◌, [], ◌∷◌, slice_index}
+use Rattle.std.specs.Prelude.{◌≡◌, ℕ, ◌+◌, ◌≤◌, ◌<◌, ◌^◌, [], ◌∷◌, slice_index}
 use Rattle.atomic_table.specs.Table.{State}
 use Rattle.steps_events.specs.declared.event.Word.TheVariants as words
 use Rattle.steps_semaphore.specs.declared.SemaphorePlace.{SemaphorePlace}
 use Rattle.passes.specs.declared.view.View.{View}
-use Rattle.passes.specs.Views.{looked, missed, wrote, sum_of, IsCounted}
+use Rattle.passes.specs.Views.{sum_of, IsCounted}
 use Rattle.playing.specs.declared.played.Played.{Played}
 use Rattle.playing.specs.Passes.{none_played, both_played, PlaysAndCounts, IsOfARun}
 use Rattle.tallies.specs.declared.semaphore.Permits.{Permits}
@@ -37,16 +37,3 @@ took t = permits t.given (t.taken + 1)
 -- so many are posted
 abbrev pub gave : ℕ → Permits → Permits
 gave n t = permits (t.given + n) t.taken
-
--- a load
-pub record Loaded (v : View Permits) (found : ℕ) (w : View Permits) : Type 0 where
-  pub saw : w ≡ looked v found
-
--- an exchange from a value to one less: it took a permit, or saw another value
-pub record Exchanged (from : ℕ) (v : View Permits) (found : ℕ) (w : View Permits) : Type 0 where
-  pub done : found ≡ from → w ≡ wrote v (took v.tally)
-  pub failed : found ≢ from → w ≡ missed v from found
-
--- an add
-pub record Added (more : ℕ) (v : View Permits) (w : View Permits) : Type 0 where
-  pub given : w ≡ wrote v (gave more v.tally)

@@ -8,9 +8,11 @@ ghost use Rattle.playing.specs.Passes.{parties_of, counts_of};
 ghost use Rattle.playing.specs.Stages.{count_of};
 ghost use Rattle.running_semaphore.specs.SemaphoreSteps.{PermitsAreOfARun};
 
-use passes::{Deed, Origin, Pass, WaitResult, success_if};
-use playing::{AddEntry, Attempt, Entry, GoesOn, Sealed, Stage, try_again};
+use passes::{Origin, Pass, WaitResult, success_if};
+use playing::turn::{Attempt, Called, Goes, Turn, Way, begin_new, try_again};
+use playing::{Sealed, Stage};
 use std::alloc::{AllocError, Allocator, Global};
+use std::marker::Brand;
 use std::ops::Deref;
 use std::sync::Wait;
 use steps_events::WaitAction;
@@ -41,83 +43,31 @@ impl<A: Allocator> Deref for Semaphore<A> {
 /// The right to call a semaphore, and what its owner did and saw there.
 pub type SemPass = Pass<PlayedSemaphore>;
 
-/// A load.
-struct Look;
+/// A `Value`.
+struct ValueCall;
 
-impl Deed<u64, Permits> for Look {
-    ghost use Rattle.running_semaphore.specs.SemaphoreSteps.{Loaded};
-
-    ghost tells = { λ _ _ _. Loaded };
-}
-
-/// An exchange of a value for one less.
-struct Take;
-
-impl Deed<u64, Permits> for Take {
-    ghost use Rattle.running_semaphore.specs.SemaphoreSteps.{Exchanged};
-
-    ghost tells = { λ _ from _. Exchanged from };
-}
-
-/// An add.
-struct Give;
-
-impl Deed<u64, Permits> for Give {
-    ghost use Rattle.running_semaphore.specs.SemaphoreSteps.{Added};
-
-    ghost tells = { λ _ more _ before _. Added more before };
-}
-
-/// A `Value` begins.
-#[derive(Drop)]
-struct ValueBegins;
-
-impl Entry<u64> for ValueBegins {
+impl Called<u64> for ValueCall {
     ghost use Rattle.steps_events.specs.declared.event.Call.TheVariants as calls;
-    ghost use Rattle.playing.specs.Plays.{Beginning};
 
-    ghost coming = { Beginning calls.Value };
-
-    #[inline(always)]
-    fn spend(self) {}
+    ghost call = { calls.Value };
 }
 
-/// A `Post` begins, of as many as it adds.
-struct PostBegins;
+/// A `TryWait`.
+struct TryWaitCall;
 
-impl AddEntry<u64> for PostBegins {
+impl Called<u64> for TryWaitCall {
     ghost use Rattle.steps_events.specs.declared.event.Call.TheVariants as calls;
-    ghost use Rattle.playing.specs.Plays.{Beginning};
 
-    ghost coming = { λ more. Beginning (calls.Post more) };
+    ghost call = { calls.TryWait };
 }
 
-/// A `TryWait` begins.
-#[derive(Drop)]
-struct TryWaitBegins;
+/// A `Wait`.
+struct WaitCall;
 
-impl Entry<u64> for TryWaitBegins {
+impl Called<u64> for WaitCall {
     ghost use Rattle.steps_events.specs.declared.event.Call.TheVariants as calls;
-    ghost use Rattle.playing.specs.Plays.{Beginning};
 
-    ghost coming = { Beginning calls.TryWait };
-
-    #[inline(always)]
-    fn spend(self) {}
-}
-
-/// A `Wait` begins.
-#[derive(Drop)]
-struct WaitBegins;
-
-impl Entry<u64> for WaitBegins {
-    ghost use Rattle.steps_events.specs.declared.event.Call.TheVariants as calls;
-    ghost use Rattle.playing.specs.Plays.{Beginning};
-
-    ghost coming = { Beginning calls.Wait };
-
-    #[inline(always)]
-    fn spend(self) {}
+    ghost call = { calls.Wait };
 }
 
 impl<A: Allocator> Semaphore<A> {
@@ -133,7 +83,7 @@ impl<A: Allocator> Semaphore<A> {
     ghost use Rattle.passes.specs.Views.{first_view};
     ghost use Rattle.passes.specs.Passes.{view, part_of, sights_of};
     ghost use Rattle.playing.specs.Slots.{no_parties};
-    ghost use Rattle.playing.specs.Plays.{Going, MayStep, Went};
+    ghost use Rattle.playing.specs.Plays.{Beginning, Going, MayStep, Went};
     ghost use Rattle.playing.specs.Passes.{played};
     ghost use Rattle.playing.specs.Counts.{HasSeen, HasMissed, HasDone, WasRefused};
     ghost use Rattle.playing.specs.Stages.{id_of};
@@ -162,7 +112,9 @@ impl<A: Allocator> Semaphore<A> {
         ensures exact { IsWhole (part_of pass.old) → result ≡ worth_of pass.old }
         ensures enough { IsWhole (part_of pass.old) → taken_of pass.old ≤ given_of pass.old }
     {
-        self.look(ValueBegins, pass)
+        let (seen, turn) = self.first_look::<ValueCall>(pass);
+        let _pass = turn.end(&self.stage);
+        seen
     }
 
     /// Adds so many permits, wrapping at 2^64, and then calls the wake closure once, also for 0.
@@ -174,8 +126,9 @@ impl<A: Allocator> Semaphore<A> {
         ensures played { HasPlayedPost (initial_of self.now) value pass.old pass.new }
         ensures woke { HasWoken W.Fn wakeup }
     {
-        self.add(pass, value);
-        self.stage.wake(pass, &self.word(), &wakeup);
+        let turn = self.add::<Brand>(pass, value);
+        let woken = turn.wake(&self.stage, &self.word(), &wakeup);
+        let _pass = woken.end_aside(&self.stage);
     }
 
     /// Takes a permit: looks, up to 10000 times more where it sees none, and then calls the wait closure before each further look.
@@ -214,7 +167,7 @@ impl<A: Allocator> Semaphore<A> {
         ensures some { IsWhole (part_of pass.old) → 0 < worth_of pass.old → IsSuccess result }
         ensures none { IsWhole (part_of pass.old) → IfSuccess result (λ _. 0 < worth_of pass.old) }
     {
-        success_if(self.take(TryWaitBegins, rt, pass))
+        success_if(self.try_enter(rt, pass))
     }
 
     /// Takes a permit as `wait` does, calls `act`, and posts the permit again. `Interrupted` where `wait` is; then `act` was not called.
@@ -276,69 +229,148 @@ impl<A: Allocator> Semaphore<A> {
         ensures aborted { result ≡ false → MayAnswerAbort W.Fn wait.now IsEmpty }
         ensures asked { IsWhole (part_of pass.old) → result ≡ false → HasAsked W.Fn wait.now IsEmpty 10001 pass.old pass.new }
     {
-        self.take(WaitBegins, rt, pass) || try_again(rt, self, pass, &self.word(), 0, wait)
+        let (took, turn) = self.first_take::<WaitCall, R>(rt, pass);
+        if took {
+            let _pass = turn.end(&self.stage);
+            return true;
+        }
+        let (granted, last) = try_again(rt, turn, self, &self.word(), 0, wait);
+        let _pass = last.end(&self.stage);
+        granted
     }
 
-    /// A load of the value.
+    /// What `try_wait` does, and whether a permit was taken.
     #[inline(always)]
-    fn look<E: Entry<u64>>(&self, entry: E, pass: &mut SemPass) -> u64
+    fn try_enter<R: Wait>(&self, rt: &R, pass: &mut SemPass) -> bool
         requires own { IsSemPass self.now pass.old }
-        requires may { MayStep (semaphore_model (initial_of self.now)) (words.State ∷ []) E.coming 0 (λ w. intents.Load w) (parties_of pass.old) }
-        ensures saw { HasSeen result pass.old pass.new }
-        ensures went { Went (semaphore_model (initial_of self.now)) E.coming (parties_of pass.old) result (parties_of pass.new) }
-        ensures exact { IsWhole (part_of pass.old) → result ≡ worth_of pass.old }
-        ensures enough { IsWhole (part_of pass.old) → taken_of pass.old ≤ given_of pass.old }
-    {
-        self.stage.load::<_, Look>(entry, pass, 0)
-    }
-
-    /// An exchange of the value seen for one less, and the value that it found.
-    #[inline(always)]
-    fn exchange(&self, pass: &mut SemPass, seen: u64, rest: u64) -> u64
-        requires own { IsSemPass self.now pass.old }
-        requires less { (0 < seen) × (rest ≡ seen - 1) }
-        requires may { MayStep (semaphore_model (initial_of self.now)) (words.State ∷ []) Going 0 (λ w. intents.Exchange w seen rest) (parties_of pass.old) }
-        ensures done { result ≡ seen → HasDone took pass.old pass.new }
-        ensures failed { result ≢ seen → HasMissed seen result pass.old pass.new }
-        ensures went { Went (semaphore_model (initial_of self.now)) Going (parties_of pass.old) result (parties_of pass.new) }
-        ensures exact { IsWhole (part_of pass.old) → result ≡ worth_of pass.old }
-    {
-        self.stage.exchange::<_, Take>(GoesOn, pass, 0, seen, rest)
-    }
-
-    /// An add of so many permits.
-    #[inline(always)]
-    fn add(&self, pass: &mut SemPass, value: u64)
-        requires own { IsSemPass self.now pass.old }
-        ensures given { HasDone (gave value) pass.old pass.new }
-        ensures played { HasPlayedPost (initial_of self.now) value pass.old pass.new }
-    {
-        self.stage.add::<PostBegins, Give>(pass, 0, value);
-    }
-
-    /// Looks, and takes a permit while there is one. False at a look that gave 0.
-    #[inline(always)]
-    fn take<E: Entry<u64>, R: Wait>(&self, entry: E, rt: &R, pass: &mut SemPass) -> bool
-        requires own { IsSemPass self.now pass.old }
-        requires comes { MayWant (initial_of self.now) E.coming (parties_of pass.old) }
         ensures takes { MatchBool result (HasTaken pass.old pass.new) (WasRefused IsEmpty 1 pass.old pass.new) }
-        ensures wanted { HasWanted (initial_of self.now) E.coming result (parties_of pass.old) (parties_of pass.new) }
+        ensures played { MatchBool result (HasPlayed (initial_of self.now) calls.TryWait answers.Success pass.old pass.new) (HasPlayed (initial_of self.now) calls.TryWait answers.Interrupted pass.old pass.new) }
         ensures looks { LooksOnceOrMisses (sights_of pass.old) (sights_of pass.new) }
         ensures once { IsWhole (part_of pass.old) → MatchBool result (HasTakenAtOnce pass.old pass.new) (HasSeen 0 pass.old pass.new) }
         ensures exact { IsWhole (part_of pass.old) → MatchBool result (0 < worth_of pass.old) (worth_of pass.old ≡ 0) }
     {
-        let mut seen = self.look(entry, pass);
+        let (took, turn) = self.first_take::<TryWaitCall, R>(rt, pass);
+        let _pass = turn.end(&self.stage);
+        took
+    }
+
+    /// A load of the value.
+    #[inline(always)]
+    fn look<'p, W: Way<u64>>(&self, turn: Turn<'p, SemPass, W>) -> (u64, Turn<'p, SemPass, Goes>)
+        requires own { IsSemPass self.now turn.pass.now }
+        requires may { MayStep (semaphore_model (initial_of self.now)) (words.State ∷ []) W.coming 0 (λ w. intents.Load w) (parties_of turn.pass.now) }
+        ensures same_borrow { result.1.pass.ghost_name ≡ turn.entry.pass.ghost_name }
+        ensures saw { HasSeen result.0 turn.entry.pass.now result.1.pass.now }
+        ensures went { Went (semaphore_model (initial_of self.now)) W.coming (parties_of turn.entry.pass.now) result.0 (parties_of result.1.pass.now) }
+        ensures exact { IsWhole (part_of turn.entry.pass.now) → result.0 ≡ worth_of turn.entry.pass.now }
+        ensures enough { IsWhole (part_of turn.entry.pass.now) → taken_of turn.entry.pass.now ≤ given_of turn.entry.pass.now }
+    {
+        turn.load(&self.stage, 0)
+    }
+
+    /// The load with which a call begins.
+    #[inline(always)]
+    fn first_look<'p, L: Called<u64>>(
+        &self,
+        pass: &'p mut SemPass,
+    ) -> (u64, Turn<'p, SemPass, Goes>)
+        requires own { IsSemPass self.now pass.old }
+        requires may { MayStep (semaphore_model (initial_of self.now)) (words.State ∷ []) (Beginning L.call) 0 (λ w. intents.Load w) (parties_of pass.old) }
+        ensures same_borrow { result.1.pass.ghost_name ≡ pass.entry.ghost_name }
+        ensures saw { HasSeen result.0 pass.old result.1.pass.now }
+        ensures went { Went (semaphore_model (initial_of self.now)) (Beginning L.call) (parties_of pass.old) result.0 (parties_of result.1.pass.now) }
+        ensures exact { IsWhole (part_of pass.old) → result.0 ≡ worth_of pass.old }
+        ensures enough { IsWhole (part_of pass.old) → taken_of pass.old ≤ given_of pass.old }
+    {
+        let begun = begin_new::<L, SemPass>(pass);
+        self.look(begun)
+    }
+
+    /// An exchange of the value seen for one less, and the value that it found.
+    #[inline(always)]
+    fn exchange<'p>(
+        &self,
+        turn: Turn<'p, SemPass, Goes>,
+        seen: u64,
+        rest: u64,
+    ) -> (u64, Turn<'p, SemPass, Goes>)
+        requires own { IsSemPass self.now turn.pass.now }
+        requires less { (0 < seen) × (rest ≡ seen - 1) }
+        requires may { MayStep (semaphore_model (initial_of self.now)) (words.State ∷ []) Going 0 (λ w. intents.Exchange w seen rest) (parties_of turn.pass.now) }
+        ensures same_borrow { result.1.pass.ghost_name ≡ turn.entry.pass.ghost_name }
+        ensures done { result.0 ≡ seen → HasDone took turn.entry.pass.now result.1.pass.now }
+        ensures failed { result.0 ≢ seen → HasMissed seen result.0 turn.entry.pass.now result.1.pass.now }
+        ensures went { Went (semaphore_model (initial_of self.now)) Going (parties_of turn.entry.pass.now) result.0 (parties_of result.1.pass.now) }
+        ensures exact { IsWhole (part_of turn.entry.pass.now) → result.0 ≡ worth_of turn.entry.pass.now }
+    {
+        turn.exchange(&self.stage, 0, seen, rest)
+    }
+
+    /// An add of so many permits, with which a `Post` of so many begins.
+    #[inline(always)]
+    fn add<'p, L: Called<u64>>(&self, pass: &'p mut SemPass, value: u64) -> Turn<'p, SemPass, Goes>
+        requires own { IsSemPass self.now pass.old }
+        requires post { L.call ≡ calls.Post value }
+        ensures same_borrow { result.pass.ghost_name ≡ pass.entry.ghost_name }
+        ensures given { HasDone (gave value) pass.old result.pass.now }
+        ensures played { HasPlayedPost (initial_of self.now) value pass.old result.pass.now }
+    {
+        let begun = begin_new::<L, SemPass>(pass);
+        let (_, turn) = begun.add(&self.stage, 0, value);
+        turn
+    }
+
+    /// Looks, and takes a permit while there is one. False at a look that gave 0.
+    #[inline(always)]
+    fn take<'p, W: Way<u64>, R: Wait>(
+        &self,
+        turn: Turn<'p, SemPass, W>,
+        rt: &R,
+    ) -> (bool, Turn<'p, SemPass, Goes>)
+        requires own { IsSemPass self.now turn.pass.now }
+        requires comes { MayWant (initial_of self.now) W.coming (parties_of turn.pass.now) }
+        ensures same_borrow { result.1.pass.ghost_name ≡ turn.entry.pass.ghost_name }
+        ensures takes { MatchBool result.0 (HasTaken turn.entry.pass.now result.1.pass.now) (WasRefused IsEmpty 1 turn.entry.pass.now result.1.pass.now) }
+        ensures wanted { HasWanted (initial_of self.now) W.coming result.0 (parties_of turn.entry.pass.now) (parties_of result.1.pass.now) }
+        ensures looks { LooksOnceOrMisses (sights_of turn.entry.pass.now) (sights_of result.1.pass.now) }
+        ensures once { IsWhole (part_of turn.entry.pass.now) → MatchBool result.0 (HasTakenAtOnce turn.entry.pass.now result.1.pass.now) (HasSeen 0 turn.entry.pass.now result.1.pass.now) }
+        ensures exact { IsWhole (part_of turn.entry.pass.now) → MatchBool result.0 (0 < worth_of turn.entry.pass.now) (worth_of turn.entry.pass.now ≡ 0) }
+    {
+        let (first, after) = self.look(turn);
+        let mut seen = first;
+        let mut next = after;
         for _ in rt.forever() {
             let Some(rest) = taken(seen) else {
-                return false;
+                return (false, next);
             };
-            let found = self.exchange(pass, seen, rest);
+            let (found, again) = self.exchange(next, seen, rest);
             if found == seen {
-                return true;
+                return (true, again);
             }
             seen = found;
+            next = again;
         }
         unreachable!()
+    }
+
+    /// The same, with which a call begins.
+    #[inline(always)]
+    fn first_take<'p, L: Called<u64>, R: Wait>(
+        &self,
+        rt: &R,
+        pass: &'p mut SemPass,
+    ) -> (bool, Turn<'p, SemPass, Goes>)
+        requires own { IsSemPass self.now pass.old }
+        requires comes { MayWant (initial_of self.now) (Beginning L.call) (parties_of pass.old) }
+        ensures same_borrow { result.1.pass.ghost_name ≡ pass.entry.ghost_name }
+        ensures takes { MatchBool result.0 (HasTaken pass.old result.1.pass.now) (WasRefused IsEmpty 1 pass.old result.1.pass.now) }
+        ensures wanted { HasWanted (initial_of self.now) (Beginning L.call) result.0 (parties_of pass.old) (parties_of result.1.pass.now) }
+        ensures looks { LooksOnceOrMisses (sights_of pass.old) (sights_of result.1.pass.now) }
+        ensures once { IsWhole (part_of pass.old) → MatchBool result.0 (HasTakenAtOnce pass.old result.1.pass.now) (HasSeen 0 pass.old result.1.pass.now) }
+        ensures exact { IsWhole (part_of pass.old) → MatchBool result.0 (0 < worth_of pass.old) (worth_of pass.old ≡ 0) }
+    {
+        let begun = begin_new::<L, SemPass>(pass);
+        self.take(begun, rt)
     }
 
     /// The semaphore's word, as closures see it.
@@ -353,13 +385,17 @@ impl<A: Allocator> Semaphore<A> {
 
 /// A look of `wait`, and its exchanges.
 impl<A: Allocator> Attempt<u64, SemaphoreScript, SemaphorePlace, u64, Permits> for Semaphore<A> {
-    ghost use Rattle.std.specs.Prelude.{None};
+    ghost use Rattle.std.specs.Prelude.{◌+◌, None, IfErr};
     ghost use Rattle.std.proofs.Common.{refl};
     ghost use Rattle.steps_events.specs.declared.event.Call.TheVariants as calls;
     ghost use Rattle.steps_semaphore.specs.declared.SemaphorePlace.TheVariants as places;
     ghost use Rattle.passes.specs.Parts.{IsWhole};
+    ghost use Rattle.passes.specs.Passes.{object_of, part_of, sights_of};
+    ghost use Rattle.playing.specs.Counts.{HasMoved, WasRefusedAt};
+    ghost use Rattle.playing.specs.Tries.{MayTry, Tried, IsGranted, IsRefused};
     ghost use Rattle.playing.specs.Stages.{id_of, key_of};
-    ghost use Rattle.running_semaphore.specs.SemaphoreShown.{IsEmpty, Takes};
+    ghost use Rattle.tallies.specs.SemaphoreScript.{semaphore_model};
+    ghost use Rattle.running_semaphore.specs.SemaphoreShown.{IsEmpty, Takes, initial_of};
 
     ghost object = { λ s. id_of s.stage };
 
@@ -380,17 +416,23 @@ impl<A: Allocator> Attempt<u64, SemaphoreScript, SemaphorePlace, u64, Permits> f
     ghost answers = { λ _ _ _. refl };
 
     #[inline(always)]
-    fn attempt<E: Entry<u64>, R: Wait>(
+    fn attempt<'p, W: Way<u64>, R: Wait>(
         &self,
-        entry: E,
+        turn: Turn<'p, SemPass, W>,
         rt: &R,
-        pass: &mut SemPass,
-    ) -> Result<(), u64> {
-        if self.take(entry, rt, pass) {
-            Ok(())
-        } else {
-            Err(0)
-        }
+    ) -> Result<Turn<'p, SemPass, Goes>, (u64, Turn<'p, SemPass, Goes>)>
+        requires own { object_of turn.pass.now ≡ id_of self.now.stage }
+        requires comes { MayTry (semaphore_model (initial_of self.now)) calls.Wait places.Look W.coming (parties_of turn.pass.now) }
+        ensures same_borrow { IfOk result (λ next. next.pass.ghost_name ≡ turn.entry.pass.ghost_name) }
+        ensures same_borrow_too { IfErr result (λ missed. missed.1.pass.ghost_name ≡ turn.entry.pass.ghost_name) }
+        ensures moved { IfOk result (λ next. HasMoved Takes turn.entry.pass.now next.pass.now) }
+        ensures refused { IfErr result (λ missed. WasRefusedAt IsEmpty missed.0 1 turn.entry.pass.now missed.1.pass.now) }
+        ensures once { IfErr result (λ missed. IsWhole (part_of turn.entry.pass.now) → (sights_of missed.1.pass.now).count ≡ (sights_of turn.entry.pass.now).count + 1) }
+        ensures granted { IfOk result (λ next. Tried (semaphore_model (initial_of self.now)) calls.Wait places.Look W.coming (parties_of turn.entry.pass.now) (λ _ done. IsGranted (semaphore_model (initial_of self.now)) calls.Wait places.Look None done (parties_of next.pass.now))) }
+        ensures failed { IfErr result (λ missed. Tried (semaphore_model (initial_of self.now)) calls.Wait places.Look W.coming (parties_of turn.entry.pass.now) (λ patience done. IsRefused (semaphore_model (initial_of self.now)) calls.Wait places.Look patience missed.0 done (parties_of missed.1.pass.now))) }
+    {
+        let (took, next) = self.take(turn, rt);
+        if took { Ok(next) } else { Err((0, next)) }
     }
 }
 

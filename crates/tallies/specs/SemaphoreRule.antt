@@ -1,12 +1,12 @@
 -- What a pass of a semaphore counts, and what all passes count together: what the acts of the run gave and took.
-use Rattle.std.specs.Prelude.{ℕ, ◌+◌, ◌-◌, ◌%◌, ◌^◌, if◌then◌else◌, List, Option}
+use Rattle.std.specs.Prelude.{◌≡◌, ℕ, ◌+◌, ◌-◌, ◌%◌, ◌^◌, true, List}
 use Rattle.steps_events.specs.declared.event.Word.TheVariants as words
+use Rattle.steps_events.specs.declared.event.Call.{Call}
 use Rattle.steps_events.specs.declared.event.Act.{Act}
+use Rattle.steps_events.specs.declared.event.Act.TheVariants as acts
 use Rattle.steps_events.specs.declared.event.Event.{Event}
-use Rattle.steps_events.specs.Past.{PendingCall}
-use Rattle.steps_semaphore.specs.Permits.{is_take}
-use Rattle.steps_semaphore.specs.Law.{semaphore_gives}
-use Rattle.playing.specs.Sums.{IsSumOf}
+use Rattle.steps_semaphore.specs.Permits.{permits_given, permits_taken}
+use Rattle.steps_semaphore.specs.Law.{semaphore_gives, permits_posted}
 use Rattle.tallies.specs.declared.semaphore.Permits.{Permits}
 
 abbrev pub permits : ℕ → ℕ → Permits
@@ -26,9 +26,13 @@ first_permits initial = permits initial 0
 abbrev pub value_of : Permits → ℕ
 value_of t = (t.given - t.taken) % 2 ^ 64
 
--- what an act of a call gives and takes, as the model's law counts it
-abbrev pub permits_of : Act ℕ → Option (PendingCall ℕ) → Permits
-permits_of act pending = permits (semaphore_gives act pending) (if is_take words.State act then 1 else 0)
+-- what an act of a call makes of a tally: an exchange that is done takes one, and the add of a `Post` gives its amount
+abbrev pub permits_after : Act ℕ → Call ℕ → Permits → Permits
+permits_after (acts.Exchange words.State from to found true) call t = permits t.given (t.taken + 1)
+permits_after (acts.Add words.State old put) call t = permits (t.given + permits_posted call) t.taken
+permits_after act call t = t
 
-abbrev pub ArePermitsOf : ℕ → List (Event ℕ) → Permits → Type 0
-ArePermitsOf initial = IsSumOf (first_permits initial) both_permits permits_of
+-- so much was given and taken in the run
+pub record ArePermitsOf (initial : ℕ) (past : List (Event ℕ)) (t : Permits) : Type 0 where
+  pub given : t.given ≡ permits_given semaphore_gives initial past
+  pub taken : t.taken ≡ permits_taken words.State past

@@ -1,14 +1,21 @@
--- What the passes of a semaphore count adds up, and acts on no word count nothing.
-use Rattle.std.proofs.Common.{ℕ, ◌+◌, ◌≡◌, refl, arith, Option}
+-- What the passes of a semaphore count adds up, and follows the run.
+use Rattle.std.specs.Prelude.{if◌then◌else◌}
+use Rattle.std.proofs.Common.{ℕ, ◌+◌, ◌≡◌, true, refl, ap, sym, subst, ◌∙◌, arith, Option, Some, [], ◌∷◌}
+use Rattle.steps_events.specs.declared.event.Word.TheVariants as words
+use Rattle.steps_events.specs.declared.event.Call.{Call}
 use Rattle.steps_events.specs.declared.event.Act.{Act}
-use Rattle.steps_events.specs.Past.{PendingCall}
+use Rattle.steps_events.specs.declared.event.Act.TheVariants as acts
+use Rattle.steps_events.specs.Past.{PendingCall, call_of}
+use Rattle.steps_semaphore.specs.Permits.{is_take, permits_given}
+use Rattle.steps_semaphore.specs.Law.{semaphore_gives}
 use Rattle.passes.specs.Tallies.{IsTally}
 use Rattle.playing.specs.Words.{IsOnNoWord, on_no_word}
-use Rattle.playing.specs.Passes.{StaysOnNoWord}
-use Rattle.playing.specs.Sums.{same_sum}
-use Rattle.tallies.specs.SemaphoreRule.{permits, no_permits, both_permits, first_permits, permits_of, ArePermitsOf}
+use Rattle.playing.specs.Passes.{StaysOnNoWord, GoesOnByActs}
+use Rattle.tallies.specs.declared.semaphore.Permits.{Permits}
+use Rattle.tallies.specs.SemaphoreScript.{semaphore_model}
+use Rattle.tallies.specs.SemaphoreRule.{permits, no_permits, both_permits, first_permits, permits_after, ArePermitsOf}
 
-pub same_permits : (a b c d : ℕ) → a ≡ b → c ≡ d → permits a c ≡ permits b d
+same_permits : (a b c d : ℕ) → a ≡ b → c ≡ d → permits a c ≡ permits b d
 same_permits a b c d first second = λ i. permits (first i) (second i)
 
 pub permits_add_up : IsTally no_permits both_permits (λ _. no_permits)
@@ -19,8 +26,29 @@ permits_add_up = record {
   copy = λ t. same_permits (0 + t.given) t.given (0 + t.taken) t.taken (omega arith) (omega arith);
 }
 
-no_permits_of : (act : Act ℕ) (pending : Option (PendingCall ℕ)) → IsOnNoWord act → permits_of act pending ≡ no_permits
-no_permits_of act pending = on_no_word (λ (a : Act ℕ). permits_of a pending ≡ no_permits) (λ call. refl) (λ action. refl) (λ choice. refl) (λ wake. refl) refl (λ value. refl) act
+pub permits_open : (initial : ℕ) → ArePermitsOf initial [] (first_permits initial)
+permits_open initial = record { given = refl; taken = refl }
+
+-- what an act gives and takes, as the model's law counts it
+abbrev Counts : Act ℕ → Option (PendingCall ℕ) → ℕ → ℕ → Type 0
+Counts act pending given taken = (semaphore_gives act pending ≡ given) × ((if is_take words.State act then 1 else 0) ≡ taken)
+
+counts_none : (act : Act ℕ) (pending : Option (PendingCall ℕ)) → IsOnNoWord act → Counts act pending 0 0
+counts_none act pending = on_no_word (λ (a : Act ℕ). Counts a pending 0 0) (λ call. (refl, refl)) (λ action. (refl, refl)) (λ choice. (refl, refl)) (λ wake. (refl, refl)) (refl, refl) (λ value. (refl, refl)) act
 
 pub permits_stay : (initial : ℕ) → StaysOnNoWord (ArePermitsOf initial)
-permits_stay initial = same_sum (first_permits initial) both_permits permits_of no_permits (λ _. no_permits) permits_add_up no_permits_of
+permits_stay initial past e t quiet is = let none = counts_none e.act (call_of e.party past) quiet in
+    record { given = omega (arith, is.given, none.0); taken = omega (arith, is.taken, none.1) }
+
+counts_more : (act : Act ℕ) (c : PendingCall ℕ) (t rest : Permits) (given taken : ℕ) → t.given + rest.given ≡ given → t.taken + rest.taken ≡ taken →
+    ((permits_after act c.call t).given + rest.given ≡ semaphore_gives act (Some c) + given) × ((permits_after act c.call t).taken + rest.taken ≡ (if is_take words.State act then 1 else 0) + taken)
+counts_more (acts.Exchange words.State from to found true) c t rest given taken first second = (omega (arith, first), omega (arith, second))
+counts_more (acts.Add words.State old put) c t rest given taken first second = (omega (arith, first), omega (arith, second))
+counts_more act c t rest given taken first second = (omega (arith, first), omega (arith, second))
+
+pub permits_go_on : (initial : ℕ) → GoesOnByActs (semaphore_model initial) both_permits (ArePermitsOf initial) permits_after
+permits_go_on initial call place hold past e found step t rest is = let more = counts_more e.act step.pending t rest _ _ is.given is.taken in
+    subst (λ (c : Call ℕ). ArePermitsOf initial (e ∷ past) (both_permits (permits_after e.act c t) rest)) step.called (record {
+      given = more.0 ∙ ap (λ (k : Option (PendingCall ℕ)). semaphore_gives e.act k + permits_given semaphore_gives initial past) (sym step.under_way);
+      taken = more.1;
+    })

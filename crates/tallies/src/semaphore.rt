@@ -1,7 +1,7 @@
 //! The model that a semaphore plays, and what its pass counts beside.
 
 use passes::{Rule, Tally};
-use playing::{Counts, Played, Script};
+use playing::{Counts, CountsByActs, Played, Script};
 use steps_semaphore::SemaphorePlace;
 
 /// The model that a semaphore plays: its one word is that of the permits. The key is the initial value, as a word.
@@ -47,6 +47,7 @@ impl Tally for Permits {
     ghost adds_up = { permits_add_up };
 }
 
+/// The run alone says what all passes count.
 impl Rule<(), u64> for Permits {
     ghost use Rattle.std.specs.Prelude.{◌%◌, ◌^◌};
     ghost use Rattle.tallies.specs.SemaphoreRule.{first_permits};
@@ -59,13 +60,27 @@ impl Rule<(), u64> for Permits {
 /// What all passes gave and took is what the acts of the run did. The key is the initial value.
 impl Counts<u64, u64> for Permits {
     ghost use Rattle.std.specs.Prelude.{◌%◌, ◌^◌};
-    ghost use Rattle.std.proofs.Common.{refl};
     ghost use Rattle.tallies.specs.SemaphoreRule.{ArePermitsOf};
-    ghost use Rattle.tallies.specs.SemaphoreTally.{permits_stay};
+    ghost use Rattle.tallies.specs.SemaphoreTally.{permits_open, permits_stay};
 
     ghost follow = { λ key. ArePermitsOf (key % 2 ^ 64) };
 
     ghost stays = { λ key. permits_stay (key % 2 ^ 64) };
 
-    ghost opens = { λ _. refl };
+    ghost opens = { λ key. permits_open (key % 2 ^ 64) };
+}
+
+impl CountsByActs<u64, SemaphoreScript, SemaphorePlace, u64> for Permits {
+    ghost use Rattle.std.specs.Prelude.{◌%◌, ◌^◌};
+    ghost use Rattle.playing.specs.Sees.{sights_after};
+    ghost use Rattle.tallies.specs.SemaphoreRule.{permits_after};
+    ghost use Rattle.tallies.specs.SemaphoreTally.{permits_go_on};
+
+    ghost free = { λ _ _ _ _. tt };
+
+    ghost sees = { sights_after };
+
+    ghost after = { permits_after };
+
+    ghost goes_on = { λ key. permits_go_on (key % 2 ^ 64) };
 }

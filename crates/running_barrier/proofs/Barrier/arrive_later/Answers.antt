@@ -9,6 +9,7 @@ returns-then-found-seen-clause-joined g c = λ done at. c.exchange-found.ensures
 
 pub loop-preserved : goal.loop-preserved
 loop-preserved g c = record {
+  same_borrow = search rules;
   stayed = search rules;
   room = search rules;
   last = search rules;

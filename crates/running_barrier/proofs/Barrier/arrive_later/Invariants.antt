@@ -9,8 +9,9 @@ use Rattle.running_barrier.proofs.Barrier.arrive_later.Given as goal
 -- where one had room, so has each that is found later
 abbrev pub invariant-loop : goal.invariant-loop
 invariant-loop g l = record {
-  stayed : HasStayed l.fn.pass l.pass;
+  same_borrow : l.missed.pass.ghost_name ≡ l.fn.turn.pass.ghost_name;
+  stayed : HasStayed l.fn.turn.pass.now l.missed.pass.now;
   room : count_of l.seen < waiters_of l.fn.self;
-  last : (sights_of l.pass).last ≡ l.seen;
-  looked : OnceLooked (waiters_of l.fn.self) l.fn.found (parties_of l.fn.pass) (λ done. HasLooked (waiters_of l.fn.self) l.seen done (parties_of l.pass));
+  last : (sights_of l.missed.pass.now).last ≡ l.seen;
+  looked : OnceLooked (waiters_of l.fn.self) l.fn.found (parties_of l.fn.turn.pass.now) (λ done. HasLooked (waiters_of l.fn.self) l.seen done (parties_of l.missed.pass.now));
 }

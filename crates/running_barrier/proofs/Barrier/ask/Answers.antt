@@ -1,4 +1,7 @@
-use Rattle.std.proofs.Common.{rules}
+use Rattle.std.proofs.Common.{rules, sym, subst}
+use Rattle.playing.specs.Passes.{parties_of}
+use Rattle.running_barrier.specs.BarrierParties.{Looks}
+use Rattle.running_barrier.specs.BarrierShown.{waiters_of}
 use Rattle.running_barrier.proofs.BarrierPlays.{leaves, stands_to_wait, may_look_on, looks_on}
 use Rattle.running_barrier.proofs.Barrier.ask.Goals as goal
 
@@ -8,13 +11,16 @@ returns-then-epoch_of-own_epoch-clause-left g c = λ done at. leaves _ _ 10000 _
 pub tell-continued-requires-clause-stands : goal.tell-continued-requires-clause-stands
 tell-continued-requires-clause-stands g c = let looks = c.requires.looks in stands_to_wait _ _ _ _ looks.0 _ (search rules) (search rules) (c.loop.invariant.looks looks.0 looks.1)
 
-pub look-seen-requires-clause-may : goal.look-seen-requires-clause-may
-look-seen-requires-clause-may g c = let looks = c.requires.looks in may_look_on _ _ _ looks.0 _ (search rules) (c.loop.invariant.looks looks.0 looks.1)
+pub look-found-requires-clause-may : goal.look-found-requires-clause-may
+look-found-requires-clause-may g c = let looks = c.requires.looks in may_look_on _ _ _ looks.0 _ (search rules)
+    (subst (λ q. Looks (waiters_of c.args.self.now) c.args.own_epoch 10000 c.loop.seen looks.0 (parties_of q)) (sym c.tell-continued.ensures.still) (c.loop.invariant.looks looks.0 looks.1))
 
 pub loop-preserved : goal.loop-preserved
 loop-preserved g c = record {
+  same_borrow = search rules;
   stayed = search rules;
   epoch = search rules;
   all = search rules;
-  looks = λ done at. looks_on _ _ _ _ done _ _ (search rules) (c.loop.invariant.looks done at) c.look-seen.ensures.went;
+  looks = λ done at. looks_on _ _ _ _ done _ _ (search rules)
+      (subst (λ q. Looks (waiters_of c.args.self.now) c.args.own_epoch 10000 c.loop.seen done (parties_of q)) (sym c.tell-continued.ensures.still) (c.loop.invariant.looks done at)) c.look-found.ensures.went;
 }

@@ -8,8 +8,9 @@ use Rattle.running_barrier.proofs.Barrier.ask.Given as goal
 
 abbrev pub invariant-loop : goal.invariant-loop
 invariant-loop g l = record {
-  stayed : HasStayed l.fn.pass l.pass;
-  epoch : epoch_of l.seen ≡ reached_of l.pass % 2 ^ 32;
-  all : HasAll (waiters_of l.fn.self) (counted l.pass);
-  looks : OnceLooking (waiters_of l.fn.self) l.own_epoch 10000 l.fn.seen (parties_of l.fn.pass) (λ done. Looks (waiters_of l.fn.self) l.own_epoch 10000 l.seen done (parties_of l.pass));
+  same_borrow : l.next.pass.ghost_name ≡ l.fn.turn.pass.ghost_name;
+  stayed : HasStayed l.fn.turn.pass.now l.next.pass.now;
+  epoch : epoch_of l.seen ≡ reached_of l.next.pass.now % 2 ^ 32;
+  all : HasAll (waiters_of l.fn.self) (counted l.next.pass.now);
+  looks : OnceLooking (waiters_of l.fn.self) l.own_epoch 10000 l.fn.seen (parties_of l.fn.turn.pass.now) (λ done. Looks (waiters_of l.fn.self) l.own_epoch 10000 l.seen done (parties_of l.next.pass.now));
 }

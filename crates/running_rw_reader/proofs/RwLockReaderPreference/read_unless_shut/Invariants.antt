@@ -12,9 +12,10 @@ use Rattle.running_rw_reader.proofs.RwLockReaderPreference.read_unless_shut.Give
 -- the value seen is the last one that was seen, by the first look or by an exchange that failed
 abbrev pub invariant-loop : goal.invariant-loop
 invariant-loop g l = record {
-  stayed : HasOnlySeen l.fn.pass l.pass;
-  last : HasLooked (λ n. n ≡ l.seen) 1 (sights_of l.fn.pass) (sights_of l.pass);
-  once : IsWhole (part_of l.fn.pass) → counted l.pass ≡ looked (counted l.fn.pass) l.seen;
-  exact : IsWhole (part_of l.fn.pass) → l.seen ≡ word_of (counts_of l.fn.pass);
-  at : OnceReading g.E.Entry.coming (parties_of l.fn.pass) (λ patience done. HasLookedThere patience l.seen done (parties_of l.pass));
+  same_borrow : l.next.pass.ghost_name ≡ l.fn.turn.pass.ghost_name;
+  stayed : HasOnlySeen l.fn.turn.pass.now l.next.pass.now;
+  last : HasLooked (λ n. n ≡ l.seen) 1 (sights_of l.fn.turn.pass.now) (sights_of l.next.pass.now);
+  once : IsWhole (part_of l.fn.turn.pass.now) → counted l.next.pass.now ≡ looked (counted l.fn.turn.pass.now) l.seen;
+  exact : IsWhole (part_of l.fn.turn.pass.now) → l.seen ≡ word_of (counts_of l.fn.turn.pass.now);
+  at : OnceReading g.W.Way.coming (parties_of l.fn.turn.pass.now) (λ patience done. HasLookedThere patience l.seen done (parties_of l.next.pass.now));
 }

@@ -1,15 +1,25 @@
-use Rattle.running_semaphore.proofs.SemaphoreKeeps.{adds, add_counts}
+use Rattle.std.proofs.Common.{[], ◌∷◌, sym, subst}
+use Rattle.steps_events.specs.declared.event.Word.TheVariants as words
+use Rattle.steps_events.specs.declared.row.Intent.TheVariants as intents
+use Rattle.playing.specs.Sees.{sights_after}
+use Rattle.playing.specs.Plays.{Beginning, MayStep, Went}
+use Rattle.playing.specs.Passes.{parties_of, counted, Told}
+use Rattle.playing.specs.Counts.{HasDone}
+use Rattle.tallies.specs.SemaphoreRule.{permits_after}
+use Rattle.tallies.specs.SemaphoreScript.{semaphore_model}
+use Rattle.running_semaphore.specs.SemaphoreShown.{initial_of, HasPlayedPost}
+use Rattle.running_semaphore.specs.SemaphoreSteps.{gave}
+use Rattle.running_semaphore.proofs.SemaphoreKeeps.{gives}
 use Rattle.running_semaphore.proofs.SemaphorePlays.{may_add, posts}
 use Rattle.running_semaphore.proofs.Semaphore.add.Goals as goal
 
-pub add-requires-clause-may : goal.add-requires-clause-may
-add-requires-clause-may g c = may_add _ _ _ c.ranges.value.fits
+pub add-turn-requires-clause-may : goal.add-turn-requires-clause-may
+add-turn-requires-clause-may g c = subst (λ call. MayStep (semaphore_model (initial_of c.args.self.now)) (words.State ∷ []) (Beginning call) 0 (λ w. intents.Add w c.args.value) (parties_of c.begin_new-begun.result.pass.now)) (sym c.requires.post) (may_add _ _ _ c.ranges.value.fits)
 
-pub add-requires-clause-update : goal.add-requires-clause-update
-add-requires-clause-update g c = adds _ _
-
-pub add-requires-clause-follow : goal.add-requires-clause-follow
-add-requires-clause-follow g c = add_counts _ _ _ _
+pub returns-clause-given : goal.returns-clause-given
+returns-clause-given g c = subst (λ p. HasDone (gave c.args.value) p c.add-turn.result.1.pass.now) c.begin_new-begun.ensures.still
+    (c.add-turn.ensures.same, gives _ (parties_of c.begin_new-begun.result.pass.now) c.args.value c.add-turn.result.0 (counted c.begin_new-begun.result.pass.now) (counted c.add-turn.result.1.pass.now) (may_add _ _ _ c.ranges.value.fits) (subst (λ call. Told (semaphore_model (initial_of c.args.self.now)) sights_after permits_after (Beginning call) (parties_of c.begin_new-begun.result.pass.now) c.add-turn.result.0 (counted c.begin_new-begun.result.pass.now) (counted c.add-turn.result.1.pass.now)) c.requires.post c.add-turn.ensures.told))
 
 pub returns-clause-played : goal.returns-clause-played
-returns-clause-played g c = posts _ _ _ _ _ c.ranges.value.fits c.add.ensures.went
+returns-clause-played g c = subst (λ p. HasPlayedPost (initial_of c.args.self.now) c.args.value p c.add-turn.result.1.pass.now) c.begin_new-begun.ensures.still
+    (posts _ c.args.value c.add-turn.result.0 (parties_of c.begin_new-begun.result.pass.now) (parties_of c.add-turn.result.1.pass.now) c.ranges.value.fits (subst (λ call. Went (semaphore_model (initial_of c.args.self.now)) (Beginning call) (parties_of c.begin_new-begun.result.pass.now) c.add-turn.result.0 (parties_of c.add-turn.result.1.pass.now)) c.requires.post c.add-turn.ensures.went))

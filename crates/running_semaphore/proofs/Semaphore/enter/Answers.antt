@@ -1,49 +1,61 @@
-use Rattle.std.proofs.Common.{sym, ap, subst, ◌∙◌}
+use Rattle.std.proofs.Common.{MatchBool, sym, ap, subst, ◌∙◌}
 use Rattle.std.proofs.lemmas.Bool.{MatchBool-at_true, MatchBool-at_false, true≢false}
+use Rattle.steps_events.specs.declared.event.Call.TheVariants as calls
+use Rattle.steps_events.specs.declared.event.Answer.TheVariants as answers
 use Rattle.passes.specs.Parts.{IsWhole}
+use Rattle.passes.specs.Answers.{HasAsked}
 use Rattle.playing.proofs.Attempts.{told_after, asked_after}
+use Rattle.playing.proofs.Over.{is_over, either_is_over}
+use Rattle.playing.specs.Counts.{WasRefused}
 use Rattle.playing.specs.Slots.{all_of}
 use Rattle.playing.specs.Tries.{spun}
 use Rattle.playing.specs.Passes.{parties_of}
+use Rattle.tallies.specs.SemaphoreScript.{semaphore_model}
 use Rattle.running_semaphore.specs.SemaphoreParties.{Waiting}
-use Rattle.running_semaphore.proofs.SemaphorePlays.{may_wait, wait_begins, where_true}
-use Rattle.running_semaphore.specs.SemaphoreShown.{IsEmpty, Takes}
+use Rattle.running_semaphore.proofs.SemaphorePlays.{may_wait, wait_begins}
+use Rattle.running_semaphore.specs.SemaphoreShown.{IsEmpty, Takes, HasTaken, HasPlayed, initial_of}
 use Rattle.running_semaphore.proofs.SemaphoreTakes.{none_later}
 use Rattle.running_semaphore.proofs.Semaphore.enter.Goals as goal
 
-pub take-requires-clause-comes : goal.take-requires-clause-comes
-take-requires-clause-comes g c = may_wait _ _
+pub first_take-took-requires-clause-comes : goal.first_take-took-requires-clause-comes
+first_take-took-requires-clause-comes g c = may_wait _ _
 
-pub try_again-requires-clause-at : goal.try_again-requires-clause-at
-try_again-requires-clause-at g c = (all_of (parties_of c.args.pass.now), MatchBool-at_false _ _ c.if-take.false (c.take.ensures.wanted (Waiting (spun 0)) _ (wait_begins _ (parties_of c.args.pass.now))))
+pub try_again-granted-requires-clause-at : goal.try_again-granted-requires-clause-at
+try_again-granted-requires-clause-at g c = (all_of (parties_of c.args.pass.now), (MatchBool-at_false _ _ c.if-took.false (c.first_take-took.ensures.wanted (Waiting (spun 0)) _ (wait_begins _ (parties_of c.args.pass.now)))))
 
-pub returns-then-take-clause-played : goal.returns-then-take-clause-played
-returns-then-take-clause-played g c = where_true _ _ _ c.if-take.true (MatchBool-at_true _ _ c.if-take.true (c.take.ensures.wanted (Waiting (spun 0)) _ (wait_begins _ (parties_of c.args.pass.now))))
+pub returns-then-took-clause-played : goal.returns-then-took-clause-played
+returns-then-took-clause-played g c = subst (λ q. HasPlayed (initial_of c.args.self.now) calls.Wait answers.Success c.args.pass.now q) (sym (c.pass-1.given.1 (sym c.first_take-took.ensures.same_borrow ∙ sym c.end-pass.ensures.same_borrow) ∙ c.end-pass.ensures.still)) (MatchBool-at_true _ _ c.if-took.true (c.first_take-took.ensures.wanted (Waiting (spun 0)) _ (wait_begins _ (parties_of c.args.pass.now))))
 
-pub returns-else-take-clause-played : goal.returns-else-take-clause-played
-returns-else-take-clause-played g c = c.try_again.ensures.over (all_of (parties_of c.args.pass.now)) (MatchBool-at_false _ _ c.if-take.false (c.take.ensures.wanted (Waiting (spun 0)) _ (wait_begins _ (parties_of c.args.pass.now))))
+pub returns-clause-played : goal.returns-clause-played
+returns-clause-played g c = subst (λ q. MatchBool c.try_again-granted.result.0 (HasPlayed (initial_of c.args.self.now) calls.Wait answers.Success c.args.pass.now q) (HasPlayed (initial_of c.args.self.now) calls.Wait answers.Interrupted c.args.pass.now q)) (sym (c.pass-2-1.given.1 (sym c.first_take-took.ensures.same_borrow ∙ sym c.try_again-granted.ensures.same_borrow ∙ sym c.end-pass-2.ensures.same_borrow) ∙ c.end-pass-2.ensures.still)) (c.try_again-granted.ensures.over (all_of (parties_of c.args.pass.now)) (MatchBool-at_false _ _ c.if-took.false (c.first_take-took.ensures.wanted (Waiting (spun 0)) _ (wait_begins _ (parties_of c.args.pass.now)))))
 
-pub returns-then-take-clause-entered : goal.returns-then-take-clause-entered
-returns-then-take-clause-entered g c = where_true _ _ _ c.if-take.true (MatchBool-at_true _ _ c.if-take.true c.take.ensures.takes)
+pub returns-then-took-clause-entered : goal.returns-then-took-clause-entered
+returns-then-took-clause-entered g c = subst (λ q. HasTaken c.args.pass.now q) (sym (c.pass-1.given.1 (sym c.first_take-took.ensures.same_borrow ∙ sym c.end-pass.ensures.same_borrow) ∙ c.end-pass.ensures.still)) (MatchBool-at_true _ _ c.if-took.true c.first_take-took.ensures.takes)
 
-pub returns-then-take-clause-exact : goal.returns-then-take-clause-exact
-returns-then-take-clause-exact g c = c.take.ensures.exact
+pub returns-then-took-clause-exact : goal.returns-then-took-clause-exact
+returns-then-took-clause-exact g c = λ whole. MatchBool-at_true _ _ c.if-took.true (c.first_take-took.ensures.exact whole)
 
-pub returns-then-take-clause-aborted : goal.returns-then-take-clause-aborted
-returns-then-take-clause-aborted g c = λ no. absurd (true≢false (sym c.if-take.true ∙ no))
+pub returns-then-took-clause-aborted : goal.returns-then-took-clause-aborted
+returns-then-took-clause-aborted g c = λ no. absurd (true≢false no)
 
-pub returns-then-take-clause-asked : goal.returns-then-take-clause-asked
-returns-then-take-clause-asked g c = λ _ no. absurd (true≢false (sym c.if-take.true ∙ no))
+pub returns-then-took-clause-asked : goal.returns-then-took-clause-asked
+returns-then-took-clause-asked g c = λ _ no. absurd (true≢false no)
 
-pub returns-else-take-clause-entered : goal.returns-else-take-clause-entered
-returns-else-take-clause-entered g c = told_after Takes IsEmpty 1 10001 c.args.pass.now c.take.new.pass c.try_again.new.pass _ (MatchBool-at_false _ _ c.if-take.false c.take.ensures.takes) c.try_again.ensures.told
+pub returns-clause-entered : goal.returns-clause-entered
+returns-clause-entered g c = subst (λ q. MatchBool c.try_again-granted.result.0 (HasTaken c.args.pass.now q) (WasRefused IsEmpty 10002 c.args.pass.now q)) (sym (c.pass-2-1.given.1 (sym c.first_take-took.ensures.same_borrow ∙ sym c.try_again-granted.ensures.same_borrow ∙ sym c.end-pass-2.ensures.same_borrow) ∙ c.end-pass-2.ensures.still)) (told_after Takes IsEmpty 1 10001 c.args.pass.now c.first_take-took.result.1.pass.now c.try_again-granted.result.1.pass.now _ (MatchBool-at_false _ _ c.if-took.false c.first_take-took.ensures.takes) c.try_again-granted.ensures.told)
 
-pub returns-else-take-clause-exact : goal.returns-else-take-clause-exact
-returns-else-take-clause-exact g c = λ whole. none_later 10001 _ c.args.pass.now c.take.new.pass c.try_again.new.pass (MatchBool-at_false _ _ c.if-take.false c.take.ensures.takes).stayed (MatchBool-at_false _ _ c.if-take.false (c.take.ensures.exact whole)) whole c.try_again.ensures.told
+pub returns-clause-exact : goal.returns-clause-exact
+returns-clause-exact g c = λ whole. none_later 10001 _ c.args.pass.now c.first_take-took.result.1.pass.now c.try_again-granted.result.1.pass.now (MatchBool-at_false _ _ c.if-took.false c.first_take-took.ensures.takes).stayed (MatchBool-at_false _ _ c.if-took.false (c.first_take-took.ensures.exact whole)) whole c.try_again-granted.ensures.told
 
-pub returns-else-take-clause-aborted : goal.returns-else-take-clause-aborted
-returns-else-take-clause-aborted g c = c.try_again.ensures.aborted
+pub returns-clause-aborted : goal.returns-clause-aborted
+returns-clause-aborted g c = c.try_again-granted.ensures.aborted
 
-pub returns-else-take-clause-asked : goal.returns-else-take-clause-asked
-returns-else-take-clause-asked g c = λ whole no. asked_after _ _ IsEmpty 1 10000 c.args.pass.now c.take.new.pass c.try_again.new.pass (ap (λ v. v.sights.count) (MatchBool-at_false _ _ c.if-take.false (c.take.ensures.once whole)).1)
-    (c.try_again.ensures.asked no (subst IsWhole (sym (MatchBool-at_false _ _ c.if-take.false c.take.ensures.takes).stayed.part) whole))
+pub returns-clause-asked : goal.returns-clause-asked
+returns-clause-asked g c = λ whole no. subst (λ q. HasAsked g.W.Fn c.args.wait.now IsEmpty 10001 c.args.pass.now q) (sym (c.pass-2-1.given.1 (sym c.first_take-took.ensures.same_borrow ∙ sym c.try_again-granted.ensures.same_borrow ∙ sym c.end-pass-2.ensures.same_borrow) ∙ c.end-pass-2.ensures.still)) (asked_after _ _ IsEmpty 1 10000 c.args.pass.now c.first_take-took.result.1.pass.now c.try_again-granted.result.1.pass.now (ap (λ v. v.sights.count) (MatchBool-at_false _ _ c.if-took.false (c.first_take-took.ensures.once whole)).1)
+    (c.try_again-granted.ensures.asked no (subst IsWhole (sym (MatchBool-at_false _ _ c.if-took.false c.first_take-took.ensures.takes).stayed.part) whole)))
+
+pub end-pass-requires-clause-over : goal.end-pass-requires-clause-over
+end-pass-requires-clause-over g c = is_over (semaphore_model (initial_of c.args.self.now)) calls.Wait _ _ _ _ (MatchBool-at_true _ _ c.if-took.true (c.first_take-took.ensures.wanted (Waiting (spun 0)) _ (wait_begins _ (parties_of c.args.pass.now))))
+
+pub end-pass-requires-2-clause-over : goal.end-pass-requires-2-clause-over
+end-pass-requires-2-clause-over g c = either_is_over (semaphore_model (initial_of c.args.self.now)) c.try_again-granted.result.0 calls.Wait _ _ _ (c.try_again-granted.ensures.over (all_of (parties_of c.args.pass.now)) (MatchBool-at_false _ _ c.if-took.false (c.first_take-took.ensures.wanted (Waiting (spun 0)) _ (wait_begins _ (parties_of c.args.pass.now)))))

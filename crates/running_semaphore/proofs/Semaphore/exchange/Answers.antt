@@ -1,14 +1,14 @@
 use Rattle.std.proofs.Common.{arith}
 use Rattle.playing.specs.Plays.{Going}
-use Rattle.playing.specs.Passes.{parties_of, counts_of, counted}
-use Rattle.running_semaphore.proofs.SemaphoreKeeps.{exchanges, exchange_counts, exchanged_there}
+use Rattle.playing.specs.Passes.{parties_of, counts_of}
+use Rattle.running_semaphore.proofs.SemaphoreKeeps.{takes, misses, exchanged_there}
 use Rattle.running_semaphore.proofs.Semaphore.exchange.Goals as goal
 
-pub exchange-requires-clause-update : goal.exchange-requires-clause-update
-exchange-requires-clause-update g c = exchanges _ _ _
+pub returns-clause-done : goal.returns-clause-done
+returns-clause-done g c = λ hit. (c.exchange.ensures.same, takes _ _ _ _ _ _ _ _ c.requires.may c.exchange.ensures.told hit)
 
-pub exchange-requires-clause-follow : goal.exchange-requires-clause-follow
-exchange-requires-clause-follow g c = exchange_counts _ Going (parties_of c.args.pass.now) (counted c.args.pass.now) c.args.seen c.args.rest
+pub returns-clause-failed : goal.returns-clause-failed
+returns-clause-failed g c = λ miss. (c.exchange.ensures.same, misses _ _ _ _ _ _ _ _ c.requires.may c.exchange.ensures.told miss)
 
 pub returns-clause-exact : goal.returns-clause-exact
-returns-clause-exact g c = λ whole. (exchanged_there _ (omega arith) (counts_of c.args.pass.now) c.args.seen c.args.rest Going (parties_of c.args.pass.now) _ c.requires.may (c.exchange.ensures.alone whole)).value_is
+returns-clause-exact g c = λ whole. (exchanged_there _ (omega arith) (counts_of c.args.turn.pass.now) c.args.seen c.args.rest Going (parties_of c.args.turn.pass.now) _ c.requires.may (c.exchange.ensures.alone whole)).value_is

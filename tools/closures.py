@@ -1,0 +1,54 @@
+#!/usr/bin/env python3
+"""Where a running call may call a closure past its model, which no clause can say.
+
+    python3 tools/closures.py [ROOT]
+
+A running call hands its caller's closure on to `playing`, which calls it where the call of the model stands at that. What types and clauses
+leave open is told by lines: a closure of the library's own, handed on in its place; a closure that a body calls; how a pass comes to a step,
+said by the body itself. Each such line stands in tools/closures.txt, with what it is for. Prints those that do not, and those of the
+list that are gone, and then how many there are. The status is 0 where both agree.
+"""
+import pathlib
+import re
+import sys
+
+LITERAL = re.compile(r"(?:^|[(,=&]\s*|\bmove )\|[^|]*\|")
+CALLED = re.compile(r"(?<![\w.:])(?:passes::wake|wait|wakeup|wake|wake_one|wake_all|mtx_wait|mtx_wake_one|leave|act|f|make|choose)\)?\(")
+SAID = re.compile(r"(?<!fn )\bspend\(|\bBy::<|::<Brand\b|^impl\b.*\bWay<")
+COMING = re.compile(r"^ghost coming = \{ (?:λ \w+\. )?(\w+)")
+BEGINS = ("Beginning", "Continuing", "Choosing")
+
+
+def tells(line, is_playing):
+    """Whether the line has such a thing. `playing` is what gives the ways to a step."""
+    coming = COMING.match(line)
+    if coming:
+        return not is_playing and coming[1] not in BEGINS
+    if line.startswith(("//", "ghost", "requires", "ensures", "fn ", "pub fn ", "pub(crate) fn ")):
+        return False
+    return bool(LITERAL.search(line) or CALLED.search(line) or not is_playing and SAID.search(line))
+
+
+def found(root):
+    """Each such line of the running types and of `playing`, as `crate/src/file: line`."""
+    for folder in ("running_*", "job_queue", "playing"):
+        for file in sorted(it for it in root.glob(f"crates/{folder}/src/**/*.rt") if "running_tests" not in it.parts):
+            for line in map(str.strip, file.read_text().split("\n")):
+                if tells(line, folder == "playing"):
+                    yield f"{file.relative_to(root / 'crates')}: {line}"
+
+
+def main():
+    root = pathlib.Path(sys.argv[1] if len(sys.argv) > 1 else ".")
+    listed = [line for line in (root / "tools/closures.txt").read_text().split("\n") if line and not line.startswith("#")]
+    lines = list(found(root))
+    wrong = [f"not listed: {line}" for line in lines if lines.count(line) > listed.count(line)]
+    wrong += [f"gone: {line}" for line in listed if listed.count(line) > lines.count(line)]
+    for line in wrong:
+        print(line)
+    print(f"{len(lines)} lines, {len(wrong)} wrong")
+    return bool(wrong)
+
+
+if __name__ == "__main__":
+    sys.exit(main())
