@@ -15,10 +15,11 @@
 //! A wake counts out whom it wakes, so one who wakes again, before that has run, makes no call of the system for it. A sleeper that parked
 //! therefore never counts itself out, since it can't tell what ended its sleep. After one that ended without a wake the count is one too
 //! many, which costs one wake that wakes nobody. What a sleeper could lose is a wake among 2^32 between its steps 1 and 3, no fewer.
-ghost use Rattle.std.specs.Prelude.{◌≡◌, ◌+◌, ◌/◌, ◌%◌, ◌^◌, ◌≤◌, ◌<◌, ◌↔◌, IsSome, IfSome};
+ghost use Rattle.std.specs.Prelude.{◌≡◌, ◌+◌, ◌/◌, ◌%◌, ◌^◌, ◌≤◌, ◌<◌, ◌↔◌, IsSome, IfSome, None};
 ghost use Rattle.std.specs.Duration.{as_nanos};
 ghost use Rattle.std.specs.Time.{instant_nanos};
 ghost use Rattle.steps_events.specs.declared.WaitAction.TheVariants as actions;
+ghost use Rattle.closures.specs.Crowds.{NoneSleepsUncounted};
 
 use passes::{Watched, low_half};
 use std::sync::Wait;
@@ -59,15 +60,20 @@ impl Sleepers {
     }
 
     /// The same until a deadline: `Abort` where it has passed, by the clock of `rt`, and then it does not sleep; else `Continue`, after a
-    /// sleep until a wake or the deadline. So a call that waits by it is interrupted no earlier. Where the clock cannot be read it sleeps
-    /// for a millisecond at most, and goes on.
+    /// sleep until a wake or the deadline. So a call that waits by it is interrupted no earlier. `None`, as `checked_add` gives it where no
+    /// clock gets there, is no deadline. Where the clock cannot be read it sleeps for a millisecond at most, and goes on.
     pub fn sleep_until<R: Wait + Clock, W: Watched>(
         &self,
         rt: &R,
         word: &W,
         seen: u64,
-        deadline: Instant,
-    ) -> WaitAction {
+        deadline: Option<Instant>,
+    ) -> WaitAction
+        ensures never { deadline ≡ None → result ≡ actions.Continue }
+    {
+        let Some(deadline) = deadline else {
+            return self.sleep(rt, word, seen);
+        };
         let left = match Instant::now(rt) {
             Ok(now) => time_left(now, deadline),
             Err(_) => Some(Duration::from_millis(1)),
@@ -135,17 +141,24 @@ impl Sleepers {
     }
 }
 
-/// One more was woken than before: the next epoch, and one fewer. `None` where nobody may be asleep.
-fn one_woken(state: u64) -> Option<u64> {
-    state.checked_sub(ONE).map(|fewer| next_epoch(fewer))
+/// One fewer, at the next epoch; `None` where nobody is counted.
+fn one_woken(state: u64) -> Option<u64>
+    ensures counted { IsSome result ↔ (0 < state / 2 ^ 32) }
+    ensures fewer { IfSome result (λ after. after / 2 ^ 32 + 1 ≡ state / 2 ^ 32) }
+{
+    let fewer = state.checked_sub(ONE)?;
+    Some(next_epoch(fewer))
 }
 
-fn all_woken(state: u64) -> Option<u64> {
+/// None any more, at the next epoch; `None` where nobody is counted.
+fn all_woken(state: u64) -> Option<u64>
+    ensures counted { IsSome result ↔ (0 < state / 2 ^ 32) }
+    ensures none { IfSome result (λ after. after / 2 ^ 32 ≡ 0) }
+{
     if state < ONE {
-        None
-    } else {
-        Some(next_epoch(state & 0xffff_ffff))
+        return None;
     }
+    Some(next_epoch(low_half(state) as u64))
 }
 
 /// The same number of sleepers, at the next epoch.
@@ -158,7 +171,10 @@ fn next_epoch(state: u64) -> u64
 }
 
 /// One fewer, where the epoch is still this one.
-fn one_less(state: u64, epoch: u32) -> Option<u64> {
+fn one_less(state: u64, epoch: u32) -> Option<u64>
+    ensures fewer { IfSome result (λ after. after + 2 ^ 32 ≡ state) }
+    ensures epoch { IfSome result (λ _. state % 2 ^ 32 ≡ epoch) }
+{
     if low_half(state) == epoch {
         state.checked_sub(ONE)
     } else {
@@ -174,3 +190,9 @@ fn time_left(now: Instant, deadline: Instant) -> Option<Duration>
     let left = deadline.checked_duration_since(now)?;
     if left.is_zero() { None } else { Some(left) }
 }
+
+/// Of the event count as a machine of its steps, whatever their order: where the count is 0, each that sleeps has a wake under way. So a wake
+/// that finds nobody counted passes nobody over. Says so, and does nothing.
+pub fn none_sleeps_uncounted()
+    ensures { NoneSleepsUncounted }
+{}
