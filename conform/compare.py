@@ -20,8 +20,9 @@ import threading
 import zlib
 
 TOP = pathlib.Path(__file__).resolve().parent.parent
+sys.dont_write_bytecode = True
 sys.path.insert(0, str(TOP / "tools"))
-import played  # noqa: E402
+import played
 
 SEED = 54
 ATOMICS = ("atomic_u64", "atomic_u128", "atomic_i64", "atomic_i128")
@@ -62,7 +63,7 @@ class Code(threading.local):
     def play(self, text, rows=()):
         self.process.stdin.write(f"{','.join(rows)} {len(text)}\n".encode() + text)
         self.process.stdin.flush()
-        lengths = map(int, self.process.stdout.readline().split()[1:])
+        lengths = map(int, self.process.stdout.readline().split())
         return Outcome(*(self.process.stdout.read(length) for length in lengths))
 
 
@@ -138,7 +139,10 @@ def are_of_some_order(text, trace):
     name, _, first = text.split(b"\n")[0].split()
     bits = int(re.sub(rb"\D", b"", name))
     least = -(1 << (bits - 1)) if name.startswith(b"atomic_i") else 0
-    wrap = lambda number: (number - least) % (1 << bits) + least  # noqa: E731
+
+    def wrap(number):
+        return (number - least) % (1 << bits) + least
+
     seen, left_to_try = set(), [(frozenset(range(len(calls))), int(first))]
     while left_to_try:
         left, value = left_to_try.pop()
@@ -179,14 +183,16 @@ class Judge:
             return "the copy without a departure is not the Rust crate"
         if played[rows] != other:
             return "it is not what the Rust crate does with each departure that is listed"
-        seen = lambda outcome: outcome  # noqa: E731
-        if object_of(text) in ATOMICS:
-            if not all(are_of_some_order(text, outcome.trace) for outcome in (rust, other)):
-                return "the answers are those of no order"
-            # The steps of an atomic are others; its answers are compared.
-            seen = lambda outcome: (outcome.answers, outcome.fault)  # noqa: E731
+        atomic = object_of(text) in ATOMICS
+        if atomic and not all(are_of_some_order(text, outcome.trace) for outcome in (rust, other)):
+            return "the answers are those of no order"
+
+        # The steps of an atomic are others; its answers are compared.
+        def compared(outcome):
+            return (outcome.answers, outcome.fault) if atomic else outcome
+
         fewest_first = (some for count in range(len(rows) + 1) for some in itertools.combinations(rows, count))
-        return next(some for some in fewest_first if seen(played.get(some) or self.amended.play(text, some)) == seen(other))
+        return next(some for some in fewest_first if compared(played.get(some) or self.amended.play(text, some)) == compared(other))
 
     def judge(self, text):
         rust, other = self.rust.play(text), model(text)
@@ -206,15 +212,41 @@ def random_texts(name, count, lines, seed=SEED):
     return texts
 
 
+def told(outcome, steps):
+    """What a table of texts/rust says of an outcome."""
+    lines = (outcome.answers or outcome.fault).decode("latin-1").splitlines()
+    return " / ".join([*lines, f"steps {zlib.crc32(outcome.trace):08x}"] if steps else lines)
+
+
+def entry(text, rust, port, rows):
+    """What a table of texts/rust has of a text."""
+    steps = object_of(text) not in ATOMICS
+    line = text.decode("latin-1").strip().replace("\n", " / ")
+    shown = f"{line}\n    {'rust ' if rows else ''}=> {told(rust, steps)}\n"
+    return shown + f"    {', '.join(rows)} => {told(port, steps)}\n" if rows else shown
+
+
+def listed():
+    """The entries of texts/rust."""
+    for table in sorted(TOP.glob("texts/rust/*.txt")):
+        yield from re.findall(r"^\w.*\n(?: {4}.*\n)+", table.read_text(encoding="utf-8"), re.MULTILINE)
+
+
 def texts_of_repository():
-    texts = [file.read_bytes() for file in sorted((TOP / "examples").glob("*.txt"))]
-    for table in sorted([*(TOP / "texts/sync-play").iterdir(), *(TOP / "texts/sync-trace").iterdir()]):
+    texts = [file.read_bytes() for file in sorted(TOP.glob("examples/*.txt"))]
+    for table in sorted(TOP.glob("texts/sync-[pt]*/*.txt")):
         texts += [played.written(text) for text, _ in played.cases_in(table.read_text(encoding="utf-8"))]
     return texts
 
 
 def compare(count, without):
-    texts = texts_of_repository()
+    page = pathlib.Path("docs/DIFFERENCES.md").read_text(encoding="utf-8")
+    all_rows = dict.fromkeys(row for rows in ROWS.values() for row in rows)
+    unlisted = [row for row in all_rows if f"\n| `{row}` |" not in page]
+    if unlisted:
+        sys.exit(f"docs/DIFFERENCES.md has no row {', '.join(unlisted)}")
+    entries = {as_text(of.split("\n")[0]): of for of in listed()}
+    texts = texts_of_repository() + list(entries)
     texts += [as_text(text) for name in ROWS for text in random_texts(name, count, 24)]
     judge = Judge(without)
     counted, wrong = collections.Counter(), 0
@@ -229,6 +261,9 @@ def compare(count, without):
                 if wrong <= 5:
                     show(text, rust, other, rows)
                 continue
+            if text in entries and entries[text] != entry(text, rust, other, rows):
+                wrong += 1
+                print(f"texts/rust tells something else: {entries[text]}")
             counted["differ" if rows else "same"] += 1
             for row in rows:
                 by_row[row].append(text)
@@ -238,7 +273,7 @@ def compare(count, without):
             if not any(isinstance(found, str) for _, _, found in pool.map(missing.judge, some[:20])):
                 wrong += 1
                 print(f"{row} excuses nothing: without it nothing is unexplained")
-    for row in dict.fromkeys(row for rows in ROWS.values() for row in rows):
+    for row in all_rows:
         print(f"{row}: {len(by_row[row])} texts differ by it")
     print(f"{len(texts)} texts, {steps} steps, {answers} lines of answers: {counted['same']} same,", end=" ")
     print(f"{counted['differ']} differ as listed, {wrong} unexplained")
@@ -249,12 +284,6 @@ def show(text, rust, other, why):
     print(f"UNEXPLAINED: {why}")
     for name, told in (("text", text), ("the Rust crate", rust.trace + rust.fault), ("the model", other.trace + other.fault)):
         print(f"  {name}:", *told.decode("latin-1").splitlines(), sep="\n    ")
-
-
-def told(outcome, steps):
-    """What a table says of an outcome."""
-    lines = (outcome.answers or outcome.fault).decode("latin-1").splitlines()
-    return " / ".join([*lines, f"steps {zlib.crc32(outcome.trace):08x}"] if steps else lines)
 
 
 HEAD = """\
@@ -272,7 +301,7 @@ def write():
     for name in ROWS:
         lines, count = [HEAD.format(name=name)], LISTED.get(name, 150)
         for line in dict.fromkeys(random_texts(name, 4 * count, 12, SEED + 1)):
-            text, steps = as_text(line), name not in ATOMICS
+            text = as_text(line)
             rust, port = judge.rust.play(text), judge.amended.play(text, judge.rows_of(text))
             # One that has a fault on either tells less.
             if (rust.fault or port.fault) and zlib.crc32(text) % 20:
@@ -280,9 +309,7 @@ def write():
             rows = judge.explained(text, rust, port)
             if isinstance(rows, str):
                 sys.exit(f"{line}: {rows}")
-            lines.append(f"{line}\n    {'rust ' if rows else ''}=> {told(rust, steps)}\n")
-            if rows:
-                lines.append(f"    {', '.join(rows)} => {told(port, steps)}\n")
+            lines.append(entry(text, rust, port, rows))
             count -= 1
             if count == 0:
                 break
@@ -291,6 +318,7 @@ def write():
 
 
 def main():
+    os.chdir(TOP)
     arguments = sys.argv[1:]
     if arguments == ["--write"]:
         write()

@@ -12,8 +12,8 @@ fn rows(names: &str) -> u32 {
     names.split(',').filter(|name| !name.is_empty()).map(|name| 1 << bit(name)).sum()
 }
 
-/// Plays text after text: of each the rows in force and the length, in a line, and then the text. Tells of each the status and
-/// three lengths, in a line, and then trace, answers and fault.
+/// Plays text after text: of each the rows in force and the length, in a line, and then the text. Tells of each three lengths, in a
+/// line, and then its trace, its answers and its fault.
 fn serve() {
     let (mut input, mut output) = (std::io::stdin().lock(), std::io::stdout().lock());
     let mut head = String::new();
@@ -23,8 +23,9 @@ fn serve() {
         let mut text = vec![0; length.parse().expect("a length")];
         input.read_exact(&mut text).expect("a text");
         let told = play::play(&text);
-        writeln!(output, "{} {} {} {}", told.status, told.trace.len(), told.played.len(), told.fault.len()).expect("writing failed");
-        write!(output, "{}{}{}", told.trace, told.played, told.fault).expect("writing failed");
+        let [trace, answers, fault] = told.each_ref().map(String::len);
+        writeln!(output, "{trace} {answers} {fault}").expect("writing failed");
+        write!(output, "{}", told.concat()).expect("writing failed");
         output.flush().expect("writing failed");
         head.clear();
     }
@@ -53,10 +54,10 @@ fn main() {
             depart_by(rows(arguments.first().map_or("", String::as_str)));
             let mut text = Vec::new();
             std::io::stdin().read_to_end(&mut text).expect("reading failed");
-            let told = play::play(&text);
-            print!("{}", told.trace);
-            eprint!("{}", told.fault);
-            std::process::exit(told.status);
+            let [trace, _, fault] = play::play(&text);
+            print!("{trace}");
+            eprint!("{fault}");
+            std::process::exit(if fault.is_empty() { 0 } else { 2 });
         }
         _ => std::process::exit(3),
     }

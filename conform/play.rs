@@ -28,10 +28,8 @@ pub struct Party {
 struct Row {
     line: usize,
     party: usize,
-    act: String,
-    words: String,
-    holds: String,
-    call: String,
+    /// The act, the words, the holds, and how the call then stands.
+    cells: [String; 4],
     times: u64,
 }
 
@@ -103,15 +101,9 @@ impl Player {
     }
 
     fn add_row(&mut self, party: usize, act: String, call: String, times: u64) {
-        let (words, holds) = (self.words(), self.holds());
-        let row = Row { line: self.line, party: party + 1, act, words, holds, call, times };
+        let row = Row { line: self.line, party: party + 1, cells: [act, self.words(), self.holds(), call], times };
         match self.rows.last_mut() {
-            Some(last)
-                if (last.line, last.party, &last.act, &last.words, &last.holds, &last.call)
-                    == (row.line, row.party, &row.act, &row.words, &row.holds, &row.call) =>
-            {
-                last.times += times
-            }
+            Some(last) if (last.line, last.party, &last.cells) == (row.line, row.party, &row.cells) => last.times += times,
             _ => self.rows.push(row),
         }
     }
@@ -137,8 +129,7 @@ impl Player {
         (party.at, party.call) = (At::Steps, call);
         party.under_way = Some(Call::begin(move || object.call(p, call, n)));
         let numbers = self.kind.calls.iter().find(|known| known.0 == call).map_or(0, |known| known.1);
-        let number = if self.kind.is_atomic() { self.kind.number } else { crate::text::U64 };
-        let shown = n[..numbers].iter().map(|n| format!(" {}", number.show(*n)));
+        let shown = n[..numbers].iter().map(|n| format!(" {}", self.kind.number.show(*n)));
         self.add_row(p, format!("{call}{}", shown.collect::<String>()), "begins".into(), 1);
         Ok(())
     }
@@ -267,7 +258,7 @@ impl Player {
             steps += row.times;
             let (step, times) =
                 if row.times == 1 { (first.to_string(), String::new()) } else { (format!("{first}-{steps}"), row.times.to_string()) };
-            let [act, words, holds, call] = [&row.act, &row.words, &row.holds, &row.call].map(String::clone);
+            let [act, words, holds, call] = row.cells.clone();
             table.push([step, times, row.line.to_string(), row.party.to_string(), act, words, holds, call]);
         }
         let width = |column: usize| table.iter().map(|row| row[column].len()).max().unwrap_or(0);
@@ -287,26 +278,20 @@ impl Player {
     fn played(&self) -> String {
         let mut shown = String::new();
         for row in &self.rows {
-            if let Some(whom) = row.act.strip_prefix("wake ") {
+            let [act, _, _, call] = &row.cells;
+            if let Some(whom) = act.strip_prefix("wake ") {
                 shown += &format!("{} wakes {whom}\n", row.party);
             }
-            if !matches!(row.call.as_str(), "begins" | "goes on") {
-                shown += &format!("{} {}\n", row.party, row.call);
+            if call != "begins" && call != "goes on" {
+                shown += &format!("{} {call}\n", row.party);
             }
         }
         shown + &format!("word {} failed {}\n", self.words(), self.failed)
     }
 }
 
-pub struct Outcome {
-    pub status: i32,
-    pub trace: String,
-    pub played: String,
-    pub fault: String,
-}
-
-/// Plays a text.
-pub fn play(text: &[u8]) -> Outcome {
+/// Plays a text: what sync-trace prints of it, what sync-play prints, and its fault.
+pub fn play(text: &[u8]) -> [String; 3] {
     let text: String = text.iter().map(|byte| *byte as char).collect();
     let mut player: Option<Player> = None;
     let fault = text.split_inclusive('\n').chain(text.is_empty().then_some("")).enumerate().find_map(|(at, line)| {
@@ -327,7 +312,7 @@ pub fn play(text: &[u8]) -> Outcome {
     });
     let trace = Player::trace(player.as_ref().map_or(&[], |player| &player.rows));
     match (fault, player) {
-        (None, Some(player)) => Outcome { status: 0, trace, played: player.played(), fault: String::new() },
-        (fault, _) => Outcome { status: 2, trace, played: String::new(), fault: fault.unwrap_or_default() },
+        (None, Some(player)) => [trace, player.played(), String::new()],
+        (fault, _) => [trace, String::new(), fault.unwrap_or_default()],
     }
 }

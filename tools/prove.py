@@ -35,7 +35,7 @@ WORDS = {"logic", "functions", "tests", "axioms", "target", "cpu", "threads", "m
 # What the kit's own gate refuses beside what is not proved.
 REFUSED = re.compile(
     r"^warning: no call of `(?!.*::fn::)|^note: the search for empty contracts did not end|^warning: calls of a tactic that chose a term"
-    r"|^(?:\./)?(?:src|specs)/\S+ warning: this pattern binds a variable spelled like a constructor|^(?:\./)?(?:src|specs)/\S+: (?:note|warning): `search` stands in",
+    r"|^(?:\./)?(?:src|specs)/\S+ warning: this pattern binds a variable spelled like a constructor|^(?:\./)?(?:src|specs)/\S+: (?:note|warning): `search` stands in|^(?:\./)?proofs/\S+ note: `\S+` has chosen a term",
     re.M,
 )
 RESULT = re.compile(r"^test result: \w+\. (\d+) passed; (\d+) failed", re.M)
