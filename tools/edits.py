@@ -17,6 +17,11 @@ DEPENDS = re.compile(r"declarations? that depends? on `")
 # What says little of a contract: a proof misses a name that the edit took away.
 NAME_GONE = re.compile(r"has no field|has no `|is not in scope")
 
+# What an edit comes to that shows what it is to show: a goal of its own that does not hold; and, told each time since it shows less, a name that
+# a proof misses, or a search that ended at a limit. The kit's gate takes these for refused too.
+WEAK = ("only a name is gone", "at a limit")
+REFUSED = ("refused", *WEAK)
+
 
 class BadEdit(Exception):
     """An edit that cannot be read, applied or compiled."""
@@ -155,11 +160,11 @@ def errors_of(said):
 def judged(status, is_verdict, reasons, said):
     """What an edit came to, and why."""
     if is_verdict:
-        return ("NAME", reasons[0]) if is_only_a_name(reasons) else ("refused", reasons[0] if reasons else "")
+        return (WEAK[0], reasons[0]) if is_only_a_name(reasons) else ("refused", reasons[0] if reasons else "")
     if status == 0:
         return "NOT REFUSED", "the crate is still proved with this edit"
     if status == 1 and re.search(r"\berror\[", said):
         return "BAD", next(iter(errors_of(said)), "it did not reach the prover")
     if status == 3:
-        return "LIMIT", "the prover gave no verdict"
+        return WEAK[1], "the prover gave no verdict"
     return "NOT TRIED", f"its check ended with status {status}"
