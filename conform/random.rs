@@ -118,18 +118,19 @@ pub fn text(kind: &'static Kind, random: &mut Random, most_lines: u64) -> Vec<St
     let (runs, longs) = draft.random.pick(&[(45, 7), (20, 10), (10, 0), (4, 0), (60, 15), (30, 30)]);
     let unlocks_at_once = draft.random.percent(30);
     let busy = parties.min(4);
-    // Some begin with a call that is about there, some with one that another comes between.
-    let opening = if busy > 1 { draft.random.below(10) } else { 9 };
-    if opening < 6 {
-        draft.begin(0);
-        draft.run(0);
-        draft.begin(1);
-        let steps = if spins && opening < 3 { 9_996 + draft.random.below(10) } else { 1 + draft.random.below(3) };
-        draft.go(1, steps);
-        if opening > 1 {
-            draft.begin(0);
-            draft.run(0);
-        }
+    // Some begin with a call that is about there, or with one that another comes between.
+    let (all, few, spun) = (u64::MAX, 1 + draft.random.below(3), 9_996 + draft.random.below(10));
+    let opening: &[(usize, u64)] = match draft.random.below(7) {
+        _ if busy == 1 => &[],
+        0 if spins => &[(0, all), (1, spun)],
+        1 if spins => &[(0, all), (1, spun), (0, all)],
+        2 => &[(0, all), (1, few), (0, all)],
+        3 => &[(1, few), (0, all)],
+        _ => &[],
+    };
+    for &(p, steps) in opening {
+        draft.begin(p);
+        if steps == all { draft.run(p) } else { draft.go(p, steps) }
     }
     for _ in 0..2 + draft.random.below(most_lines) {
         let p = draft.random.below(busy as u64) as usize;
