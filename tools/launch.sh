@@ -2,10 +2,11 @@
 #
 # Sourced, with the call's arguments, by a script at the top that bears the program's name and sets `top`, the repository's folder,
 # `crate`, the program's, and `does`, what it does, in a few words; `reads` and `usage`, where it reads no schedule text: what it
-# reads, and the file that says how that is written; and `arguments`, where it is called with some.
+# reads, and the file that says how that is written; `arguments`, where it is called with some; `also`, a further form of call; and
+# `advises`, a program that says more of a text with a fault.
 #
 # A program that stands is run, and one whose sources are no longer those that it was built of is built again first. Where none has been
-# built, the sources are run as they are, unproved, by `rt try`: that takes a minute, and a build many.
+# built, the sources are run as they are, unproved, by `rt try`: each call takes up to a minute, and a build many.
 # Status: the program's own, or 3 where it could not be built or started, or the arguments are none that are known.
 set -euo pipefail
 shopt -s execfail lastpipe globstar nullglob
@@ -167,7 +168,7 @@ build_crate() {
 play_unproved() {
     local said=() line
     need_rt
-    say "not built yet: this is a run of the sources, unproved; ./$name --build proves and builds the program, once"
+    say "not built yet: each call runs the sources, unproved, in up to a minute; ./$name --build proves and builds the program, once"
     { { cd -- "$folder" && rt try; } 2>&1 >&3 3>&- | readarray -t said; } 3>&1 || true
     if ((${#said[@]} == 0)) || [[ ! ${said[-1]} =~ ^run=ended\ status=([0-9]+) ]]; then
         printf '%s\n' "${said[@]}" | { grep -v '^|' || true; } | tail -n 5 >&2 || true
@@ -181,9 +182,24 @@ play_unproved() {
     exit "${BASH_REMATCH[1]}"
 }
 
+# Runs the program where standard error is a terminal, and says there what would be right of a text with a fault.
+play_for_a_person() {
+    local text status=0
+    text=$(mktemp) || return 0
+    trap 'rm -f -- "$text"' EXIT
+    cat >"$text"
+    "$program" <"$text" || status=$?
+    if ((status == 2)) && [[ -x $advises ]]; then
+        { "$advises" <"$text" 2>&1 >/dev/null || true; } | tail -n +2 >&2
+    elif ((status == 2)); then
+        echo "./sync-trace < FILE says what would be right" >&2
+    fi
+    exit "$status"
+}
+
 tell_usage() {
     printf '%s\n' "$name: $does" "    ./$name < FILE      does so with $reads, read from standard input" \
-        "    ./$name --build     proves and builds the program, where it is not built of these sources" ""
+        "    ./$name --build     proves and builds the program, where it is not built of these sources" "${also:+$also$'\n'}"
     cat -- "$usage"
 }
 
@@ -216,6 +232,9 @@ if [[ ! -x $program ]]; then
     play_unproved
 elif ! is_current; then
     build
+fi
+if [[ -n ${advises-} && -t 2 ]]; then
+    play_for_a_person
 fi
 exec "$program" "${arguments[@]}"
 fail "$program cannot be started"

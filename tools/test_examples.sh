@@ -17,6 +17,11 @@ test_examples() {
         for text in examples/*.txt; do
             draw_example "${text%.txt}"
         done
+        for text in docs/pages/*.html; do
+            stem=$(basename -- "$text" .html)
+            attempt "./$drawer" --page <"examples/$stem.txt"
+            judge "./$drawer --page < examples/$stem.txt" 0 "$text" /dev/null
+        done
         for text in docs/pictures/*.svg; do
             stem=$(basename -- "$text" .svg)
             if [[ ! -e examples/$stem.txt || -e examples/$stem.err ]]; then

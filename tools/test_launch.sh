@@ -37,6 +37,7 @@ test_launch() {
     echo '#!/bin/sh
 echo played' >"$out/$crate"
     launches "what rt ci has built is taken" ""
+    advises_a_person
     rm -- "$top/crates/$low/specs/Lib.antt"
     launches "a source that is gone is built" "lib run"
     export PRETENDS=waits
@@ -129,7 +130,7 @@ launches() {
 
 # Where nothing is built the sources are run: the text's output, what the program says, and its status come through.
 plays_unproved() {
-    local says="sync-play: not built yet: this is a run of the sources, unproved; ./sync-play --build proves and builds the program, once"
+    local says="sync-play: not built yet: each call runs the sources, unproved, in up to a minute; ./sync-play --build proves and builds the program, once"
     attempt "$top/sync-play" <<<$'1 success\nline 6: waiting\n2'
     judge_line "a text that is played unproved" 2 "1 success" "$says
 line 6: waiting"
@@ -171,6 +172,32 @@ os.write(typed, b"\x04")
 sys.exit(subprocess.call(sys.argv[1], stdin=stdin))' "$top/sync-play"
     judge_line "a terminal" 0 played \
         "sync-play: reading a schedule text from the terminal, up to its end (Ctrl-D); ./sync-play --help says what that is"
+}
+
+# Where standard error is a terminal, it says of a fault what sync-trace adds; elsewhere its one line alone.
+advises_a_person() {
+    local tracer=$top/crates/sync_trace_main/out/sync_trace_main
+    cp -p -- "$out/$crate" "$room/played"
+    printf '%s\n' '#!/bin/sh' 'echo "line 1: no object" >&2' 'exit 2' >"$out/$crate"
+    at_a_terminal "a fault, and nothing that says more" "line 1: no object ./sync-trace < FILE says what would be right"
+    mkdir -p -- "$(dirname -- "$tracer")"
+    printf '%s\n' '#!/bin/sh' 'echo rows' 'printf "%s\n" "line 1: no object" "latch 1" "the object is one of these" >&2' 'exit 2' >"$tracer"
+    chmod +x -- "$tracer"
+    at_a_terminal "a fault, with what would be right" "line 1: no object latch 1 the object is one of these"
+    attempt "$top/sync-play" <<<"latch 1"
+    judge_line "a fault that no terminal reads" 2 "" "line 1: no object"
+    rm -r -- "$(dirname -- "$(dirname -- "$tracer")")"
+    cp -p -- "$room/played" "$out/$crate"
+}
+
+# What the launcher says on a terminal, in one line, and its status: at_a_terminal LABEL WORDS.
+at_a_terminal() {
+    attempt python3 -c 'import os, subprocess, sys
+shown, stderr = os.openpty()
+status = subprocess.run(sys.argv[1], input=b"latch 1\n", stderr=stderr).returncode
+print(*os.read(shown, 4096).decode().split())
+sys.exit(status)' "$top/sync-play"
+    judge_line "$1" 2 "$2" ""
 }
 
 # A build that is interrupted, as by Ctrl-C, ends at once, and leaves nothing behind.

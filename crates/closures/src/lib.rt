@@ -1,9 +1,12 @@
-//! Closures to hand in where nothing better is known of the platform: to wait is to yield, and nobody sleeps, so nobody is woken.
+//! What to hand in as wait and wake closures: to wait is to yield, and nobody is woken; or to sleep, and be woken.
 #![tactic(auto)]
 
 ghost use Rattle.std.specs.Prelude.{◌≡◌};
 ghost use Rattle.steps_events.specs.declared.WaitAction.TheVariants as actions;
 
+mod sleepers;
+
+pub use sleepers::Sleepers;
 use std::thread;
 use steps_events::WaitAction;
 use tallies::WaitWord;

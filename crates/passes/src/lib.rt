@@ -13,6 +13,7 @@ mod rule;
 mod tally;
 mod view;
 mod wait;
+mod watched;
 mod words;
 
 pub use deed::Deed;
@@ -23,4 +24,5 @@ pub use rule::{Rule, SumRule};
 pub use tally::Tally;
 pub use view::View;
 pub use wait::{WaitResult, success_if, wake};
+pub use watched::{Watched, low_half};
 pub use words::{Word, Words};

@@ -7,6 +7,7 @@ use crate::origin::Origin;
 use crate::pass::Pass;
 use crate::rule::{Rule, SumRule};
 use crate::view::View;
+use crate::watched::{Watched, low_half};
 use atomic_table::{Play, Shared, Table};
 use std::alloc::{AllocError, Allocator, Global};
 use std::marker::Brand;
@@ -35,7 +36,7 @@ impl<K, T: Rule<(), K>, A: Allocator> Deref for Words<K, T, A> {
     }
 }
 
-/// One of the words, which can be loaded, and no more.
+/// One of the words, which can be loaded and slept on, and no more.
 #[derive(Drop)]
 pub struct Word<'t, K, T: Rule<(), K>> {
     pub(crate) shared: &'t Shared<(), View<T>, K, SumRule<T>>,
@@ -49,24 +50,28 @@ impl<K, T: Rule<(), K>> Word<'_, K, T> {
     pub fn load(&self) -> u64 {
         self.shared.peek(self.index)
     }
+}
 
-    /// Sleeps if the low 32 bits of the word are `seen`, until a wake of this word. It may also return for no reason.
-    pub fn park<R: Wait>(&self, rt: &R, seen: u32) {
-        self.shared.park(rt, self.index, seen);
+impl<K, T: Rule<(), K>> Watched for Word<'_, K, T> {
+    #[inline(always)]
+    fn load(&self) -> u64 {
+        Word::load(self)
     }
 
-    /// The same, for no longer than `most`.
-    pub fn park_timeout<R: Wait>(&self, rt: &R, seen: u32, most: Duration) {
-        self.shared.park_timeout(rt, self.index, seen, most);
+    fn park<R: Wait>(&self, rt: &R, seen: u64) {
+        self.shared.park(rt, self.index, low_half(seen));
     }
 
-    /// Wakes one that sleeps on this word, if there is one.
-    pub fn wake_one(&self) {
+    fn park_timeout<R: Wait>(&self, rt: &R, seen: u64, most: Duration) {
+        self.shared
+            .park_timeout(rt, self.index, low_half(seen), most);
+    }
+
+    fn wake_one(&self) {
         self.shared.wake_one(self.index);
     }
 
-    /// Wakes all that sleep on this word.
-    pub fn wake_all(&self) {
+    fn wake_all(&self) {
         self.shared.wake_all(self.index);
     }
 }

@@ -3,10 +3,11 @@ mod limits;
 mod long;
 mod player;
 mod streams;
+mod worked;
 
 use std::alloc::{AllocError, Global};
 use std::io::{Read, Write};
-use sync_play::run::run;
+use sync_play::run;
 
 /// Runs a text from a reader to a writer: `played`, or the fault's line and the exit status.
 fn told<R: Read, W: Write>(

@@ -19,7 +19,7 @@ ghost use Rattle.playing.specs.Tries.{spun, MayTry, Tried, IsRefused, IsStanding
 use crate::entry::{Aborted, Answered, Continued, Entry, GoesOn, hear};
 use crate::played::Played;
 use crate::script::Script;
-use crate::wait::Shown;
+use crate::wait::{Sealed, Shown};
 use passes::Pass;
 use std::hint::spin_loop;
 use std::sync::Wait;
@@ -79,16 +79,16 @@ pub fn ask<
     B: Attempt<K, M, P, V, C>,
     X: Shown,
     W: Fn(&X, &u64) -> WaitAction,
->(by: &B, pass: &Pass<Played<M, P, V, C>>, word: &X, told: u64, wait: &W) -> Answered
+>(by: &B, pass: &Pass<Played<M, P, V, C>>, word: &Sealed<X>, told: u64, wait: &W) -> Answered
     requires own { object_of pass.now ≡ B.object by.now }
-    requires word { X.object word.now ≡ B.object by.now }
-    requires stands { StandsToWait (M.model (B.key by.now)) M.names M.handed (X.index word.now) told (parties_of pass.now) }
+    requires word { X.object word.now.shown ≡ B.object by.now }
+    requires stands { StandsToWait (M.model (B.key by.now)) M.names M.handed (X.index word.now.shown) told (parties_of pass.now) }
     requires may { W.IsAlwaysCallable wait.now }
     ensures answered { MayAnswer W.Fn wait.now (λ n. n ≡ told) (action_of result) }
 {
     let _by = by;
     let _pass = pass;
-    hear(word, told, wait)
+    hear(&word.shown, told, wait)
 }
 
 /// Further tries, as many as a call makes by itself, until one is not refused. `seen` is the value that refused the first.
@@ -131,12 +131,19 @@ fn ask_and_try<
     X: Shown,
     R: Wait,
     W: Fn(&X, &u64) -> WaitAction,
->(rt: &R, by: &B, pass: &mut Pass<Played<M, P, V, C>>, word: &X, told: u64, wait: &W) -> bool
+>(
+    rt: &R,
+    by: &B,
+    pass: &mut Pass<Played<M, P, V, C>>,
+    word: &Sealed<X>,
+    told: u64,
+    wait: &W,
+) -> bool
     requires own { object_of pass.old ≡ B.object by.now }
     requires may { W.IsAlwaysCallable wait.now }
     requires refused { B.refuses told }
-    requires word { X.object word.now ≡ B.object by.now }
-    requires handed { (p : Patience) → IsNamed M.names (X.index word.now) (M.handed (B.place p)) }
+    requires word { X.object word.now.shown ≡ B.object by.now }
+    requires handed { (p : Patience) → IsNamed M.names (X.index word.now.shown) (M.handed (B.place p)) }
     requires at { (done : List (Slot V)) × IsStanding (M.model (B.key by.now)) B.call B.place told done (parties_of pass.old) }
     ensures told { MatchBool result (HasMoved B.moves pass.old pass.new) (WasRefused B.refuses 1 pass.old pass.new) }
     ensures aborted { result ≡ false → MayAnswerAbort W.Fn wait.now B.refuses }
@@ -171,13 +178,20 @@ pub fn try_again<
     X: Shown,
     R: Wait,
     W: Fn(&X, &u64) -> WaitAction,
->(rt: &R, by: &B, pass: &mut Pass<Played<M, P, V, C>>, word: &X, seen: u64, wait: &W) -> bool
+>(
+    rt: &R,
+    by: &B,
+    pass: &mut Pass<Played<M, P, V, C>>,
+    word: &Sealed<X>,
+    seen: u64,
+    wait: &W,
+) -> bool
     requires own { object_of pass.old ≡ B.object by.now }
     requires may { W.IsAlwaysCallable wait.now }
     requires seen { (sights_of pass.old).last ≡ seen }
     requires refused { B.refuses seen }
-    requires word { X.object word.now ≡ B.object by.now }
-    requires handed { (p : Patience) → IsNamed M.names (X.index word.now) (M.handed (B.place p)) }
+    requires word { X.object word.now.shown ≡ B.object by.now }
+    requires handed { (p : Patience) → IsNamed M.names (X.index word.now.shown) (M.handed (B.place p)) }
     requires at { (done : List (Slot V)) × IsRefused (M.model (B.key by.now)) B.call B.place (spun 0) seen done (parties_of pass.old) }
     ensures told { MatchBool result (HasMoved B.moves pass.old pass.new) (WasRefused B.refuses 10001 pass.old pass.new) }
     ensures aborted { result ≡ false → MayAnswerAbort W.Fn wait.now B.refuses }

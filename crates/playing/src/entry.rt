@@ -161,9 +161,9 @@ pub enum Answered {
     Abort(Aborted),
 }
 
-/// Calls a wait closure. Where it is called, and with which word, is its caller's affair: `ask` says it of a pass.
+/// Calls a wait closure.
 #[inline(always)]
-pub fn hear<X, W: Fn(&X, &u64) -> WaitAction>(word: &X, told: u64, wait: &W) -> Answered
+pub(crate) fn hear<X, W: Fn(&X, &u64) -> WaitAction>(word: &X, told: u64, wait: &W) -> Answered
     requires may { W.IsAlwaysCallable wait.now }
     ensures answered { MayAnswer W.Fn wait.now (λ n. n ≡ told) (action_of result) }
 {

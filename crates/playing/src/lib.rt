@@ -8,13 +8,15 @@ mod ending;
 mod entry;
 mod played;
 mod script;
+mod seat;
 mod stage;
 mod wait;
 
 pub use attempt::{Attempt, ask, try_again};
 pub use counts::Counts;
-pub use entry::{Aborted, AddEntry, AfterAside, Answered, By, Continued, Entry, GoesOn, Way, hear};
+pub use entry::{Aborted, AddEntry, AfterAside, Answered, By, Continued, Entry, GoesOn, Way};
 pub use played::{Parties, Played};
 pub use script::Script;
+pub use seat::{ask_seat, wake_seat};
 pub use stage::Stage;
-pub use wait::Shown;
+pub use wait::{OfWord, Sealed, Shown};

@@ -6,6 +6,7 @@ use crate::counts::Counts;
 use crate::entry::{AddEntry, Entry};
 use crate::played::Played;
 use crate::script::Script;
+use crate::wait::{OfWord, Sealed};
 use passes::{Deed, Origin, Pass, Word, Words};
 use std::alloc::{AllocError, Allocator, Global};
 use std::marker::PhantomData;
@@ -84,10 +85,12 @@ impl<K, M: Script<K, P, V>, P, V, C: Counts<K, V>, A: Allocator> Deref for Stage
 
 impl<K, M: Script<K, P, V>, P, V, C: Counts<K, V>, A: Allocator> Stage<K, M, P, V, C, A> {
     ghost use Rattle.steps_events.specs.declared.row.Intent.TheVariants as intents;
+    ghost use Rattle.passes.specs.declared.words.Word.{Word as PassesWord};
     ghost use Rattle.passes.specs.Parts.{IsWhole};
     ghost use Rattle.passes.specs.Passes.{view, part_of, tally_of, IsSamePass};
     ghost use Rattle.passes.specs.Views.{first_view, Updates};
     ghost use Rattle.passes.specs.Objects.{HasClosed, HaveClosed};
+    ghost use Rattle.playing.specs.declared.played.Played.{Played as PlayedBy};
     ghost use Rattle.playing.specs.Slots.{no_parties};
     ghost use Rattle.playing.specs.Words.{AllHold};
     ghost use Rattle.playing.specs.Plays.{MayStep, Went, WentAlone};
@@ -112,13 +115,18 @@ impl<K, M: Script<K, P, V>, P, V, C: Counts<K, V>, A: Allocator> Stage<K, M, P, 
         Ok((Stage { words }, pass))
     }
 
-    /// The word at this index, as closures see it.
+    /// The word at this index, as closures see it, sealed.
     #[inline(always)]
-    pub fn word(&self, index: usize) -> Word<'_, K, Played<M, P, V, C>>
+    pub fn shown<'t, X: OfWord<Word<'t, K, Played<M, P, V, C>>>>(
+        &'t self,
+        index: usize,
+    ) -> Sealed<X>
         requires inside { index < count_of self.now }
-        ensures which { IsWordOf self.now index result }
+        ensures of { (word : PassesWord K (PlayedBy M P V C)) × IsWordOf self.now index word × X.shows word result.shown }
     {
-        self.words.word(index)
+        Sealed {
+            shown: X::of(self.words.word(index)),
+        }
     }
 
     /// The load that the table has.

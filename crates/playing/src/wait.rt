@@ -24,6 +24,32 @@ pub trait Shown {
     ghost index: { Self → ℕ };
 }
 
+/// What a word is shown as.
+pub trait OfWord<T>: Sized {
+    // It shows this word.
+    ghost shows: { T → Self → Type 0 };
+
+    /// Shows this word.
+    fn of(word: T) -> Self
+        ensures shown { shows word result };
+}
+
+/// A word as closures see it, sealed: a closure is handed it where a call of the model stands at that, and nobody else can open it.
+#[derive(Drop)]
+pub struct Sealed<X> {
+    pub(crate) shown: X,
+}
+
+impl<X> Sealed<X> {
+    /// Seals this word.
+    #[inline(always)]
+    pub fn of(word: X) -> Sealed<X>
+        ensures { result.shown ≡ word }
+    {
+        Sealed { shown: word }
+    }
+}
+
 impl<K, M: Script<K, P, V>, P, V, C: Counts<K, V>, A: Allocator> Stage<K, M, P, V, C, A> {
     ghost use Rattle.playing.specs.Stages.{IsPassOf, id_of, key_of};
 
@@ -33,18 +59,18 @@ impl<K, M: Script<K, P, V>, P, V, C: Counts<K, V>, A: Allocator> Stage<K, M, P, 
     pub fn tell<X: Shown, W: Fn(&X, &u64)>(
         &self,
         pass: &Pass<Played<M, P, V, C>>,
-        word: &X,
+        word: &Sealed<X>,
         told: u64,
         wait: &W,
     ) -> Continued
         requires own { IsPassOf self.now pass.now }
-        requires word { X.object word.now ≡ id_of self.now }
-        requires stands { StandsToWait (M.model (key_of self.now)) M.names M.handed (X.index word.now) told (parties_of pass.now) }
+        requires word { X.object word.now.shown ≡ id_of self.now }
+        requires stands { StandsToWait (M.model (key_of self.now)) M.names M.handed (X.index word.now.shown) told (parties_of pass.now) }
         requires may { W.IsAlwaysCallable wait.now }
         ensures told { HasTold W.Fn wait.now told }
     {
         let _pass = pass;
-        wait(word, &told);
+        wait(&word.shown, &told);
         Continued::new()
     }
 
@@ -54,31 +80,36 @@ impl<K, M: Script<K, P, V>, P, V, C: Counts<K, V>, A: Allocator> Stage<K, M, P, 
     pub fn ask<X: Shown, W: Fn(&X, &u64) -> WaitAction>(
         &self,
         pass: &Pass<Played<M, P, V, C>>,
-        word: &X,
+        word: &Sealed<X>,
         told: u64,
         wait: &W,
     ) -> Answered
         requires own { IsPassOf self.now pass.now }
-        requires word { X.object word.now ≡ id_of self.now }
-        requires stands { StandsToWait (M.model (key_of self.now)) M.names M.handed (X.index word.now) told (parties_of pass.now) }
+        requires word { X.object word.now.shown ≡ id_of self.now }
+        requires stands { StandsToWait (M.model (key_of self.now)) M.names M.handed (X.index word.now.shown) told (parties_of pass.now) }
         requires may { W.IsAlwaysCallable wait.now }
         ensures answered { MayAnswer W.Fn wait.now (λ n. n ≡ told) (action_of result) }
     {
         let _pass = pass;
-        hear(word, told, wait)
+        hear(&word.shown, told, wait)
     }
 
     /// Calls the wake closure that a call of the pass is to call next, of the word that the model names for that place.
     #[inline(always)]
-    pub fn wake<X: Shown, W: Fn(&X)>(&self, pass: &Pass<Played<M, P, V, C>>, word: &X, wake: &W)
+    pub fn wake<X: Shown, W: Fn(&X)>(
+        &self,
+        pass: &Pass<Played<M, P, V, C>>,
+        word: &Sealed<X>,
+        wake: &W,
+    )
         requires own { IsPassOf self.now pass.now }
-        requires word { X.object word.now ≡ id_of self.now }
-        requires wakes { IsToWake (M.model (key_of self.now)) M.names M.handed (X.index word.now) (parties_of pass.now) }
+        requires word { X.object word.now.shown ≡ id_of self.now }
+        requires wakes { IsToWake (M.model (key_of self.now)) M.names M.handed (X.index word.now.shown) (parties_of pass.now) }
         requires may { W.IsAlwaysCallable wake.now }
         ensures woke { HasWoken W.Fn wake.now }
     {
         let _pass = pass;
-        passes::wake(wake, word);
+        passes::wake(wake, &word.shown);
     }
     /// Calls the two wake closures that a call of the pass is to call next, one after the other, each of the word that the model names
     /// for its place.
@@ -86,21 +117,21 @@ impl<K, M: Script<K, P, V>, P, V, C: Counts<K, V>, A: Allocator> Stage<K, M, P, 
     pub fn wake_twice<X: Shown, W: Fn(&X), Y: Fn(&X)>(
         &self,
         pass: &Pass<Played<M, P, V, C>>,
-        first: &X,
+        first: &Sealed<X>,
         wake_first: &W,
-        second: &X,
+        second: &Sealed<X>,
         wake_second: &Y,
     )
         requires own { IsPassOf self.now pass.now }
-        requires words { (X.object first.now ≡ id_of self.now) × (X.object second.now ≡ id_of self.now) }
-        requires wakes { IsToWakeTwice (M.model (key_of self.now)) M.names M.handed (X.index first.now) (X.index second.now) (parties_of pass.now) }
+        requires words { (X.object first.now.shown ≡ id_of self.now) × (X.object second.now.shown ≡ id_of self.now) }
+        requires wakes { IsToWakeTwice (M.model (key_of self.now)) M.names M.handed (X.index first.now.shown) (X.index second.now.shown) (parties_of pass.now) }
         requires may_first { W.IsAlwaysCallable wake_first.now }
         requires may_second { Y.IsAlwaysCallable wake_second.now }
         ensures woke_first { HasWoken W.Fn wake_first.now }
         ensures woke_second { HasWoken Y.Fn wake_second.now }
     {
         let _pass = pass;
-        passes::wake(wake_first, first);
-        passes::wake(wake_second, second);
+        passes::wake(wake_first, &first.shown);
+        passes::wake(wake_second, &second.shown);
     }
 }

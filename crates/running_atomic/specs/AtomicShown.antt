@@ -1,5 +1,5 @@
 -- What contracts see of an atomic and its pass, and what a call changes in a pass.
-use Rattle.std.specs.Prelude.{◌≡◌, ℕ, List, None}
+use Rattle.std.specs.Prelude.{◌≡◌, ℕ, List, ◌++◌, codes, Option, Some, None}
 use Rattle.steps_events.specs.declared.event.Call.{Call}
 use Rattle.steps_events.specs.declared.event.Answer.{Answer}
 use Rattle.steps_events.specs.Arithmetic.{Arithmetic}
@@ -117,3 +117,8 @@ pub record IsStill {T : Type 0} (p q : Pass (PlayedAtomic T)) : Type 0 where
   pub same : IsSamePass p q
   pub part : part_of q ≡ part_of p
   pub tally : counts_of q ≡ counts_of p
+
+-- what is printed of a value, by its type's name, and by what its type prints of it
+abbrev pub shown_text : List ℕ → Option (List ℕ) → Option (List ℕ)
+shown_text name None = None
+shown_text name (Some value) = Some (codes "Atomic<" ++ (name ++ (codes "> { value: " ++ (value ++ codes " }"))))

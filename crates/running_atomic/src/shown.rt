@@ -9,8 +9,17 @@ pub struct AtomicShown<T: AtomicInteger> {
 }
 
 impl<T: AtomicInteger> Display for AtomicShown<T> {
+    ghost use Rattle.running_atomic.specs.AtomicShown.{shown_text};
+
+    ghost output = { λ shown. shown_text T.shown_name (T.debug_output shown.value) };
+
     fn fmt<W: Write>(&self, f: &mut Formatter<W>) -> Result<(), Error> {
-        write!(f, "Atomic<{}> {{ value: {:?} }}", T::NAME, self.value)
+        write!(
+            f,
+            "Atomic<{}> {{ value: {:?} }}",
+            T::type_name(),
+            self.value
+        )
     }
 }
 

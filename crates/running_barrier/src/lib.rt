@@ -12,7 +12,7 @@ ghost use Rattle.running_barrier.specs.BarrierSteps.{ArrivalsAreOfARun, OpenRoun
 ghost use Rattle.steps_barrier.specs.Rounds.{epoch_of, count_of};
 
 use passes::{Deed, Origin, Pass};
-use playing::{Entry, GoesOn, Stage};
+use playing::{Entry, GoesOn, Sealed, Stage};
 use std::alloc::{AllocError, Allocator, Global};
 use std::hint::spin_loop;
 use std::ops::Deref;
@@ -310,11 +310,11 @@ impl<A: Allocator> Barrier<A> {
 
     /// The barrier's word, as closures see it.
     #[inline(always)]
-    fn word(&self) -> WaitWord<'_>
-        ensures object { object_shown result ≡ id_of self.now.stage }
-        ensures index { index_shown result ≡ 0 }
+    fn word(&self) -> Sealed<WaitWord<'_>>
+        ensures object { object_shown result.shown ≡ id_of self.now.stage }
+        ensures index { index_shown result.shown ≡ 0 }
     {
-        WaitWord::from(self.stage.word(0))
+        self.stage.shown(0)
     }
 }
 

@@ -1,4 +1,5 @@
 pub mod GuardedRule
+pub mod GuardedWord
 pub mod GuardedSteps
 pub mod GuardedShown
 pub mod Acting

@@ -30,7 +30,7 @@ use crate::rule::GuardedRule;
 use crate::word::GuardedWord;
 use atomic_table::{Play, Refused, Seat, Table};
 use passes::{View, WaitResult};
-use playing::{Answered, Entry, GoesOn, hear};
+use playing::{Answered, Entry, GoesOn, Sealed, ask_seat, wake_seat};
 use std::alloc::{AllocError, Allocator, Global};
 use std::hint::spin_loop;
 use std::marker::PhantomData;
@@ -96,6 +96,7 @@ const FREE: u64 = 0;
 
 impl<T, A: Allocator> Guarded<T, A> {
     ghost use Rattle.running_guarded.specs.GuardedShown.{id_of, object_of, number_of, view};
+    ghost use Rattle.running_guarded.specs.GuardedWord.{object_shown};
 
     /// One exchange of 0 for 1, and whether it was done. Then the value is out with the seat.
     #[inline(always)]
@@ -152,8 +153,7 @@ impl<T, A: Allocator> Guarded<T, A> {
         requires may { W.IsAlwaysCallable wait.now }
         ensures answered { MayAnswer W.Fn wait.now IsLocked (action_of result) }
     {
-        let _seat = seat;
-        hear(&self.word(), LOCKED, wait)
+        ask_seat(&(), seat, &self.word(), LOCKED, wait)
     }
 
     /// The wait closure before each further exchange, until one is done, or fails after the closure answered `Abort`.
@@ -282,8 +282,7 @@ impl<T, A: Allocator> Guarded<T, A> {
         requires may { W.IsAlwaysCallable wake_one.now }
         ensures woke { HasWoken W.Fn wake_one.now }
     {
-        let _seat = seat;
-        passes::wake(wake_one, &self.word());
+        wake_seat(&(), seat, &self.word(), wake_one);
     }
 
     /// Puts the value back into its slot, and stores 0.
@@ -351,10 +350,10 @@ impl<T, A: Allocator> Guarded<T, A> {
 
     /// The word, as closures see it.
     #[inline(always)]
-    fn word(&self) -> GuardedWord<'_, T> {
-        GuardedWord {
-            shared: &self.table.shared,
-        }
+    fn word(&self) -> Sealed<GuardedWord<'_, T>>
+        ensures object { object_shown result.shown ≡ id_of self.now }
+    {
+        GuardedWord::sealed(&self.table.shared)
     }
 }
 

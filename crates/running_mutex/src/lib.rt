@@ -14,7 +14,7 @@ ghost use Rattle.running_mutex.specs.MutexSteps.{GrantsAreOfARun, OneHolder};
 pub mod condition_variable;
 
 use passes::{Deed, Origin, Pass, WaitResult};
-use playing::{Attempt, Entry, Stage, try_again};
+use playing::{Attempt, Entry, Sealed, Stage, try_again};
 use std::alloc::{AllocError, Allocator, Global};
 use std::ops::Deref;
 use std::sync::Wait;
@@ -315,11 +315,11 @@ impl<A: Allocator> Mutex<A> {
 
     /// The mutex's word, as closures see it.
     #[inline(always)]
-    fn word(&self) -> WaitWord<'_>
-        ensures object { object_shown result ≡ id_of self.now.stage }
-        ensures index { index_shown result ≡ 0 }
+    fn word(&self) -> Sealed<WaitWord<'_>>
+        ensures object { object_shown result.shown ≡ id_of self.now.stage }
+        ensures index { index_shown result.shown ≡ 0 }
     {
-        WaitWord::from(self.stage.word(0))
+        self.stage.shown(0)
     }
 }
 

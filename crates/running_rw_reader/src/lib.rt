@@ -12,7 +12,7 @@ ghost use Rattle.playing.specs.Stages.{count_of};
 ghost use Rattle.running_rw_reader.specs.RwReaderSteps.{HoldsAreOfARun, NoHoldBesideAWriteHold};
 
 use passes::{Deed, Origin, Pass, WaitResult};
-use playing::{Attempt, Entry, GoesOn, Stage, try_again};
+use playing::{Attempt, Entry, GoesOn, Sealed, Stage, try_again};
 use running_rw_hold::{
     ReadBegins, RwHold, TryReadBegins, TryWriteBegins, UnlockBegins, WriteBegins, end_read_hold,
     end_write_hold, read_hold, write_hold,
@@ -512,11 +512,11 @@ impl<A: Allocator> RwLockReaderPreference<A> {
 
     /// The lock's word, as closures see it.
     #[inline(always)]
-    fn word(&self) -> WaitWord<'_>
-        ensures object { object_shown result ≡ id_of self.now.stage }
-        ensures index { index_shown result ≡ 0 }
+    fn word(&self) -> Sealed<WaitWord<'_>>
+        ensures object { object_shown result.shown ≡ id_of self.now.stage }
+        ensures index { index_shown result.shown ≡ 0 }
     {
-        WaitWord::from(self.stage.word(0))
+        self.stage.shown(0)
     }
 }
 

@@ -7,7 +7,7 @@ use crate::deeds::{
 };
 use crate::{COUNTER, LOCK, RwLockWriterPreference};
 use passes::Pass;
-use playing::{Entry, GoesOn};
+use playing::{Entry, GoesOn, Sealed};
 use running_rw_hold::UnlockBegins;
 use std::alloc::Allocator;
 use steps_rw_writer::writer_enters;
@@ -250,20 +250,20 @@ impl<A: Allocator> RwLockWriterPreference<A> {
 
     /// The lock's word, as closures see it.
     #[inline(always)]
-    pub(crate) fn word(&self) -> WaitWord<'_>
-        ensures object { object_shown result ≡ id_of self.now.stage }
-        ensures index { index_shown result ≡ 0 }
+    pub(crate) fn word(&self) -> Sealed<WaitWord<'_>>
+        ensures object { object_shown result.shown ≡ id_of self.now.stage }
+        ensures index { index_shown result.shown ≡ 0 }
     {
-        WaitWord::from(self.stage.word(LOCK))
+        self.stage.shown(LOCK)
     }
 
     /// The wake counter, as closures see it.
     #[inline(always)]
-    pub(crate) fn counter(&self) -> WaitWord<'_>
-        ensures object { object_shown result ≡ id_of self.now.stage }
-        ensures index { index_shown result ≡ 1 }
+    pub(crate) fn counter(&self) -> Sealed<WaitWord<'_>>
+        ensures object { object_shown result.shown ≡ id_of self.now.stage }
+        ensures index { index_shown result.shown ≡ 1 }
     {
-        WaitWord::from(self.stage.word(COUNTER))
+        self.stage.shown(COUNTER)
     }
 }
 

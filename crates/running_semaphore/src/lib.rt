@@ -9,7 +9,7 @@ ghost use Rattle.playing.specs.Stages.{count_of};
 ghost use Rattle.running_semaphore.specs.SemaphoreSteps.{PermitsAreOfARun};
 
 use passes::{Deed, Origin, Pass, WaitResult, success_if};
-use playing::{AddEntry, Attempt, Entry, GoesOn, Stage, try_again};
+use playing::{AddEntry, Attempt, Entry, GoesOn, Sealed, Stage, try_again};
 use std::alloc::{AllocError, Allocator, Global};
 use std::ops::Deref;
 use std::sync::Wait;
@@ -343,11 +343,11 @@ impl<A: Allocator> Semaphore<A> {
 
     /// The semaphore's word, as closures see it.
     #[inline(always)]
-    fn word(&self) -> WaitWord<'_>
-        ensures object { object_shown result ≡ id_of self.now.stage }
-        ensures index { index_shown result ≡ 0 }
+    fn word(&self) -> Sealed<WaitWord<'_>>
+        ensures object { object_shown result.shown ≡ id_of self.now.stage }
+        ensures index { index_shown result.shown ≡ 0 }
     {
-        WaitWord::from(self.stage.word(0))
+        self.stage.shown(0)
     }
 }
 

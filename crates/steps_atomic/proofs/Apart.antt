@@ -1,9 +1,10 @@
 -- Who reads and writes the data words: only who has the lock, and a writer is alone.
 use Rattle.std.proofs.Common.{◌≡◌, ◌≢◌, ℕ, ◌<◌, ◌==◌, refl, sym, ◌∙◌, ap, subst, Bool, true, false, cond, is_some, List, [], ◌∷◌, Option, Some, None, inl, inr, arith}
-use Rattle.std.specs.Prelude.{MatchOption}
+use Rattle.std.specs.Prelude.{MatchOption, not}
 use Rattle.std.proofs.lemmas.Bool.{eqb-true, false≢true}
 use Rattle.steps_events.specs.declared.event.Word.{Word}
 use Rattle.steps_events.specs.declared.event.Word.TheVariants as words
+use Rattle.steps_events.specs.declared.event.Call.{Call}
 use Rattle.steps_events.specs.declared.event.Event.{Event}
 use Rattle.steps_events.specs.declared.hold.HoldKind.{HoldKind}
 use Rattle.steps_events.specs.declared.hold.HoldKind.TheVariants as kinds
@@ -19,8 +20,8 @@ use Rattle.steps_rw_reader.specs.Law.{CountsHolds}
 use Rattle.steps_atomic.specs.declared.AtomicPlace.{AtomicPlace}
 use Rattle.steps_atomic.specs.declared.AtomicPlace.TheVariants as places
 use Rattle.steps_atomic.specs.Register.{is_data_access, is_data_write}
-use Rattle.steps_atomic.specs.Table.{atomic_table}
-use Rattle.steps_atomic.specs.Law.{AccessesUnderHold, IsAlone, WritesAlone, FewAccesses, RestsWithout}
+use Rattle.steps_atomic.specs.Table.{atomic_grant, atomic_table}
+use Rattle.steps_atomic.specs.Law.{AccessesUnderHold, IsAlone, is_load, accesses_to_write, WritesAlone, FewAccesses, RestsWithout}
 use Rattle.steps_atomic.proofs.Places.{AtAtomic, HasNone, atomic_kept, here}
 use Rattle.steps_atomic.proofs.Laws.{keeps_lock}
 
@@ -47,7 +48,7 @@ untouched_outside z (places.PutLow low high answer) c at = absurd (let held = at
 untouched_outside z (places.PutHigh high answer) c at = absurd (let held = at.held in cc)
 untouched_outside z (places.Leave answer) c at = absurd (let held = at.held in cc)
 
--- the step at a place reads or writes a data word only under a hold, and writes one only under the write hold
+-- the step at a place reads or writes a data word only under a hold, and writes one only under the write hold;
 
 accessed_at :
     {T : Type 0} (z : Arithmetic T) (v : T) (place : AtomicPlace T) (c : PendingCall T) (hold : Option HoldKind) (memory : Word → ℕ) → AtAtomic z place c hold → is_data_access (step_at (atomic_table z v) place hold memory).act ≡ true →
@@ -62,15 +63,22 @@ accessed_at z v (places.PutLow low high answer) c hold memory at is = ap is_some
 accessed_at z v (places.PutHigh high answer) c hold memory at is = ap is_some at.held
 accessed_at z v (places.Leave answer) c hold memory at is = at.held
 
+-- in a call that writes, reads one only so too
+writer_grant : {T : Type 0} (call : Call T) → is_some (atomic_grant call) ≡ true → not (is_load call) ≡ true → atomic_grant call ≡ Some kinds.Write
+writer_grant call grants writes = grind arith
+
+looked_to_write : {T : Type 0} (c : PendingCall T) (call : Call T) (hold : Option HoldKind) → c.call ≡ call → hold ≡ atomic_grant call → is_some (atomic_grant call) ≡ true → not (is_load c.call) ≡ true → hold ≡ Some kinds.Write
+looked_to_write {T} c call hold called held grants writes = held ∙ writer_grant call grants (subst (λ (k : Call T). not (is_load k) ≡ true) called writes)
+
 written_at :
-    {T : Type 0} (z : Arithmetic T) (v : T) (place : AtomicPlace T) (c : PendingCall T) (hold : Option HoldKind) (memory : Word → ℕ) → AtAtomic z place c hold → is_data_write (step_at (atomic_table z v) place hold memory).act ≡ true →
+    {T : Type 0} (z : Arithmetic T) (v : T) (place : AtomicPlace T) (c : PendingCall T) (hold : Option HoldKind) (memory : Word → ℕ) → AtAtomic z place c hold → accesses_to_write (step_at (atomic_table z v) place hold memory).act (Some c) ≡ true →
     hold ≡ Some kinds.Write
 written_at z v places.Look c hold memory at is = absurd (false≢true is)
 written_at z v (places.Enter seen to) c hold memory at is = absurd (false≢true is)
 written_at z v (places.Take call) c hold memory at is = absurd (false≢true is)
-written_at z v (places.Low call) c hold memory at is = absurd (false≢true is)
-written_at z v (places.High call low) c hold memory at is = absurd (false≢true is)
-written_at z v (places.Again old) c hold memory at is = absurd (false≢true is)
+written_at z v (places.Low call) c hold memory at is = looked_to_write c call hold at.0 at.1 at.2.0 is
+written_at z v (places.High call low) c hold memory at is = looked_to_write c call hold at.0 at.1 at.2.0 is
+written_at z v (places.Again old) c hold memory at is = at.1.held
 written_at z v (places.PutLow low high answer) c hold memory at is = at.held
 written_at z v (places.PutHigh high answer) c hold memory at is = at.held
 written_at z v (places.Leave answer) c None memory at is = absurd (let held = at.held in cc)
@@ -134,7 +142,7 @@ pub writes_alone : {T : Type 0} (z : Arithmetic T) (v : T) (parties : ℕ) (past
 writes_alone z v parties [] run = tt
 writes_alone {T} z v parties (e ∷ past) run =
     let t = atomic_table z v in
-    by_move t (call_of e.party past) (hold_of t e.party past) (word_in t past) (λ (k : Option (PendingCall T)) (m : Move T). is_data_write m.act ≡ true → IsAlone z v e.party past)
+    by_move t (call_of e.party past) (hold_of t e.party past) (word_in t past) (λ (k : Option (PendingCall T)) (m : Move T). accesses_to_write m.act k ≡ true → IsAlone z v e.party past)
     run.0.0 (record { act = e.act; outcome = e.then }) (λ call _ is. absurd (false≢true is)) (λ action _ is. absurd (false≢true is)) (λ choice _ is. absurd (false≢true is))
     (λ c place _ called stage is.
     let held = written_at z v place c (hold_of t e.party past) (word_in t past) (here z v parties past run.1 e.party c place called stage) is in

@@ -2,7 +2,7 @@
 use Rattle.std.proofs.lemmas.Bool.{eqb-false}
 use Rattle.std.proofs.lemmas.Bool.{eqb-true}
 use Rattle.std.proofs.lemmas.Bool.Decides.{nat_tests}
-use Rattle.std.proofs.Common.{◌≡◌, ℕ, ◌+◌, ◌-◌, ◌^◌, ◌==◌, refl, sym, ◌∙◌, ap, subst, Bool, true, false, cond, is_some, List, [], ◌∷◌, Option, Some, None, inl, inr, ◌⊎◌, arith}
+use Rattle.std.proofs.Common.{◌≡◌, ℕ, ◌+◌, ◌-◌, ◌^◌, ◌==◌, refl, sym, ◌∙◌, ap, subst, Bool, true, false, cond, is_some, List, [], ◌∷◌, Option, Some, None, arith}
 use Rattle.std.specs.Prelude.{unwrap_or, MatchOption}
 use Rattle.steps_events.specs.declared.event.Word.{Word}
 use Rattle.steps_events.specs.declared.event.Word.TheVariants as words
@@ -33,10 +33,10 @@ use Rattle.steps_rw_reader.specs.Law.{Releases}
 use Rattle.steps_rw_reader.specs.Table.{lets_readers_in}
 use Rattle.steps_atomic.specs.declared.AtomicPlace.{AtomicPlace}
 use Rattle.steps_atomic.specs.declared.AtomicPlace.TheVariants as places
-use Rattle.steps_atomic.specs.Register.{act_of, compared, updated, choice_of, low_told, acts_made}
+use Rattle.steps_atomic.specs.Register.{act_of, compared, choice_of, low_told, acts_made}
 use Rattle.steps_atomic.specs.Table.{atomic_begins, look_at, puts, inside, knows, compares, atomic_table}
-use Rattle.steps_atomic.specs.Steps.{wants, Enters, has_entered, high_told, value_found, acts_so, BeginsData, reads_again, left_knowing, Accesses, StepUnder, AtomicStep}
-use Rattle.steps_atomic.proofs.Places.{is_store, Asks, AtAtomic, HasNone, atomic_kept, offered_nothing}
+use Rattle.steps_atomic.specs.Steps.{wants, Enters, has_entered, high_told, value_found, acts_so, reads_again, Accesses, StepUnder, AtomicStep}
+use Rattle.steps_atomic.proofs.Places.{is_store, Asks, AtAtomic, HasNone, atomic_kept}
 
 -- What a call at each place has done and was told.
 

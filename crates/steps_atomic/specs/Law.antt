@@ -1,14 +1,15 @@
 -- What an atomic keeps at every front of every run: one writer or only readers, and it answers as one register.
-use Rattle.std.specs.Prelude.{◌≡◌, ◌≢◌, ◌<◌, ℕ, true, is_some, List, [], ◌∷◌, Some, None, MatchOption}
+use Rattle.std.specs.Prelude.{◌≡◌, ◌≢◌, ◌<◌, ℕ, Bool, true, false, not, ◌&&◌, ◌||◌, is_some, List, [], ◌∷◌, Option, Some, None, MatchOption}
 use Rattle.steps_events.specs.declared.event.Word.TheVariants as words
 use Rattle.steps_events.specs.declared.event.Call.{Call}
 use Rattle.steps_events.specs.declared.event.Call.TheVariants as calls
+use Rattle.steps_events.specs.declared.event.Act.{Act}
 use Rattle.steps_events.specs.declared.event.Then.{Then}
 use Rattle.steps_events.specs.declared.event.Then.TheVariants as thens
 use Rattle.steps_events.specs.declared.event.Event.{Event}
 use Rattle.steps_events.specs.Arithmetic.{Arithmetic}
 use Rattle.steps_events.specs.declared.hold.HoldKind.TheVariants as kinds
-use Rattle.steps_events.specs.Past.{call_of, holds_of, hold_of, word_in}
+use Rattle.steps_events.specs.Past.{PendingCall, call_of, holds_of, hold_of, word_in}
 use Rattle.steps_events.specs.Sights.{acts_in}
 use Rattle.steps_events.specs.NextStep.{StepsAs}
 use Rattle.steps_events.specs.HoldCounts.{writes_in}
@@ -59,10 +60,23 @@ pub record IsAlone {T : Type 0} (z : Arithmetic T) (v : T) (party : ℕ) (past :
   pub held : hold_of (atomic_table z v) party past ≡ Some kinds.Write
   pub untouched : (other : ℕ) → other ≢ party → MatchOption (call_of other past) (Unit {0}) (λ c. acts_in is_data_access c.own ≡ 0)
 
--- whoever writes a data word is alone: so no write falls between two accesses of another call
+-- a call that writes nothing
+abbrev pub is_load : {T : Type 0} → Call T → Bool
+is_load calls.Load = true
+is_load call = false
+
+abbrev pub only_reads : {T : Type 0} → Option (PendingCall T) → Bool
+only_reads None = false
+only_reads (Some c) = is_load c.call
+
+-- the act writes a data word, or reads one in a call that writes
+abbrev pub accesses_to_write : {T : Type 0} → Act T → Option (PendingCall T) → Bool
+accesses_to_write act pending = is_data_write act || (is_data_access act && not (only_reads pending))
+
+-- whose act that is, is alone: so no access of a writing call falls between two accesses of another call
 abbrev pub WritesAlone : {T : Type 0} → Arithmetic T → T → List (Event T) → Type 0
 WritesAlone z v [] = Unit {0}
-WritesAlone z v (e ∷ past) = is_data_write e.act ≡ true → IsAlone z v e.party past
+WritesAlone z v (e ∷ past) = accesses_to_write e.act (call_of e.party past) ≡ true → IsAlone z v e.party past
 
 -- What an atomic keeps beside what every object does.
 pub record AtomicLaw {T : Type 0} (z : Arithmetic T) (v : T) (past : List (Event T)) : Type 0 where
@@ -74,7 +88,7 @@ pub record AtomicLaw {T : Type 0} (z : Arithmetic T) (v : T) (past : List (Event
   pub register : LatestAnswers z v past
   -- the data words are read and written under the lock
   pub accesses : AccessesUnderHold z v past
-  -- and written by nobody between the accesses of another call, so no value is read half written
+  -- and no writing call reads or writes one between the accesses of another call, so no value is read half written
   pub apart : WritesAlone z v past
   -- a call leaves the lock in five steps of its own at most
   pub few : FewAccesses past

@@ -16,8 +16,7 @@ use Rattle.steps_events.specs.Moves.{is_step}
 use Rattle.steps_events.specs.Sights.{is_done_exchange, last_of}
 use Rattle.steps_events.specs.NextStep.{seen_last, Loads, Exchanges}
 use Rattle.steps_events.specs.RwSteps.{open_at}
-use Rattle.steps_rw_reader.specs.Law.{Releases}
-use Rattle.steps_rw_reader.specs.Table.{lets_readers_in}
+use Rattle.steps_rw_reader.specs.Law.{may_read, Releases}
 use Rattle.steps_atomic.specs.Register.{Outcome, act_of, choice_of, low_told, acts_made}
 
 abbrev pub goes_on_at : {T : Type 0} → ℕ → Then T
@@ -46,7 +45,7 @@ wants other = None
 -- A reader looks, until it sees a value from which it may enter, and from that makes its exchange; a writer makes its exchange again and again.
 abbrev pub Enters : {T : Type 0} → HoldKind → List (Event T) → Act T → Then T → Type 0
 Enters kinds.Read own act outcome =
-    MatchOption (open_at lets_readers_in (seen_last words.State own))
+    MatchOption (open_at may_read (seen_last words.State own))
     (Loads words.State goes_on_at act outcome)
     (λ v. Exchanges words.State v (v + 1) thens.GoesOn goes_on_at act outcome)
 Enters kinds.Write own act outcome = Exchanges words.State 0 (2 ^ 64 - 1) thens.GoesOn goes_on_at act outcome

@@ -1,9 +1,8 @@
 -- A barrier keeps its law at every front of every run.
-use Rattle.std.proofs.Common.{◌≡◌, ◌≢◌, ℕ, zero, suc, ◌+◌, ◌/◌, ◌%◌, ◌≤◌, ◌<◌, ◌^◌, ◌==◌, refl, sym, ◌∙◌, ap, subst, Bool, true, false, cond, List, [], ◌∷◌, Option, Some, None, ◌⊎◌, inl, inr, ◌↔◌, arith}
-use Rattle.std.specs.Prelude.{MatchBool, MatchOption, nat_lt, not}
+use Rattle.std.proofs.Common.{◌≡◌, ◌≢◌, ℕ, ◌+◌, ◌/◌, ◌%◌, ◌≤◌, ◌<◌, ◌^◌, ◌==◌, refl, sym, ◌∙◌, ap, subst, Bool, true, false, cond, List, [], ◌∷◌, Option, Some, None, ◌⊎◌, inl, inr, ◌↔◌, arith}
+use Rattle.std.specs.Prelude.{MatchBool, MatchOption, nat_lt}
 use Rattle.std.proofs.lemmas.Bool.{eqb-true, eqb-false, eq-eqb}
 use Rattle.std.proofs.lemmas.Bool.Decides.{nat_tests}
-use Rattle.std.proofs.lemmas.Nat.{mod_below}
 use Rattle.steps_events.specs.declared.WaitAction.{WaitAction}
 use Rattle.steps_events.specs.declared.event.Word.{Word}
 use Rattle.steps_events.specs.declared.event.Word.TheVariants as words
@@ -28,9 +27,9 @@ use Rattle.steps_events.specs.Sights.{is_sight, AtLast, spins_in, last_of}
 use Rattle.steps_events.specs.NextStep.{StepsAs, seen_last}
 use Rattle.steps_events.specs.Asks.{WhereAsked}
 use Rattle.steps_events.specs.Laws.{Lacks, is_refusal}
-use Rattle.steps_events.proofs.Holds.{some_same, eqb_other, no_holds, exclusive_unheld}
+use Rattle.steps_events.proofs.Holds.{eqb_other, no_holds, exclusive_unheld}
 use Rattle.steps_events.proofs.Steps.{by_move, tells_memory}
-use Rattle.steps_events.proofs.Spins.{spins_left, spins_spent}
+use Rattle.steps_events.proofs.Spins.{spins_spent}
 use Rattle.steps_events.proofs.Parties.{IsKept, at_place}
 use Rattle.steps_events.proofs.Asks.{IsAskedAs, waits_first, waits_as, spins_no_more, both_kept}
 use Rattle.steps_events.proofs.NextStep.{steps_as}

@@ -1,5 +1,5 @@
 -- The call of a barrier, step for step.
-use Rattle.std.specs.Prelude.{ℕ, ◌+◌, ◌==◌, nat_lt, if◌then◌else◌, true, false, Option, Some, None, unwrap_or}
+use Rattle.std.specs.Prelude.{ℕ, ◌+◌, ◌*◌, ◌/◌, ◌%◌, ◌^◌, ◌==◌, nat_lt, if◌then◌else◌, true, false, Option, Some, None, unwrap_or}
 use Rattle.steps_events.specs.declared.event.Word.{Word}
 use Rattle.steps_events.specs.declared.event.Word.TheVariants as words
 use Rattle.steps_events.specs.declared.event.Wake.TheVariants as wakes
@@ -14,7 +14,18 @@ use Rattle.steps_events.specs.Rows.{within, refused}
 use Rattle.steps_events.specs.Tables.{Table}
 use Rattle.steps_barrier.specs.declared.BarrierPlace.{BarrierPlace}
 use Rattle.steps_barrier.specs.declared.BarrierPlace.TheVariants as places
-use Rattle.steps_barrier.specs.Rounds.{epoch_of, count_of, with_arrival}
+
+-- What the word says: in its upper half the epoch, in its lower how many have arrived.
+
+abbrev pub upper : ℕ → ℕ
+upper word = word / 2 ^ 32
+
+abbrev pub lower : ℕ → ℕ
+lower word = word % 2 ^ 32
+
+-- the word with one arrival more: the one that makes n opens the next round
+abbrev pub with_one_more : ℕ → ℕ → ℕ
+with_one_more n word = if lower word + 1 == n then (upper word + 1) % 2 ^ 32 * 2 ^ 32 else word + 1
 
 abbrev pub barrier_begins : {T : Type 0} → ℕ → Call T → Option BarrierPlace
 barrier_begins n calls.Wait = Some (places.Look n)
@@ -29,15 +40,15 @@ barrier_intent word (places.Stay epoch spins) = intents.Load word
 
 -- After a look the call is refused where n have arrived, and else arrives from the value seen.
 abbrev pub look : {T : Type 0} → ℕ → ℕ → After T BarrierPlace
-look n v = if nat_lt (count_of v) n then afters.At (places.Arrive n v (with_arrival n v)) else afters.Ends answers.Full
+look n v = if nat_lt (lower v) n then afters.At (places.Arrive n v (with_one_more n v)) else afters.Ends answers.Full
 
 -- After its arrival the one that made n wakes all. Each other stays for as long as it sees the epoch of its arrival.
 abbrev pub joined : {T : Type 0} → ℕ → ℕ → After T BarrierPlace
-joined n v = if count_of v + 1 == n then afters.At places.Wake else afters.At (places.Stay (epoch_of v) 0)
+joined n v = if lower v + 1 == n then afters.At places.Wake else afters.At (places.Stay (upper v) 0)
 
 -- A call that stays spins, and after its spins stands each time; its closure is told the whole word.
 abbrev pub stay : {T : Type 0} → ℕ → ℕ → ℕ → After T BarrierPlace
-stay epoch spins v = if epoch_of v == epoch then within (λ p. places.Stay epoch p.spins) (refused (record { spins = spins; keep = true }) v) else afters.Ends answers.Ok
+stay epoch spins v = if upper v == epoch then within (λ p. places.Stay epoch p.spins) (refused (record { spins = spins; keep = true }) v) else afters.Ends answers.Ok
 
 -- The value that a failed exchange found is a look.
 abbrev pub found_after : {T : Type 0} → BarrierPlace → ℕ → After T BarrierPlace

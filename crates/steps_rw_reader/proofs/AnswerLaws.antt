@@ -3,41 +3,31 @@
 use Rattle.std.proofs.lemmas.Bool.{eqb-false}
 use Rattle.std.proofs.lemmas.Bool.{eqb-true}
 use Rattle.std.proofs.lemmas.Bool.Decides.{nat_tests}
-use Rattle.std.proofs.Common.{◌≡◌, ℕ, ◌+◌, ◌-◌, ◌^◌, ◌==◌, refl, ap, subst, Bool, true, false, cond, List, [], ◌∷◌, Option, Some, None, arith}
-use Rattle.std.specs.Prelude.{nat_lt}
-use Rattle.steps_events.specs.declared.WaitAction.{WaitAction}
+use Rattle.std.proofs.Common.{◌≡◌, ℕ, List, [], ◌∷◌, Option, Some, None, arith}
 use Rattle.steps_events.specs.declared.event.Word.{Word}
-use Rattle.steps_events.specs.declared.event.Word.TheVariants as words
 use Rattle.steps_events.specs.declared.event.Wake.TheVariants as wakes
-use Rattle.steps_events.specs.declared.event.Call.{Call}
-use Rattle.steps_events.specs.declared.event.Call.TheVariants as calls
 use Rattle.steps_events.specs.declared.event.Act.{Act}
 use Rattle.steps_events.specs.declared.event.Act.TheVariants as acts
-use Rattle.steps_events.specs.declared.event.Answer.TheVariants as answers
 use Rattle.steps_events.specs.declared.event.Event.{Event}
 use Rattle.steps_events.specs.declared.event.Then.TheVariants as thens
 use Rattle.steps_events.specs.declared.hold.HoldKind.{HoldKind}
-use Rattle.steps_events.specs.declared.hold.HoldKind.TheVariants as kinds
-use Rattle.steps_events.specs.declared.patience.Patience.{Patience}
 use Rattle.steps_events.specs.declared.row.After.{After}
-use Rattle.steps_events.specs.declared.row.After.TheVariants as afters
 use Rattle.steps_events.specs.Arithmetic.{Arithmetic}
-use Rattle.steps_events.specs.Rows.{carried_out, value_told, within, refused}
-use Rattle.steps_events.specs.Past.{PendingCall, holds_of, hold_of, hold_after, word_in, latest_outcome, event}
+use Rattle.steps_events.specs.Past.{PendingCall, holds_of, hold_of, hold_after, word_in, latest_outcome}
 use Rattle.steps_events.specs.RwAnswers.{acts_of, IsAnswered, AnswersByHold}
-use Rattle.steps_events.specs.Moves.{step_at, answer_fault, choose_fault}
+use Rattle.steps_events.specs.Moves.{step_at}
 use Rattle.steps_events.specs.Runs.{IsPast}
-use Rattle.steps_events.proofs.RwAnswers.{wants, unlocked, IsTryOn, tries_on, enters, LeadsTo, leads_on, try_leads, answers_by_hold}
+use Rattle.steps_events.proofs.RwAnswers.{IsTryOn, LeadsTo, answers_by_hold}
 use Rattle.steps_events.proofs.Parties.{IsKept, at_place}
 use Rattle.steps_events.proofs.Asks.{waits_first, waits_as, spins_no_more}
 use Rattle.steps_events.proofs.Steps.{tells_memory}
 use Rattle.steps_rw_reader.specs.declared.RwReaderPlace.{RwReaderPlace}
 use Rattle.steps_rw_reader.specs.declared.RwReaderPlace.TheVariants as places
-use Rattle.steps_rw_reader.specs.Table.{lets_readers_in, try_read_look, read_look, rw_reader_table, rw_reader_begins, rw_reader_answered, rw_reader_grant}
+use Rattle.steps_rw_reader.specs.Table.{rw_reader_table}
 use Rattle.steps_rw_reader.specs.Law.{HasUnlocked, steps_in_vain, rw_reader_waiting, KeepsRwReader}
 use Rattle.steps_rw_reader.proofs.ReaderLocks.{reader_lock_word, reader_lock_exclusive}
 use Rattle.steps_rw_reader.proofs.NextSteps.{each_steps, each_ends}
-use Rattle.steps_rw_reader.proofs.Laws.{AtRwReader, rw_reader_kept, asked_nothing, offered_nothing, rw_reader_is_lock, spins_bounded, event_law}
+use Rattle.steps_rw_reader.proofs.Laws.{AtRwReader, rw_reader_kept, rw_reader_is_lock, spins_bounded, event_law}
 
 -- Before its release an `Unlock` has done nothing; before its wake, all but that, and it has no hold any more and asks nobody.
 abbrev IsLeaving : {T : Type 0} → RwReaderPlace → List (Event T) → Option HoldKind → Type 0

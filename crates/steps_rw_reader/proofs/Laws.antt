@@ -1,9 +1,8 @@
 -- A reader-preferring lock keeps its law at every front of every run.
-use Rattle.std.proofs.Common.{◌≡◌, ℕ, ◌+◌, ◌-◌, ◌^◌, ◌<◌, ◌≤◌, ◌==◌, refl, sym, ◌∙◌, ap, subst, Bool, true, false, cond, is_some, List, [], ◌∷◌, Option, Some, None, ◌⊎◌, inl, inr, ◌↔◌, arith}
-use Rattle.std.specs.Prelude.{MatchBool, MatchOption, not}
+use Rattle.std.proofs.Common.{◌≡◌, ℕ, ◌+◌, ◌-◌, ◌^◌, ◌<◌, ◌≤◌, ◌==◌, refl, sym, ◌∙◌, subst, Bool, true, false, cond, is_some, List, [], ◌∷◌, Option, Some, None, ◌⊎◌, ◌↔◌, arith}
+use Rattle.std.specs.Prelude.{MatchBool, MatchOption}
 use Rattle.std.proofs.lemmas.Bool.{eqb-true, eqb-false}
 use Rattle.std.proofs.lemmas.Bool.Decides.{nat_tests}
-use Rattle.steps_events.specs.declared.WaitAction.{WaitAction}
 use Rattle.steps_events.specs.declared.event.Word.{Word}
 use Rattle.steps_events.specs.declared.event.Word.TheVariants as words
 use Rattle.steps_events.specs.declared.event.Call.{Call}
@@ -15,29 +14,28 @@ use Rattle.steps_events.specs.declared.event.Event.{Event}
 use Rattle.steps_events.specs.declared.event.Then.{Then}
 use Rattle.steps_events.specs.declared.event.Then.TheVariants as thens
 use Rattle.steps_events.specs.declared.hold.HoldKind.{HoldKind}
-use Rattle.steps_events.specs.declared.hold.HoldKind.TheVariants as kinds
 use Rattle.steps_events.specs.declared.patience.Patience.{Patience}
 use Rattle.steps_events.specs.declared.row.After.{After}
 use Rattle.steps_events.specs.declared.row.After.TheVariants as afters
 use Rattle.steps_events.specs.Arithmetic.{Arithmetic}
-use Rattle.steps_events.specs.Rows.{carried_out, value_told, outcome_of, place_after, within, refused}
-use Rattle.steps_events.specs.Past.{same_word, PendingCall, call_of, holds_of, hold_of, hold_after, word_in, latest_outcome, event}
-use Rattle.steps_events.specs.Moves.{Move, step_at, hold_fault, answer_fault, choose_fault, is_step}
+use Rattle.steps_events.specs.Rows.{outcome_of, within, refused}
+use Rattle.steps_events.specs.Past.{same_word, PendingCall, call_of, holds_of, hold_of, word_in, latest_outcome, event}
+use Rattle.steps_events.specs.Moves.{Move, step_at, answer_fault, choose_fault, is_step}
 use Rattle.steps_events.specs.Runs.{IsPast}
-use Rattle.steps_events.specs.Sights.{sight_of, is_sight, is_abort, keeps_asking, HasAborted, OtherWroteSinceSight, spins_in}
+use Rattle.steps_events.specs.Sights.{sight_of, is_sight, keeps_asking, HasAborted, OtherWroteSinceSight, spins_in}
 use Rattle.steps_events.specs.Asks.{WhereAsked}
 use Rattle.steps_events.specs.Laws.{Lacks, is_refusal}
-use Rattle.steps_events.proofs.Holds.{eqb_same, eqb_other}
+use Rattle.steps_events.proofs.Holds.{eqb_same}
 use Rattle.steps_events.proofs.Steps.{by_move}
-use Rattle.steps_events.proofs.Spins.{HasSpun, begun_spun, passed_on, answered_spun, refused_leads, refused_because}
+use Rattle.steps_events.proofs.Spins.{HasSpun, refused_because}
 use Rattle.steps_events.proofs.Asks.{refused_asks}
 use Rattle.steps_events.proofs.LastSights.{IsLook, kept_or_written}
 use Rattle.steps_events.proofs.Parties.{IsKept, at_place}
 use Rattle.steps_rw_reader.specs.declared.RwReaderPlace.{RwReaderPlace}
 use Rattle.steps_rw_reader.specs.declared.RwReaderPlace.TheVariants as places
-use Rattle.steps_rw_reader.specs.Table.{lets_readers_in, read_look, rw_reader_table, rw_reader_begins, rw_reader_answered}
+use Rattle.steps_rw_reader.specs.Table.{lets_readers_in, read_look, rw_reader_table}
 use Rattle.steps_rw_reader.specs.Law.{CountsHolds, RwReaderCause, is_in_vain, lock_spins, steps_in_vain}
-use Rattle.steps_rw_reader.proofs.ReaderLocks.{IsReaderLock, IsReaderIntent, reader_lock_word, free_exactly, held_at, shut_at}
+use Rattle.steps_rw_reader.proofs.ReaderLocks.{IsReaderLock, IsReaderIntent, reader_lock_word, free_exactly, held_at}
 
 -- What is kept of a call at its place.
 

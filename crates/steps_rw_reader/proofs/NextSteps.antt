@@ -2,42 +2,29 @@
 use Rattle.std.proofs.lemmas.Bool.{eqb-false}
 use Rattle.std.proofs.lemmas.Bool.{eqb-true}
 use Rattle.std.proofs.lemmas.Bool.Decides.{nat_tests}
-use Rattle.std.proofs.Common.{◌≡◌, ℕ, ◌+◌, ◌==◌, refl, sym, subst, Bool, true, false, cond, is_some, List, [], ◌∷◌, Option, Some, None, ap, ◌≤◌, ◌<◌, arith}
-use Rattle.std.specs.Prelude.{nat_lt, unwrap_or, MatchOption}
+use Rattle.std.proofs.Common.{◌≡◌, ℕ, refl, true, is_some, List, Option, Some, None, ◌≤◌, ◌<◌, arith}
 use Rattle.steps_events.specs.declared.WaitAction.{WaitAction}
 use Rattle.steps_events.specs.declared.event.Word.{Word}
 use Rattle.steps_events.specs.declared.event.Word.TheVariants as words
-use Rattle.steps_events.specs.declared.event.Wake.TheVariants as wakes
 use Rattle.steps_events.specs.declared.event.Call.{Call}
-use Rattle.steps_events.specs.declared.event.Call.TheVariants as calls
-use Rattle.steps_events.specs.declared.event.Act.{Act}
-use Rattle.steps_events.specs.declared.event.Act.TheVariants as acts
-use Rattle.steps_events.specs.declared.event.Answer.TheVariants as answers
 use Rattle.steps_events.specs.declared.event.Event.{Event}
-use Rattle.steps_events.specs.declared.event.Then.{Then}
-use Rattle.steps_events.specs.declared.event.Then.TheVariants as thens
 use Rattle.steps_events.specs.declared.hold.HoldKind.{HoldKind}
-use Rattle.steps_events.specs.declared.hold.HoldKind.TheVariants as kinds
-use Rattle.steps_events.specs.declared.patience.Patience.{Patience}
-use Rattle.steps_events.specs.declared.row.After.TheVariants as afters
 use Rattle.steps_events.specs.Arithmetic.{Arithmetic}
-use Rattle.steps_events.specs.Rows.{carried_out, value_told, outcome_of, place_after, within, refused}
-use Rattle.steps_events.specs.Past.{PendingCall, event}
+use Rattle.steps_events.specs.Rows.{place_after}
+use Rattle.steps_events.specs.Past.{PendingCall}
 use Rattle.steps_events.specs.Moves.{step_at, is_step}
 use Rattle.steps_events.specs.Runs.{IsPast}
 use Rattle.steps_events.specs.Sights.{last_of}
 use Rattle.steps_events.specs.NextStep.{StepsAs, seen_last, EndsWithin}
-use Rattle.steps_events.specs.RwSteps.{gives_up, open_at, reader_looked}
-use Rattle.steps_events.proofs.Holds.{some_same}
-use Rattle.steps_events.proofs.Spins.{HasSpun}
+use Rattle.steps_events.specs.RwSteps.{open_at}
 use Rattle.steps_events.proofs.Asks.{both_kept}
-use Rattle.steps_events.proofs.NextStep.{steps_as, refused_left, Descends, ends_within}
+use Rattle.steps_events.proofs.NextStep.{steps_as, Descends, ends_within}
 use Rattle.steps_events.proofs.Parties.{IsKept}
 use Rattle.steps_rw_reader.specs.declared.RwReaderPlace.{RwReaderPlace}
 use Rattle.steps_rw_reader.specs.declared.RwReaderPlace.TheVariants as places
-use Rattle.steps_rw_reader.specs.Table.{lets_readers_in, read_look, rw_reader_table, rw_reader_begins, rw_reader_after, rw_reader_answered}
-use Rattle.steps_rw_reader.specs.Law.{is_in_vain, left_refused, rw_reader_most, RwReaderStep}
-use Rattle.steps_rw_reader.proofs.Laws.{AtRwReader, rw_reader_kept, read_after}
+use Rattle.steps_rw_reader.specs.Table.{lets_readers_in, rw_reader_table, rw_reader_begins, rw_reader_after, rw_reader_answered}
+use Rattle.steps_rw_reader.specs.Law.{rw_reader_most, RwReaderStep}
+use Rattle.steps_rw_reader.proofs.Laws.{AtRwReader, rw_reader_kept}
 
 -- What the latest step of a call told, at each place.
 

@@ -1,6 +1,6 @@
 -- What a reader-preferring lock keeps at every front of every run: one writer or only readers, which its word counts, a cause for each
 -- refusal, and when a call asks its wait closure.
-use Rattle.std.specs.Prelude.{◌≡◌, ℕ, ◌+◌, ◌-◌, ◌%◌, ◌^◌, ◌<◌, ◌==◌, ◌↔◌, ◌⊎◌, Bool, true, false, not, if◌then◌else◌, List, [], ◌∷◌, Option, Some, None, MatchOption}
+use Rattle.std.specs.Prelude.{◌≡◌, ℕ, ◌+◌, ◌-◌, ◌%◌, ◌^◌, ◌<◌, ◌==◌, nat_lt, ◌↔◌, ◌⊎◌, Bool, true, false, not, if◌then◌else◌, List, [], ◌∷◌, Option, Some, None, MatchOption}
 use Rattle.steps_events.specs.declared.event.Word.TheVariants as words
 use Rattle.steps_events.specs.declared.event.Wake.TheVariants as wakes
 use Rattle.steps_events.specs.declared.event.Call.{Call}
@@ -21,9 +21,13 @@ use Rattle.steps_events.specs.NextStep.{StepsAs, refused_waiting, EndsWithin}
 use Rattle.steps_events.specs.RwSteps.{gives_up, reader_looked, ReadsIn, WritesIn}
 use Rattle.steps_events.specs.Asks.{SpinCount, sight_at, whole_call, Waiting, WaitsAs}
 use Rattle.steps_events.specs.Laws.{IsLocked, Keeps}
-use Rattle.steps_rw_reader.specs.Table.{lets_readers_in, rw_reader_table}
+use Rattle.steps_rw_reader.specs.Table.{rw_reader_table}
 
 -- The word and the holds.
+
+-- a reader may enter, in numbers: no test is the table's, which would turn with it
+abbrev pub may_read : ℕ → Bool
+may_read word = nat_lt word (2 ^ 64 - 2)
 
 -- the word is the number of read holds, and there is no other
 pub record IsRead (w : ℕ) (holds : List Hold) : Type 0 where
@@ -64,8 +68,8 @@ IsExactGrant (e ∷ past) =
 
 -- a try in vain: a look at which no reader may enter, or a writer's exchange that failed
 abbrev pub is_in_vain : {T : Type 0} → Act T → Bool
-is_in_vain (acts.Load word seen) = not (lets_readers_in seen)
-is_in_vain (acts.Exchange word from to found false) = if to == 2 ^ 64 - 1 then true else not (lets_readers_in found)
+is_in_vain (acts.Load word seen) = not (may_read seen)
+is_in_vain (acts.Exchange word from to found false) = if to == 2 ^ 64 - 1 then true else not (may_read found)
 is_in_vain act = false
 
 -- the spins of a `ReadLock` or a `WriteLock`; no other call spins, nor asks
@@ -103,8 +107,8 @@ left_refused own v = refused_waiting own (spins_in is_in_vain own) v
 
 -- the next step of each call; no other has one
 abbrev pub RwReaderStep : {T : Type 0} → Call T → List (Event T) → Act T → Then T → Type 0
-RwReaderStep calls.TryReadLock own act outcome = ReadsIn lets_readers_in 1 gives_up gives_up own act outcome
-RwReaderStep calls.ReadLock own act outcome = ReadsIn lets_readers_in 1 (left_refused own) (reader_looked lets_readers_in (left_refused own)) own act outcome
+RwReaderStep calls.TryReadLock own act outcome = ReadsIn may_read 1 gives_up gives_up own act outcome
+RwReaderStep calls.ReadLock own act outcome = ReadsIn may_read 1 (left_refused own) (reader_looked may_read (left_refused own)) own act outcome
 RwReaderStep calls.TryWriteLock own act outcome = (last_of is_step own ≡ None) × WritesIn 0 gives_up act outcome
 RwReaderStep calls.WriteLock own act outcome = WritesIn 0 (left_refused own) act outcome
 RwReaderStep calls.Unlock own act outcome = MatchOption (last_of is_step own) (Releases thens.GoesOn act outcome) (λ before. (act ≡ acts.Woke wakes.One) × (outcome ≡ thens.Answers answers.Done))

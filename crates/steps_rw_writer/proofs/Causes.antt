@@ -17,7 +17,7 @@ use Rattle.steps_events.specs.declared.patience.Patience.{Patience}
 use Rattle.steps_events.specs.declared.row.After.{After}
 use Rattle.steps_events.specs.declared.row.After.TheVariants as afters
 use Rattle.steps_events.specs.Arithmetic.{Arithmetic}
-use Rattle.steps_events.specs.Rows.{carried_out, value_told, outcome_of, within}
+use Rattle.steps_events.specs.Rows.{carried_out, value_told, outcome_of}
 use Rattle.steps_events.specs.Past.{PendingCall, call_of, call_after, Hold, holds_of, hold_of, word_in, event, is_failure}
 use Rattle.steps_events.specs.HoldCounts.{reads_in}
 use Rattle.steps_events.specs.Moves.{Move, step_at}
@@ -38,7 +38,7 @@ use Rattle.steps_rw_writer.specs.Law.{CountsHolds, HasMissedAfterAbort, RwWriter
 use Rattle.steps_rw_writer.proofs.WordLaws.{held_by_none, writer_lock_exclusive}
 use Rattle.steps_rw_writer.proofs.StageLaws.{same_call}
 use Rattle.steps_rw_writer.proofs.PlaceLaws.{AtRwWriter, Asks, MayGiveUp, failed_after_abort, IsLeaver, held_above, here}
-use Rattle.steps_rw_writer.proofs.DebtLaws.{counter_counts_adds, no_wake_is_lost, pays_next}
+use Rattle.steps_rw_writer.proofs.DebtLaws.{counter_counts_adds, no_count_is_lost, pays_next}
 use Rattle.steps_rw_writer.proofs.WakeLaws.{readers_are_woken}
 use Rattle.steps_rw_writer.proofs.NextSteps.{each_steps, each_ends}
 use Rattle.steps_rw_writer.proofs.SpinLaws.{event_asks}
@@ -412,7 +412,7 @@ event_exact {T} z parties past e run =
 pub keeps_rw_writer : {T : Type 0} (z : Arithmetic T) (parties : ℕ) (past : List (Event T)) → IsPast z rw_writer_table parties past → KeepsRwWriter past
 keeps_rw_writer z parties [] run =
     let word = writer_lock_word z parties [] run in
-    record { told = tt; cause = tt; exclusive = writer_lock_exclusive 0 [] false word.counts; law = record { counts = word.counts; mark = tt; keeps_out = tt; exact = tt; answers = tt; waits = waits_first rw_writer_waiting; stands = tt; adds = counter_counts_adds z parties [] run; counted = no_wake_is_lost z parties [] run; pays = pays_next z parties [] run; woken = readers_are_woken z parties [] run; steps = tt; within = λ party. tt } }
+    record { told = tt; cause = tt; exclusive = writer_lock_exclusive 0 [] false word.counts; law = record { counts = word.counts; mark = tt; keeps_out = tt; exact = tt; answers = tt; waits = waits_first rw_writer_waiting; stands = tt; adds = counter_counts_adds z parties [] run; counted = no_count_is_lost z parties [] run; pays = pays_next z parties [] run; woken = readers_are_woken z parties [] run; steps = tt; within = λ party. tt } }
 keeps_rw_writer z parties (e ∷ past) run =
     let word = event_keeps z parties past e run (writer_lock_word z parties past run.1) in
     let asks = event_asks z parties past e run in
@@ -429,7 +429,7 @@ keeps_rw_writer z parties (e ∷ past) run =
         waits = waits_as rw_writer_waiting past e asks (spins_at_most z parties (e ∷ past) run);
         stands = event_stands z parties past e run;
         adds = counter_counts_adds z parties (e ∷ past) run;
-        counted = no_wake_is_lost z parties (e ∷ past) run;
+        counted = no_count_is_lost z parties (e ∷ past) run;
         pays = pays_next z parties (e ∷ past) run;
         woken = readers_are_woken z parties (e ∷ past) run;
         steps = each_steps z parties (e ∷ past) run;

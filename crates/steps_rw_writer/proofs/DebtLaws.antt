@@ -1,5 +1,5 @@
--- No wake is lost: whoever frees the lock for a waiting writer owes a counter step until it has made it.
-use Rattle.std.proofs.Common.{◌≡◌, ◌≢◌, ℕ, ◌+◌, ◌-◌, ◌%◌, ◌^◌, ◌<◌, ◌==◌, refl, sym, ◌∙◌, ap, subst, Bool, true, false, cond, ◌&&◌, ◌||◌, List, [], ◌∷◌, Option, Some, ◌⊎◌, inl, inr, arith}
+-- No count is lost: whoever frees the lock for a waiting writer owes a counter step until it has made it.
+use Rattle.std.proofs.Common.{◌≡◌, ◌≢◌, ℕ, ◌+◌, ◌%◌, ◌^◌, ◌<◌, ◌==◌, refl, sym, ◌∙◌, ap, subst, Bool, true, false, cond, ◌&&◌, ◌||◌, List, [], ◌∷◌, Option, Some, ◌⊎◌, inl, inr, arith}
 use Rattle.std.specs.Prelude.{not}
 use Rattle.std.proofs.lemmas.Bool.{eqb-true, eqb-false, eq-eqb}
 use Rattle.std.proofs.lemmas.Bool.Decides.{nat_tests, eqb_tells}
@@ -34,7 +34,7 @@ use Rattle.steps_rw_writer.specs.declared.RwWriterPlace.TheVariants as places
 use Rattle.steps_rw_writer.specs.Table.{is_blocked, rw_writer_table, rw_writer_answered}
 use Rattle.steps_rw_writer.specs.Marks.{is_marked_after}
 use Rattle.steps_rw_writer.specs.Law.{CountsHolds}
-use Rattle.steps_rw_writer.specs.Debts.{blocks, is_blocked_after, is_answer, adds_count, owes_count, loads_count, counts_since_load, StandsWith, NoWakeIsLost, PaysNext, CounterCountsAdds}
+use Rattle.steps_rw_writer.specs.Debts.{blocks, is_blocked_after, is_answer, adds_count, owes_count, loads_count, counts_since_load, StandsWith, NoCountIsLost, PaysNext, CounterCountsAdds}
 use Rattle.steps_rw_writer.proofs.BoolLaws.{clash, neither}
 use Rattle.steps_rw_writer.proofs.LookLaws.{HoldsOn}
 use Rattle.steps_rw_writer.proofs.PlaceLaws.{AtRwWriter, here}
@@ -525,8 +525,8 @@ heard {T} z parties (e ∷ past) run party count stands = by_party (heard z part
         let was : call_of party past ≡ Some stands.call = sym (call_of_other e.party party e.act e.then past (λ same. other.1 (sym same))) ∙ stands.under_way in
         still_heard z parties party past e run other.0 (before (record { call = stands.call; under_way = was; writes = stands.writes; stands = stands.stands }))
 
-pub no_wake_is_lost : {T : Type 0} (z : Arithmetic T) (parties : ℕ) (past : List (Event T)) → IsPast z rw_writer_table parties past → NoWakeIsLost past
-no_wake_is_lost {T} z parties past run party count stands few same free = by_heard (heard z parties past run party count stands)
+pub no_count_is_lost : {T : Type 0} (z : Arithmetic T) (parties : ℕ) (past : List (Event T)) → IsPast z rw_writer_table parties past → NoCountIsLost past
+no_count_is_lost {T} z parties past run party count stands few same free = by_heard (heard z parties past run party count stands)
   where
     sum : word_in rw_writer_table past words.Counter ≡ (count + counts_since_load party past) % 2 ^ 64
     sum = sum_of (word_in rw_writer_table past words.Counter) count (counts_since_load party past)

@@ -30,7 +30,7 @@ use Rattle.steps_rw_writer.specs.declared.Leaver.{Leaver}
 use Rattle.steps_rw_writer.specs.declared.Leaver.TheVariants as leavers
 use Rattle.steps_rw_writer.specs.declared.RwWriterPlace.{RwWriterPlace}
 use Rattle.steps_rw_writer.specs.declared.RwWriterPlace.TheVariants as places
-use Rattle.steps_rw_writer.specs.Table.{is_mark, spins, rw_writer_table, rw_writer_begins, rw_writer_answered}
+use Rattle.steps_rw_writer.specs.Table.{is_mark, rw_writer_table, rw_writer_begins, rw_writer_answered}
 use Rattle.steps_rw_writer.specs.Debts.{loads_count}
 use Rattle.steps_rw_writer.specs.Law.{is_read_in_vain, write_spins_in, spins_of, told_by}
 use Rattle.steps_rw_writer.proofs.PlaceLaws.{Clears, grown}

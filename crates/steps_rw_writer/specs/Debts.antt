@@ -12,7 +12,7 @@ use Rattle.steps_events.specs.Past.{Hold, PendingCall, call_of, holds_of, word_i
 use Rattle.steps_events.specs.HoldCounts.{reads_in, writes_in}
 use Rattle.steps_events.specs.Moves.{is_step}
 use Rattle.steps_events.specs.Sights.{acts_in}
-use Rattle.steps_rw_writer.specs.Table.{is_odd, rw_writer_table}
+use Rattle.steps_rw_writer.specs.Table.{rw_writer_table}
 use Rattle.steps_rw_writer.specs.Marks.{is_marked_after}
 
 -- a write hold stands, or the mark is set and a read hold stands
@@ -61,10 +61,10 @@ pub record StandsWith {T : Type 0} (party count : ℕ) (past : List (Event T)) :
   pub writes : call.call ≡ calls.WriteLock
   pub stands : latest_outcome call.own ≡ thens.Waits count
 
--- No wake is lost: while a writer stands, and fewer than 2 ^ 64 adds came on the counter since it loaded it, some party owes a counter
+-- No count is lost: while a writer stands, and fewer than 2 ^ 64 adds came on the counter since it loaded it, some party owes a counter
 -- step wherever the counter is what it loaded and the lock is not blocked.
-abbrev pub NoWakeIsLost : {T : Type 0} → List (Event T) → Type 0
-NoWakeIsLost past =
+abbrev pub NoCountIsLost : {T : Type 0} → List (Event T) → Type 0
+NoCountIsLost past =
     (party count : ℕ) → StandsWith party count past → counts_since_load party past < 2 ^ 64 → word_in rw_writer_table past words.Counter ≡ count → is_blocked_after past ≡ false →
     (q : ℕ) × (owes_count q past ≡ true)
 
@@ -119,5 +119,5 @@ pub record ReaderStands {T : Type 0} (party seen : ℕ) (past : List (Event T)) 
 -- its wake of all since, or still owes it.
 abbrev pub ReadersAreWoken : {T : Type 0} → List (Event T) → Type 0
 ReadersAreWoken past =
-    (party seen : ℕ) → ReaderStands party seen past → is_odd seen ≡ true → is_even_after past ≡ true →
+    (party seen : ℕ) → ReaderStands party seen past → (seen % 2 == 1) ≡ true → is_even_after past ≡ true →
     (evener : Evener) × (evener_of past ≡ Some evener) × ((evener.woke ≡ true) ⊎ (owes_wake evener.party past ≡ true))

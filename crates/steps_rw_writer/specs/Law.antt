@@ -21,9 +21,27 @@ use Rattle.steps_events.specs.NextStep.{StepsAs, refused_waiting, EndsWithin, st
 use Rattle.steps_events.specs.RwSteps.{gives_up, reader_looked, ReadsIn, WritesIn}
 use Rattle.steps_events.specs.Asks.{SpinCount, but_last_try, Refusing, whole_call, Waiting, WaitsAs}
 use Rattle.steps_events.specs.Laws.{IsLocked, Keeps}
-use Rattle.steps_rw_writer.specs.Table.{lets_readers_in, lets_writer_in, lets_mark, is_marked, is_blocked, is_mark, rw_writer_table}
-use Rattle.steps_rw_writer.specs.Marks.{setter_of, is_marked_after, has_marked}
-use Rattle.steps_rw_writer.specs.Debts.{loads_count, is_blocked_after, NoWakeIsLost, PaysNext, ReadersAreWoken, CounterCountsAdds}
+use Rattle.steps_rw_writer.specs.Table.{rw_writer_table}
+use Rattle.steps_rw_writer.specs.Marks.{is_one_more, setter_of, is_marked_after, has_marked}
+use Rattle.steps_rw_writer.specs.Debts.{loads_count, is_blocked_after, NoCountIsLost, PaysNext, ReadersAreWoken, CounterCountsAdds}
+
+-- What the word lets a call do, in numbers: no test is the table's, which would turn with it.
+
+abbrev pub may_read : ℕ → Bool
+may_read word = not (word % 2 == 1) && nat_lt word (2 ^ 64 - 4)
+
+abbrev pub may_write : ℕ → Bool
+may_write word = nat_lt word 2
+
+abbrev pub may_mark : ℕ → Bool
+may_mark word = not (word % 2 == 1) && not (word == 2 ^ 64 - 2)
+
+abbrev pub has_mark : ℕ → Bool
+has_mark word = (word % 2 == 1) && not (word == 2 ^ 64 - 1)
+
+-- a write hold stands, or the mark is set beside a read hold
+abbrev pub has_block : ℕ → Bool
+has_block word = (word % 2 == 1) && nat_lt 1 word
 
 -- The word, the holds and the mark.
 
@@ -106,20 +124,20 @@ IsExactGrant (e ∷ past) =
 
 -- a reader's look in vain: no reader may enter
 abbrev pub is_read_in_vain : {T : Type 0} → Act T → Bool
-is_read_in_vain (acts.Load words.State seen) = not (lets_readers_in seen)
-is_read_in_vain (acts.Exchange words.State from to found false) = not (lets_readers_in found)
+is_read_in_vain (acts.Load words.State seen) = not (may_read seen)
+is_read_in_vain (acts.Exchange words.State from to found false) = not (may_read found)
 is_read_in_vain act = false
 
 -- the writer may neither enter nor set the mark
 abbrev pub leaves_no_move : ℕ → Bool
-leaves_no_move word = not (lets_writer_in word || lets_mark word)
+leaves_no_move word = not (may_write word || may_mark word)
 
 -- A writer's try in vain: a look at which it has no move; a mark that it has set; an exchange to enter that failed, where it may not set the
 -- mark. A mark that failed is not counted, but what it found is a look.
 abbrev pub is_write_in_vain : {T : Type 0} → Act T → Bool
 is_write_in_vain (acts.Load words.State seen) = leaves_no_move seen
 is_write_in_vain (acts.Exchange words.State from to found done) =
-    if is_mark from to then (done || leaves_no_move found) else ((to == 2 ^ 64 - 1) && not done && not (lets_mark found))
+    if is_one_more from to then (done || leaves_no_move found) else ((to == 2 ^ 64 - 1) && not done && not (may_mark found))
 is_write_in_vain act = false
 
 -- A writer's spins: its tries in vain but those after which it loads the counter; by whether it does so next, after these events.
@@ -185,7 +203,7 @@ reader_waits own v = refused_waiting own (spins_in is_read_in_vain own) v
 
 -- How what it saw leaves a writer. One that gives up goes on only to take the mark away.
 abbrev pub left_unmarking : {T : Type 0} → ℕ → Then T
-left_unmarking v = if is_marked v then thens.GoesOn else thens.Answers answers.Interrupted
+left_unmarking v = if has_mark v then thens.GoesOn else thens.Answers answers.Interrupted
 
 -- one that may not enter goes on as long as it keeps on asking
 abbrev pub left_refused : {T : Type 0} → Bool → ℕ → Then T
@@ -193,11 +211,11 @@ left_refused asks v = if asks then thens.GoesOn else left_unmarking v
 
 -- after a look it goes on also where it may enter
 abbrev pub left_looking : {T : Type 0} → Bool → ℕ → Then T
-left_looking asks v = if lets_writer_in v then thens.GoesOn else left_refused asks v
+left_looking asks v = if may_write v then thens.GoesOn else left_refused asks v
 
 -- and after its last look it stands where the lock is blocked, and is told the count
 abbrev pub left_last : {T : Type 0} → Bool → ℕ → ℕ → Then T
-left_last asks count v = if is_blocked v then thens.Waits count else left_looking asks v
+left_last asks count v = if has_block v then thens.Waits count else left_looking asks v
 
 abbrev pub goes_on_anyway : {T : Type 0} → ℕ → Then T
 goes_on_anyway v = thens.GoesOn
@@ -212,11 +230,11 @@ SpinsOrLoads asks spins act outcome = MatchBool (nat_lt spins 10000) (LooksToWri
 
 -- or sets the mark where it may, and else spins;
 abbrev pub MarksAt : {T : Type 0} → Bool → ℕ → ℕ → Act T → Then T → Type 0
-MarksAt asks spins v act outcome = MatchBool (lets_mark v) (Exchanges words.State v (v + 1) thens.GoesOn (left_looking asks) act outcome) (SpinsOrLoads asks spins act outcome)
+MarksAt asks spins v act outcome = MatchBool (may_mark v) (Exchanges words.State v (v + 1) thens.GoesOn (left_looking asks) act outcome) (SpinsOrLoads asks spins act outcome)
 
 -- or takes the mark away where one is set;
 abbrev pub UnmarksAt : {T : Type 0} → ℕ → Act T → Then T → Type 0
-UnmarksAt v act outcome = MatchBool (is_marked v) (Exchanges words.State v (v - 1) thens.GoesOn left_unmarking act outcome) ⊥
+UnmarksAt v act outcome = MatchBool (has_mark v) (Exchanges words.State v (v - 1) thens.GoesOn left_unmarking act outcome) ⊥
 
 -- where it may not enter it marks or spins as long as it keeps on asking, and then unmarks
 abbrev pub RefusedAt : {T : Type 0} → Bool → ℕ → ℕ → Act T → Then T → Type 0
@@ -224,7 +242,7 @@ RefusedAt asks spins v act outcome = MatchBool asks (MarksAt asks spins v act ou
 
 -- after a look at this value
 abbrev pub LookedAt : {T : Type 0} → Bool → ℕ → ℕ → Act T → Then T → Type 0
-LookedAt asks spins v act outcome = MatchBool (lets_writer_in v) (WritesIn v (left_refused asks) act outcome) (RefusedAt asks spins v act outcome)
+LookedAt asks spins v act outcome = MatchBool (may_write v) (WritesIn v (left_refused asks) act outcome) (RefusedAt asks spins v act outcome)
 
 -- the counter's add
 abbrev pub CountsOne : {T : Type 0} → Act T → Then T → Type 0
@@ -234,10 +252,10 @@ CountsOne act outcome = ⊥
 -- After an exchange. One that set the mark: it spins. One that took it away: it counts. One that failed: to enter, it is refused by what it found; to set the mark,
 -- that is a look; to take it away, which only one does that has been told to give up, the same again.
 abbrev pub ExchangedFrom : {T : Type 0} → Bool → ℕ → ℕ → ℕ → ℕ → Bool → Act T → Then T → Type 0
-ExchangedFrom asks spins from to found true act outcome = MatchBool (is_mark from to) (SpinsOrLoads asks spins act outcome) (CountsOne act outcome)
+ExchangedFrom asks spins from to found true act outcome = MatchBool (is_one_more from to) (SpinsOrLoads asks spins act outcome) (CountsOne act outcome)
 ExchangedFrom asks spins from to found false act outcome =
     MatchBool (to == 2 ^ 64 - 1) (RefusedAt asks spins found act outcome)
-    (MatchBool (is_mark from to) (LookedAt asks spins found act outcome) (MatchBool asks ⊥ (UnmarksAt found act outcome)))
+    (MatchBool (is_one_more from to) (LookedAt asks spins found act outcome) (MatchBool asks ⊥ (UnmarksAt found act outcome)))
 
 -- What follows a writer's latest step, by whether it keeps on asking and by its spins before: nothing, and so a look; the counter's load, and so its last look; a look; an
 -- exchange; and of one that has taken the mark away the counter's add, a wake of one, and a wake of all.
@@ -270,8 +288,8 @@ UnlockStep (released ∷ before) act outcome = CountsOne act outcome
 
 -- the next step of each call; no other has one
 abbrev pub RwWriterStep : {T : Type 0} → Call T → List (Event T) → Act T → Then T → Type 0
-RwWriterStep calls.TryReadLock own act outcome = ReadsIn lets_readers_in 2 gives_up gives_up own act outcome
-RwWriterStep calls.ReadLock own act outcome = ReadsIn lets_readers_in 2 (reader_waits own) (reader_looked lets_readers_in (reader_waits own)) own act outcome
+RwWriterStep calls.TryReadLock own act outcome = ReadsIn may_read 2 gives_up gives_up own act outcome
+RwWriterStep calls.ReadLock own act outcome = ReadsIn may_read 2 (reader_waits own) (reader_looked may_read (reader_waits own)) own act outcome
 RwWriterStep calls.TryWriteLock own act outcome = (last_of is_step own ≡ None) × WritesIn 0 gives_up act outcome
 RwWriterStep calls.WriteLock own act outcome = WriterStep (keeps_asking own) (write_spins_in true own) (step_before own) act outcome
 RwWriterStep calls.Unlock own act outcome = UnlockStep (acts_of own) act outcome
@@ -303,7 +321,7 @@ pub record RwWriterLaw {T : Type 0} (past : List (Event T)) : Type 0 where
   -- the counter is the number of adds on it so far, modulo 2 ^ 64
   pub adds : CounterCountsAdds past
   -- while a writer stands, whoever frees the lock owes a counter step until it has made it
-  pub counted : NoWakeIsLost past
+  pub counted : NoCountIsLost past
   -- and makes it in its next step
   pub pays : PaysNext past
   -- while a reader stands that saw an odd word, whoever makes the word even owes a wake of all until it has made it

@@ -7,7 +7,7 @@ use crate::picture::draw_text;
 use std::alloc::Global;
 use std::io::{Read, Write};
 use sync_lines::fault::RunFault;
-use sync_play::run::{read_all, write_all};
+use sync_play::{read_all, write_all};
 
 /// Reads a schedule text to its end, draws it, and writes the picture, and nothing else.
 pub fn run<R: Read, W: Write>(alloc: Global, reader: &mut R, writer: &mut W) -> Result<(), RunFault>

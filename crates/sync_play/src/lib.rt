@@ -1,6 +1,6 @@
 //! Schedule texts: what they ask, and what their events print.
 //!
-//! [`run::run`] plays the text that a reader brings, and writes what it prints to a writer; [`text::play_text`] plays a text that is
+//! [`run`] plays the text that a reader brings, and writes what it prints to a writer; [`play_text`] plays a text that is
 //! already there. The program of the crate beside this one is the first of them over standard input and output.
 //!
 //! A text is walked once: from its lines, as `sync_lines` reads them, to its events ([`player`]), and to what they print ([`print`]).
@@ -12,8 +12,11 @@
 pub mod law;
 pub mod player;
 pub mod print;
-pub mod run;
+pub mod streams;
 pub mod text;
 pub mod walk;
 
+pub use streams::{read_all, run, write_all};
+pub use sync_lines::fault::{LineFault, RunFault, TextFault};
 pub use sync_lines::{call, command, fault, header, integer, lexer, value_type};
+pub use text::play_text;

@@ -5,7 +5,7 @@
 #![tactic(auto)]
 
 use std::process::ExitCode;
-use sync_play::run::run;
+use sync_play::run;
 
 fn main(rt: HostRuntime) -> ExitCode {
     match run(rt.alloc(), &mut rt.stdin(), &mut rt.stdout()) {

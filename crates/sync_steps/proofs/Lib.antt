@@ -2,6 +2,8 @@ pub mod Places
 pub mod Turns
 pub mod Stands
 pub mod Headlines
+pub mod CallLaws
+pub mod WatchLaws
 pub mod Plays
 pub mod SpinLaws
 pub mod StrideLaws

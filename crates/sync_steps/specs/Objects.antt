@@ -7,6 +7,7 @@ use Rattle.steps_events.specs.declared.event.Object.TheVariants as objects
 use Rattle.steps_events.specs.declared.event.Word.{Word}
 use Rattle.steps_events.specs.declared.event.Word.TheVariants as words
 use Rattle.steps_events.specs.declared.event.Wake.{Wake}
+use Rattle.steps_events.specs.declared.event.Wake.TheVariants as wakes
 use Rattle.steps_events.specs.Arithmetic.{Arithmetic, IsValue, IsClosed}
 use Rattle.steps_events.specs.Tables.{Table}
 use Rattle.steps_mutex.specs.declared.MutexPlace.{MutexPlace}
@@ -20,9 +21,9 @@ use Rattle.steps_barrier.specs.Table.{barrier_table}
 use Rattle.steps_rw_reader.specs.declared.RwReaderPlace.{RwReaderPlace}
 use Rattle.steps_rw_reader.specs.Table.{rw_reader_table}
 use Rattle.steps_rw_writer.specs.declared.RwWriterPlace.{RwWriterPlace}
-use Rattle.steps_rw_writer.specs.Table.{rw_writer_table, rw_writer_woken}
+use Rattle.steps_rw_writer.specs.Table.{rw_writer_table}
 use Rattle.steps_condvar.specs.declared.CondvarPlace.{CondvarPlace}
-use Rattle.steps_condvar.specs.Table.{condvar_table, condvar_woken}
+use Rattle.steps_condvar.specs.Table.{condvar_table}
 use Rattle.steps_once.specs.declared.OncePlace.{OncePlace}
 use Rattle.steps_once.specs.Table.{once_table}
 use Rattle.steps_lazy.specs.declared.LazyPlace.{LazyPlace}
@@ -142,6 +143,7 @@ wants_hold o call = false
 
 -- The word that a wake of a call is of, which says who may be woken. An object with one word has no other to name.
 abbrev pub woken_word : {T : Type 0} → Object T → Call T → Wake → Word
-woken_word objects.WriterLock call wake = rw_writer_woken wake
-woken_word objects.Condvar call wake = condvar_woken call
+woken_word objects.WriterLock call wakes.One = words.Counter
+woken_word objects.Condvar calls.NotifyOne wake = words.Value
+woken_word objects.Condvar calls.NotifyAll wake = words.Value
 woken_word o call wake = words.State

@@ -16,7 +16,7 @@ mod spins;
 pub mod turn;
 
 pub use fault::PlayFault;
-pub use headline::at_every_front;
+pub use headline::{at_every_front, closures_watch_what_they_are_told, each_call_can_begin};
 pub use machine::{Machine, Stride};
 pub use playing::play;
 pub use steps_events::event::{

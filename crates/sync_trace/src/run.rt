@@ -8,7 +8,7 @@ use std::alloc::{AllocError, Global};
 use std::io::{Read, Write};
 use sync_advice::explain;
 use sync_lines::fault::{FaultyLine, RunFault};
-use sync_play::run::{read_all, write_all};
+use sync_play::{read_all, write_all};
 
 /// Why a run of the program ended early, and what would be right.
 #[derive(Debug, Drop)]

@@ -1,5 +1,6 @@
 -- Which word of which object closures see.
-use Rattle.std.specs.Prelude.{ℕ}
+use Rattle.std.specs.Prelude.{◌≡◌, ℕ}
+use Rattle.passes.specs.declared.words.Word.{Word}
 use Rattle.atomic_table.specs.Seated.{TableId}
 use Rattle.tallies.specs.declared.wait_word.WaitWord.{WaitWord}
 use Rattle.tallies.specs.declared.wait_word.AnyWord.{AnyWord}
@@ -24,3 +25,7 @@ object_shown w = object_of_any w.word
 
 abbrev pub index_shown : WaitWord → ℕ
 index_shown w = index_of_any w.word
+
+-- it is this word of this object
+abbrev pub Shows : {K T : Type 0} → Word K T → WaitWord → Type 0
+Shows word shown = (object_shown shown ≡ word.shared.now.table_id) × (index_shown shown ≡ word.index)

@@ -1,13 +1,11 @@
 //! The word that wait and wake closures see.
-ghost use Rattle.std.specs.Prelude.{◌≡◌};
-
 use crate::{PlayedBarrier, PlayedMutex, PlayedRwReader, PlayedRwWriter, PlayedSemaphore};
-use passes::Word;
-use playing::Shown;
+use passes::{Watched, Word};
+use playing::{OfWord, Shown};
 use std::sync::Wait;
 use std::time::Duration;
 
-/// A word of an object, as wait and wake closures see it. It can be loaded, and no more.
+/// A word of an object, as wait and wake closures see it. It can be loaded and slept on, and no more.
 #[derive(Drop)]
 pub struct WaitWord<'t> {
     word: AnyWord<'t>,
@@ -35,33 +33,35 @@ impl WaitWord<'_> {
             AnyWord::Barrier(word) => word.load(),
         }
     }
+}
 
-    /// Sleeps if the low 32 bits of the word are those of `seen`, until a wake of this word. It may also return for no reason.
-    pub fn park<R: Wait>(&self, rt: &R, seen: u64) {
-        let low = (seen & 0xffff_ffff) as u32;
+impl Watched for WaitWord<'_> {
+    #[inline(always)]
+    fn load(&self) -> u64 {
+        WaitWord::load(self)
+    }
+
+    fn park<R: Wait>(&self, rt: &R, seen: u64) {
         match &self.word {
-            AnyWord::Mutex(word) => word.park(rt, low),
-            AnyWord::ReaderLock(word) => word.park(rt, low),
-            AnyWord::WriterLock(word) => word.park(rt, low),
-            AnyWord::Semaphore(word) => word.park(rt, low),
-            AnyWord::Barrier(word) => word.park(rt, low),
+            AnyWord::Mutex(word) => word.park(rt, seen),
+            AnyWord::ReaderLock(word) => word.park(rt, seen),
+            AnyWord::WriterLock(word) => word.park(rt, seen),
+            AnyWord::Semaphore(word) => word.park(rt, seen),
+            AnyWord::Barrier(word) => word.park(rt, seen),
         }
     }
 
-    /// The same, for no longer than `most`.
-    pub fn park_timeout<R: Wait>(&self, rt: &R, seen: u64, most: Duration) {
-        let low = (seen & 0xffff_ffff) as u32;
+    fn park_timeout<R: Wait>(&self, rt: &R, seen: u64, most: Duration) {
         match &self.word {
-            AnyWord::Mutex(word) => word.park_timeout(rt, low, most),
-            AnyWord::ReaderLock(word) => word.park_timeout(rt, low, most),
-            AnyWord::WriterLock(word) => word.park_timeout(rt, low, most),
-            AnyWord::Semaphore(word) => word.park_timeout(rt, low, most),
-            AnyWord::Barrier(word) => word.park_timeout(rt, low, most),
+            AnyWord::Mutex(word) => word.park_timeout(rt, seen, most),
+            AnyWord::ReaderLock(word) => word.park_timeout(rt, seen, most),
+            AnyWord::WriterLock(word) => word.park_timeout(rt, seen, most),
+            AnyWord::Semaphore(word) => word.park_timeout(rt, seen, most),
+            AnyWord::Barrier(word) => word.park_timeout(rt, seen, most),
         }
     }
 
-    /// Wakes one that sleeps on this word, if there is one.
-    pub fn wake_one(&self) {
+    fn wake_one(&self) {
         match &self.word {
             AnyWord::Mutex(word) => word.wake_one(),
             AnyWord::ReaderLock(word) => word.wake_one(),
@@ -71,8 +71,7 @@ impl WaitWord<'_> {
         }
     }
 
-    /// Wakes all that sleep on this word.
-    pub fn wake_all(&self) {
+    fn wake_all(&self) {
         match &self.word {
             AnyWord::Mutex(word) => word.wake_all(),
             AnyWord::ReaderLock(word) => word.wake_all(),
@@ -92,28 +91,26 @@ impl Shown for WaitWord<'_> {
     ghost index = { index_shown };
 }
 
-impl<'t> From<Word<'t, (), PlayedMutex>> for WaitWord<'t> {
-    ghost use Rattle.tallies.specs.Shown.{object_shown, index_shown};
+impl<'t> OfWord<Word<'t, (), PlayedMutex>> for WaitWord<'t> {
+    ghost use Rattle.tallies.specs.Shown.{Shows};
+
+    ghost shows = { Shows };
 
     #[inline(always)]
-    fn from(word: Word<'t, (), PlayedMutex>) -> WaitWord<'t>
-        ensures object { object_shown result ≡ word.entry.shared.now.table_id }
-        ensures index { index_shown result ≡ word.entry.index }
-    {
+    fn of(word: Word<'t, (), PlayedMutex>) -> WaitWord<'t> {
         WaitWord {
             word: AnyWord::Mutex(word),
         }
     }
 }
 
-impl<'t> From<Word<'t, (), PlayedRwReader>> for WaitWord<'t> {
-    ghost use Rattle.tallies.specs.Shown.{object_shown, index_shown};
+impl<'t> OfWord<Word<'t, (), PlayedRwReader>> for WaitWord<'t> {
+    ghost use Rattle.tallies.specs.Shown.{Shows};
+
+    ghost shows = { Shows };
 
     #[inline(always)]
-    fn from(word: Word<'t, (), PlayedRwReader>) -> WaitWord<'t>
-        ensures object { object_shown result ≡ word.entry.shared.now.table_id }
-        ensures index { index_shown result ≡ word.entry.index }
-    {
+    fn of(word: Word<'t, (), PlayedRwReader>) -> WaitWord<'t> {
         WaitWord {
             word: AnyWord::ReaderLock(word),
         }
@@ -121,42 +118,39 @@ impl<'t> From<Word<'t, (), PlayedRwReader>> for WaitWord<'t> {
 }
 
 /// Either word of a writer-preferring lock: its own, or its wake counter.
-impl<'t> From<Word<'t, (), PlayedRwWriter>> for WaitWord<'t> {
-    ghost use Rattle.tallies.specs.Shown.{object_shown, index_shown};
+impl<'t> OfWord<Word<'t, (), PlayedRwWriter>> for WaitWord<'t> {
+    ghost use Rattle.tallies.specs.Shown.{Shows};
+
+    ghost shows = { Shows };
 
     #[inline(always)]
-    fn from(word: Word<'t, (), PlayedRwWriter>) -> WaitWord<'t>
-        ensures object { object_shown result ≡ word.entry.shared.now.table_id }
-        ensures index { index_shown result ≡ word.entry.index }
-    {
+    fn of(word: Word<'t, (), PlayedRwWriter>) -> WaitWord<'t> {
         WaitWord {
             word: AnyWord::WriterLock(word),
         }
     }
 }
 
-impl<'t> From<Word<'t, u64, PlayedSemaphore>> for WaitWord<'t> {
-    ghost use Rattle.tallies.specs.Shown.{object_shown, index_shown};
+impl<'t> OfWord<Word<'t, u64, PlayedSemaphore>> for WaitWord<'t> {
+    ghost use Rattle.tallies.specs.Shown.{Shows};
+
+    ghost shows = { Shows };
 
     #[inline(always)]
-    fn from(word: Word<'t, u64, PlayedSemaphore>) -> WaitWord<'t>
-        ensures object { object_shown result ≡ word.entry.shared.now.table_id }
-        ensures index { index_shown result ≡ word.entry.index }
-    {
+    fn of(word: Word<'t, u64, PlayedSemaphore>) -> WaitWord<'t> {
         WaitWord {
             word: AnyWord::Semaphore(word),
         }
     }
 }
 
-impl<'t> From<Word<'t, u32, PlayedBarrier>> for WaitWord<'t> {
-    ghost use Rattle.tallies.specs.Shown.{object_shown, index_shown};
+impl<'t> OfWord<Word<'t, u32, PlayedBarrier>> for WaitWord<'t> {
+    ghost use Rattle.tallies.specs.Shown.{Shows};
+
+    ghost shows = { Shows };
 
     #[inline(always)]
-    fn from(word: Word<'t, u32, PlayedBarrier>) -> WaitWord<'t>
-        ensures object { object_shown result ≡ word.entry.shared.now.table_id }
-        ensures index { index_shown result ≡ word.entry.index }
-    {
+    fn of(word: Word<'t, u32, PlayedBarrier>) -> WaitWord<'t> {
         WaitWord {
             word: AnyWord::Barrier(word),
         }

@@ -1,9 +1,15 @@
-//! Which calls an object has, and which of them need a hold: a machine refuses just the others. And of which word a wake is.
+//! Which calls an object has, and which of them need a hold: a machine refuses just the others. And of which word a wake is, and which a
+//! wait closure watches.
 use super::growths::refusal;
 use std::alloc::Global;
 use std::test::Fail;
+use steps_condvar::CondvarPlace;
+use steps_events::patience::Patience;
+use steps_mutex::MutexPlace;
+use steps_rw_writer::RwWriterPlace;
+use steps_semaphore::SemaphorePlace;
 use sync_steps::atomic::internal::AtomicInteger;
-use sync_steps::steps::place::{has_call, needs_hold, woken_word};
+use sync_steps::steps::place::{Place, has_call, needs_hold, watched_word, woken_word};
 use sync_steps::steps::{Call, Input, Object, StepFault, Wake, Word};
 
 /// Every call.
@@ -101,5 +107,31 @@ const WAKES: [(Object<u64>, Call<u64>, Wake, Word); 9] = [
 fn a_wake_is_of_a_word(rt: HostRuntime) {
     for (object, call, wake, word) in &WAKES {
         assert_eq!(rt; woken_word(object, call, *wake), *word);
+    }
+}
+
+/// A place at which a call asks, and the word that its closure watches.
+const WATCHES: [(Object<u64>, Place<u64>, Word); 3] = [
+    (
+        Object::Condvar,
+        Place::Condvar(CondvarPlace::Mutex(MutexPlace::Lock(Patience::FRESH))),
+        Word::State,
+    ),
+    (
+        Object::WriterLock,
+        Place::RwWriter(RwWriterPlace::WriteLook(Patience::FRESH)),
+        Word::Counter,
+    ),
+    (
+        Object::Condvar,
+        Place::Condvar(CondvarPlace::Permit(SemaphorePlace::Look(Patience::FRESH))),
+        Word::Value,
+    ),
+];
+
+#[test]
+fn a_wait_closure_watches_a_word(rt: HostRuntime) {
+    for (object, place, word) in &WATCHES {
+        assert_eq!(rt; watched_word(object, place), *word);
     }
 }

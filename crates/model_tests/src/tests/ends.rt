@@ -194,7 +194,7 @@ fn moves_at_the_ends(rt: HostRuntime) {
 }
 
 /// A barrier's word, what an arrival makes of it where none, one, two and 2^32 - 1 fill a round, and the word of the next round.
-const ARRIVALS: [(u64, [Option<u64>; 4], u64); 10] = [
+const ARRIVALS: [(u64, [Option<u64>; 4], u64); 11] = [
     (0, [None, Some(4294967296), Some(1), Some(1)], 4294967296),
     (1, [None, None, Some(4294967296), Some(2)], 4294967296),
     (2, [None, None, None, Some(3)], 4294967296),
@@ -204,6 +204,11 @@ const ARRIVALS: [(u64, [Option<u64>; 4], u64); 10] = [
         4294967296,
         [None, Some(8589934592), Some(4294967297), Some(4294967297)],
         8589934592,
+    ),
+    (
+        18446744069414584321,
+        [None, None, Some(0), Some(18446744069414584322)],
+        0,
     ),
     (u64::MAX - 3, [None, None, None, Some(u64::MAX - 2)], 0),
     (u64::MAX - 2, [None, None, None, Some(u64::MAX - 1)], 0),
@@ -225,11 +230,16 @@ fn arrivals_at_the_ends(rt: HostRuntime) {
 }
 
 /// Sums of permits, which wrap.
-const POSTS: [(u64, u64, u64); 6] = [
+const POSTS: [(u64, u64, u64); 11] = [
     (0, 0, 0),
+    (1, 1, 2),
     (2, 3, 5),
+    (3, 1, 4),
     (4294967295, 1, 4294967296),
     (0, u64::MAX, u64::MAX),
+    (u64::MAX - 3, 3, u64::MAX),
+    (u64::MAX - 2, 3, 0),
+    (u64::MAX - 1, 3, 1),
     (u64::MAX, 1, 0),
     (u64::MAX, u64::MAX, u64::MAX - 1),
 ];

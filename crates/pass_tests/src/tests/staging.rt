@@ -178,7 +178,7 @@ fn peek(counter: &Counter, pass: &mut CounterPass) -> u64
 fn a_counter_plays_its_model(rt: HostRuntime) -> Result<(), Fail> {
     let (counter, mut pass) = Stage::new(rt.alloc(), &[0], &())?;
     assert_eq!(rt; count(&counter, &mut pass), 6);
-    assert_eq!(rt; counter.word(0).load(), 6);
+    assert_eq!(rt; peek(&counter, &mut pass), 6);
     assert_eq!(rt; clear_and_try(&counter, &mut pass), 0);
     assert_eq!(rt; peek(&counter, &mut pass), 1);
     assert_eq!(rt; counter.close(pass, 0), 1);
@@ -244,7 +244,6 @@ fn run_and_store(ending: &Ending, pass: &mut EndingPass) -> u64
 fn a_call_ends_its_closure_between_two_steps(rt: HostRuntime) -> Result<(), Fail> {
     let (ending, mut pass) = Stage::new(rt.alloc(), &[0], &())?;
     assert_eq!(rt; run_and_store(&ending, &mut pass), 5);
-    assert_eq!(rt; ending.word(0).load(), 7);
     assert_eq!(rt; ending.close_two(pass, 0, 0), (7, 7));
     Ok(())
 }

@@ -1,6 +1,6 @@
 //! The integers that an atomic may hold.
 ghost use Rattle.steps_events.specs.Integers.{u64_arithmetic, u128_arithmetic, i64_arithmetic, i128_arithmetic};
-ghost use Rattle.std.specs.Prelude.{true, false};
+ghost use Rattle.std.specs.Prelude.{true, false, codes};
 ghost use Rattle.std.proofs.Common.{rules};
 ghost use Rattle.steps_events.specs.IntegerLaws as laws;
 
@@ -11,6 +11,8 @@ const WORD_VALUES: u128 = 1 << 64;
 
 impl AtomicInteger for u64 {
     const NAME: &'static str = "u64";
+
+    ghost shown_name = { codes "u64" };
 
     ghost arithmetic = { u64_arithmetic };
 
@@ -38,6 +40,10 @@ impl AtomicInteger for u64 {
 
     ghost closed = { laws.unsigned_closed false };
 
+    fn type_name() -> &'static str {
+        Self::NAME
+    }
+
     fn to_words(self) -> (u64, u64) {
         (self, 0)
     }
@@ -57,6 +63,8 @@ impl AtomicInteger for u64 {
 
 impl AtomicInteger for u128 {
     const NAME: &'static str = "u128";
+
+    ghost shown_name = { codes "u128" };
 
     ghost arithmetic = { u128_arithmetic };
 
@@ -84,6 +92,10 @@ impl AtomicInteger for u128 {
 
     ghost closed = { laws.unsigned_closed true };
 
+    fn type_name() -> &'static str {
+        Self::NAME
+    }
+
     fn to_words(self) -> (u64, u64) {
         ((self % WORD_VALUES) as u64, (self / WORD_VALUES) as u64)
     }
@@ -103,6 +115,8 @@ impl AtomicInteger for u128 {
 
 impl AtomicInteger for i64 {
     const NAME: &'static str = "i64";
+
+    ghost shown_name = { codes "i64" };
 
     ghost arithmetic = { i64_arithmetic };
 
@@ -130,6 +144,10 @@ impl AtomicInteger for i64 {
 
     ghost closed = { laws.signed_closed false };
 
+    fn type_name() -> &'static str {
+        Self::NAME
+    }
+
     fn to_words(self) -> (u64, u64) {
         (self.cast_unsigned(), 0)
     }
@@ -149,6 +167,8 @@ impl AtomicInteger for i64 {
 
 impl AtomicInteger for i128 {
     const NAME: &'static str = "i128";
+
+    ghost shown_name = { codes "i128" };
 
     ghost arithmetic = { i128_arithmetic };
 
@@ -175,6 +195,10 @@ impl AtomicInteger for i128 {
     ghost same_gives = { Prim.search rules };
 
     ghost closed = { laws.signed_closed true };
+
+    fn type_name() -> &'static str {
+        Self::NAME
+    }
 
     fn to_words(self) -> (u64, u64) {
         self.cast_unsigned().to_words()

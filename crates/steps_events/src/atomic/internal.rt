@@ -1,5 +1,5 @@
 //! What the integers of the atomics have in common.
-ghost use Rattle.std.specs.Prelude.{◌≡◌, ℕ};
+ghost use Rattle.std.specs.Prelude.{◌≡◌, ℕ, List};
 ghost use Rattle.std.specs.Ordering.{ord_max, ord_min};
 ghost use Rattle.steps_events.specs.Arithmetic.{Arithmetic, IsValue, IsClosed};
 
@@ -20,6 +20,13 @@ pub trait AtomicInteger: Copy
     + Not<Output = Self> {
     /// The type's name, as `u64`.
     const NAME: &'static str;
+
+    // What that is.
+    ghost shown_name: { List ℕ };
+
+    /// The type's name. A constant has no clause; this one has.
+    fn type_name() -> &'static str
+        ensures name { result.now ≡ shown_name };
 
     /// What the type's operators compute.
     ghost arithmetic: { Arithmetic Self };

@@ -1,7 +1,8 @@
 -- Where a machine's parties are: the code's places, as places of the object's table.
-use Rattle.std.specs.Prelude.{◌≡◌, ℕ, Bool, Option, Some, None}
+use Rattle.std.specs.Prelude.{◌≡◌, ℕ, Bool, List, [], ◌∷◌, Option, Some, None}
 use Rattle.steps_events.specs.declared.WaitAction.{WaitAction}
 use Rattle.steps_events.specs.declared.event.Call.{Call}
+use Rattle.steps_events.specs.declared.event.Event.{Event}
 use Rattle.steps_events.specs.declared.event.Object.{Object}
 use Rattle.steps_events.specs.declared.event.Object.TheVariants as objects
 use Rattle.steps_events.specs.declared.event.Then.{Then}
@@ -12,9 +13,11 @@ use Rattle.steps_events.specs.declared.hold.HoldKind.{HoldKind}
 use Rattle.steps_events.specs.declared.row.After.{After}
 use Rattle.steps_events.specs.declared.row.Intent.{Intent}
 use Rattle.steps_events.specs.Arithmetic.{Arithmetic}
-use Rattle.steps_events.specs.Past.{PendingCall, latest_outcome}
+use Rattle.steps_events.specs.Past.{PendingCall, call_of, latest_outcome}
 use Rattle.steps_events.specs.Moves.{stage_of}
+use Rattle.steps_events.specs.NextStep.{seen_by}
 use Rattle.steps_events.specs.Rows.{within}
+use Rattle.steps_events.specs.Sights.{is_sight, last_of}
 use Rattle.steps_events.specs.Tables.{Table}
 use Rattle.steps_mutex.specs.declared.MutexPlace.{MutexPlace}
 use Rattle.steps_mutex.specs.Table.{mutex_table}
@@ -155,3 +158,14 @@ abbrev pub watched_word : {T : Type 0} → Object T → Place T → Word
 watched_word objects.WriterLock (places.RwWriter (rw_writer_places.WriteLook patience)) = words.Counter
 watched_word objects.Condvar (places.Condvar (condvar_places.Permit place)) = words.Value
 watched_word o place = words.State
+
+-- a call's latest sight of a word told this
+abbrev pub SawLast : {T : Type 0} → Word → List (Event T) → ℕ → Type 0
+SawLast word own told = seen_by word (last_of (is_sight word) own) ≡ Some told
+
+-- Where the latest event leaves a call at its wait closure, what that is told is what its call saw last of the word that it watches.
+abbrev pub TellsWatched : {T : Type 0} → Arithmetic T → Object T → List (Event T) → Type 0
+TellsWatched z o [] = Unit {0}
+TellsWatched {T} z o (e ∷ past) =
+    (told : ℕ) (c : PendingCall T) (place : place_of o) → e.then ≡ thens.Waits told → call_of e.party (e ∷ past) ≡ Some c → stage_of (table_of z o) c ≡ Some place →
+    SawLast (watched_word o (place_in o place)) c.own told

@@ -1,0 +1,165 @@
+"""Must-fail edits in batches, for tools/prove.py.
+
+A proof reads other functions by their contracts alone, so wrong bodies of different functions of a crate do not meet, and one check judges them
+all: an edit is refused where a goal of its own function stays open. What a check of several does not tell is tried again with what is left, and at
+last alone. An edit of a contract, a definition or a proof, or of several places, is tried alone from the first.
+"""
+import difflib
+import os
+import re
+
+HEAD = re.compile(r"^(\s*)(?:pub(?:\([^)]*\))?\s+)?(?:const\s+|unsafe\s+)*fn (\w+)")
+# A goal that a check leaves open: the function whose proof file it stands in, and what is said of it.
+GOAL = re.compile(r"^(?:note: )?\./(?:proofs/\S*?(\w+)/(?:Answers|Invariants|Proof)\.antt|\S+):\d+:\d+: error(?:\[[\w-]+\])?: (.*)")
+NO_PROOF = re.compile(r"^fn \S*?(\w+): no proof: expected answers")
+# What is said of a proof that cites a broken one: no goal of its own.
+DEPENDS = re.compile(r"declarations? that depends? on `")
+# What says little of a contract: a proof misses a name that the edit took away.
+NAME_GONE = re.compile(r"has no field|has no `|is not in scope")
+
+
+class BadEdit(Exception):
+    """An edit that cannot be read, applied or compiled."""
+
+
+class Edit:
+    """An edit: the lines that it changes, and the functions in whose bodies they all stand, or none."""
+
+    def __init__(self, crate, name):
+        self.name = name
+        texts = applied(crate, name)
+        self.hunks, functions = {}, set()
+        for path, new in texts.items():
+            old, new = text_of(f"{crate}/{path}").split("\n"), new.split("\n")
+            codes = difflib.SequenceMatcher(None, old, new, autojunk=False).get_opcodes()
+            self.hunks[path] = [(start, end, new[at:to]) for tag, start, end, at, to in codes if tag != "equal"]
+            functions |= {body_at(old, start) if path.startswith("src/") else None for start, _, _ in self.hunks[path]}
+        self.functions = frozenset() if None in functions else frozenset(functions)
+
+    def is_alone(self):
+        return not self.functions
+
+
+def text_of(path):
+    with open(path, encoding="utf-8") as it:
+        return it.read()
+
+
+def applied(crate, name):
+    """The texts of the files that the edit changes, with all its pairs applied in turn."""
+    texts, path, old = {}, None, None
+    for line in text_of(f"{crate}/must-fail/{name}").split("\n"):
+        if line.startswith("file: "):
+            path = line[6:].strip()
+        elif line.startswith("old: "):
+            old = line[5:]
+        elif line.startswith("new:") and old is not None:
+            text = texts.get(path) or text_of(f"{crate}/{path}")
+            if text.count(old) != 1:
+                raise BadEdit(f"its text stands {text.count(old)} times in {path}: {old}")
+            texts[path] = text.replace(old, line[4:].removeprefix(" "))
+    if not texts:
+        raise BadEdit("it changes nothing")
+    return texts
+
+
+def body_at(lines, at):
+    """The name of the function in whose body the line stands, or None."""
+    for up in range(at - 1, -1, -1):
+        head = HEAD.match(lines[up])
+        if head:
+            close = head[1] + "{"
+            opens = next((it for it in range(up, len(lines)) if lines[it] == close or it == up and lines[it].endswith("{") or lines[it] == head[1] + ") {"), at)
+            return head[2] if opens < at else None
+    return None
+
+
+def with_edits(crate, edits):
+    """The texts of the crate's files with all these edits in them, and the texts as they were. No two change the same line."""
+    hunks, new, old = {}, {}, {}
+    for edit in edits:
+        for path, own in edit.hunks.items():
+            hunks.setdefault(path, []).extend(own)
+    for path, own in hunks.items():
+        old[path] = text_of(f"{crate}/{path}")
+        lines = old[path].split("\n")
+        for start, end, text in sorted(own, key=lambda it: it[:2], reverse=True):
+            lines[start:end] = text
+        new[path] = "\n".join(lines)
+    return new, old
+
+
+def open_goals(said):
+    """What a check says of each function whose goals it leaves open."""
+    found = {}
+    for line in said.split("\n"):
+        goal, none = GOAL.match(line), NO_PROOF.match(line)
+        if goal and goal[1] and not DEPENDS.search(line):
+            found.setdefault(goal[1], []).append(goal[2])
+        elif none:
+            found.setdefault(none[1], []).append("no proof was found")
+    return found
+
+
+def is_only_a_name(reasons):
+    """Whether all that refuses an edit is that a proof misses a name."""
+    return bool(reasons) and all(NAME_GONE.search(it) for it in reasons)
+
+
+class Batches:
+    """The tries of a crate's edits: `next` gives the edits of the next check, and `judge` takes what it said. `told` has what each came to."""
+
+    def __init__(self, crate, names):
+        self.told, self.left, self.apart = {}, [], []
+        for name in names:
+            try:
+                edit = Edit(crate, name)
+                (self.apart if edit.is_alone() else self.left).append(edit)
+            except (BadEdit, OSError) as why:
+                self.told[name] = "BAD", str(why)
+
+    def next(self):
+        batch, taken = [], set()
+        for edit in self.left:
+            if not edit.functions & taken:
+                batch.append(edit)
+                taken |= edit.functions
+        return batch or self.apart[:1]
+
+    def judge(self, batch, status, said):
+        """Takes the status of a check with these edits, and what it said."""
+        is_verdict = status == 1 and "logic=not-proved" in said
+        goals = open_goals(said) if is_verdict else {}
+        if batch[0].is_alone() or len(batch) == 1 and batch[0] in self.apart:
+            self.apart = self.apart[1:]
+            reasons = errors_of(said) or [it for own in goals.values() for it in own]
+            self.told[batch[0].name] = judged(status, is_verdict, reasons, said)
+            return
+        for edit in batch:
+            reasons = [it for name in edit.functions for it in goals.get(name, [])]
+            if reasons:
+                self.told[edit.name] = judged(status, True, reasons, said)
+        told = [it for it in batch if it.name in self.told]
+        self.left = [it for it in self.left if it not in told]
+        if not told:
+            # nothing was told apart
+            self.left = [it for it in self.left if it not in batch]
+            self.apart += batch
+
+
+def errors_of(said):
+    """Each error that a check prints, but for those of proofs that cite a broken one."""
+    return [it for it in re.findall(r"(?m)^\S+:\d+:\d+: error(?:\[[\w-]+\])?: (.*)", said) if not DEPENDS.search(it)]
+
+
+def judged(status, is_verdict, reasons, said):
+    """What an edit came to, and why."""
+    if is_verdict:
+        return ("NAME", reasons[0]) if is_only_a_name(reasons) else ("refused", reasons[0] if reasons else "")
+    if status == 0:
+        return "NOT REFUSED", "the crate is still proved with this edit"
+    if status == 1 and re.search(r"\berror\[", said):
+        return "BAD", next(iter(errors_of(said)), "it did not reach the prover")
+    if status == 3:
+        return "LIMIT", "the prover gave no verdict"
+    return "NOT TRIED", f"its check ended with status {status}"

@@ -1,0 +1,443 @@
+#!/usr/bin/env python3
+"""Proves, runs and tries what it is told, side by side: tools/prove.py [--lanes N] [--minutes K] [--count FILE] WHAT ..
+
+WHAT is `proofs`, `tests`, `programs`, `edits`, `tries` or `cases`, each alone or with the names of crates, as `proofs=sync_play,job_queue`:
+
+    proofs     each crate, or those named and what they stand on, is proved, over what this machine keeps of the same text
+    tests      the tests of each crate are proved and run
+    programs   each program is proved, built by both compilers and run on its stored run
+    edits      each must-fail edit is tried, many in one check (tools/edits.py); after K minutes none is begun
+    tries      the tests of each crate are run as they are, unproved
+    cases      each text of examples is read by the programs as they are, unproved
+
+It works in copies beside the checkout's history (.git/lanes), a lane each, since a command of rt locks the crates that it reads. What these keep
+serves the next call. A line is printed for each part of a crate, on a terminal how far it is; then what it cost, and how many passed and failed,
+which goes to the file too.
+"""
+import argparse
+import concurrent.futures
+import glob
+import os
+import re
+import shutil
+import signal
+import subprocess
+import sys
+import tempfile
+import time
+
+import edits
+
+PARTS = ("src", "specs", "proofs", "must-fail", "data", "stdin", "stdout", "args", "status")
+# What a verdict may say in its last line. `main` is of programs and tests, `may-abort` of tests.
+WORDS = {"logic", "functions", "tests", "axioms", "target", "cpu", "threads", "main", "may-wait", "sum", "native", "logic-built", "libraries-built", "statements", "incremental"}
+# What the kit's own gate refuses beside what is not proved.
+REFUSED = re.compile(
+    r"^warning: no call of `(?!.*::fn::)|^note: the search for empty contracts did not end|^warning: calls of a tactic that chose a term"
+    r"|warning: this pattern binds a variable spelled like a constructor|: (?:note|warning): `search` stands in",
+    re.M,
+)
+RESULT = re.compile(r"^test result: \w+\. (\d+) passed; (\d+) failed", re.M)
+# What each program reads, and what it writes of that.
+EXAMPLES = {
+    "sync_play_main": ("examples/{}.txt", "examples/{}.out"),
+    "sync_trace_main": ("examples/{}.txt", "examples/{}.trace"),
+    "sync_draw_main": ("examples/{}.txt", "docs/pictures/{}.svg"),
+    "sync_explore_main": ("examples/explore/{}.txt", "examples/explore/{}.out"),
+}
+
+
+class Crate:
+    """A crate of crates.txt: the repository's crates that it uses, and what stands in its folder."""
+
+    def __init__(self, top, name, libraries):
+        self.name, self.libraries, self.folder = name, libraries, f"{top}/crates/{name}"
+        sources = [it for it in glob.glob(f"{self.folder}/**/*.*t", recursive=True) if "/out/" not in it]
+        texts = [edits.text_of(it) for it in sources]
+        self.lines = sum(it.count("\n") for it in texts)
+        self.is_program = os.path.isfile(f"{self.folder}/src/main.rt")
+        self.has_tests = any("#[test]" in it for it in texts)
+        self.edits = sorted(os.path.basename(it) for it in glob.glob(f"{self.folder}/must-fail/*.edit"))
+
+
+def crates_of(top):
+    """The crates by name, each after those that it uses."""
+    named = {}
+    for line in open(f"{top}/crates.txt", encoding="utf-8"):
+        head, colon, words = line.partition("#")[0].partition(":")
+        if colon:
+            named[head.split()[0]] = words.split()
+    order = {}
+
+    def put(name):
+        for it in named[name]:
+            if it in named:
+                put(it)
+        if name not in order:
+            order[name] = Crate(top, name, [it for it in named[name] if it in named])
+
+    for name in named:
+        put(name)
+    return order
+
+
+class Task:
+    """One command's work on one crate: what it waits for, how much it is, in lines, and what does it, given a lane."""
+
+    def __init__(self, kind, crate, after, weight, call):
+        self.kind, self.crate, self.after, self.weight, self.call = kind, crate, after, weight, call
+        self.key, self.behind = (kind, crate.name), weight
+
+
+class Told:
+    """What a task came to: what passed and failed, a line of it, and why where something failed."""
+
+    def __init__(self, passed, failed=0, line="", why=""):
+        self.passed, self.failed, self.line, self.why = passed, failed, line, why
+
+
+class Lane:
+    """A copy of the crates, in which one command of rt runs at a time."""
+
+    def __init__(self, top, folder):
+        self.top, self.folder, self.child, self.seconds = top, folder, None, 0.0
+        os.makedirs(f"{folder}/.git", exist_ok=True)
+        for name in ("crates.txt", "HANDLES"):
+            shutil.copy2(f"{top}/{name}", folder)
+        names = os.listdir(f"{top}/crates")
+        for name in os.listdir(f"{folder}/crates") if os.path.isdir(f"{folder}/crates") else ():
+            if name not in names:
+                shutil.rmtree(f"{folder}/crates/{name}")
+        for name in names:
+            self.copy(name)
+
+    def copy(self, name):
+        """Gives the lane a crate's files as they stand in the checkout, and leaves what rt made of it."""
+        for part in PARTS:
+            own, to = f"{self.top}/crates/{name}/{part}", f"{self.folder}/crates/{name}/{part}"
+            shutil.rmtree(to, ignore_errors=True)
+            if os.path.isdir(own):
+                shutil.copytree(own, to)
+            elif os.path.isfile(own):
+                os.makedirs(os.path.dirname(to), exist_ok=True)
+                shutil.copy2(own, to)
+
+    def run(self, crate, words, stdin=None, apart=False):
+        """Runs a command in a crate's folder: its status, and what it wrote; or, apart, its standard output and its standard error."""
+        with open(stdin or os.devnull, "rb") as given:
+            self.child = subprocess.Popen(
+                words,
+                cwd=f"{self.folder}/crates/{crate.name}",
+                env={**os.environ, "RT_SECONDS": "600"},
+                stdin=given,
+                stdout=subprocess.PIPE,
+                stderr=subprocess.PIPE if apart else subprocess.STDOUT,
+                text=True,
+                errors="replace",
+                start_new_session=True,
+            )
+        said, complained = self.child.communicate()
+        status, self.child = self.child.returncode, None
+        return (status, said, complained) if apart else (status, said)
+
+    def stop(self):
+        if self.child:
+            os.killpg(self.child.pid, signal.SIGKILL)
+
+
+def is_verdict(said):
+    """Whether a check proved the crate, and says nothing that the kit's gate refuses."""
+    last = next((it for it in said.split("\n") if it.startswith("logic=")), "")
+    words = dict(it.partition("=")[::2] for it in last.split())
+    may = {"Threads", "Wait"} | ({"Abort"} if "tests" in words else set())
+    is_well = words.get("logic") == "proved" and set(words) <= WORDS | ({"may-abort"} if "tests" in words else set())
+    return is_well and set(filter(None, words.get("main", "").split("+"))) <= may and not REFUSED.search(said)
+
+
+def why_of(said):
+    """The lines of a check that tell what is wrong with it."""
+    lines = said.split("\n")
+    told = [it for it in lines if re.search(r"error|FAILED|panicked|not proved|no proof", it) or REFUSED.search(it)]
+    return "\n".join(it[:300] for it in (told or lines[-6:])[:12])
+
+
+def prove(lane, crate, jobs):
+    if crate.is_program:
+        return Told(0)
+    words = ["--jobs", str(jobs), "--empty-contracts"]
+    status, said = lane.run(crate, ["rt", "lib", *words])
+    how = "proved"
+    if status == 0 and "\nlogic=" not in "\n" + said:
+        how = "kept by this machine, and looked through again"
+        status, said = lane.run(crate, ["rt", "check", *words])
+    if status or not is_verdict(said):
+        return Told(0, 1, "NOT PROVED", why_of(said))
+    return Told(1, 0, how)
+
+
+def test(lane, crate, jobs):
+    status, said = lane.run(crate, ["rt", "test", "--jobs", str(jobs)])
+    found = RESULT.search(said)
+    if not found or status and found[2] == "0" or "\nlogic=" in said and not is_verdict(said):
+        return Told(0, 1, "its tests are NOT PROVED", why_of(said))
+    return Told(int(found[1]), int(found[2]), f"{found[1]} of its tests passed, proved", why_of(said) if found[2] != "0" else "")
+
+
+def attempt(lane, crate, jobs):
+    status, said = lane.run(crate, ["rt", "try", "--test", "--seconds", "1800"])
+    found = RESULT.search(said)
+    if not found or status and found[2] == "0":
+        return Told(0, 1, "its tests could not be run", why_of(said))
+    return Told(int(found[1]), int(found[2]), f"{found[1]} of its tests passed, unproved", why_of(said) if found[2] != "0" else "")
+
+
+def build(lane, crate, jobs):
+    """Proves a program, and runs it as each compiler builds it. The checkout gets what LLVM made."""
+    folder = f"{lane.folder}/crates/{crate.name}"
+    read = lambda name: edits.text_of(f"{folder}/{name}") if os.path.isfile(f"{folder}/{name}") else ""
+    wanted, status = read("stdout"), int(read("status") or 0)
+    for backend in ("rattle", "llvm"):
+        words = ["rt", "run", "--jobs", str(jobs), "--backend", backend]
+        ended, wrote, said = lane.run(crate, [*words, *(["--", *read("args").split("\n")] if read("args") else [])], f"{folder}/stdin" if read("stdin") else None, apart=True)
+        if backend == "rattle" and not is_verdict(said + wrote) and "logic=" in said + wrote:
+            return Told(0, 1, "NOT PROVED", why_of(said))
+        if ended != status or wrote != wanted:
+            return Told(0, 1, f"built by {backend}, it ended with status {ended} and not {status}, or wrote something else than its stored run", why_of(said))
+    to = f"{crate.folder}/out"
+    os.makedirs(to, exist_ok=True)
+    shutil.copy(f"{folder}/out/{crate.name}", f"{to}/{crate.name}.new")
+    os.replace(f"{to}/{crate.name}.new", f"{to}/{crate.name}")
+    if os.path.lexists(f"{to}/built_of"):
+        os.remove(f"{to}/built_of")
+    return Told(1, 0, "proved, and runs as it should")
+
+
+def play(lane, crate, jobs):
+    """Has a program as it is read its examples."""
+    read, written = (f"{lane.top}/{it}" for it in EXAMPLES[crate.name])
+    number = 0
+    with tempfile.TemporaryDirectory() as room:
+        for shown in glob.glob(written.format("*")):
+            name = os.path.splitext(os.path.basename(shown))[0]
+            shutil.copy(read.format(name), f"{room}/{name}")
+            shutil.copy(shown, f"{room}/{name}.stdout")
+            number += 1
+        status, said = lane.run(crate, ["rt", "try", "--seconds", "1800", "--cases", room])
+    if status:
+        return Told(0, 1, "an example is not as it should be", why_of(said))
+    return Told(number, 0, f"{number} examples are as they should be, unproved")
+
+
+class Tries:
+    """The edits of a crate, tried in its lane."""
+
+    def __init__(self, until):
+        self.until = until
+
+    def __call__(self, lane, crate, jobs):
+        folder = f"{lane.folder}/crates/{crate.name}"
+        batches, checks = edits.Batches(folder, crate.edits), 0
+        while (batch := batches.next()) and time.time() < self.until:
+            new, old = edits.with_edits(folder, batch)
+            try:
+                put(folder, new)
+                status, said = lane.run(crate, ["rt", "check", "--jobs", str(jobs)])
+            finally:
+                put(folder, old)
+            checks += 1
+            batches.judge(batch, status, said)
+        wrong = {name: it for name, it in batches.told.items() if it[0] != "refused"}
+        left = len(crate.edits) - len(batches.told)
+        line = f"{len(batches.told) - len(wrong)} of its {len(crate.edits)} edits are refused, in {checks} checks" + (f"; {left} were not tried" if left else "")
+        return Told(len(batches.told) - len(wrong), len(wrong), line, "\n".join(f"{name}: {kind}: {why[:300]}" for name, (kind, why) in wrong.items()))
+
+
+def put(folder, texts):
+    for path, text in texts.items():
+        with open(f"{folder}/{path}", "w", encoding="utf-8") as it:
+            it.write(text)
+
+
+def closed(names, crates):
+    """These crates and all that they stand on, or all crates."""
+    found = set()
+
+    def add(name):
+        if name not in found:
+            found.add(name)
+            for it in crates[name].libraries:
+                add(it)
+
+    for name in names or crates:
+        add(name)
+    return found
+
+
+def latest_first(top):
+    """The crates that git knows, those that changed last first."""
+    order = []
+    for words in (["status", "--porcelain"], ["log", "--name-only", "--format="]):
+        ran = subprocess.run(["git", *words, "--", "crates"], cwd=top, stdout=subprocess.PIPE, stderr=subprocess.DEVNULL, text=True)
+        order += re.findall(r"(?m)crates/(\w+)/", ran.stdout)
+    return list(dict.fromkeys(order))
+
+
+def tasks_of(wanted, crates, until):
+    """The tasks of what is wanted, by kind and crate."""
+    tasks = {}
+
+    def add(kind, name, after, weight, call):
+        tasks[kind, name] = Task(kind, crates[name], after, weight, call)
+
+    def add_proofs(names):
+        for name in closed(names, crates):
+            if ("proofs", name) not in tasks:
+                add("proofs", name, [("proofs", it) for it in crates[name].libraries], crates[name].lines * (not crates[name].is_program), prove)
+
+    for kind, names in wanted.items():
+        chosen = [crates[it] for it in names or crates]
+        below = lambda it: [("proofs", name) for name in [it.name, *it.libraries]]
+        if kind == "proofs":
+            add_proofs(names)
+        for it in chosen:
+            if kind == "tests" and it.has_tests:
+                add_proofs([it.name])
+                add(kind, it.name, below(it), 3 * it.lines, test)
+            elif kind == "programs" and it.is_program:
+                add_proofs([it.name])
+                add(kind, it.name, below(it), 600 + it.lines, build)
+            elif kind == "edits" and it.edits:
+                add_proofs([it.name])
+                add(kind, it.name, below(it), 150 * len(it.edits), Tries(until))
+            elif kind == "tries" and it.has_tests:
+                add(kind, it.name, [], 600, attempt)
+            elif kind == "cases" and it.name in EXAMPLES:
+                add(kind, it.name, [], 900, play)
+    for task in tasks.values():
+        task.after = [it for it in task.after if it in tasks and it != task.key]
+    return tasks
+
+
+class Progress:
+    """Tells of each task as it ends, and on a terminal how far all is."""
+
+    def __init__(self, tasks):
+        self.whole, self.done, self.began = max(1, sum(it.weight for it in tasks.values())), 0, time.time()
+        self.many, self.ended, self.is_terminal = len(tasks), 0, sys.stdout.isatty()
+
+    def end(self, task, told, seconds):
+        self.done, self.ended = self.done + task.weight, self.ended + 1
+        if self.is_terminal:
+            print("\r\x1b[K", end="")
+        if told.line and (told.failed or not self.is_terminal or task.kind != "proofs"):
+            print(f"{'FAILED: ' if told.failed else ''}{task.crate.name}: {told.line} ({seconds:.0f} s)" + "".join(f"\n    {it}" for it in told.why.split("\n") if it), flush=True)
+        if self.is_terminal:
+            left = (time.time() - self.began) * (self.whole - self.done) / max(self.done, 1)
+            print(f"\r\x1b[K{self.ended} of {self.many}; some {left / 60:.0f} minutes more", end="", flush=True)
+
+
+def run_all(tasks, lanes, progress):
+    """Runs the tasks, each after those that it waits for and first those with the most behind them. Returns what each came to, and its seconds."""
+    for key in reversed(ordered(tasks)):
+        for it in tasks[key].after:
+            tasks[it].behind = max(tasks[it].behind, tasks[it].weight + tasks[key].behind)
+    left, running, given, free = dict(tasks), {}, {}, list(lanes)
+
+    def work(task, lane, jobs):
+        began = time.time()
+        if any(given[it][0].failed for it in task.after if it[0] == "proofs"):
+            return Told(0, 1, "not tried, since what it stands on is not proved"), 0
+        return task.call(lane, task.crate, jobs), time.time() - began
+
+    with concurrent.futures.ThreadPoolExecutor(len(lanes)) as pool:
+        while left or running:
+            ready = sorted((it for it in left.values() if all(below in given for below in it.after)), key=lambda it: -it.behind)
+            while ready and free:
+                task, lane = ready.pop(0), free.pop()
+                jobs = min(4, 1 + len(free) // (len(ready) + 1)) if task.kind in ("proofs", "tests") else 1
+                running[pool.submit(work, task, lane, jobs)] = task, lane
+                del left[task.key]
+            for it in concurrent.futures.wait(running, return_when=concurrent.futures.FIRST_COMPLETED).done:
+                task, lane = running.pop(it)
+                given[task.key] = it.result()
+                free.append(lane)
+                progress.end(task, *given[task.key])
+    return given
+
+
+def ordered(tasks):
+    """The keys of the tasks, each after those that it waits for."""
+    order = []
+
+    def put_in(key):
+        for it in tasks[key].after:
+            put_in(it)
+        if key not in order:
+            order.append(key)
+
+    for key in tasks:
+        put_in(key)
+    return order
+
+
+def lanes_at(top):
+    """Where the lanes are kept: with the checkout's history, or nowhere for long."""
+    ran = subprocess.run(["git", "rev-parse", "--absolute-git-dir"], cwd=top, stdout=subprocess.PIPE, stderr=subprocess.DEVNULL, text=True)
+    return f"{ran.stdout.strip()}/lanes" if ran.returncode == 0 else tempfile.mkdtemp(prefix="lanes-")
+
+
+def tell(given, crates, tasks, began):
+    """Says what was proved in this call, what only ran, what was not tried, and what it cost."""
+    of = lambda kind: [name for done, name in given if done == kind]
+    kept = [name for name in of("proofs") if given["proofs", name][0].line.startswith("kept")]
+    now = os.times()
+    minutes = (now.children_user + now.children_system - began.children_user - began.children_system) / 60
+    print(f"\nproved in this call: {len([it for it in of('proofs') if given['proofs', it][0].passed]) - len(kept)} libraries; kept by this machine: {' '.join(kept) or 'none'}")
+    if of("tries") or of("cases"):
+        print(f"ran as they are, unproved: {' '.join(of('tries') + of('cases'))}")
+    untried = sum(len(it.edits) for it in crates.values()) - sum(given[it][0].passed + given[it][0].failed for it in given if it[0] == "edits")
+    if untried:
+        print(f"edits that were not tried: {untried}")
+    print(f"{(now.elapsed - began.elapsed) / 60:.1f} minutes, {minutes:.0f} of a processor")
+
+
+def main(words):
+    parser = argparse.ArgumentParser(usage=__doc__)
+    parser.add_argument("--lanes", type=int, default=len(os.sched_getaffinity(0)))
+    parser.add_argument("--minutes", type=float, default=1e9)
+    parser.add_argument("--count")
+    parser.add_argument("what", nargs="+")
+    asked = parser.parse_args(words)
+    top = os.path.dirname(os.path.dirname(os.path.realpath(__file__)))
+    crates = crates_of(top)
+    wanted = {it.partition("=")[0]: [name for name in it.partition("=")[2].split(",") if name] for it in asked.what}
+    unknown = [it for names in wanted.values() for it in names if it not in crates] + [it for it in wanted if it not in ("proofs", "tests", "programs", "edits", "tries", "cases")]
+    if unknown:
+        sys.exit(f"{unknown[0]}: there is no such crate, or nothing of that name is done\n{__doc__}")
+    tasks = tasks_of(wanted, crates, time.time() + 60 * asked.minutes)
+    if [*wanted] == ["edits"]:
+        for at, name in enumerate(reversed(latest_first(top))):
+            if ("edits", name) in tasks:
+                tasks["edits", name].behind += 1_000_000 * (at + 1)
+    at, began = lanes_at(top), os.times()
+    lanes = [Lane(top, f"{at}/{number}") for number in range(max(1, min(asked.lanes, len(tasks))))]
+    try:
+        given = run_all(tasks, lanes, Progress(tasks))
+    except KeyboardInterrupt:
+        for it in lanes:
+            it.stop()
+        sys.exit(130)
+    finally:
+        if at.startswith(tempfile.gettempdir()):
+            shutil.rmtree(at, ignore_errors=True)
+    passed, failed = (sum(getattr(it, what) for it, _ in given.values()) for what in ("passed", "failed"))
+    tell(given, crates, tasks, began)
+    print(f"{passed} passed, {failed} failed", flush=True)
+    if asked.count:
+        with open(asked.count, "w", encoding="utf-8") as it:
+            it.write(f"{passed} {failed}\n")
+    return int(failed > 0)
+
+
+if __name__ == "__main__":
+    sys.exit(main(sys.argv[1:]))

@@ -1,0 +1,16 @@
+# The kit's own gate, from nothing, which tries each edit alone. Its last line counts what passed and failed.
+test_anew() {
+    local ended last
+    rt ci --anew | tee -- "$room/ci"
+    ended=${PIPESTATUS[0]}
+    last=$(tail -n 1 -- "$room/ci")
+    if [[ ! $last =~ ^([0-9]+)\ passed,\ ([0-9]+)\ failed$ ]]; then
+        fail "rt ci" "it ended with status $ended, and without its last line"
+        return
+    fi
+    passed=$((passed + BASH_REMATCH[1]))
+    failed=$((failed + BASH_REMATCH[2]))
+    if ((ended != 0 && BASH_REMATCH[2] == 0)); then
+        fail "rt ci" "it ended with status $ended, and says that nothing failed"
+    fi
+}

@@ -1,0 +1,81 @@
+# The tool that proves and tries edits, on a crate of three functions and one test: what is no bug, and what cannot be read, fails it and says so,
+# beside wrong bodies in the same check; so do a test that fails and a crate that is not proved.
+test_batches() {
+    local top=$room/batches crate=$room/batches/crates/sizes
+    mkdir -p -- "$top/tools" "$crate/src" "$crate/must-fail"
+    cp -- tools/prove.py tools/edits.py "$top/tools"
+    cp -- HANDLES "$top"
+    echo "sizes:" >"$top/crates.txt"
+    cat >"$crate/src/lib.rt" <<'RT'
+//! Three functions, of which wrong bodies are tried.
+#![tactic(auto)]
+
+ghost use Rattle.std.specs.Prelude.{◌≡◌, false, true};
+
+/// Always.
+pub fn yes() -> bool
+    ensures says { result ≡ true }
+{
+    true
+}
+
+/// Never.
+pub fn no() -> bool
+    ensures says { result ≡ false }
+{
+    !yes()
+}
+
+/// What it was given.
+pub fn same(given: u64) -> u64
+    ensures says { result ≡ given }
+{
+    let again = given;
+    again
+}
+
+#[cfg(test)]
+mod tests {
+    use super::{no, same, yes};
+    use std::rt::HostRuntime;
+
+    #[test]
+    fn each_answers(rt: HostRuntime) {
+        assert!(rt; yes() && !no() && same(3) == 3);
+    }
+}
+RT
+    plant yes_is_no "    true" "    false"
+    plant no_is_yes "    !yes()" "    yes()"
+    plant another_way "    let again = given;" "    let again: u64 = given;"
+    plant cannot_be_read "    !yes()" "    !yes("
+    plant stands_nowhere "    maybe()" "    yes()"
+    tries "edits of which two are wrong bodies" "edits tests" "4 passed, 3 failed" \
+        "2 of its 5 edits are refused" "another_way.edit: NOT REFUSED" "cannot_be_read.edit: BAD" "stands_nowhere.edit: BAD"
+    sed -i -- 's/same(3) == 3/same(3) == 4/' "$crate/src/lib.rt"
+    tries "a test that fails, unproved" tries "0 passed, 1 failed" each_answers
+    sed -i -- 's/    true/    false/' "$crate/src/lib.rt"
+    tries "a crate that is not proved" proofs "0 passed, 1 failed" "sizes: NOT PROVED"
+}
+
+# plant NAME OLD NEW
+plant() {
+    printf '%s\n' "file: src/lib.rt" "old: $2" "new: $3" >"$crate/must-fail/$1.edit"
+}
+
+# What it says of the crate: tries LABEL WHAT LAST WORDS ..
+tries() {
+    local words
+    attempt python3 "$top/tools/prove.py" --lanes 2 $2
+    if [[ $status != 1 || $(tail -n 1 -- "$room/out") != "$3" ]]; then
+        fail "$1" "it ended with status $status, and said: $(tail -n 12 -- "$room/out" "$room/err")"
+        return
+    fi
+    for words in "${@:4}"; do
+        if [[ $(<"$room/out") != *"$words"* ]]; then
+            fail "$1" "it does not say '$words': $(tail -n 12 -- "$room/out")"
+            return
+        fi
+    done
+    succeed
+}
