@@ -20,7 +20,6 @@ import threading
 import zlib
 
 TOP = pathlib.Path(__file__).resolve().parent.parent
-sys.dont_write_bytecode = True
 sys.path.insert(0, str(TOP / "tools"))
 import played
 
