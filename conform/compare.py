@@ -1,6 +1,6 @@
 """Plays schedule texts on the Rust crate and on the model, and compares each step and each answer.
 
-    python3 conform/compare.py [--without ROW] COUNT    all examples, the tables of texts/, and so many random texts of each object
+    python3 conform/compare.py [--without ROW] COUNT    all examples, the tables of texts/, and about so many random texts of each object
     python3 conform/compare.py --write                  writes texts/rust
 
 A difference is explained where the crate makes the model's steps once it has the departures of docs/DIFFERENCES.md; it is counted under
@@ -20,7 +20,6 @@ import threading
 import zlib
 
 TOP = pathlib.Path(__file__).resolve().parent.parent
-sys.dont_write_bytecode = True
 sys.path.insert(0, str(TOP / "tools"))
 import played
 
@@ -40,8 +39,8 @@ ROWS = {
     "lazy": (),
     **dict.fromkeys(ATOMICS, OF_ATOMICS),
 }
-# How many texts of each object are in texts/rust.
-LISTED = {"rwwriter": 500, "rwreader": 250, "condvar": 250, "barrier": 200, **dict.fromkeys(ATOMICS, 60)}
+# How many texts of each object there are, in a hundred of one that is not named.
+SHARES = {"rwwriter": 350, "rwreader": 150, "condvar": 150, "barrier": 150, **dict.fromkeys(ATOMICS, 40)}
 
 
 @dataclasses.dataclass(frozen=True)
@@ -203,8 +202,12 @@ def as_text(line):
     return "".join(f"{words}\n" for words in line.split(" / ")).encode()
 
 
-def random_texts(name, count, lines, seed=SEED):
-    """Random texts of an object: half of them made with the crate as it is, half with all departures."""
+def share(name, count):
+    return count * SHARES.get(name, 100) // 100
+
+
+def random_texts(name, count, lines, seed):
+    """So many random texts of an object, with no more random lines each: half made with the crate as it is, half with all departures."""
     texts = []
     for code, rows in (("rust", ()), ("amended", ROWS[name])):
         command = [TOP / "conform/out" / code, "texts", name, str(seed), str(count // 2), str(lines), ",".join(rows)]
@@ -247,9 +250,14 @@ def compare(count, without):
         sys.exit(f"docs/DIFFERENCES.md has no row {', '.join(unlisted)}")
     entries = {as_text(of.split("\n")[0]): of for of in listed()}
     texts = texts_of_repository() + list(entries)
-    texts += [as_text(text) for name in ROWS for text in random_texts(name, count, 24)]
+    texts += [as_text(text) for name in ROWS for text in random_texts(name, share(name, count), 24, SEED)]
     judge = Judge(without)
     counted, wrong = collections.Counter(), 0
+    played_there = [judge.rust.play(pathlib.Path(f"examples/rwwriter-{name}.txt").read_bytes()) for name in ("last-look", "failed-mark")]
+    for line in re.findall(r"^ {4}(\d.*)$", page, re.MULTILINE):
+        if not any(line in outcome.trace.decode().splitlines() for outcome in played_there):
+            wrong += 1
+            print(f"docs/DIFFERENCES.md shows what the Rust crate does not do: {line}")
     by_row = collections.defaultdict(list)
     steps = answers = 0
     with concurrent.futures.ThreadPoolExecutor(2 * (os.cpu_count() or 1)) as pool:
@@ -299,7 +307,7 @@ HEAD = """\
 def write():
     judge = Judge()
     for name in ROWS:
-        lines, count = [HEAD.format(name=name)], LISTED.get(name, 150)
+        lines, count = [HEAD.format(name=name)], share(name, 140)
         for line in dict.fromkeys(random_texts(name, 4 * count, 12, SEED + 1)):
             text = as_text(line)
             rust, port = judge.rust.play(text), judge.amended.play(text, judge.rows_of(text))

@@ -54,8 +54,11 @@ impl Draft<'_> {
         if self.player.parties[p].at != At::Idle || calls.is_empty() {
             return;
         }
-        let last = kind.is_atomic() && self.random.percent(20);
-        let &(call, numbers) = if last { calls[calls.len() - 1] } else { self.random.pick(&calls) };
+        // Often one that may wait, or stands at its choice closure.
+        let waits = |call: &&&(&str, usize)| matches!(call.0, "lock" | "read_lock" | "write_lock" | "start_wait" | "fetch_update");
+        let waiting: Vec<_> = calls.iter().filter(waits).copied().collect();
+        let often = self.random.percent(30) && !waiting.is_empty();
+        let &(call, numbers) = self.random.pick(if often { &waiting } else { &calls });
         let mut n = [0; 2];
         let mut line = format!("{} {call}", p + 1);
         for n in &mut n[..numbers] {
@@ -118,18 +121,19 @@ pub fn text(kind: &'static Kind, random: &mut Random, most_lines: u64) -> Vec<St
     let (runs, longs) = draft.random.pick(&[(45, 7), (20, 10), (10, 0), (4, 0), (60, 15), (30, 30)]);
     let unlocks_at_once = draft.random.percent(30);
     let busy = parties.min(4);
-    // Some begin with a call that is about there, some with one that another comes between.
-    let opening = if busy > 1 { draft.random.below(10) } else { 9 };
-    if opening < 6 {
-        draft.begin(0);
-        draft.run(0);
-        draft.begin(1);
-        let steps = if spins && opening < 3 { 9_996 + draft.random.below(10) } else { 1 + draft.random.below(3) };
-        draft.go(1, steps);
-        if opening > 1 {
-            draft.begin(0);
-            draft.run(0);
-        }
+    // Some begin with a call that is about there, or with one that another comes between.
+    let (all, few, spun) = (u64::MAX, 1 + draft.random.below(3), 9_996 + draft.random.below(10));
+    let opening: &[(usize, u64)] = match draft.random.below(8) {
+        0 if spins && busy > 2 => &[(0, all), (1, all), (2, spun), (0, all)],
+        1 if spins && busy > 1 => &[(0, all), (1, spun)],
+        2 if spins && busy > 1 => &[(0, all), (1, spun), (0, all)],
+        3 if busy > 1 => &[(0, all), (1, few), (0, all)],
+        4 if busy > 1 => &[(1, few), (0, all)],
+        _ => &[],
+    };
+    for &(p, steps) in opening {
+        draft.begin(p);
+        if steps == all { draft.run(p) } else { draft.go(p, steps) }
     }
     for _ in 0..2 + draft.random.below(most_lines) {
         let p = draft.random.below(busy as u64) as usize;

@@ -9,7 +9,6 @@ does. A table without a text is wrong, and so is one that excuses a difference b
 import sys
 import zlib
 
-sys.dont_write_bytecode = True
 from played import played, written
 
 
