@@ -1,5 +1,6 @@
 -- What a line after the first asks, and of whom.
 use Rattle.std.specs.Prelude.{ℕ, zero, suc, ◌-◌, ◌^◌, if◌then◌else◌, List, [], ◌∷◌, Option, Some, None, Result, Ok, Err, codes}
+use Rattle.std.specs.Fmt.{decimal}
 use Rattle.std.specs.Str.{bytes_eq}
 use Rattle.steps_events.specs.declared.WaitAction.TheVariants as actions
 use Rattle.steps_events.specs.declared.event.Call.{Call}
@@ -104,6 +105,23 @@ with_one call v = calls.FetchMin v
 abbrev pub with_two : {T : Type 0} → Call Unit → T → T → Call T
 with_two (calls.CompareExchange _ _) v w = calls.CompareExchange v w
 with_two call v w = calls.CompareExchangeWeak v w
+
+-- the values that a call brings, each a word
+abbrev pub values_written : {T : Type 0} → Numerals T → Call T → List (List ℕ)
+values_written numerals (calls.Post permits) = decimal permits ∷ []
+values_written numerals (calls.Store v) = numerals.decimal_of v ∷ []
+values_written numerals (calls.Swap v) = numerals.decimal_of v ∷ []
+values_written numerals (calls.CompareExchange v w) = numerals.decimal_of v ∷ numerals.decimal_of w ∷ []
+values_written numerals (calls.CompareExchangeWeak v w) = numerals.decimal_of v ∷ numerals.decimal_of w ∷ []
+values_written numerals (calls.FetchAdd v) = numerals.decimal_of v ∷ []
+values_written numerals (calls.FetchSub v) = numerals.decimal_of v ∷ []
+values_written numerals (calls.FetchAnd v) = numerals.decimal_of v ∷ []
+values_written numerals (calls.FetchOr v) = numerals.decimal_of v ∷ []
+values_written numerals (calls.FetchXor v) = numerals.decimal_of v ∷ []
+values_written numerals (calls.FetchNand v) = numerals.decimal_of v ∷ []
+values_written numerals (calls.FetchMax v) = numerals.decimal_of v ∷ []
+values_written numerals (calls.FetchMin v) = numerals.decimal_of v ∷ []
+values_written numerals call = []
 
 -- with the values that follow its name
 abbrev pub with_these : {T : Type 0} → Numerals T → Call Unit → Values → List (List ℕ) → Result (Call T) LineFault

@@ -18,6 +18,10 @@ pub record Numerals (T : Type 0) : Type 0 where
 abbrev pub ReadsValues : {T : Type 0} → Arithmetic T → Numerals T → Type 0
 ReadsValues {T} z n = (word : List ℕ) (v : T) → n.value_of word ≡ Ok v → IsValue z v
 
+-- and what is printed of a value is read as that value
+abbrev pub ReadsItsOwn : {T : Type 0} → Arithmetic T → Numerals T → Type 0
+ReadsItsOwn {T} z n = (v : T) → IsValue z v → n.value_of (n.decimal_of v) ≡ Ok v
+
 -- without a sign: decimal digits
 abbrev pub unsigned_numerals : List ℕ → Bool → Numerals ℕ
 unsigned_numerals name wide = record { atomic = name; value_of = number_within 0 (span wide - 1); decimal_of = decimal }

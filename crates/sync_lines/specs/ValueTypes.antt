@@ -8,8 +8,8 @@ use Rattle.sync_lines.specs.declared.value_type.ValueType.{ValueType}
 use Rattle.sync_lines.specs.declared.value_type.ValueType.TheVariants as types
 use Rattle.sync_lines.specs.Header.{object_named}
 use Rattle.sync_lines.specs.Lexer.{lines_of, words_of}
-use Rattle.sync_lines.specs.Numerals.{Numerals, ReadsValues, u64_numerals, u128_numerals, i64_numerals, i128_numerals}
-use Rattle.sync_lines.specs.NumeralLaws.{unsigned_reads, signed_reads}
+use Rattle.sync_lines.specs.Numerals.{Numerals, ReadsValues, ReadsItsOwn, u64_numerals, u128_numerals, i64_numerals, i128_numerals}
+use Rattle.sync_lines.specs.NumeralLaws.{unsigned_reads, unsigned_reads_back, signed_reads, signed_reads_back}
 
 -- the type of the atomics of this name; every other object has u64
 abbrev pub type_named : List ℕ → ValueType
@@ -36,12 +36,13 @@ pub record Meaning : Type 1 where
   pub arithmetic : Arithmetic Value
   pub numerals : Numerals Value
   pub reads : ReadsValues arithmetic numerals
+  pub reads_back : ReadsItsOwn arithmetic numerals
 
 abbrev pub meaning_of : ValueType → Meaning
-meaning_of types.U64 = record { Value = ℕ; arithmetic = u64_arithmetic; numerals = u64_numerals; reads = unsigned_reads u64_numerals.atomic false }
-meaning_of types.U128 = record { Value = ℕ; arithmetic = u128_arithmetic; numerals = u128_numerals; reads = unsigned_reads u128_numerals.atomic true }
-meaning_of types.I64 = record { Value = ℤ; arithmetic = i64_arithmetic; numerals = i64_numerals; reads = signed_reads i64_numerals.atomic false }
-meaning_of types.I128 = record { Value = ℤ; arithmetic = i128_arithmetic; numerals = i128_numerals; reads = signed_reads i128_numerals.atomic true }
+meaning_of types.U64 = record { Value = ℕ; arithmetic = u64_arithmetic; numerals = u64_numerals; reads = unsigned_reads u64_numerals.atomic false; reads_back = unsigned_reads_back u64_numerals.atomic false }
+meaning_of types.U128 = record { Value = ℕ; arithmetic = u128_arithmetic; numerals = u128_numerals; reads = unsigned_reads u128_numerals.atomic true; reads_back = unsigned_reads_back u128_numerals.atomic true }
+meaning_of types.I64 = record { Value = ℤ; arithmetic = i64_arithmetic; numerals = i64_numerals; reads = signed_reads i64_numerals.atomic false; reads_back = signed_reads_back i64_numerals.atomic false }
+meaning_of types.I128 = record { Value = ℤ; arithmetic = i128_arithmetic; numerals = i128_numerals; reads = signed_reads i128_numerals.atomic true; reads_back = signed_reads_back i128_numerals.atomic true }
 
 -- the object of this name, of whichever type its values are
 abbrev pub object_of_name : List ℕ → Option (Object Unit)

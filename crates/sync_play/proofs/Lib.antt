@@ -10,3 +10,4 @@ pub mod OwnLine
 pub mod WalkLaws
 pub mod WalksAreOutputs
 pub mod PlayLaws
+pub mod CallLaws

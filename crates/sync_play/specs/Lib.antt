@@ -5,3 +5,4 @@ pub mod Walk
 pub mod WalkOutput
 pub mod Run
 pub mod Law
+pub mod Calls

@@ -1,6 +1,7 @@
 //! Laws of the definitions of a text. Each function says one of them, and does nothing.
 ghost use Rattle.sync_play.specs.Law.{OutputsAreRuns, RunsAreOutputs, FaultsAreRefusals, RefusalsAreFaults, EndsInItsLine};
 ghost use Rattle.sync_play.specs.WalkOutput.{WalksAreOutputs};
+ghost use Rattle.sync_play.specs.Calls.{TextsNameCalls, TextsReadCallsBack};
 
 use sync_lines::integer::TextInteger;
 
@@ -27,4 +28,11 @@ pub fn faults_are_refusals()
 /// whose later `go` makes two steps, is none of the text.
 pub fn a_run_ends_in_its_line()
     ensures { EndsInItsLine }
+{}
+
+/// Each call that an object has is found by its name among the calls of a text; and the words of a call, its name and what is printed of
+/// its values, ask of a party to begin that call.
+pub fn calls_are_read_back()
+    ensures named { TextsNameCalls }
+    ensures read { TextsReadCallsBack }
 {}

@@ -5,7 +5,6 @@ use Rattle.steps_events.specs.declared.WaitAction.TheVariants as actions
 use Rattle.steps_events.specs.declared.event.Act.{Act}
 use Rattle.steps_events.specs.declared.event.Act.TheVariants as acts
 use Rattle.steps_events.specs.declared.event.Call.{Call}
-use Rattle.steps_events.specs.declared.event.Call.TheVariants as calls
 use Rattle.steps_events.specs.declared.event.Event.{Event}
 use Rattle.steps_events.specs.declared.event.Object.{Object}
 use Rattle.steps_events.specs.declared.event.Object.TheVariants as objects
@@ -22,6 +21,7 @@ use Rattle.sync_steps.specs.Objects.{table_of}
 use Rattle.sync_steps.specs.Runs.{word_in}
 use Rattle.sync_lines.specs.declared.header.Header.{Header}
 use Rattle.sync_lines.specs.Call.{name_of}
+use Rattle.sync_lines.specs.Command.{values_written}
 use Rattle.sync_lines.specs.Numerals.{Numerals}
 use Rattle.sync_play.specs.Print.{answer_words, further_words}
 use Rattle.sync_play.specs.declared.walk.Step.{Step}
@@ -29,26 +29,15 @@ use Rattle.sync_trace.specs.declared.cells.Cells.{Cells}
 
 -- The act.
 
--- the values of a call, each behind a space
-abbrev pub value_words : {T : Type 0} → Numerals T → Call T → List ℕ
-value_words numerals (calls.Post permits) = codes " " ++ decimal permits
-value_words numerals (calls.Store v) = codes " " ++ numerals.decimal_of v
-value_words numerals (calls.Swap v) = codes " " ++ numerals.decimal_of v
-value_words numerals (calls.CompareExchange v w) = codes " " ++ (numerals.decimal_of v ++ (codes " " ++ numerals.decimal_of w))
-value_words numerals (calls.CompareExchangeWeak v w) = codes " " ++ (numerals.decimal_of v ++ (codes " " ++ numerals.decimal_of w))
-value_words numerals (calls.FetchAdd v) = codes " " ++ numerals.decimal_of v
-value_words numerals (calls.FetchSub v) = codes " " ++ numerals.decimal_of v
-value_words numerals (calls.FetchAnd v) = codes " " ++ numerals.decimal_of v
-value_words numerals (calls.FetchOr v) = codes " " ++ numerals.decimal_of v
-value_words numerals (calls.FetchXor v) = codes " " ++ numerals.decimal_of v
-value_words numerals (calls.FetchNand v) = codes " " ++ numerals.decimal_of v
-value_words numerals (calls.FetchMax v) = codes " " ++ numerals.decimal_of v
-value_words numerals (calls.FetchMin v) = codes " " ++ numerals.decimal_of v
-value_words numerals call = []
+-- words, each behind a space
+abbrev pub spaced : List (List ℕ) → List ℕ
+spaced [] = []
+spaced (word ∷ []) = codes " " ++ word
+spaced (word ∷ next ∷ words) = codes " " ++ (word ++ spaced (next ∷ words))
 
 -- a call, as the text asks for it
 abbrev pub call_words : {T : Type 0} → Numerals T → Call T → List ℕ
-call_words numerals call = name_of call ++ value_words numerals call
+call_words numerals call = name_of call ++ spaced (values_written numerals call)
 
 -- the first word of an object goes without its name
 abbrev pub verb_words : List ℕ → Word → List ℕ
