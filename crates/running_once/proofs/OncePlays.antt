@@ -13,6 +13,8 @@ use Rattle.steps_once.specs.declared.OncePlace.TheVariants as places
 use Rattle.steps_once.specs.Table.{once_intent}
 use Rattle.running_once.specs.OnceScript.{once_model}
 use Rattle.playing.specs.Slots.{Slot, Parties, all_of}
+use Rattle.playing.specs.Turns.{IsOver}
+use Rattle.playing.proofs.Over.{is_over}
 use Rattle.playing.specs.Plays.{Coming, Going, Beginning, Aside, ComesBy, Led, HasCalled, MayStep, Went}
 use Rattle.playing.specs.Tries.{IsToEnd}
 use Rattle.running_once.specs.OnceParties.{ComesToBegin, IsRunning, ComesToStay, HasLeft}
@@ -56,6 +58,9 @@ pub asked : (flag : Bool) (found : ℕ) (p q : Parties ℕ) → MatchBool flag (
     HasCalled once_model calls.IsCompleted (answers.Flag flag) None p q
 asked flag found p q is went =
     subst (λ b. HasCalled once_model calls.IsCompleted (answers.Flag b) None p q) (flag_is flag found is) (went calls.IsCompleted places.IsCompleted None (all_of p) (asking_begins p))
+
+pub asked_is_over : (found : ℕ) (p q : Parties ℕ) → Went once_model (Beginning calls.IsCompleted) p found q → IsOver once_model q
+asked_is_over found p q went = is_over once_model calls.IsCompleted _ None (all_of p) q (went calls.IsCompleted places.IsCompleted None (all_of p) (asking_begins p))
 
 -- a look that sees 2 ends a `CallOnce`, and any other leads to the exchange, or to a further look
 

@@ -75,6 +75,21 @@ pub record HasBegun (p q : PlayedPass) : Type 0 where
   pub first : (counts_of p).ended ≡ 0
   pub begins : counted q ≡ wrote (counted p) (began (counts_of p))
 
+-- within a call: the word was seen once, and nothing else changed but that the pass may know of the end
+abbrev pub SeesOnceWithin : PlayedPass → PlayedPass → Type 0
+SeesOnceWithin p q = IsSamePass p q × (counted q ≡ learns (sights_of q).last (looked (counted p) (sights_of q).last))
+
+-- within a call, the same as `HasRun`, and as `HasCompleted`
+abbrev pub RunsWithin : PlayedPass → PlayedPass → Type 0
+RunsWithin p q = IsSamePass p q × (counted q ≡ wrote (looked (counted p) (sights_of q).last) (ended (counts_of p)))
+
+pub record CompletesWithin (p q : PlayedPass) : Type 0 where
+  pub same : IsSamePass p q
+  pub part : part_of q ≡ part_of p
+  pub complete : (counts_of q).complete ≡ true
+  pub once : ((counts_of q).ended ≡ (counts_of p).ended) ⊎ (((counts_of p).ended ≡ 0) × RunsWithin p q)
+  pub saw : (sights_of p).count < (sights_of q).count
+
 -- the values at which no closure begins
 abbrev pub IsTaken : ℕ → Type 0
 IsTaken word = word ≢ 0

@@ -11,7 +11,8 @@ ghost use Rattle.running_once.specs.OnceRule.{ClosuresAreOfARun, OneClosure, Kno
 ghost use Rattle.running_once.specs.OnceLaws.{DoneComesAfterTheEnd, TrueComesAfterTheEnd};
 
 use passes::{Deed, Pass, Rule, Tally};
-use playing::{AfterAside, Counts, Entry, GoesOn, Played, Script, Stage};
+use playing::turn::{AfterAside, Called, Goes, Turn, Way, begin_new};
+use playing::{Counts, Played, Script, Stage};
 use std::alloc::{AllocError, Allocator, Global};
 use std::hint::spin_loop;
 use std::sync::Wait;
@@ -125,32 +126,22 @@ impl Deed<(), Runs> for End {
     ghost tells = { λ _ _ _ before _ after. Stored before after };
 }
 
-/// A `CallOnce` begins.
-#[derive(Drop)]
-struct CallBegins;
+/// A `CallOnce`.
+struct CallOnceCall;
 
-impl Entry<u64> for CallBegins {
+impl Called<u64> for CallOnceCall {
     ghost use Rattle.steps_events.specs.declared.event.Call.TheVariants as calls;
-    ghost use Rattle.playing.specs.Plays.{Beginning};
 
-    ghost coming = { Beginning calls.CallOnce };
-
-    #[inline(always)]
-    fn spend(self) {}
+    ghost call = { calls.CallOnce };
 }
 
-/// An `IsCompleted` begins.
-#[derive(Drop)]
-struct AskingBegins;
+/// An `IsCompleted`.
+struct IsCompletedCall;
 
-impl Entry<u64> for AskingBegins {
+impl Called<u64> for IsCompletedCall {
     ghost use Rattle.steps_events.specs.declared.event.Call.TheVariants as calls;
-    ghost use Rattle.playing.specs.Plays.{Beginning};
 
-    ghost coming = { Beginning calls.IsCompleted };
-
-    #[inline(always)]
-    fn spend(self) {}
+    ghost call = { calls.IsCompleted };
 }
 
 impl OncePass {
@@ -205,7 +196,7 @@ impl OncePass {
 
 impl<A: Allocator> Once<A> {
     ghost use Rattle.std.specs.Fn.{FnOnceTakesAtMut, FnOnceReturnsAtMut};
-    ghost use Rattle.std.specs.Prelude.{IfSome, IfNone, true, false, ◌+◌, ◌*◌, ◌<◌, ◌≢◌, MatchBool, List, [], ◌∷◌};
+    ghost use Rattle.std.specs.Prelude.{IfSome, IfNone, None, true, false, ◌+◌, ◌*◌, ◌<◌, ◌≢◌, MatchBool, List, [], ◌∷◌};
     ghost use Rattle.steps_events.specs.declared.event.Word.TheVariants as words;
     ghost use Rattle.steps_events.specs.declared.event.Call.TheVariants as calls;
     ghost use Rattle.steps_events.specs.declared.event.Answer.TheVariants as answers;
@@ -216,13 +207,13 @@ impl<A: Allocator> Once<A> {
     ghost use Rattle.passes.specs.Sights.{HasLooked};
     ghost use Rattle.passes.specs.Passes.{part_of, sights_of, IsSamePass};
     ghost use Rattle.playing.specs.Slots.{Slot, no_parties};
-    ghost use Rattle.playing.specs.Plays.{MayStep, Went};
+    ghost use Rattle.playing.specs.Plays.{Beginning, HasCalled, MayStep, Went};
     ghost use Rattle.playing.specs.Passes.{parties_of, counted};
     ghost use Rattle.playing.specs.Counts.{HasDone};
     ghost use Rattle.playing.specs.Stages.{IsPassOf};
     ghost use Rattle.running_once.specs.OnceRule.{no_runs, ended, Amounts, Loaded};
     ghost use Rattle.running_once.specs.OnceParties.{ComesToBegin, IsRunning, ComesToStay, HasLeft, WhereBegins, WhereRuns, WhereStays};
-    ghost use Rattle.running_once.specs.OnceShown.{IsOncePass, IsComplete, HasSeenOnce, HasCompleted, HasBegun, HasOnlyWaited, HasPlayed, IsTaken, known_by, parties_of_once, part_of_once, sights_of_once, ended_of};
+    ghost use Rattle.running_once.specs.OnceShown.{CompletesWithin, SeesOnceWithin, IsOncePass, IsComplete, HasSeenOnce, HasCompleted, HasBegun, HasOnlyWaited, HasPlayed, IsTaken, known_by, parties_of_once, part_of_once, sights_of_once, ended_of};
 
     /// A once whose closure has not run, and the pass that is whole. `Err` where there was no memory; then nothing was made.
     pub fn new(alloc: A) -> Result<(Once<A>, OncePass), AllocError>
@@ -279,16 +270,7 @@ impl<A: Allocator> Once<A> {
         ensures exact { IsWhole (part_of_once pass.old) → ended_of pass.new ≡ 1 }
         ensures played { HasPlayed calls.CallOnce answers.Done pass.old pass.new }
     {
-        if self.look(CallBegins, &mut pass.pass) == COMPLETE {
-            return None;
-        }
-        if self.begin(&mut pass.pass) {
-            let (given, ended) = self.stage.run(&pass.pass, on, f);
-            self.end(ended, &mut pass.pass);
-            return Some(given);
-        }
-        self.stay(rt, &mut pass.pass);
-        None
+        self.run_or_wait(rt, &mut pass.pass, on, f)
     }
 
     /// Whether a closure has ended: one load.
@@ -302,23 +284,82 @@ impl<A: Allocator> Once<A> {
         ensures exact { IsWhole (part_of_once pass.old) → MatchBool result (ended_of pass.old ≡ 1) (ended_of pass.old ≡ 0) }
         ensures played { HasPlayed calls.IsCompleted (answers.Flag result) pass.old pass.new }
     {
-        self.look(AskingBegins, &mut pass.pass) == COMPLETE
+        self.look_once(&mut pass.pass) == COMPLETE
+    }
+
+    /// What `call_once_on` does.
+    #[inline(always)]
+    fn run_or_wait<X, Y, R: Wait, F: FnOnce(&mut X) -> Y>(
+        &self,
+        rt: &R,
+        pass: &mut Pass<PlayedOnce>,
+        on: &mut X,
+        f: F,
+    ) -> Option<Y>
+        requires own { IsPassOf self.now.stage pass.old }
+        requires settled { (counts_of pass.old).running ≡ 0 }
+        requires may { FnOnceTakesAtMut F.FnOnce f on.old }
+        ensures settled { (counts_of pass.new).running ≡ 0 }
+        ensures completed { CompletesWithin pass.old pass.new }
+        ensures ran { IfSome result (λ given. FnOnceReturnsAtMut F.FnOnce f on.old given on.new) }
+        ensures counted { IfSome result (λ _. (counts_of pass.old).ended < (counts_of pass.new).ended) }
+        ensures let_go { IfNone result (((counts_of pass.new).ended ≡ (counts_of pass.old).ended) × (on.new ≡ on.old)) }
+        ensures kept { (counts_of pass.old).complete ≡ true → SeesOnceWithin pass.old pass.new }
+        ensures exact { IsWhole (part_of pass.old) → (counts_of pass.new).ended ≡ 1 }
+        ensures played { HasCalled once_model calls.CallOnce answers.Done None (parties_of pass.old) (parties_of pass.new) }
+    {
+        let (seen, turn) = self.first_look::<CallOnceCall>(pass);
+        if seen == COMPLETE {
+            let _pass = turn.end(&self.stage);
+            return None;
+        }
+        let (is_first, tried) = self.begin(turn);
+        if is_first {
+            let (given, ended) = tried.run(&self.stage, on, f);
+            let done = self.end(ended);
+            let _pass = done.end(&self.stage);
+            return Some(given);
+        }
+        let left = self.stay(rt, tried);
+        let _pass = left.end(&self.stage);
+        None
+    }
+
+    /// The load of `is_completed`, and what it found.
+    #[inline(always)]
+    fn look_once(&self, pass: &mut Pass<PlayedOnce>) -> u64
+        requires own { IsPassOf self.now.stage pass.old }
+        ensures same { IsSamePass pass.old pass.new }
+        ensures told { Loaded (counted pass.old) result (counted pass.new) }
+        ensures went { Went once_model (Beginning calls.IsCompleted) (parties_of pass.old) result (parties_of pass.new) }
+    {
+        let (seen, turn) = self.first_look::<IsCompletedCall>(pass);
+        let _pass = turn.end(&self.stage);
+        seen
     }
 
     /// Looks until the word says that a closure has ended.
-    fn stay<R: Wait>(&self, rt: &R, pass: &mut Pass<PlayedOnce>)
-        requires own { IsPassOf self.now.stage pass.old }
-        requires comes { (done : List (Slot ℕ)) × ComesToStay done (parties_of pass.old) }
-        ensures stayed { HasOnlyWaited pass.old pass.new }
-        ensures complete { (counts_of pass.new).complete ≡ true }
-        ensures alone { IsWhole (part_of pass.old) → Amounts 2 (counts_of pass.old) }
-        ensures left { WhereStays (parties_of pass.old) (λ done. HasLeft done (parties_of pass.new)) }
+    fn stay<'p, R: Wait>(
+        &self,
+        rt: &R,
+        turn: Turn<'p, Pass<PlayedOnce>, Goes>,
+    ) -> Turn<'p, Pass<PlayedOnce>, Goes>
+        requires own { IsPassOf self.now.stage turn.pass.now }
+        requires comes { (done : List (Slot ℕ)) × ComesToStay done (parties_of turn.pass.now) }
+        ensures same_borrow { result.pass.ghost_name ≡ turn.entry.pass.ghost_name }
+        ensures stayed { HasOnlyWaited turn.entry.pass.now result.pass.now }
+        ensures complete { (counts_of result.pass.now).complete ≡ true }
+        ensures alone { IsWhole (part_of turn.entry.pass.now) → Amounts 2 (counts_of turn.entry.pass.now) }
+        ensures left { WhereStays (parties_of turn.entry.pass.now) (λ done. HasLeft done (parties_of result.pass.now)) }
     {
+        let mut next = turn;
         for _ in rt.forever() {
-            if self.look(GoesOn, pass) == COMPLETE {
-                return;
+            let (seen, again) = self.look(next);
+            if seen == COMPLETE {
+                return again;
             }
             spin_loop();
+            next = again;
         }
         unreachable!()
     }
@@ -326,42 +367,70 @@ impl<A: Allocator> Once<A> {
     /// A load.
     #[tactic(auto, using(crate::proofs::OnceKeeps::loads))]
     #[inline(always)]
-    fn look<E: Entry<u64>>(&self, entry: E, pass: &mut Pass<PlayedOnce>) -> u64
-        requires own { IsPassOf self.now.stage pass.old }
-        requires may { MayStep once_model (words.State ∷ []) E.coming 0 (λ w. intents.Load w) (parties_of pass.old) }
-        ensures same { IsSamePass pass.old pass.new }
-        ensures told { Loaded (counted pass.old) result (counted pass.new) }
-        ensures went { Went once_model E.coming (parties_of pass.old) result (parties_of pass.new) }
+    fn look<'p, W: Way<u64>>(
+        &self,
+        turn: Turn<'p, Pass<PlayedOnce>, W>,
+    ) -> (u64, Turn<'p, Pass<PlayedOnce>, Goes>)
+        requires own { IsPassOf self.now.stage turn.pass.now }
+        requires may { MayStep once_model (words.State ∷ []) W.coming 0 (λ w. intents.Load w) (parties_of turn.pass.now) }
+        ensures same_borrow { result.1.pass.ghost_name ≡ turn.entry.pass.ghost_name }
+        ensures same { IsSamePass turn.entry.pass.now result.1.pass.now }
+        ensures told { Loaded (counted turn.entry.pass.now) result.0 (counted result.1.pass.now) }
+        ensures went { Went once_model W.coming (parties_of turn.entry.pass.now) result.0 (parties_of result.1.pass.now) }
     {
-        self.stage.load::<_, Look>(entry, pass, 0)
+        turn.load_by::<(), A, Look>(&self.stage, 0)
+    }
+
+    /// The load with which a call begins.
+    #[inline(always)]
+    fn first_look<'p, L: Called<u64>>(
+        &self,
+        pass: &'p mut Pass<PlayedOnce>,
+    ) -> (u64, Turn<'p, Pass<PlayedOnce>, Goes>)
+        requires own { IsPassOf self.now.stage pass.old }
+        requires may { MayStep once_model (words.State ∷ []) (Beginning L.call) 0 (λ w. intents.Load w) (parties_of pass.old) }
+        ensures same_borrow { result.1.pass.ghost_name ≡ pass.entry.ghost_name }
+        ensures same { IsSamePass pass.old result.1.pass.now }
+        ensures told { Loaded (counted pass.old) result.0 (counted result.1.pass.now) }
+        ensures went { Went once_model (Beginning L.call) (parties_of pass.old) result.0 (parties_of result.1.pass.now) }
+    {
+        let begun = begin_new::<L, Pass<PlayedOnce>>(pass);
+        self.look(begun)
     }
 
     /// An exchange of 0 for 1, and whether it was done.
     #[inline(always)]
-    fn begin(&self, pass: &mut Pass<PlayedOnce>) -> bool
-        requires own { IsPassOf self.now.stage pass.old }
-        requires comes { (done : List (Slot ℕ)) × ComesToBegin done (parties_of pass.old) }
-        ensures begun { MatchBool result (HasBegun pass.old pass.new) (HasOnlyWaited pass.old pass.new) }
-        ensures refused { result ≡ false → HasLooked IsTaken 1 (sights_of pass.old) (sights_of pass.new) }
-        ensures runs { result ≡ true → WhereBegins (parties_of pass.old) (λ done. IsRunning done (parties_of pass.new)) }
-        ensures stays { result ≡ false → WhereBegins (parties_of pass.old) (λ done. ComesToStay done (parties_of pass.new)) }
+    fn begin<'p>(
+        &self,
+        turn: Turn<'p, Pass<PlayedOnce>, Goes>,
+    ) -> (bool, Turn<'p, Pass<PlayedOnce>, Goes>)
+        requires own { IsPassOf self.now.stage turn.pass.now }
+        requires comes { (done : List (Slot ℕ)) × ComesToBegin done (parties_of turn.pass.now) }
+        ensures same_borrow { result.1.pass.ghost_name ≡ turn.entry.pass.ghost_name }
+        ensures begun { MatchBool result.0 (HasBegun turn.entry.pass.now result.1.pass.now) (HasOnlyWaited turn.entry.pass.now result.1.pass.now) }
+        ensures refused { result.0 ≡ false → HasLooked IsTaken 1 (sights_of turn.entry.pass.now) (sights_of result.1.pass.now) }
+        ensures runs { result.0 ≡ true → WhereBegins (parties_of turn.entry.pass.now) (λ done. IsRunning done (parties_of result.1.pass.now)) }
+        ensures stays { result.0 ≡ false → WhereBegins (parties_of turn.entry.pass.now) (λ done. ComesToStay done (parties_of result.1.pass.now)) }
     {
-        self.stage
-            .exchange::<_, Begin>(GoesOn, pass, 0, 0, running())
-            == 0
+        let (found, next) = turn.exchange_by::<(), A, Begin>(&self.stage, 0, 0, running());
+        (found == 0, next)
     }
 
     /// A store of 2, by the pass whose closure has ended.
     #[tactic(auto, using(crate::proofs::OnceKeeps::stores))]
     #[inline(always)]
-    fn end(&self, after: AfterAside, pass: &mut Pass<PlayedOnce>)
-        requires own { IsPassOf self.now.stage pass.old }
-        requires on { (counts_of pass.old).running ≡ 1 }
-        requires runs { (done : List (Slot ℕ)) × IsRunning done (parties_of pass.old) }
-        ensures ended { HasDone ended pass.old pass.new }
-        ensures left { WhereRuns (parties_of pass.old) (λ done. HasLeft done (parties_of pass.new)) }
+    fn end<'p>(
+        &self,
+        turn: Turn<'p, Pass<PlayedOnce>, AfterAside>,
+    ) -> Turn<'p, Pass<PlayedOnce>, Goes>
+        requires own { IsPassOf self.now.stage turn.pass.now }
+        requires on { (counts_of turn.pass.now).running ≡ 1 }
+        requires runs { (done : List (Slot ℕ)) × IsRunning done (parties_of turn.pass.now) }
+        ensures same_borrow { result.pass.ghost_name ≡ turn.entry.pass.ghost_name }
+        ensures ended { HasDone ended turn.entry.pass.now result.pass.now }
+        ensures left { WhereRuns (parties_of turn.entry.pass.now) (λ done. HasLeft done (parties_of result.pass.now)) }
     {
-        self.stage.store::<_, End>(after, pass, 0, COMPLETE);
+        turn.store_by::<(), A, End>(&self.stage, 0, COMPLETE)
     }
 }
 

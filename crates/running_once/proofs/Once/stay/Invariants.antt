@@ -1,3 +1,4 @@
+use Rattle.std.proofs.Common.{◌≡◌}
 use Rattle.playing.specs.Passes.{parties_of}
 use Rattle.running_once.specs.OnceParties.{ComesToStay, WhereStays}
 use Rattle.running_once.specs.OnceShown.{HasOnlyWaited}
@@ -5,6 +6,7 @@ use Rattle.running_once.proofs.Once.stay.Given as goal
 
 abbrev pub invariant-loop : goal.invariant-loop
 invariant-loop g l = record {
-  waited : HasOnlyWaited l.fn.pass l.pass;
-  stays : WhereStays (parties_of l.fn.pass) (λ done. ComesToStay done (parties_of l.pass));
+  same_borrow : l.next.pass.ghost_name ≡ l.fn.turn.pass.ghost_name;
+  waited : HasOnlyWaited l.fn.turn.pass.now l.next.pass.now;
+  stays : WhereStays (parties_of l.fn.turn.pass.now) (λ done. ComesToStay done (parties_of l.next.pass.now));
 }
