@@ -13,7 +13,7 @@ import re
 import sys
 
 LITERAL = re.compile(r"(?:^|[(,=&]\s*|\bmove )\|[^|]*\|")
-CALLED = re.compile(r"(?<![\w.:])(?:passes::wake|wait|wakeup|wake|wake_one|wake_all|mtx_wait|mtx_wake_one|leave|act|f|make|choose)\)?\(")
+CALLED = re.compile(r"(?<![\w.:])(?:passes::wake|wait|wakeup|wake|wake_one|wake_all|mtx_wait|mtx_wake_one|leave|act|f|make|choose)\)?\(|::call\w*\(")
 SAID = re.compile(r"(?<!fn )\bspend\(|\bBy::<|::<Brand\b|^impl\b.*\bWay<")
 COMING = re.compile(r"^ghost coming = \{ (?:λ \w+\. )?(\w+)")
 BEGINS = ("Beginning", "Continuing", "Choosing")

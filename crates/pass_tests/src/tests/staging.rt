@@ -12,7 +12,8 @@ ghost use Rattle.pass_tests.specs.Ending.{ending_model};
 ghost use Rattle.pass_tests.specs.Staging.{counter_model};
 
 use passes::{Deed, Pass, Rule, Tally};
-use playing::{AddEntry, AfterAside, Counts, Entry, Played, Script, Stage};
+use playing::turn::{Called, begin_new};
+use playing::{AddEntry, AfterAside, Counts, CountsByActs, Entry, Played, Script, Stage};
 use std::marker::{Model, PhantomData};
 use std::test::Fail;
 use steps_events::row::Intent;
@@ -72,6 +73,17 @@ impl Counts<(), u64> for Nothing {
     ghost stays = { λ _ _ _ _ _ _. tt };
 
     ghost opens = { λ _. tt };
+}
+
+/// So an act makes nothing of it, and of what the pass saw.
+impl CountsByActs<(), CounterScript, Intent<u64>, u64> for Nothing {
+    ghost free = { λ _ _ _ _. tt };
+
+    ghost sees = { λ _ sights. sights };
+
+    ghost after = { λ _ _ _. tt };
+
+    ghost goes_on = { λ _ _ _ _ _ _ _ _ _ _ _. tt };
 }
 
 /// A step that tells nothing beside.
@@ -154,6 +166,110 @@ fn count(counter: &Counter, pass: &mut CounterPass) -> u64
     counter.load::<Looks, Untold>(Looks, pass, 0)
 }
 
+/// A `Value`.
+struct Looking;
+
+impl Called<u64> for Looking {
+    ghost use Rattle.steps_events.specs.declared.event.Call.TheVariants as calls;
+
+    ghost call = { calls.Value };
+}
+
+/// A `Post` of 7.
+struct AddingSeven;
+
+impl Called<u64> for AddingSeven {
+    ghost use Rattle.steps_events.specs.declared.event.Call.TheVariants as calls;
+
+    ghost call = { calls.Post 7 };
+}
+
+/// A `TryWait`.
+struct TakingOne;
+
+impl Called<u64> for TakingOne {
+    ghost use Rattle.steps_events.specs.declared.event.Call.TheVariants as calls;
+
+    ghost call = { calls.TryWait };
+}
+
+/// A `NotifyAll`.
+struct Clearing;
+
+impl Called<u64> for Clearing {
+    ghost use Rattle.steps_events.specs.declared.event.Call.TheVariants as calls;
+
+    ghost call = { calls.NotifyAll };
+}
+
+/// A `TryLock`.
+struct Trying;
+
+impl Called<u64> for Trying {
+    ghost use Rattle.steps_events.specs.declared.event.Call.TheVariants as calls;
+
+    ghost call = { calls.TryLock };
+}
+
+/// A call of one step, a load, as a turn.
+fn turn_to_load(counter: &Counter, pass: &mut CounterPass) -> u64
+    requires own { IsPassOf counter.now pass.old }
+    requires one_word { count_of counter.now ≡ 1 }
+    ensures same { IsSamePass pass.old pass.new }
+{
+    let begun = begin_new::<Looking, CounterPass>(pass);
+    let (found, made) = begun.load(counter, 0);
+    let _pass = made.end(counter);
+    found
+}
+
+/// A call of one step, an add, as a turn.
+fn turn_to_add(counter: &Counter, pass: &mut CounterPass) -> u64
+    requires own { IsPassOf counter.now pass.old }
+    requires one_word { count_of counter.now ≡ 1 }
+    ensures same { IsSamePass pass.old pass.new }
+{
+    let begun = begin_new::<AddingSeven, CounterPass>(pass);
+    let (found, made) = begun.add(counter, 0, 7);
+    let _pass = made.end(counter);
+    found
+}
+
+/// A call of one step, a subtract, as a turn.
+fn turn_to_subtract(counter: &Counter, pass: &mut CounterPass) -> u64
+    requires own { IsPassOf counter.now pass.old }
+    requires one_word { count_of counter.now ≡ 1 }
+    ensures same { IsSamePass pass.old pass.new }
+{
+    let begun = begin_new::<TakingOne, CounterPass>(pass);
+    let (found, made) = begun.subtract(counter, 0, 1);
+    let _pass = made.end(counter);
+    found
+}
+
+/// A call of one step, a store, as a turn.
+fn turn_to_store(counter: &Counter, pass: &mut CounterPass)
+    requires own { IsPassOf counter.now pass.old }
+    requires one_word { count_of counter.now ≡ 1 }
+    ensures same { IsSamePass pass.old pass.new }
+{
+    let begun = begin_new::<Clearing, CounterPass>(pass);
+    let made = begun.store(counter, 0, 0);
+    let _pass = made.end(counter);
+}
+
+/// A call of one step, an exchange, as a turn.
+fn turn_to_exchange(counter: &Counter, pass: &mut CounterPass) -> u64
+    requires own { IsPassOf counter.now pass.old }
+    requires one_word { count_of counter.now ≡ 1 }
+    ensures same { IsSamePass pass.old pass.new }
+{
+    let begun = begin_new::<Trying, CounterPass>(pass);
+    let (found, made) = begun.exchange(counter, 0, 0, 1);
+    let _pass = made.end(counter);
+    found
+}
+
 /// Stores 0, and puts 1 where it finds 0.
 fn clear_and_try(counter: &Counter, pass: &mut CounterPass) -> u64
     requires own { IsPassOf counter.now pass.old }
@@ -181,6 +297,19 @@ fn a_counter_plays_its_model(rt: HostRuntime) -> Result<(), Fail> {
     assert_eq!(rt; peek(&counter, &mut pass), 6);
     assert_eq!(rt; clear_and_try(&counter, &mut pass), 0);
     assert_eq!(rt; peek(&counter, &mut pass), 1);
+    assert_eq!(rt; counter.close(pass, 0), 1);
+    Ok(())
+}
+
+#[test]
+fn a_turn_makes_each_step(rt: HostRuntime) -> Result<(), Fail> {
+    let (counter, mut pass) = Stage::new(rt.alloc(), &[0], &())?;
+    assert_eq!(rt; turn_to_add(&counter, &mut pass), 0);
+    assert_eq!(rt; turn_to_subtract(&counter, &mut pass), 7);
+    assert_eq!(rt; turn_to_load(&counter, &mut pass), 6);
+    assert_eq!(rt; turn_to_exchange(&counter, &mut pass), 6);
+    turn_to_store(&counter, &mut pass);
+    assert_eq!(rt; turn_to_exchange(&counter, &mut pass), 0);
     assert_eq!(rt; counter.close(pass, 0), 1);
     Ok(())
 }
