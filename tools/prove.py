@@ -163,6 +163,9 @@ def why_of(said):
 
 
 def prove(lane, crate, jobs):
+    _, said = lane.run(crate, ["rt", "fmt"])
+    if "formatted" in said:
+        return Told(0, 1, "it is not laid out: rt fmt does so", said)
     if crate.is_program:
         return Told(0)
     words = ["--jobs", str(jobs), "--empty-contracts"]
