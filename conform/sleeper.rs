@@ -30,9 +30,9 @@ fn wake(word: &AtomicU64, most: i64) {
     unsafe { syscall(FUTEX, word.as_ptr(), WAKE_PRIVATE, most, 0, 0, 0) };
 }
 
-/// A lock whose two words are in two cache lines, as any lock's may be.
+/// In a cache line that no other lock is in.
 #[repr(align(64))]
-struct Apart(#[allow(dead_code)] [u64; 7], RwLockWriterPreference);
+struct Alone(RwLockWriterPreference);
 
 fn await_turn(turn: &AtomicU64, wanted: u64) {
     while turn.load(SeqCst) != wanted {
@@ -40,40 +40,24 @@ fn await_turn(turn: &AtomicU64, wanted: u64) {
     }
 }
 
-/// For how long a writer spins until its closure is asked, in nanoseconds: the middle one of many.
-fn spins() -> u64 {
-    let mut times: Vec<_> = (0..101)
-        .map(|_| {
-            let lock = RwLockWriterPreference::new();
-            lock.read_lock(|_, _| unreachable!());
-            let (start, took) = (Instant::now(), AtomicU64::new(0));
-            let gives_up = |_: &AtomicU64, _: &u64| {
-                took.store(start.elapsed().as_nanos() as u64, SeqCst);
-                WaitAction::Abort
-            };
-            lock.write_lock(gives_up, |_| {}, |_| {});
-            took.into_inner()
-        })
-        .collect();
-    times.sort_unstable();
-    times[50]
-}
-
 fn main() {
     let seconds = std::env::args().nth(1).map_or(10, |seconds| seconds.parse().expect("seconds"));
     let end = Instant::now() + Duration::from_secs(seconds);
     let (mut rounds, mut asleep, mut random) = (0u64, 0u64, 1u64);
+    // For how many nanoseconds the writer spins until its closure is asked, at least.
+    let spins = AtomicU64::new(100_000);
     while Instant::now() < end {
-        let spins = spins();
-        let locks: Vec<_> = (0..1000).map(|_| Apart([0; 7], RwLockWriterPreference::new())).collect();
-        // The round that the writer is in; which the reader begins, and has ended; and how often the writer slept on.
-        let (writer, begun, left, slept) = (AtomicU64::new(0), AtomicU64::new(0), AtomicU64::new(0), AtomicU64::new(0));
+        let locks: Vec<_> = (0..1000).map(|_| Alone(RwLockWriterPreference::new())).collect();
+        // The round that the writer is in, that the reader begins, and has ended; and how often the writer slept on.
+        let [writer, begun, left, slept] = [const { AtomicU64::new(0) }; 4];
         std::thread::scope(|scope| {
             scope.spawn(|| {
-                for (round, Apart(_, lock)) in (1..).zip(&locks) {
+                for (round, Alone(lock)) in (1..).zip(&locks) {
                     writer.store(round, SeqCst);
                     await_turn(&begun, round);
+                    let start = Instant::now();
                     let sleep = |word: &AtomicU64, seen: &u64| {
+                        spins.fetch_min(start.elapsed().as_nanos() as u64, SeqCst);
                         if sleeps_long(word, *seen) && left.load(SeqCst) == round {
                             slept.fetch_add(1, SeqCst);
                         }
@@ -82,12 +66,12 @@ fn main() {
                     lock.write_lock(sleep, |word| wake(word, 1), |word| wake(word, i32::MAX as i64));
                 }
             });
-            for (round, Apart(_, lock)) in (1..).zip(&locks) {
+            for (round, Alone(lock)) in (1..).zip(&locks) {
                 lock.read_lock(|_, _| unreachable!());
                 await_turn(&writer, round);
                 // It leaves at about the end of the writer's spins.
                 random = random.wrapping_mul(6_364_136_223_846_793_005).wrapping_add(1);
-                let stays = Duration::from_nanos(spins + (random >> 32) % 1_000 - 500);
+                let stays = Duration::from_nanos(spins.load(SeqCst) - 100 + (random >> 32) % 700);
                 begun.store(round, SeqCst);
                 let start = Instant::now();
                 while start.elapsed() < stays {
