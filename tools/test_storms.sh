@@ -8,6 +8,6 @@ test_storms() {
     echo 10000 | timeout 600 crates/storm/out/storm >"$room/out" 2>"$room/err"
     status=${PIPESTATUS[1]}
     cat -- "$room/out"
-    sed 's/000 calls/0000 calls/' crates/storm/stdout >"$room/storms"
+    sed 's/00 calls/000 calls/' crates/storm/stdout >"$room/storms"
     judge storms 0 "$room/storms" /dev/null
 }

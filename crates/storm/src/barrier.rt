@@ -4,12 +4,13 @@ ghost use Rattle.passes.specs.Passes.{part_of};
 ghost use Rattle.running_barrier.specs.BarrierShown.{IsBarrierPass, waiters_of};
 
 use crate::crowd::Object;
+use crate::platform::{Platform, Platforms};
 use crate::tally::Tally;
 use iceoryx2_pal_concurrency_sync::strategy::barrier::{Barrier, BarrierPass};
-use iceoryx2_pal_concurrency_sync::{Shares, WaitAction, WaitWord, wake_nobody};
+use iceoryx2_pal_concurrency_sync::{Shares, WaitWord};
 use std::alloc::{AllocError, Global};
 use std::sync::Wait;
-use std::thread;
+use std::time::{Clock, Duration};
 
 /// A barrier whose round is full at four.
 #[derive(Drop)]
@@ -44,27 +45,39 @@ impl Object<BarrierPass> for ForFour {
         Ok((ForFour { barrier }, pass))
     }
 
-    /// It does not ask: a wait at a barrier ends with the round alone. Only a barrier for nobody is full: by proof.
-    fn turn<R: Wait, W: Fn(&WaitWord, &u64) -> WaitAction + Copy>(
+    /// A wait at a barrier ends with the round alone, whatever its closure says. Its round stands in the high half of its word, so a sleep on
+    /// the word itself is short. Only a barrier for nobody is full: by proof.
+    fn turn<R: Wait + Clock, B: Platform + Drop>(
         &self,
         rt: &R,
         pass: &mut BarrierPass,
         tally: &Tally,
         _number: u64,
         turn: u64,
-        _answer: W,
+        at: &Platforms<B>,
     ) {
         tally.arrive();
-        let Ok(()) = self
-            .barrier
-            .wait(rt, pass, |_, _| thread::yield_now(), wake_nobody)
+        let Ok(()) = self.barrier.wait(
+            rt,
+            pass,
+            |word: &WaitWord, seen: &u64| {
+                at.first
+                    .wait(rt, tally, word, *seen, Duration::from_millis(1));
+            },
+            |word: &WaitWord| at.first.wake_all(word),
+        )
         else {
             unreachable!()
         };
         tally.depart(turn);
     }
 
-    fn end<R: Wait>(self, _rt: &R, _pass: BarrierPass, _tally: &Tally) -> (u64, Option<u64>) {
+    fn end<R: Wait + Clock>(
+        self,
+        _rt: &R,
+        _pass: BarrierPass,
+        _tally: &Tally,
+    ) -> (u64, Option<u64>) {
         (0, None)
     }
 }

@@ -4,13 +4,15 @@ ghost use Rattle.running_guarded.specs.GuardedShown.{IsGuardedPass, part_of, Has
 ghost use Rattle.running_mutex.specs.CondShown.{IsCondPass};
 
 use crate::crowd::Object;
+use crate::platform::{Impatient, Platform, Platforms};
 use crate::tally::Tally;
 use iceoryx2_pal_concurrency_sync::strategy::condition_variable::{CondPass, ConditionVariable};
-use iceoryx2_pal_concurrency_sync::{Shares, WaitAction, WaitResult, WaitWord, wake_nobody};
-use running_guarded::{Guarded, GuardedPass, GuardedWord};
+use iceoryx2_pal_concurrency_sync::{Shares, WaitResult, WaitWord};
+use running_guarded::{Guarded, GuardedPass};
 use std::alloc::{AllocError, Global};
 use std::sync::Wait;
 use std::sync::atomic::{AtomicU64, Ordering};
+use std::time::Clock;
 
 /// A number that is guarded, and where those wait who want it to be more.
 #[derive(Drop)]
@@ -72,25 +74,29 @@ impl Object<Passes> for Stock {
     }
 
     /// The first two put in, and the others take out.
-    fn turn<R: Wait, W: Fn(&WaitWord, &u64) -> WaitAction + Copy>(
+    fn turn<R: Wait + Clock, B: Platform + Drop>(
         &self,
         rt: &R,
         pass: &mut Passes,
         tally: &Tally,
         number: u64,
         _turn: u64,
-        answer: W,
+        at: &Platforms<B>,
     ) {
         if number < 2 {
-            self.put(rt, pass, tally);
+            self.put(rt, pass, tally, at);
         } else {
-            self.take(rt, pass, tally, answer);
+            self.take(rt, pass, tally, at);
         }
     }
 
     /// What was put in and not taken out has to be there, and nobody is counted as waiting any more.
-    fn end<R: Wait>(self, rt: &R, mut pass: Passes, tally: &Tally) -> (u64, Option<u64>) {
-        let lost = match self.add(rt, &mut pass.value, tally, 0) {
+    fn end<R: Wait + Clock>(self, rt: &R, mut pass: Passes, tally: &Tally) -> (u64, Option<u64>) {
+        let nobody = Platforms {
+            first: Impatient,
+            second: Impatient,
+        };
+        let lost = match self.add(rt, &mut pass.value, tally, 0, &nobody) {
             WaitResult::Success(left) => left.abs_diff(tally.rest()),
             WaitResult::Interrupted => u64::MAX,
         };
@@ -101,12 +107,13 @@ impl Object<Passes> for Stock {
 
 impl Stock {
     /// Adds so much to the number, which is then this.
-    fn add<R: Wait>(
+    fn add<R: Wait + Clock, B: Platform + Drop>(
         &self,
         rt: &R,
         pass: &mut GuardedPass,
         tally: &Tally,
         amount: u64,
+        at: &Platforms<B>,
     ) -> WaitResult<u64>
         requires own { IsGuardedPass self.now.value pass.old }
         ensures stayed { HasStayed pass.old pass.new }
@@ -114,8 +121,8 @@ impl Stock {
         self.value.with(
             rt,
             pass,
-            |_, _| tally.answer(),
-            unlock_silently,
+            |word, seen| at.first.wait(rt, tally, word, *seen, Tally::patience()),
+            |word| at.first.wake_one(word),
             |number| {
                 *number = number.wrapping_add(amount);
                 *number
@@ -124,40 +131,46 @@ impl Stock {
     }
 
     /// Puts three in, and notifies all.
-    fn put<R: Wait>(&self, rt: &R, pass: &mut Passes, tally: &Tally)
+    fn put<R: Wait + Clock, B: Platform + Drop>(
+        &self,
+        rt: &R,
+        pass: &mut Passes,
+        tally: &Tally,
+        at: &Platforms<B>,
+    )
         requires own { IsGuardedPass self.now.value pass.old.value × IsCondPass self.now.more pass.old.more }
         ensures own { IsGuardedPass self.now.value pass.new.value × IsCondPass self.now.more pass.new.more }
         ensures same { part_of pass.new.value ≡ part_of pass.old.value }
     {
-        match self.add(rt, &mut pass.value, tally, 3) {
+        match self.add(rt, &mut pass.value, tally, 3, at) {
             WaitResult::Success(_) => {
                 tally.put(3);
-                self.more.notify_all(&mut pass.more, wake_nobody);
+                self.more
+                    .notify_all(&mut pass.more, |word: &WaitWord| at.second.wake_all(word));
             }
             WaitResult::Interrupted => {}
         }
     }
 
     /// Waits until there is one to take out.
-    fn take<R: Wait, W: Fn(&WaitWord, &u64) -> WaitAction>(
+    fn take<R: Wait + Clock, B: Platform + Drop>(
         &self,
         rt: &R,
         pass: &mut Passes,
         tally: &Tally,
-        answer: W,
+        at: &Platforms<B>,
     )
         requires own { IsGuardedPass self.now.value pass.old.value × IsCondPass self.now.more pass.old.more }
-        requires may { W.IsAlwaysCallable answer }
         ensures own { IsGuardedPass self.now.value pass.new.value × IsCondPass self.now.more pass.new.more }
         ensures same { part_of pass.new.value ≡ part_of pass.old.value }
     {
         let taken = self.value.when(
             rt,
             &mut pass.value,
-            unlock_silently,
+            |word| at.first.wake_one(word),
             &self.more,
             &mut pass.more,
-            answer,
+            |word, seen| at.second.wait(rt, tally, word, *seen, Tally::patience()),
             |number| {
                 *number = number.checked_sub(1)?;
                 Some(())
@@ -169,9 +182,6 @@ impl Stock {
         }
     }
 }
-
-/// A wake closure of the guarded value: wakes nobody, since who waits yields.
-fn unlock_silently(_word: &GuardedWord<'_, u64>) {}
 
 /// How many the condition variable counts as waiting. A notify gives a permit for each of them, so the second of two tells by how much the
 /// permits have grown.

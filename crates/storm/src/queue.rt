@@ -1,7 +1,8 @@
 //! A storm at a queue for 8 jobs: two put, and six take.
-ghost use Rattle.job_queue.specs.QueueShown.{IsQueuePass};
+ghost use Rattle.job_queue.specs.QueueShown.{IsQueuePass, HasStayed};
 ghost use denote.Param.Send.{IsSync};
 
+use crate::platform::{Platform, Platforms};
 use crate::tally::{Outcome, Tally};
 use iceoryx2_pal_concurrency_sync::{WaitAction, WaitWord, wake_nobody};
 use job_queue::{JobQueue, PutFault, QueuePass, Taken};
@@ -9,41 +10,48 @@ use std::alloc::{AllocError, Global};
 use std::sync::Wait;
 use std::thread;
 use std::thread::Threads;
+use std::time::Clock;
 
 const CROWD: usize = 8;
 
 const PLACES: usize = 8;
 
 /// What the storm came to. What was put in and not taken out has to be in the queue still.
-pub fn storm<R: Threads + Wait + Sync>(
+pub fn storm<B: Platform + Sync + Drop, R: Threads + Wait + Clock + Sync>(
     rt: &R,
     alloc: Global,
+    how: &'static str,
     turns: u64,
 ) -> Result<Outcome, AllocError> {
     let (queue, pass) = JobQueue::new(alloc, PLACES)?;
     let tally = Tally::new(turns);
-    let pass = in_threads(rt, &queue, pass, CROWD, &tally);
+    let at = Platforms {
+        first: B::new(),
+        second: B::new(),
+    };
+    let pass = in_threads(rt, &queue, pass, CROWD, &tally, &at);
     let lost = match empty(rt, &queue, pass) {
         Some(left) => left.abs_diff(tally.rest()),
         None => u64::MAX,
     };
-    Ok(tally.outcome("queue for 8", CROWD, lost, None))
+    Ok(tally.outcome("queue for 8", how, CROWD, lost, None))
 }
 
 /// So many take their turns, each in a thread of its own. The halves of a queue's pass are no `Shares`.
 #[cycle(crowd)]
-fn in_threads<R: Threads + Wait + Sync>(
+fn in_threads<B: Platform + Sync + Drop, R: Threads + Wait + Clock + Sync>(
     rt: &R,
     queue: &JobQueue<u64>,
     pass: QueuePass,
     threads: usize,
     tally: &Tally,
+    at: &Platforms<B>,
 ) -> QueuePass
     requires own { IsQueuePass queue.now pass }
     ensures own { IsQueuePass queue.now result }
 {
     if threads < 2 {
-        return take_turns(rt, queue, pass, tally);
+        return take_turns(rt, queue, pass, tally, at);
     }
     let few = threads / 2;
     let rest = threads - few;
@@ -51,13 +59,13 @@ fn in_threads<R: Threads + Wait + Sync>(
         unreachable!()
     };
     let front = move || -> QueuePass
-        requires { IsSync R.row × IsQueuePass queue.now one }
+        requires { IsSync R.row × IsSync B.row × IsQueuePass queue.now one }
         ensures { IsQueuePass queue.entry.now result }
-    { in_threads(rt, queue, one, few, tally) };
+    { in_threads(rt, queue, one, few, tally, at) };
     let back = move || -> QueuePass
-        requires { IsSync R.row × IsQueuePass queue.now other }
+        requires { IsSync R.row × IsSync B.row × IsQueuePass queue.now other }
         ensures { IsQueuePass queue.entry.now result }
-    { in_threads(rt, queue, other, rest, tally) };
+    { in_threads(rt, queue, other, rest, tally, at) };
     let (one, other) = thread::join(rt, front, back);
     let Ok(pass) = QueuePass::join(one, other, queue) else {
         unreachable!()
@@ -65,32 +73,72 @@ fn in_threads<R: Threads + Wait + Sync>(
     pass
 }
 
-/// One of the crowd takes its turns: the first two put, and the others take.
-fn take_turns<R: Wait>(
+/// One of the crowd takes its turns: the first two put, and the others take. The last that puts closes the queue, so that none waits for more.
+fn take_turns<B: Platform + Drop, R: Wait + Clock>(
     rt: &R,
     queue: &JobQueue<u64>,
     mut pass: QueuePass,
     tally: &Tally,
+    at: &Platforms<B>,
 ) -> QueuePass
     requires own { IsQueuePass queue.now pass }
     ensures own { IsQueuePass queue.now result }
 {
-    let puts = tally.number() < 2;
-    for turn in 0..tally.turns {
-        if puts {
-            if queue.put(rt, &mut pass, turn, wake_nobody).is_ok() {
-                tally.put(turn);
-            }
-        } else if let Taken::Job { job, .. } = queue.take(
-            rt,
-            &mut pass,
-            |_, _| tally.answer(),
-            wake_nobody,
-        ) {
-            tally.take(job);
-        }
+    if tally.number() < 2 {
+        put_often(rt, queue, &mut pass, tally, at);
+    } else {
+        take_often(rt, queue, &mut pass, tally, at);
     }
     pass
+}
+
+fn put_often<B: Platform + Drop, R: Wait + Clock>(
+    rt: &R,
+    queue: &JobQueue<u64>,
+    pass: &mut QueuePass,
+    tally: &Tally,
+    at: &Platforms<B>,
+)
+    requires own { IsQueuePass queue.now pass.old }
+    ensures stayed { HasStayed pass.old pass.new }
+{
+    for turn in 0..tally.turns {
+        if queue
+            .put(rt, pass, turn, |word: &WaitWord| at.second.wake_one(word))
+            .is_ok()
+        {
+            tally.put(turn);
+        }
+    }
+    if tally.is_last_to_put() {
+        queue.close(rt, pass, |word: &WaitWord| at.second.wake_all(word));
+    }
+}
+
+/// Nobody waits for the queue's mutex by its closures, so its unlock wakes nobody.
+fn take_often<B: Platform + Drop, R: Wait + Clock>(
+    rt: &R,
+    queue: &JobQueue<u64>,
+    pass: &mut QueuePass,
+    tally: &Tally,
+    at: &Platforms<B>,
+)
+    requires own { IsQueuePass queue.now pass.old }
+    ensures stayed { HasStayed pass.old pass.new }
+{
+    for _ in 0..tally.turns {
+        let taken = queue.take(
+            rt,
+            pass,
+            |word: &WaitWord, seen: &u64| at.second.wait(rt, tally, word, *seen, Tally::patience()),
+            wake_nobody,
+        );
+        match taken {
+            Taken::Job { job, .. } => tally.take(job),
+            Taken::Closed => return,
+            Taken::Empty | Taken::Interrupted => {}
+        }
+    }
 }
 
 /// Closes the queue and takes out what is there: the sum of it. `None` where a take or a put does not say then that the queue is closed.

@@ -3,11 +3,13 @@ ghost use Rattle.std.specs.Prelude.{◌≡◌, Some};
 ghost use Rattle.running_rw_reader.specs.RwReaderShown.{IsRwReaderPass, IsAlone, HasStayed};
 
 use crate::crowd::Object;
+use crate::platform::{Platform, Platforms};
 use crate::tally::Tally;
 use iceoryx2_pal_concurrency_sync::strategy::rwlock::{RwLockReaderPreference, RwReaderPass};
-use iceoryx2_pal_concurrency_sync::{WaitAction, WaitResult, WaitWord, wake_nobody};
+use iceoryx2_pal_concurrency_sync::{WaitResult, WaitWord};
 use std::alloc::{AllocError, Global};
 use std::sync::Wait;
+use std::time::Clock;
 
 impl Object<RwReaderPass> for RwLockReaderPreference {
     fn make(alloc: Global) -> Result<(Self, RwReaderPass), AllocError> {
@@ -15,24 +17,24 @@ impl Object<RwReaderPass> for RwLockReaderPreference {
     }
 
     /// The first four write, and the others read.
-    fn turn<R: Wait, W: Fn(&WaitWord, &u64) -> WaitAction + Copy>(
+    fn turn<R: Wait + Clock, B: Platform + Drop>(
         &self,
         rt: &R,
         pass: &mut RwReaderPass,
         tally: &Tally,
         number: u64,
         _turn: u64,
-        answer: W,
+        at: &Platforms<B>,
     ) {
         if number < 4 {
-            write(rt, self, pass, tally, answer);
+            write(rt, self, pass, tally, at);
         } else {
-            read(rt, self, pass, tally, answer);
+            read(rt, self, pass, tally, at);
         }
     }
 
     /// With the whole pass, which has no hold, its word is 0.
-    fn end<R: Wait>(self, _rt: &R, pass: RwReaderPass, tally: &Tally) -> (u64, Option<u64>)
+    fn end<R: Wait + Clock>(self, _rt: &R, pass: RwReaderPass, tally: &Tally) -> (u64, Option<u64>)
         requires own { IsRwReaderPass self pass }
         requires alone { IsAlone pass }
         ensures free { result.1 ≡ Some 0 }
@@ -41,41 +43,49 @@ impl Object<RwReaderPass> for RwLockReaderPreference {
     }
 }
 
-fn write<R: Wait, W: Fn(&WaitWord, &u64) -> WaitAction>(
+fn write<R: Wait + Clock, B: Platform + Drop>(
     rt: &R,
     lock: &RwLockReaderPreference,
     pass: &mut RwReaderPass,
     tally: &Tally,
-    answer: W,
+    at: &Platforms<B>,
 )
     requires own { IsRwReaderPass lock.now pass.old }
-    requires may { W.IsAlwaysCallable answer }
     ensures stayed { HasStayed pass.old pass.new }
 {
-    match RwLockReaderPreference::write_lock(pass, lock, rt, answer) {
+    match RwLockReaderPreference::write_lock(
+        pass,
+        lock,
+        rt,
+        |word: &WaitWord, seen: &u64| at.first.wait(rt, tally, word, *seen, Tally::patience()),
+    ) {
         WaitResult::Success(hold) => {
             tally.change();
-            lock.unlock(hold, wake_nobody);
+            lock.unlock(hold, |word: &WaitWord| at.first.wake_all(word));
         }
         WaitResult::Interrupted => {}
     }
 }
 
-fn read<R: Wait, W: Fn(&WaitWord, &u64) -> WaitAction>(
+fn read<R: Wait + Clock, B: Platform + Drop>(
     rt: &R,
     lock: &RwLockReaderPreference,
     pass: &mut RwReaderPass,
     tally: &Tally,
-    answer: W,
+    at: &Platforms<B>,
 )
     requires own { IsRwReaderPass lock.now pass.old }
-    requires may { W.IsAlwaysCallable answer }
     ensures stayed { HasStayed pass.old pass.new }
 {
-    match RwLockReaderPreference::read_lock(pass, lock, rt, answer) {
+    match RwLockReaderPreference::read_lock(
+        pass,
+        lock,
+        rt,
+        |word: &WaitWord, seen: &u64| at.first.wait(rt, tally, word, *seen, Tally::patience()),
+    ) {
         WaitResult::Success(hold) => {
             tally.look();
-            lock.unlock(hold, wake_nobody);
+            lock.unlock(hold, |word: &WaitWord| at.first.wake_all(word));
         }
         WaitResult::Interrupted => {}
     }

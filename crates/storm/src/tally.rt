@@ -2,6 +2,7 @@
 
 use iceoryx2_pal_concurrency_sync::WaitAction;
 use std::sync::atomic::{AtomicU64, Ordering};
+use std::time::{Clock, Duration, Instant};
 use std::{fmt, thread};
 
 const ORDER: Ordering = Ordering::SeqCst;
@@ -14,6 +15,8 @@ const STAY: u64 = 100;
 pub struct Outcome {
     /// Of which object.
     pub name: &'static str,
+    /// How its callers waited.
+    pub how: &'static str,
     /// How many calls were made.
     pub calls: u64,
     /// How often something was seen that cannot be, or was lost.
@@ -26,13 +29,17 @@ impl fmt::Display for Outcome {
     fn fmt<W: fmt::Write>(&self, f: &mut fmt::Formatter<W>) -> fmt::Result {
         let Outcome {
             name,
+            how,
             calls,
             faults,
             word,
         } = self;
         match word {
-            Some(word) => write!(f, "{name}: {calls} calls, {faults} faults, word {word}"),
-            None => write!(f, "{name}: {calls} calls, {faults} faults"),
+            Some(word) => write!(
+                f,
+                "{name}, {how}: {calls} calls, {faults} faults, word {word}"
+            ),
+            None => write!(f, "{name}, {how}: {calls} calls, {faults} faults"),
         }
     }
 }
@@ -83,6 +90,35 @@ impl Tally {
         } else {
             WaitAction::Continue
         }
+    }
+
+    /// How long a sleep may last. In a storm somebody is woken all the time, also on a machine that has much else to do: who sleeps so
+    /// long has lost its wake.
+    pub fn patience() -> Duration {
+        Duration::from_secs(10)
+    }
+
+    /// A sleep that began then is over: whether the call goes on. One that lost its wake gives up, so that the storm ends.
+    pub fn woken(&self, clock: &impl Clock, start: Instant) -> WaitAction {
+        match start.elapsed(clock) {
+            Ok(slept) if slept < Tally::patience() => WaitAction::Continue,
+            Ok(_) => {
+                self.saw_torn();
+                WaitAction::Abort
+            }
+            Err(_) => self.no_clock(),
+        }
+    }
+
+    /// The clock cannot be read, so nothing tells a wake that is lost.
+    pub fn no_clock(&self) -> WaitAction {
+        self.saw_torn();
+        WaitAction::Abort
+    }
+
+    /// One of two has put all that it has to put. Whether it is the last.
+    pub fn is_last_to_put(&self) -> bool {
+        self.changes.fetch_add(1, ORDER) == 1
     }
 
     /// Something was seen that cannot be.
@@ -169,12 +205,14 @@ impl Tally {
     pub fn outcome(
         &self,
         name: &'static str,
+        how: &'static str,
         crowd: usize,
         lost: u64,
         word: Option<u64>,
     ) -> Outcome {
         Outcome {
             name,
+            how,
             calls: self.turns.saturating_mul(crowd as u64),
             faults: self.torn.load(ORDER).saturating_add(lost),
             word,

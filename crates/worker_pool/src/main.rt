@@ -1,17 +1,18 @@
 //! A pool of workers over a bounded queue: four threads square a thousand numbers, and every square is collected.
 //!
 //! A fifth party puts the numbers. Where the queue is full it squares the number itself, so it never waits; at last it closes the queue.
-//! The workers take numbers until the queue is closed and empty, and yield while it is empty and open.
+//! The workers take numbers until the queue is closed and empty, and sleep while it is empty and open.
 #![tactic(auto)]
 
 ghost use Rattle.job_queue.specs.QueueShown.{IsQueuePass, HasStayed};
 
-use closures::{wake_nobody, yield_and_go_on};
+use closures::{Sleepers, wake_nobody};
 use job_queue::{JobQueue, PutFault, QueuePass, Taken};
 use std::alloc::{AllocError, Global};
 use std::sync::Wait;
 use std::thread::Threads;
 use std::{io, thread};
+use tallies::WaitWord;
 
 const NUMBERS: u64 = 1000;
 
@@ -31,6 +32,7 @@ enum Role {
 #[derive(Drop)]
 struct Party<'q> {
     queue: &'q JobQueue<u64>,
+    sleepers: &'q Sleepers,
     pass: QueuePass,
     role: Role,
     ghost own: { IsQueuePass queue.now pass },
@@ -38,7 +40,7 @@ struct Party<'q> {
 
 fn main(rt: HostRuntime) -> io::Result<()> {
     let (queue, pass) = JobQueue::new(rt.alloc(), PLACES)?;
-    let squares = square_all(&rt, rt.alloc(), &queue, pass)?;
+    let squares = square_all(&rt, rt.alloc(), &queue, &Sleepers::new(), pass)?;
     let wrong = (0u64..)
         .zip(squares.iter())
         .filter(|(number, done)| **done != (*number, square(*number)))
@@ -51,11 +53,12 @@ fn square_all<R: Threads + Wait + Sync>(
     rt: &R,
     alloc: Global,
     queue: &JobQueue<u64>,
+    sleepers: &Sleepers,
     pass: QueuePass,
 ) -> Result<Squares, AllocError>
     requires own { IsQueuePass queue.now pass }
 {
-    let parties = parties(alloc, queue, pass)?;
+    let parties = parties(alloc, queue, sleepers, pass)?;
     let parts = thread::map_vec(rt, parties, &|party| play(rt, alloc, party))?;
     let mut squares = Vec::new(alloc);
     collect(parts, &mut squares)?;
@@ -78,6 +81,7 @@ fn collect(
 fn parties<'q>(
     alloc: Global,
     queue: &'q JobQueue<u64>,
+    sleepers: &'q Sleepers,
     pass: QueuePass,
 ) -> Result<Vec<Party<'q>, Global>, AllocError>
     requires own { IsQueuePass queue.now pass }
@@ -91,12 +95,14 @@ fn parties<'q>(
         rest = other;
         parties.push(Party {
             queue,
+            sleepers,
             pass,
             role: Role::Works,
         })?;
     }
     parties.push(Party {
         queue,
+        sleepers,
         pass: rest,
         role: Role::Puts,
     })?;
@@ -105,15 +111,20 @@ fn parties<'q>(
 
 /// What a party comes to.
 fn play<R: Wait>(rt: &R, alloc: Global, party: Party) -> Result<Squares, AllocError> {
-    let Party { queue, pass, role } = party;
+    let Party {
+        queue,
+        sleepers,
+        pass,
+        role,
+    } = party;
     match role {
         Role::Puts => {
             let mut pass = pass;
-            let squares = put_all(rt, alloc, queue, &mut pass);
-            queue.close(rt, &mut pass, wake_nobody);
+            let squares = put_all(rt, alloc, queue, sleepers, &mut pass);
+            queue.close(rt, &mut pass, |_: &WaitWord| sleepers.wake_all());
             squares
         }
-        Role::Works => work(rt, alloc, queue, pass),
+        Role::Works => work(rt, alloc, queue, sleepers, pass),
     }
 }
 
@@ -122,6 +133,7 @@ fn put_all<R: Wait>(
     rt: &R,
     alloc: Global,
     queue: &JobQueue<u64>,
+    sleepers: &Sleepers,
     pass: &mut QueuePass,
 ) -> Result<Squares, AllocError>
     requires own { IsQueuePass queue.now pass.old }
@@ -129,25 +141,33 @@ fn put_all<R: Wait>(
 {
     let mut squares = Vec::new(alloc);
     for number in 0..NUMBERS {
-        if let Err(PutFault::Full(number)) = queue.put(rt, pass, number, wake_nobody) {
+        let put = queue.put(rt, pass, number, |_: &WaitWord| sleepers.wake_one());
+        if let Err(PutFault::Full(number)) = put {
             squares.push((number, square(number)))?;
         }
     }
     Ok(squares)
 }
 
-/// Squares numbers until the queue is closed and has none.
+/// Squares numbers until the queue is closed and has none. A take wakes nobody, since nobody sleeps until there is room.
 fn work<R: Wait>(
     rt: &R,
     alloc: Global,
     queue: &JobQueue<u64>,
+    sleepers: &Sleepers,
     mut pass: QueuePass,
 ) -> Result<Squares, AllocError>
     requires own { IsQueuePass queue.now pass }
 {
     let mut squares = Vec::new(alloc);
     for _ in rt.forever() {
-        match queue.take(rt, &mut pass, yield_and_go_on, wake_nobody) {
+        let taken = queue.take(
+            rt,
+            &mut pass,
+            |word: &WaitWord, seen: &u64| sleepers.sleep(rt, word, *seen),
+            wake_nobody,
+        );
+        match taken {
             Taken::Job { ticket: _, job } => squares.push((job, square(job)))?,
             Taken::Closed => return Ok(squares),
             Taken::Empty | Taken::Interrupted => unreachable!(),
