@@ -16,7 +16,7 @@
 //! therefore never counts itself out, since it can't tell what ended its sleep. After a sleep that ended without a wake the count is one too
 //! many, which costs one wake that wakes nobody. `specs/Crowds.antt` has these steps as a machine, of which `none_sleeps_uncounted` is proved.
 //! It takes no account of a sleeper that takes its epoch and parks 2^32 wakes later.
-ghost use Rattle.std.specs.Prelude.{◌≡◌, ◌+◌, ◌/◌, ◌%◌, ◌^◌, ◌≤◌, ◌<◌, ◌↔◌, IsSome, IfSome, None};
+ghost use Rattle.std.specs.Prelude.{◌≡◌, ◌+◌, ◌/◌, ◌%◌, ◌^◌, ◌<◌, ◌↔◌, IsSome, IfSome, None};
 ghost use Rattle.std.specs.Duration.{as_nanos};
 ghost use Rattle.std.specs.Time.{instant_nanos};
 ghost use Rattle.steps_events.specs.declared.WaitAction.TheVariants as actions;
