@@ -1,5 +1,5 @@
 -- Whoever sleeps is counted, or a wake is under way for it.
-use Rattle.std.proofs.Common.{◌≡◌, ◌+◌, ◌-◌, ◌<◌, ◌≤◌, ℕ, List, [], ◌∷◌, arith}
+use Rattle.std.proofs.Common.{◌≡◌, ◌+◌, ◌≤◌, List, [], ◌∷◌, arith}
 use Rattle.closures.specs.Crowds.{Crowd, Step, Comes, Turns, Parks, Wakes, Calls, WakesParked, WakesBehind, WakesNobody, WakesAll, EndsParked, EndsBehind, IsNext, IsAfter, NoneSleepsUncounted}
 
 record IsCovered (c : Crowd) : Type 0 where

@@ -6,7 +6,7 @@ ghost use Rattle.steps_events.specs.declared.WaitAction.TheVariants as actions;
 
 mod sleepers;
 
-pub use sleepers::Sleepers;
+pub use sleepers::{Sleepers, none_sleeps_uncounted};
 use std::thread;
 use steps_events::WaitAction;
 use tallies::WaitWord;

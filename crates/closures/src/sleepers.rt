@@ -12,10 +12,11 @@
 //! wake finds the sleeper counted, moves the epoch on, and wakes whoever has parked: the sleeper does not park, or is woken, or another
 //! that parked is, and then it is counted still. Where the look came after the change, it does not sleep.
 //!
-//! A wake counts out whom it wakes, so one who wakes again, before that has run, makes no call of the system for it. A sleeper that parked
-//! therefore never counts itself out, since it can't tell what ended its sleep. After one that ended without a wake the count is one too
-//! many, which costs one wake that wakes nobody. What a sleeper could lose is a wake among 2^32 between its steps 1 and 3, no fewer.
-ghost use Rattle.std.specs.Prelude.{◌≡◌, ◌+◌, ◌/◌, ◌%◌, ◌^◌, ◌≤◌, ◌<◌, ◌↔◌, IsSome, IfSome, None};
+//! A wake counts out whom it wakes, so who wakes again before that one has run makes no call of the system for it. A sleeper that parked
+//! therefore never counts itself out, since it can't tell what ended its sleep. After a sleep that ended without a wake the count is one too
+//! many, which costs one wake that wakes nobody. `specs/Crowds.antt` has these steps as a machine, of which `none_sleeps_uncounted` is proved.
+//! It takes no account of a sleeper that takes its epoch and parks 2^32 wakes later.
+ghost use Rattle.std.specs.Prelude.{◌≡◌, ◌+◌, ◌/◌, ◌%◌, ◌^◌, ◌<◌, ◌↔◌, IsSome, IfSome, None};
 ghost use Rattle.std.specs.Duration.{as_nanos};
 ghost use Rattle.std.specs.Time.{instant_nanos};
 ghost use Rattle.steps_events.specs.declared.WaitAction.TheVariants as actions;

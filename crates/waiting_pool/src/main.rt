@@ -1,14 +1,14 @@
 //! A pool of workers that wait: four threads square a thousand numbers, and add the squares up.
 //!
 //! A fifth party puts the numbers into a buffer of 16, which a guarded value holds. Who puts waits for room and who takes waits for a number,
-//! each at a condition variable of its own; at last the buffer is closed, and the workers leave once it is empty.
+//! each at a condition variable of its own, and sleeps; at last the buffer is closed, and the workers leave once it is empty.
 #![tactic(auto)]
 
 ghost use Rattle.std.specs.Prelude.{IfOk};
 ghost use Rattle.waiting_pool.specs.Passes.{IsOf};
 
 use circular_buffer::HeapCircularBuffer;
-use closures::{wake_nobody, yield_and_go_on};
+use closures::Sleepers;
 use passes::WaitResult;
 use running_guarded::{Guarded, GuardedPass};
 use running_mutex::condition_variable::{CondPass, ConditionVariable};
@@ -16,6 +16,7 @@ use std::alloc::{AllocError, Global};
 use std::sync::Wait;
 use std::thread::Threads;
 use std::{io, thread};
+use tallies::WaitWord;
 
 const NUMBERS: u64 = 1000;
 
@@ -77,6 +78,8 @@ struct Pool {
     numbers: Guarded<Numbers>,
     room: ConditionVariable,
     some: ConditionVariable,
+    until_room: Sleepers,
+    until_some: Sleepers,
 }
 
 /// What a party of the pool does.
@@ -112,11 +115,14 @@ impl Party<'_> {
             |_| (),
             &pool.room,
             &mut self.passes.room,
-            yield_and_go_on,
+            |word: &WaitWord, seen: &u64| pool.until_room.sleep(rt, word, *seen),
             |numbers| numbers.put(number),
         );
         match put {
-            WaitResult::Success(()) => pool.some.notify_one(&mut self.passes.some, wake_nobody),
+            WaitResult::Success(()) => pool.some.notify_one(
+                &mut self.passes.some,
+                |_: &WaitWord| pool.until_some.wake_one(),
+            ),
             WaitResult::Interrupted => unreachable!(),
         }
     }
@@ -130,12 +136,15 @@ impl Party<'_> {
             |_| (),
             &pool.some,
             &mut self.passes.some,
-            yield_and_go_on,
+            |word: &WaitWord, seen: &u64| pool.until_some.sleep(rt, word, *seen),
             |numbers| numbers.take(),
         );
         match taken {
             WaitResult::Success(taken) => {
-                pool.room.notify_one(&mut self.passes.room, wake_nobody);
+                pool.room.notify_one(
+                    &mut self.passes.room,
+                    |_: &WaitWord| pool.until_room.wake_one(),
+                );
                 taken
             }
             WaitResult::Interrupted => unreachable!(),
@@ -151,7 +160,7 @@ impl Party<'_> {
             |_| (),
             &pool.some,
             &mut self.passes.some,
-            wake_nobody,
+            |_: &WaitWord| pool.until_some.wake_all(),
             |numbers| numbers.closed = true,
         );
     }
@@ -180,6 +189,8 @@ fn new_pool(alloc: Global) -> Result<(Pool, Passes), AllocError>
                 numbers,
                 room,
                 some,
+                until_room: Sleepers::new(),
+                until_some: Sleepers::new(),
             },
             Passes {
                 numbers: pass,
