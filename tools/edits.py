@@ -115,7 +115,7 @@ class Batches:
     """The tries of a crate's edits: `next` gives the edits of the next check, and `judge` takes what it said. `told` has what each came to."""
 
     def __init__(self, crate, names):
-        self.told, self.left, self.apart = {}, [], []
+        self.told, self.left, self.apart, self.most = {}, [], [], len(names)
         for name in names:
             try:
                 edit = Edit(crate, name)
@@ -126,7 +126,7 @@ class Batches:
     def next(self):
         batch, taken = [], set()
         for edit in self.left:
-            if not edit.functions & taken:
+            if not edit.functions & taken and len(batch) < self.most:
                 batch.append(edit)
                 taken |= edit.functions
         return batch or self.apart[:1]
@@ -146,7 +146,10 @@ class Batches:
                 self.told[edit.name] = judged(status, True, reasons, said)
         told = [it for it in batch if it.name in self.told]
         self.left = [it for it in self.left if it not in told]
-        if not told:
+        if not is_verdict and len(batch) > 1:
+            # one of them kept the check from its end: in halves
+            self.most = len(batch) // 2
+        elif not told:
             # nothing was told apart
             self.left = [it for it in self.left if it not in batch]
             self.apart += batch
