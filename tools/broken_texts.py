@@ -3,7 +3,7 @@
     tools/broken_texts.py [HOW_MANY [PROGRAM ..]]
 
 By default 100000 texts and the three programs, which have to be built. No program may crash, hang or end with another status than 0 or 2; a fault
-names a line of the text, in words of docs/TEXT.md, to which sync-trace adds that line and a sentence; and all programs say the same of a text. Prints what is wrong, and then how many texts were
+names a line of the text, in words of docs/TEXT.md, to which all but sync-play add that line and a sentence; and all programs say the same of a text. Prints what is wrong, and then how many texts were
 played. The status is 0 where nothing is wrong.
 """
 
@@ -90,10 +90,10 @@ def broken(number):
 
 
 def said_of(program, text):
-    """The program's status, and what it says on standard error, without what sync-trace advises."""
+    """The program's status, and what it says on standard error, without what it advises."""
     done = subprocess.run([f"crates/{program.replace('-', '_')}_main/out/{program.replace('-', '_')}_main"], input=text, capture_output=True, timeout=60)
     said = done.stderr
-    if program == "sync-trace" and done.returncode == 2:
+    if program in ("sync-trace", "sync-draw") and done.returncode == 2:
         said = without_advice(text, said)
     return done.returncode, said.decode("utf-8", "replace")
 
@@ -106,7 +106,13 @@ def without_advice(text, said):
     lines = re.split(rb"\r?\n", text) + [b""]
     line = lines[min(int(fault[1]), len(lines)) - 1]
     advice = said[fault.end() :]
-    return fault[0] if re.fullmatch(re.escape(line) + rb"\n[^\n]+\n", advice) else said
+    return fault[0] if re.fullmatch(re.escape(repeated(line)) + rb"\n[ -~]+\n", advice) else said
+
+
+def repeated(line):
+    """What is repeated of a line: 200 bytes at most, and each that a terminal may take for more than a character by its number."""
+    shown = b"".join(b"%c" % byte if byte == 9 or 32 <= byte < 127 else b"\\x%02x" % byte for byte in line[:200])
+    return shown + (b".." if len(line) > 200 else b"")
 
 
 def wrong_with(text, said):

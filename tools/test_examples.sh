@@ -1,5 +1,5 @@
 # Each text of examples/ is played by each of `players`. NAME.txt has beside it what is written to standard output (NAME.out, or the
-# player's own ending), NAME.err for standard error where it is not empty, which sync-trace goes on as in NAME.advice, and NAME.status where
+# player's own ending), NAME.err for standard error where it is not empty, which all but sync-play go on as in NAME.advice, and NAME.status where
 # the status is not 0. Each is drawn too: a picture that a page shows is compared with its file, and every other is a picture.
 test_examples() {
     local line player ending endings=() text stem
@@ -48,7 +48,7 @@ play_example() {
     if [[ -f $3.err ]]; then
         wanted_err=$3.err
     fi
-    if [[ $1 == sync-trace && -f $3.err ]]; then
+    if [[ $1 != sync-play && -f $3.err ]]; then
         wanted_err=$room/wanted_err
         cat -- "$3.err" "$3.advice" >"$wanted_err"
     fi
@@ -64,7 +64,8 @@ draw_example() {
     picture=docs/pictures/$(basename -- "$1").svg
     attempt "./$drawer" <"$1.txt"
     if [[ -f $1.err ]]; then
-        judge "$label" "$(<"$1.status")" /dev/null "$1.err"
+        cat -- "$1.err" "$1.advice" >"$room/wanted_err"
+        judge "$label" "$(<"$1.status")" /dev/null "$room/wanted_err"
     elif ! why=$(python3 tools/picture.py "$room/out" 2>&1); then
         fail "$label" "$why"
     elif [[ -f $picture ]]; then

@@ -4,14 +4,18 @@
 //! says in one sentence what would be right there.
 #![tactic(auto)]
 
+mod failed;
 mod objects;
+mod repeat;
 mod sentence;
 
 ghost use Rattle.std.specs.Prelude.{◌≡◌, IfOk};
 ghost use Rattle.sync_lines.specs.Lexer.{lines_of};
 ghost use Rattle.sync_advice.specs.Advice as meaning;
 
+use crate::repeat::repeat;
 use crate::sentence::say;
+pub use failed::Failed;
 use std::alloc::{AllocError, Global};
 use steps_events::event::Object;
 use sync_lines::fault::FaultyLine;
@@ -52,7 +56,7 @@ pub fn explain(alloc: Global, text: &[u8], found: FaultyLine) -> Result<Vec<u8>,
 {
     let line = line_of(text, found.line);
     let mut out = Vec::new(alloc);
-    out.extend_from_slice(line)?;
+    repeat(&mut out, line)?;
     out.extend_from_slice(b"\n")?;
     say(&mut out, object_of(text), line, found)?;
     out.extend_from_slice(b"\n")?;

@@ -22,32 +22,46 @@ pub fn has_no_call(object: Object<()>) -> &'static [u8]
     }
 }
 
-/// How it is opened.
+/// What its first line has, up to a line that opens it.
 pub fn first_line(object: Object<()>) -> &'static [u8]
     ensures { result.now ≡ meaning.first_line object }
 {
     match object {
-        Object::Mutex => b"a mutex's first line has a number of parties, and no value: mutex 2",
-        Object::Spin => b"a spin lock's first line has a number of parties, and no value: spin 2",
+        Object::Mutex => b"a mutex's first line has a number of parties, and no value: ",
+        Object::Spin => b"a spin lock's first line has a number of parties, and no value: ",
         Object::Semaphore(_) => {
-            b"a semaphore's first line has a number of parties, and a value: semaphore 2 5"
+            b"a semaphore's first line has a number of parties, and a value: "
         }
         Object::Barrier(_) => {
-            b"a barrier's first line has a number of parties, and how many open a round: barrier 2 2"
+            b"a barrier's first line has a number of parties, and how many open a round: "
         }
         Object::ReaderLock | Object::WriterLock => {
-            b"a reader-writer lock's first line has a number of parties, and no value: rwreader 2"
+            b"a reader-writer lock's first line has a number of parties, and no value: "
         }
         Object::Condvar => {
-            b"a condition variable's first line has a number of parties, and no value: condvar 2"
+            b"a condition variable's first line has a number of parties, and no value: "
         }
-        Object::Once => b"a once's first line has a number of parties, and no value: once 2",
+        Object::Once => b"a once's first line has a number of parties, and no value: ",
         Object::Lazy(_) => {
-            b"a lazy value's first line has a number of parties, and the value that its closure gives: lazy 2 5"
+            b"a lazy value's first line has a number of parties, and the value that its closure gives: "
         }
-        Object::Atomic(_) => {
-            b"an atomic's first line has a number of parties, and a value: atomic_u64 2 5"
-        }
+        Object::Atomic(_) => { b"an atomic's first line has a number of parties, and a value: " }
+    }
+}
+
+/// The words after its name in a line that opens it for two parties.
+pub fn first_words(object: Object<()>) -> &'static [u8]
+    ensures { result.now ≡ meaning.first_words object }
+{
+    match object {
+        Object::Barrier(_) => b" 2 2",
+        Object::Semaphore(_) | Object::Lazy(_) | Object::Atomic(_) => b" 2 5",
+        Object::Mutex
+        | Object::Spin
+        | Object::ReaderLock
+        | Object::WriterLock
+        | Object::Condvar
+        | Object::Once => b" 2",
     }
 }
 
@@ -101,6 +115,17 @@ pub fn numbers_within(object: Object<()>) -> &'static [u8]
             b"`go` makes 1 to 100000 steps, and a value is one of the atomic's type, in decimal digits"
         }
         _ => b"`go` makes 1 to 100000 steps",
+    }
+}
+
+/// The verbs that move a call of it on.
+pub fn verbs_of(object: Object<()>) -> &'static [u8]
+    ensures { result.now ≡ meaning.verbs_of object }
+{
+    match object {
+        Object::Atomic(_) => b"; a call under way: go, run, some, none",
+        Object::Spin | Object::Once | Object::Lazy(_) => b"; a call under way: go, run",
+        _ => b"; a call under way: go, run, wait, abort",
     }
 }
 

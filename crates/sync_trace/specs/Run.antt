@@ -1,13 +1,10 @@
 -- What became of a run of the program.
-use Rattle.std.specs.Prelude.{◌≡◌, ℕ, List, take, Option, Some, None, IfSome}
+use Rattle.std.specs.Prelude.{◌≡◌, ℕ, List, take, Option, Some, None}
 use Rattle.std.specs.Io.KnownBytes.{Appends}
 use Rattle.sync_lines.specs.declared.fault.RunFault.{RunFault}
 use Rattle.sync_lines.specs.declared.fault.RunFault.TheVariants as runs
 use Rattle.sync_play.specs.Run.{HasRead}
 use Rattle.sync_lines.specs.declared.fault.FaultyLine.{FaultyLine}
-use Rattle.sync_lines.specs.Lexer.{lines_of}
-use Rattle.sync_advice.specs.Advice.{explained}
-use Rattle.sync_trace.specs.declared.run.Failed.{Failed}
 use Rattle.sync_trace.specs.Trace.{trace_of}
 
 -- all that was read is a text with this fault, or none, and its trace was written and nothing else
@@ -29,18 +26,6 @@ pub record HasBegun (left left' written written' : Option (List ℕ)) : Type 0 w
 abbrev pub TellsFault : RunFault → Option (List ℕ) → Option (List ℕ) → Option (List ℕ) → Option (List ℕ) → Type 0
 TellsFault (runs.Text line fault) left left' written written' = HasTraced left left' written written' (Some (record { line = line; fault = fault }))
 TellsFault other left left' written written' = Unit {0}
-
--- what is advised is what is said of the line with this fault, if anything is
-abbrev pub IsAdvice : Failed → List ℕ → FaultyLine → Type 0
-IsAdvice e text found = IfSome e.advice (λ bytes. bytes.items ≡ explained (lines_of text) found)
-
--- of a fault of the text that was read what would be right is advised, and of others nothing
-abbrev pub IsAdvisedBy : RunFault → Failed → Option (List ℕ) → Option (List ℕ) → Type 0
-IsAdvisedBy (runs.Text line fault) e left left' = (text : List ℕ) × HasRead left left' text × IsAdvice e text (record { line = line; fault = fault })
-IsAdvisedBy other e left left' = e.advice ≡ None
-
-abbrev pub IsAdvised : Failed → Option (List ℕ) → Option (List ℕ) → Type 0
-IsAdvised e = IsAdvisedBy e.fault e
 
 -- the faults that come before the first byte is written
 abbrev pub IsEarly : RunFault → Type 0

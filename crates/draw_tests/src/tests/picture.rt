@@ -227,7 +227,7 @@ fn ended(alloc: Global, text: &[u8]) -> (Option<u8>, usize) {
     let mut written: Vec<u8> = Vec::new(alloc);
     match run(alloc, &mut reader, &mut written) {
         Ok(()) => (None, written.len()),
-        Err(fault) => (Some(fault.status()), written.len()),
+        Err(failed) => (Some(failed.fault.status()), written.len()),
     }
 }
 

@@ -65,7 +65,7 @@ impl Program for Draws {
     fn run<R: Read, W: Write>(alloc: Global, reader: &mut R, writer: &mut W) -> Ended {
         match sync_draw::run::run(alloc, reader, writer) {
             Ok(()) => Ended::Whole,
-            Err(fault) => Ended::of(fault),
+            Err(failed) => Ended::of(failed.fault),
         }
     }
 }
