@@ -3,6 +3,8 @@
 import glob
 import os
 import re
+import subprocess
+import sys
 
 PAGES = ["README.md", *sorted(glob.glob("docs/**/*.md", recursive=True))]
 TEXTS = {page: open(page, encoding="utf-8").read() for page in PAGES}
@@ -116,7 +118,7 @@ for text in sorted(glob.glob("examples/*.txt")):
 for text in sorted(glob.glob("examples/explore/*.txt")):
     report(text, quoted("docs/EXPLORE.md", text.removesuffix(".txt")))
 
-HEADS = ["Its steps", "Use it", "What is promised", "What is not promised", "Where its definitions stand", "Wrong bodies"]
+HEADS = ["Its steps", "Use it", "What is promised", "What is not promised"]
 for page in glob.glob("docs/objects/*.md"):
     report(page, ordered(page))
 
@@ -132,13 +134,11 @@ for page in PAGES:
     for code in re.findall(r"^```(?:rust|antt)\n(.*?)^```$", TEXTS[page], re.DOTALL | re.MULTILINE):
         report(page, unmade(code))
 
-named = set(re.findall(r"`(\w+\.edit)`", "".join(TEXTS.values())))
-edits = {os.path.basename(it): it for it in glob.glob("crates/*/must-fail/*.edit")}
-for edit in sorted(named | edits.keys()):
-    if edit not in named:
-        report(edits[edit], "no page names it")
-    else:
-        report(edit, None if edit in edits else "a page names it, and no crate has it")
+edits = {os.path.basename(it) for it in glob.glob("crates/*/must-fail/*.edit")}
+for edit in sorted(set(re.findall(r"`(\w+\.edit)`", "".join(TEXTS.values())))):
+    report(edit, None if edit in edits else "a page names it, and no crate has it")
+listing = subprocess.run([sys.executable, "tools/wrong_bodies.py", "--check"], check=False)
+report("docs/EDITS.md", "it is not what tools/wrong_bodies.py writes" if listing.returncode else None)
 
 for page in PAGES:
     for link in re.findall(r"\]\(([^)\s]+)\)", TEXTS[page]):
