@@ -118,7 +118,7 @@ for text in sorted(glob.glob("examples/*.txt")):
 for text in sorted(glob.glob("examples/explore/*.txt")):
     report(text, quoted("docs/EXPLORE.md", text.removesuffix(".txt")))
 
-HEADS = ["Its steps", "Use it", "What is promised", "What is not promised"]
+HEADS = ["Use it", "Its steps", "What is promised", "What is not promised"]
 for page in glob.glob("docs/objects/*.md"):
     report(page, ordered(page))
 
