@@ -1,8 +1,9 @@
 //! Draws what stands below the steps: what the run has left, what the picture leaves out, and the legend.
-ghost use Rattle.std.specs.Prelude.{◌<◌, ◌^◌};
+ghost use Rattle.std.specs.Prelude.{◌<◌, ◌^◌, IfOk};
 
+use crate::signs::signs_of;
 use draw_layout::layout::Layout;
-use draw_shapes::legend::{LEGEND_HEIGHT, draw_legend};
+use draw_shapes::legend::{draw_legend, legend_height};
 use draw_shapes::shape::put_text;
 use markup::markup::Markup;
 use std::alloc::{AllocError, Global};
@@ -64,20 +65,26 @@ fn draw_notes<T>(
 }
 
 /// Draws what stands below the steps.
-pub fn draw_foot<T>(
+pub fn draw_foot<T: Copy>(
     alloc: Global,
     story: &Story<T>,
     layout: &Layout,
 ) -> Result<Markup, AllocError> {
     let mut picture = Markup::new(alloc);
     draw_notes(alloc, &mut picture, story, layout)?;
-    draw_legend(alloc, &mut picture, layout.bottom() + NOTES_HEIGHT)?;
+    let signs = signs_of(alloc, story, layout)?;
+    draw_legend(alloc, &mut picture, &signs, layout.bottom() + NOTES_HEIGHT)?;
     Ok(picture)
 }
 
 /// How high a picture is.
-pub fn height_of(layout: &Layout) -> u64
-    ensures { result < 2 ^ 41 }
+pub fn height_of<T: Copy>(
+    alloc: Global,
+    story: &Story<T>,
+    layout: &Layout,
+) -> Result<u64, AllocError>
+    ensures { IfOk result (λ height. height < 2 ^ 41) }
 {
-    layout.bottom() + NOTES_HEIGHT + LEGEND_HEIGHT + 4
+    let signs = signs_of(alloc, story, layout)?;
+    Ok(layout.bottom() + NOTES_HEIGHT + legend_height(signs.len()) + 4)
 }

@@ -18,16 +18,16 @@ fn draw_name(alloc: Global, picture: &mut Markup, title: &str) -> Result<(), All
 }
 
 /// Draws the paper, and the first line of the text on it.
-fn draw_paper(
+fn draw_paper<T: Copy>(
     alloc: Global,
     picture: &mut Markup,
-    title: &str,
+    story: &Story<T>,
     layout: &Layout,
 ) -> Result<(), AllocError> {
     let width = u64::from(layout.width);
-    let paper = rect(alloc, "paper", 0, 0, width, height_of(layout))?;
-    put_shape(picture, paper)?;
-    put_text(alloc, picture, "head", 12, 22, title)
+    let height = height_of(alloc, story, layout)?;
+    put_shape(picture, rect(alloc, "paper", 0, 0, width, height)?)?;
+    put_text(alloc, picture, "head", 12, 22, story.title.as_str())
 }
 
 /// Draws the columns: the schedule, the lanes and the bands.
@@ -43,14 +43,14 @@ fn draw_columns<T>(
 }
 
 /// Draws what the steps stand on.
-pub fn draw_ground<T>(
+pub fn draw_ground<T: Copy>(
     alloc: Global,
     story: &Story<T>,
     layout: &Layout,
 ) -> Result<Markup, AllocError> {
     let mut picture = Markup::new(alloc);
     draw_name(alloc, &mut picture, story.title.as_str())?;
-    draw_paper(alloc, &mut picture, story.title.as_str(), layout)?;
+    draw_paper(alloc, &mut picture, story, layout)?;
     draw_columns(alloc, &mut picture, story, layout)?;
     Ok(picture)
 }

@@ -9,4 +9,5 @@ pub mod foot;
 pub mod ground;
 mod lane;
 mod schedule;
+mod signs;
 pub mod step;

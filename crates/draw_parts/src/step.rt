@@ -2,6 +2,7 @@
 ghost use Rattle.std.specs.Prelude.{◌<◌, ◌^◌};
 
 use crate::lane::draw_party;
+use crate::signs::is_anybody_at;
 use draw_layout::label::{Mark, Reach, Tone, label_of, mark_of, outcome_of, reach_of, tone_of};
 use draw_layout::lane::Lane;
 use draw_layout::layout::{Layout, top_of};
@@ -13,11 +14,12 @@ use sync_lines::integer::TextInteger;
 use sync_steps::steps::Act;
 use sync_story::story::{Step, Story};
 
-/// Draws the mark of a step, round its place.
+/// Draws the mark of a step, round its place; that of a wake by whether anybody stands who may be woken.
 fn draw_mark(
     alloc: Global,
     picture: &mut Markup,
     mark: Mark,
+    wakes: bool,
     x: u64,
     y: u64,
 ) -> Result<(), AllocError>
@@ -37,7 +39,12 @@ fn draw_mark(
             10,
             10,
         ),
-        Mark::Wake => line(alloc, "wake", (x, y), (x + 20, y)),
+        Mark::Wake => line(
+            alloc,
+            if wakes { "wake" } else { "vain" },
+            (x, y),
+            (x + 20, y),
+        ),
     };
     put_shape(picture, drawn?)
 }
@@ -134,7 +141,8 @@ fn draw_act<T: Copy>(
     if let Some(reach) = reach_of(&step.event.act) {
         draw_reach(alloc, picture, layout, reach, x, y)?;
     }
-    draw_mark(alloc, picture, mark_of(&step.event.act), x, y)
+    let wakes = is_anybody_at(layout, step.row);
+    draw_mark(alloc, picture, mark_of(&step.event.act), wakes, x, y)
 }
 
 /// Draws a step in the lane of its party: the head of a call, or the way to a word, a mark and words.

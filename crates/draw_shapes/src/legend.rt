@@ -8,7 +8,7 @@ use std::alloc::{AllocError, Global};
 
 /// A sign that a legend explains.
 #[derive(Clone, Copy)]
-enum Sign {
+pub enum Sign {
     Read,
     Write,
     Look,
@@ -16,6 +16,7 @@ enum Sign {
     Failed,
     Written,
     Wake,
+    WakeOfNobody,
     Stand,
     WriteHold,
     ReadHold,
@@ -23,7 +24,8 @@ enum Sign {
     Open,
 }
 
-const SIGNS: [Sign; 12] = [
+/// All signs, in the order in which a legend has them.
+pub const SIGNS: [Sign; 13] = [
     Sign::Look,
     Sign::Done,
     Sign::Failed,
@@ -31,6 +33,7 @@ const SIGNS: [Sign; 12] = [
     Sign::Read,
     Sign::Write,
     Sign::Wake,
+    Sign::WakeOfNobody,
     Sign::Stand,
     Sign::WriteHold,
     Sign::ReadHold,
@@ -38,11 +41,18 @@ const SIGNS: [Sign; 12] = [
     Sign::Open,
 ];
 
-const COLUMNS: u64 = 3;
+const COLUMNS: usize = 3;
 
-const ROWS: u64 = 4;
-/// How high a legend is.
-pub const LEGEND_HEIGHT: u64 = 88;
+/// How high a row of a legend is.
+const ROW: u64 = 22;
+
+/// How high the legend of so many signs is.
+pub fn legend_height(signs: usize) -> u64
+    ensures { result < 2 ^ 10 }
+{
+    let rows = signs.min(SIGNS.len()).div_ceil(COLUMNS);
+    rows as u64 * ROW
+}
 
 fn meaning(sign: Sign) -> &'static str {
     match sign {
@@ -52,7 +62,8 @@ fn meaning(sign: Sign) -> &'static str {
         Sign::Done => "exchange, done",
         Sign::Failed => "exchange, swap: failed",
         Sign::Written => "store, add, swap",
-        Sign::Wake => "calls wake closure",
+        Sign::Wake => "wakes who stands",
+        Sign::WakeOfNobody => "wakes nobody",
         Sign::Stand => "stands at a closure",
         Sign::WriteHold => "holds, alone",
         Sign::ReadHold => "holds, to read",
@@ -70,6 +81,7 @@ fn drawn(alloc: Global, sign: Sign, left: u64, top: u64) -> Result<Opening, Allo
     match sign {
         Sign::Read => line(alloc, "read", (left, middle), (left + 16, middle)),
         Sign::Write | Sign::Wake => line(alloc, "write", (left, middle), (left + 16, middle)),
+        Sign::WakeOfNobody => line(alloc, "vain", (left, middle), (left + 16, middle)),
         Sign::Look => circle(alloc, "look", left + 8, middle, 5),
         Sign::Done => circle(alloc, "done", left + 8, middle, 5),
         Sign::Failed => cross(alloc, left + 8, middle),
@@ -103,15 +115,25 @@ fn draw_entry(
     put_text(alloc, picture, "soft", left + 26, top + 10, meaning(sign))
 }
 
-/// Draws the legend.
-pub fn draw_legend(alloc: Global, picture: &mut Markup, top: u64) -> Result<(), AllocError>
+/// Draws the legend of these signs.
+pub fn draw_legend(
+    alloc: Global,
+    picture: &mut Markup,
+    signs: &[Sign],
+    top: u64,
+) -> Result<(), AllocError>
     requires { top < 2 ^ 41 }
 {
-    for row in 0..ROWS {
-        for column in 0..COLUMNS {
-            let sign = SIGNS[(row * COLUMNS + column) as usize];
-            draw_entry(alloc, picture, sign, 12 + column * 200, top + row * 22)?;
-        }
+    for at in 0..signs.len().min(SIGNS.len()) {
+        let column = (at % COLUMNS) as u64;
+        let row = (at / COLUMNS) as u64;
+        draw_entry(
+            alloc,
+            picture,
+            signs[at],
+            12 + column * 200,
+            top + row * ROW,
+        )?;
     }
     Ok(())
 }

@@ -71,11 +71,11 @@ fn with_view(svg: Opening, view: &str, width: u64, height: u64) -> Result<Openin
 }
 
 /// The element of a picture.
-fn frame(alloc: Global, layout: &Layout) -> Result<Opening, AllocError>
+fn frame<T: Copy>(alloc: Global, story: &Story<T>, layout: &Layout) -> Result<Opening, AllocError>
     ensures { IfOk result (λ opening. opening.tag ≡ Tag.Svg) }
 {
     let width = u64::from(layout.width);
-    let height = height_of(layout);
+    let height = height_of(alloc, story, layout)?;
     let view = format!(in alloc; "0 0 {width} {height}")?;
     with_view(svg(alloc)?, view.as_str(), width, height)?.with(Key::Role, "img")
 }
@@ -111,7 +111,7 @@ fn draw_round<T: TextInteger>(
 {
     let ground = draw_ground(alloc, story, layout)?;
     let foot = draw_foot(alloc, story, layout)?;
-    document(frame(alloc, layout)?, &ground, steps, &foot)
+    document(frame(alloc, story, layout)?, &ground, steps, &foot)
 }
 
 /// The bytes of a whole picture.
