@@ -1,5 +1,5 @@
 -- What is said of a line with a fault: the line, and a sentence of what would be right there.
-use Rattle.std.specs.Prelude.{ℕ, ◌+◌, ◌-◌, ◌^◌, ◌/◌, ◌%◌, Bool, false, not, ◌&&◌, ◌||◌, ◌==◌, nat_lt, if◌then◌else◌, List, [], ◌∷◌, ◌++◌, length, take, drop, Option, Some, None, is_some, is_err, codes}
+use Rattle.std.specs.Prelude.{◌≡◌, ℕ, ◌+◌, ◌-◌, ◌^◌, ◌/◌, ◌%◌, Bool, true, false, not, ◌&&◌, ◌||◌, ◌==◌, nat_lt, if◌then◌else◌, List, [], ◌∷◌, ◌++◌, length, take, drop, Option, Some, None, is_some, is_ok, is_err, codes}
 use Rattle.std.specs.List.{flat_map}
 use Rattle.std.specs.Str.{bytes_eq}
 use Rattle.steps_events.specs.declared.event.Object.{Object}
@@ -10,8 +10,9 @@ use Rattle.sync_lines.specs.declared.fault.LineFault.TheVariants as faults
 use Rattle.steps_events.specs.declared.event.Call.{Call}
 use Rattle.sync_lines.specs.Call.{name_of, calls_of, named}
 use Rattle.sync_lines.specs.Command.{find, verbs}
+use Rattle.sync_lines.specs.Header.{header_of}
 use Rattle.sync_lines.specs.Lexer.{words_of, number_within}
-use Rattle.sync_lines.specs.ValueTypes.{object_of_name}
+use Rattle.sync_lines.specs.ValueTypes.{meaning_of, object_of_name, type_named}
 
 -- a line, counted from 1; empty where there is none
 abbrev pub first_of : List (List ℕ) → List ℕ
@@ -226,3 +227,8 @@ sentence_of (Some o) line found = if found.line == 1 then of_first_line o (first
 
 abbrev pub explained : List (List ℕ) → FaultyLine → List ℕ
 explained lines found = repeated (line_of found.line lines) ++ (codes "\n" ++ (sentence_of (object_of lines) (line_of found.line lines) found ++ codes "\n"))
+
+-- the line that is advised opens the object of this name
+abbrev pub Opens : List ℕ → Option (Object Unit) → Type 0
+Opens name None = Unit {0}
+Opens name (Some o) = is_ok (header_of (meaning_of (type_named name)).numerals (words_of (opening o name))) ≡ true

@@ -9,8 +9,9 @@ mod objects;
 mod repeat;
 mod sentence;
 
-ghost use Rattle.std.specs.Prelude.{◌≡◌, IfOk};
+ghost use Rattle.std.specs.Prelude.{◌≡◌, ℕ, List, IfOk};
 ghost use Rattle.sync_lines.specs.Lexer.{lines_of};
+ghost use Rattle.sync_lines.specs.ValueTypes.{object_of_name};
 ghost use Rattle.sync_advice.specs.Advice as meaning;
 
 use crate::repeat::repeat;
@@ -50,9 +51,11 @@ fn object_of(text: &[u8]) -> Option<Object<()>>
 
 /// The line of a text that has this fault, and, on a line of its own, a sentence that says what would be right there.
 ///
-/// It says so by the line, the fault and the object alone: what was played before the line it does not look at.
+/// It says so by the line, the fault and the object alone: what was played before the line it does not look at. Of a bad first line it names a line that
+/// opens the object (`opens`).
 pub fn explain(alloc: Global, text: &[u8], found: FaultyLine) -> Result<Vec<u8>, AllocError>
-    ensures { IfOk result (λ bytes. bytes.items ≡ meaning.explained (lines_of text.now) found) }
+    ensures said { IfOk result (λ bytes. bytes.items ≡ meaning.explained (lines_of text.now) found) }
+    ensures opens { (name : List ℕ) → meaning.Opens name (object_of_name name) }
 {
     let line = line_of(text, found.line);
     let mut out = Vec::new(alloc);
