@@ -2,6 +2,7 @@
 use Rattle.std.proofs.Common.{◌≡◌, ℕ, Bool, true, false, List, [], ◌∷◌, ◌⊎◌, inl, inr, refl, sym, subst, codes, bytes_eq}
 use Rattle.std.proofs.lemmas.Slice.Eq.{bytes_eq-Decides}
 use Rattle.sync_advice.specs.Advice.{Opens}
+use Rattle.sync_lines.specs.Header.{header_of}
 use Rattle.sync_lines.specs.ValueTypes.{object_of_name}
 
 -- what is to hold of a name
@@ -19,7 +20,8 @@ AllHold [] = Unit {0}
 AllHold (known ∷ knowns) = Holds known × AllHold knowns
 
 all_hold : AllHold names
-all_hold = (refl, refl, refl, refl, refl, refl, refl, refl, refl, refl, refl, refl, refl, tt)
+unfolding header_of
+all_hold = (refl, (refl, (refl, (refl, (refl, (refl, (refl, (refl, (refl, (refl, (refl, (refl, (refl, tt)))))))))))))
 
 -- a name that is none of them
 abbrev IsNone : List ℕ → List (List ℕ) → Type 0
@@ -32,14 +34,14 @@ tests false = inr refl
 
 one_or_none : (name : List ℕ) (knowns : List (List ℕ)) → AllHold knowns → Holds name ⊎ IsNone name knowns
 one_or_none name [] hold = inr tt
-one_or_none name (known ∷ knowns) hold = by_test (tests (bytes_eq name known))
+one_or_none name (known ∷ knowns) hold = by_test (tests (bytes_eq name known)) (one_or_none name knowns hold.1)
   where
     others : Holds name ⊎ IsNone name knowns → bytes_eq name known ≡ false → Holds name ⊎ IsNone name (known ∷ knowns)
     others (inl holds) not = inl holds
     others (inr none) not = inr (not, none)
-    by_test : (bytes_eq name known ≡ true) ⊎ (bytes_eq name known ≡ false) → Holds name ⊎ IsNone name (known ∷ knowns)
-    by_test (inl is) = inl (subst Holds (sym ((bytes_eq-Decides name known).0 is)) hold.0)
-    by_test (inr not) = others (one_or_none name knowns hold.1) not
+    by_test : (bytes_eq name known ≡ true) ⊎ (bytes_eq name known ≡ false) → Holds name ⊎ IsNone name knowns → Holds name ⊎ IsNone name (known ∷ knowns)
+    by_test (inl is) rest = inl (subst Holds (sym ((bytes_eq-Decides name known).0 is)) hold.0)
+    by_test (inr not) rest = others rest not
 
 pub opens : (name : List ℕ) → Opens name (object_of_name name)
 opens name = by_name (one_or_none name names all_hold)

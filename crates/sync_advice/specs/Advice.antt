@@ -139,7 +139,7 @@ is_marked other = false
 
 -- all that a line may ask, after these words
 abbrev pub may_ask : List ℕ → Object Unit → List ℕ
-may_ask words o = words ++ (listed (calls_of o) ++ verbs_of o)
+may_ask words o = (words ++ listed (calls_of o)) ++ verbs_of o
 
 abbrev pub has_two : Object Unit → List ℕ
 has_two o = may_ask (codes "a line has a party and what it does: ") o

@@ -51,11 +51,9 @@ fn object_of(text: &[u8]) -> Option<Object<()>>
 
 /// The line of a text that has this fault, and, on a line of its own, a sentence that says what would be right there.
 ///
-/// It says so by the line, the fault and the object alone: what was played before the line it does not look at. Of a bad first line it names a line that
-/// opens the object (`opens`).
+/// It says so by the line, the fault and the object alone: what was played before the line it does not look at.
 pub fn explain(alloc: Global, text: &[u8], found: FaultyLine) -> Result<Vec<u8>, AllocError>
-    ensures said { IfOk result (λ bytes. bytes.items ≡ meaning.explained (lines_of text.now) found) }
-    ensures opens { (name : List ℕ) → meaning.Opens name (object_of_name name) }
+    ensures { IfOk result (λ bytes. bytes.items ≡ meaning.explained (lines_of text.now) found) }
 {
     let line = line_of(text, found.line);
     let mut out = Vec::new(alloc);
@@ -65,3 +63,8 @@ pub fn explain(alloc: Global, text: &[u8], found: FaultyLine) -> Result<Vec<u8>,
     out.extend_from_slice(b"\n")?;
     Ok(out)
 }
+
+/// Of a first line that names an object, but does not open it, a line is advised that opens the object of this name.
+pub fn advised_lines_open()
+    ensures { (name : List ℕ) → meaning.Opens name (object_of_name name) }
+{}

@@ -1,5 +1,5 @@
 //! What is repeated of a text.
-ghost use Rattle.std.specs.Prelude.{◌≡◌, ◌<◌, ◌++◌, OnOk};
+ghost use Rattle.std.specs.Prelude.{◌≡◌, ◌<◌, ◌++◌, take, OnOk};
 ghost use Rattle.std.specs.List.{flat_map};
 ghost use Rattle.sync_advice.specs.Advice as meaning;
 
@@ -28,7 +28,8 @@ fn add_byte(out: &mut Vec<u8>, byte: u8) -> Result<(), AllocError>
     ensures { OnOk result (out.new.items ≡ out.old.items ++ meaning.byte_shown byte) }
 {
     if is_plain(byte) {
-        out.push(byte)
+        out.push(byte)?;
+        Ok(())
     } else {
         out.extend_from_slice(&[b'\\', b'x', digit_of(byte / 16), digit_of(byte % 16)])
     }
@@ -47,14 +48,21 @@ fn add_bytes(out: &mut Vec<u8>, bytes: &[u8]) -> Result<(), AllocError>
     }
 }
 
+/// The words as far as they are repeated.
+fn front(words: &[u8]) -> &[u8]
+    ensures { result.now ≡ take 200 words.now }
+{
+    if words.len() > MOST {
+        &words[..MOST]
+    } else {
+        words
+    }
+}
+
 /// Adds words of a text, up to 200 bytes of them and then two dots. What a terminal may take for more than a character is told by its number, `\x1b`.
 pub fn repeat(out: &mut Vec<u8>, words: &[u8]) -> Result<(), AllocError>
     ensures { OnOk result (out.new.items ≡ out.old.items ++ meaning.repeated words.now) }
 {
-    if words.len() > MOST {
-        add_bytes(out, &words[..MOST])?;
-        out.extend_from_slice(b"..")
-    } else {
-        add_bytes(out, words)
-    }
+    add_bytes(out, front(words))?;
+    out.extend_from_slice(if words.len() > MOST { b".." } else { b"" })
 }

@@ -1,5 +1,6 @@
 //! The sentence that says what would be right in the place of a line with a fault.
 ghost use Rattle.std.specs.Prelude.{◌≡◌, ◌++◌, OnOk};
+ghost use Rattle.sync_lines.specs.Call.{calls_of as listed_calls};
 ghost use Rattle.sync_lines.specs.Lexer.{words_of};
 ghost use Rattle.sync_advice.specs.Advice as meaning;
 
@@ -30,12 +31,19 @@ fn add_names(out: &mut Vec<u8>, calls: &[Call<()>]) -> Result<(), AllocError>
     }
 }
 
+/// Adds words, and then the names of all calls of the object.
+fn list_calls(out: &mut Vec<u8>, words: &[u8], object: Object<()>) -> Result<(), AllocError>
+    ensures { OnOk result (out.new.items ≡ out.old.items ++ (words.now ++ meaning.listed (listed_calls object))) }
+{
+    out.extend_from_slice(words)?;
+    add_names(out, calls_of(&object))
+}
+
 /// Adds words, and then all that a line may ask of the object: its calls, and the verbs of a call under way.
 fn list_all(out: &mut Vec<u8>, words: &[u8], object: Object<()>) -> Result<(), AllocError>
     ensures { OnOk result (out.new.items ≡ out.old.items ++ meaning.may_ask words.now object) }
 {
-    out.extend_from_slice(words)?;
-    add_names(out, calls_of(&object))?;
+    list_calls(out, words, object)?;
     out.extend_from_slice(verbs_of(object))
 }
 
@@ -152,8 +160,11 @@ fn of_idle(out: &mut Vec<u8>, object: Object<()>, line: &[u8]) -> Result<(), All
             b"the call ended before these steps, or none was under way: `run` goes to its end",
         )
     } else {
-        out.extend_from_slice(b"the party has no call under way, and begins one by its name: ")?;
-        add_names(out, calls_of(&object))
+        list_calls(
+            out,
+            b"the party has no call under way, and begins one by its name: ",
+            object,
+        )
     }
 }
 
