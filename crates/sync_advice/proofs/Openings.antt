@@ -39,6 +39,7 @@ one_or_none name (known ∷ knowns) hold = by_test (tests (bytes_eq name known))
     others : Holds name ⊎ IsNone name knowns → bytes_eq name known ≡ false → Holds name ⊎ IsNone name (known ∷ knowns)
     others (inl holds) not = inl holds
     others (inr none) not = inr (not, none)
+
     by_test : (bytes_eq name known ≡ true) ⊎ (bytes_eq name known ≡ false) → Holds name ⊎ IsNone name knowns → Holds name ⊎ IsNone name (known ∷ knowns)
     by_test (inl is) rest = inl (subst Holds (sym ((bytes_eq-Decides name known).0 is)) hold.0)
     by_test (inr not) rest = others rest not
