@@ -6,9 +6,13 @@ ghost use Rattle.passes.specs.declared.part.Part.{Part};
 ghost use Rattle.passes.specs.Parts.{half, IsSamePart, IsAgain};
 ghost use denote.Param.Send.{IsSync, IsSend};
 
+use running_atomic::{Atomic, AtomicPass};
 use running_barrier::{Barrier, BarrierPass};
+use running_guarded::{Guarded, GuardedPass};
+use running_lazy_lock::{Gives, LazyLock, LazyPass};
 use running_mutex::condition_variable::{CondPass, ConditionVariable};
 use running_mutex::{Mutex, MutexPass};
+use running_once::{Once, OncePass};
 use running_rw_reader::{RwLockReaderPreference, RwReaderPass};
 use running_rw_writer::{RwLockWriterPreference, RwWriterPass};
 use running_semaphore::{SemPass, Semaphore};
@@ -16,6 +20,7 @@ use running_spin_lock::{SpinLock, SpinPass};
 use std::alloc::Allocator;
 use std::thread;
 use std::thread::Threads;
+use steps_events::integer::AtomicInteger;
 
 /// A pass that can be parted at the object that it came from, and put together again.
 pub trait Shares<O>: Sized {
@@ -235,6 +240,95 @@ impl<T, A: Allocator> Shares<SpinLock<T, A>> for SpinPass {
 
     fn mend(one: SpinPass, other: SpinPass, of: &SpinLock<T, A>) -> SpinPass {
         let Ok(pass) = SpinPass::join(one, other, of) else {
+            unreachable!()
+        };
+        pass
+    }
+}
+
+impl<T, A: Allocator> Shares<Guarded<T, A>> for GuardedPass {
+    ghost use Rattle.running_guarded.specs.GuardedShown.{IsGuardedPass, part_of};
+
+    ghost idle = { IsGuardedPass };
+
+    ghost part = { part_of };
+
+    fn cut(self, of: &Guarded<T, A>) -> (GuardedPass, GuardedPass) {
+        let Ok(parts) = self.split(of) else {
+            unreachable!()
+        };
+        parts
+    }
+
+    fn mend(one: GuardedPass, other: GuardedPass, of: &Guarded<T, A>) -> GuardedPass {
+        let Ok(pass) = GuardedPass::join(one, other, of) else {
+            unreachable!()
+        };
+        pass
+    }
+}
+
+impl<T: AtomicInteger, A: Allocator> Shares<Atomic<T, A>> for AtomicPass<T> {
+    ghost use Rattle.running_atomic.specs.AtomicShown.{IsAtomicPass, part_of_atomic};
+
+    ghost idle = { IsAtomicPass };
+
+    ghost part = { part_of_atomic };
+
+    fn cut(self, of: &Atomic<T, A>) -> (AtomicPass<T>, AtomicPass<T>) {
+        let Ok(parts) = self.split(of) else {
+            unreachable!()
+        };
+        parts
+    }
+
+    fn mend(one: AtomicPass<T>, other: AtomicPass<T>, of: &Atomic<T, A>) -> AtomicPass<T> {
+        let Ok(pass) = AtomicPass::join(one, other, of) else {
+            unreachable!()
+        };
+        pass
+    }
+}
+
+impl<A: Allocator> Shares<Once<A>> for OncePass {
+    ghost use Rattle.running_once.specs.OnceShown.{IsOncePass, part_of_once};
+
+    ghost idle = { IsOncePass };
+
+    ghost part = { part_of_once };
+
+    fn cut(self, of: &Once<A>) -> (OncePass, OncePass) {
+        let Ok(parts) = self.split(of) else {
+            unreachable!()
+        };
+        parts
+    }
+
+    fn mend(one: OncePass, other: OncePass, of: &Once<A>) -> OncePass {
+        let Ok(pass) = OncePass::join(one, other, of) else {
+            unreachable!()
+        };
+        pass
+    }
+}
+
+impl<T: Drop, F: Drop, G: Gives<T, F>, A: Allocator + Clone> Shares<LazyLock<T, F, G, A>>
+    for LazyPass {
+    ghost use Rattle.running_lazy_lock.specs.LazyShown.{IsLazyPass, part_of, part_of_init};
+
+    ghost idle = { λ lazy p. IsLazyPass lazy p × (part_of_init p ≡ part_of p) };
+
+    ghost part = { part_of };
+
+    fn cut(self, of: &LazyLock<T, F, G, A>) -> (LazyPass, LazyPass) {
+        let Ok(parts) = self.split(of) else {
+            unreachable!()
+        };
+        parts
+    }
+
+    fn mend(one: LazyPass, other: LazyPass, of: &LazyLock<T, F, G, A>) -> LazyPass {
+        let Ok(pass) = LazyPass::join(one, other, of) else {
             unreachable!()
         };
         pass
