@@ -391,8 +391,6 @@ impl<A: Allocator> ConditionVariable<A> {
         ensures unsignalled { IfInterrupted result.1 (HasNotTaken W.Fn wait cond_pass.old cond_pass.new) }
         ensures took { IfSuccess result.1 (λ _. HasPlayedPermit (initial_of self.now.semaphore) calls.Wait answers.Success (permits_in cond_pass.old) (permits_in cond_pass.new)) }
         ensures took_none { IfInterrupted result.1 (HasPlayedPermit (initial_of self.now.semaphore) calls.Wait answers.Interrupted (permits_in cond_pass.old) (permits_in cond_pass.new)) }
-        ensures took { IfSuccess result.1 (λ _. HasPlayedPermit (initial_of self.now.semaphore) calls.Wait answers.Success (permits_in cond_pass.old) (permits_in cond_pass.new)) }
-        ensures took_none { IfInterrupted result.1 (HasPlayedPermit (initial_of self.now.semaphore) calls.Wait answers.Interrupted (permits_in cond_pass.old) (permits_in cond_pass.new)) }
     {
         self.count_in(&mut cond_pass.waits);
         let left = leave(&CountedWait {
