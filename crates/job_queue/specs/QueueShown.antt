@@ -9,6 +9,8 @@ use Rattle.running_spin_lock.specs.ValueRule.{both_held}
 use Rattle.running_mutex.specs.MutexShown as mutexes
 use Rattle.running_mutex.specs.CondShown as conds
 use Rattle.running_spin_lock.specs.SpinShown as spins
+use Rattle.running_spin_lock.specs.SpinSteps.{HasPlayedBoth}
+use Rattle.steps_events.specs.declared.event.Call.TheVariants as calls
 use Rattle.running_mutex.specs.declared.condition_variable.CondPass.{CondPass}
 use Rattle.running_spin_lock.specs.declared.pass.SpinPass.{SpinPass}
 use Rattle.passes.specs.Passes as passes
@@ -40,6 +42,8 @@ pub record HasStayed (p q : QueuePass) : Type 0 where
 pub record HasGoneInOnce (p q : QueuePass) : Type 0 where
   pub mutex : HasLockedOnce (mutex_in p) (mutex_in q)
   pub state : spins.HasLockedOnce (state_in p) (state_in q)
+  -- by one `BlockingLock` and its `Unlock`, and no other call
+  pub spun : HasPlayedBoth calls.BlockingLock (spins.view (state_in p)) (spins.view (state_in q))
 
 -- so, each at least once
 pub record HasGoneIn (p q : QueuePass) : Type 0 where

@@ -4,7 +4,9 @@ ghost use Rattle.passes.specs.Answers.{MayAnswerAbort, HasWoken};
 ghost use Rattle.running_semaphore.specs.SemaphoreShown.{IsEmpty};
 ghost use Rattle.running_mutex.specs.MutexShown.{IsMutexPass, holds_of, grants_of, pass_of, borrow_of, HasStayed as HasLockedAtMost};
 ghost use Rattle.running_mutex.specs.CondShown.{IsCondPass, HasNotified, held_by, HasStayed as HasWaitedAtMost};
-ghost use Rattle.running_spin_lock.specs.SpinShown.{IsSpinPass, HasLockedOnce as HasSpunOnce, HasStayed as HasSpunAtMost, grants_of as state_grants_of};
+ghost use Rattle.running_spin_lock.specs.SpinShown.{IsSpinPass, HasLockedOnce as HasSpunOnce, HasStayed as HasSpunAtMost, grants_of as state_grants_of, view};
+ghost use Rattle.running_spin_lock.specs.SpinSteps.{HasPlayedBoth};
+ghost use Rattle.steps_events.specs.declared.event.Call.TheVariants as calls;
 ghost use Rattle.job_queue.specs.Answers.{job_of, IsEmptyAnswer, IsInterrupted, IfGaveUp};
 ghost use Rattle.job_queue.specs.Looks.{held_after, IfDone};
 ghost use Rattle.job_queue.specs.Locked.{HasLockedOnce};
@@ -182,6 +184,7 @@ fn put_locked<T, A: Allocator, R: Wait, K: Fn(&WaitWord)>(
     requires may { K.IsAlwaysCallable wake_one.now }
     ensures locked { HasLockedOnce mtx_pass.old mtx_pass.new }
     ensures spun { HasSpunOnce pass.old pass.new }
+    ensures called { HasPlayedBoth calls.BlockingLock (view pass.old) (view pass.new) }
     ensures handed_back { IfErr result (λ fault. job_of fault ≡ job) }
     ensures woke { HasWoken K.Fn wake_one.now }
 {
@@ -215,6 +218,7 @@ fn close_locked<T, A: Allocator, R: Wait, K: Fn(&WaitWord)>(
     requires may { K.IsAlwaysCallable wake_one.now }
     ensures locked { HasLockedOnce mtx_pass.old mtx_pass.new }
     ensures spun { HasSpunOnce pass.old pass.new }
+    ensures called { HasPlayedBoth calls.BlockingLock (view pass.old) (view pass.new) }
 {
     match Mutex::lock(mtx_pass, mutex, rt, |_, _| go_on()) {
         WaitResult::Success(hold) => {
@@ -355,6 +359,7 @@ fn put_now<T, A: Allocator, R: Wait>(
 ) -> Result<u64, PutFault<T>>
     requires own { IsSpinPass state.now pass.old }
     ensures spun { HasSpunOnce pass.old pass.new }
+    ensures called { HasPlayedBoth calls.BlockingLock (view pass.old) (view pass.new) }
     ensures handed_back { IfErr result (λ fault. job_of fault ≡ job) }
 {
     let mut guard = SpinLock::blocking_lock(pass, state, rt);
@@ -370,6 +375,7 @@ fn take_now<T, A: Allocator, R: Wait>(
 ) -> Taken<T>
     requires own { IsSpinPass state.now pass.old }
     ensures spun { HasSpunOnce pass.old pass.new }
+    ensures called { HasPlayedBoth calls.BlockingLock (view pass.old) (view pass.new) }
     ensures never_interrupted { ¬ IsInterrupted result }
 {
     let mut guard = SpinLock::blocking_lock(pass, state, rt);
@@ -385,6 +391,7 @@ fn take_last<T, A: Allocator, R: Wait>(
 ) -> Taken<T>
     requires own { IsSpinPass state.now pass.old }
     ensures spun { HasSpunOnce pass.old pass.new }
+    ensures called { HasPlayedBoth calls.BlockingLock (view pass.old) (view pass.new) }
     ensures never_empty { ¬ IsEmptyAnswer result }
 {
     match take_now(hold, pass, rt, state) {
@@ -402,6 +409,7 @@ fn close_now<T, A: Allocator, R: Wait>(
 )
     requires own { IsSpinPass state.now pass.old }
     ensures spun { HasSpunOnce pass.old pass.new }
+    ensures called { HasPlayedBoth calls.BlockingLock (view pass.old) (view pass.new) }
 {
     let mut guard = SpinLock::blocking_lock(pass, state, rt);
     guard.close();

@@ -82,8 +82,10 @@ impl<T: Drop, F: Drop, G: Gives<T, F>, A: Allocator + Clone> LazyLock<T, F, G, A
 
 impl<T: Drop, F: FnOnce() -> T + Drop, G: Gives<T, F>, A: Allocator> LazyLock<T, F, G, A> {
     ghost use Rattle.passes.specs.Parts.{IsWhole};
-    ghost use Rattle.running_spin_lock.specs.SpinShown.{IsSpinPass, HasLockedOnce};
-    ghost use Rattle.running_lazy_lock.specs.LazyShown.{IsLazyPass, IsComplete, HasForced, HasSeenOnce, HasPlayed, ended_of, part_of};
+    ghost use Rattle.running_spin_lock.specs.SpinShown.{IsSpinPass, HasLockedOnce, view};
+    ghost use Rattle.running_spin_lock.specs.SpinSteps.{HasPlayedBoth};
+    ghost use Rattle.steps_events.specs.declared.event.Call.TheVariants as calls;
+    ghost use Rattle.running_lazy_lock.specs.LazyShown.{IsLazyPass, IsComplete, HasForced, HasSeenOnce, HasPlayed, ended_of, part_of, init_in};
 
     /// The value. Calls the closure for it, if no other call has begun to; else comes back once that has ended. A closure that forces
     /// this value itself waits for ever.
@@ -94,6 +96,7 @@ impl<T: Drop, F: FnOnce() -> T + Drop, G: Gives<T, F>, A: Allocator> LazyLock<T,
         ensures given { IsGiven G.may G.gives result.now }
         ensures forced { HasForced pass.old pass.new }
         ensures made { ended_of pass.old < ended_of pass.new → IsGiven G.may F.post result.now }
+        ensures called { ended_of pass.old < ended_of pass.new → HasPlayedBoth calls.BlockingLock (view (init_in pass.old)) (view (init_in pass.new)) }
         ensures kept { IsComplete pass.old → HasSeenOnce pass.old pass.new }
         ensures exact { IsWhole (part_of pass.old) → ended_of pass.new ≡ 1 }
         ensures played { HasPlayed pass.old pass.new }
@@ -106,6 +109,7 @@ impl<T: Drop, F: FnOnce() -> T + Drop, G: Gives<T, F>, A: Allocator> LazyLock<T,
                 requires own { IsSpinPass this.now.init init.old }
                 requires keeps { (f : F) → G.may f → F.IsAlwaysCallable f × ((value : T) → F.post f value → G.gives f value) }
                 ensures locked { HasLockedOnce init.old init.new }
+                ensures called { HasPlayedBoth calls.BlockingLock (view init.old) (view init.new) }
                 ensures of { result.of ≡ this.entry.now.value.id }
                 ensures made { IsGiven G.may F.post result.value }
             { this.make(rt, init) },
@@ -132,6 +136,7 @@ impl<T: Drop, F: FnOnce() -> T + Drop, G: Gives<T, F>, A: Allocator> LazyLock<T,
         requires own { IsSpinPass self.now.init pass.old }
         requires keeps { (f : F) → G.may f → F.IsAlwaysCallable f × ((value : T) → F.post f value → G.gives f value) }
         ensures locked { HasLockedOnce pass.old pass.new }
+        ensures called { HasPlayedBoth calls.BlockingLock (view pass.old) (view pass.new) }
         ensures of { result.of ≡ self.now.value.id }
         ensures made { IsGiven G.may F.post result.value }
     {
@@ -146,6 +151,7 @@ impl<T: Drop, F: FnOnce() -> T + Drop, G: Gives<T, F>, A: Allocator> LazyLock<T,
     fn take<R: Wait>(&self, rt: &R, pass: &mut SpinPass) -> Init<T, F, G>
         requires own { IsSpinPass self.now.init pass.old }
         ensures locked { HasLockedOnce pass.old pass.new }
+        ensures called { HasPlayedBoth calls.BlockingLock (view pass.old) (view pass.new) }
     {
         let taken = {
             let mut guard = SpinLock::blocking_lock(pass, &self.init, rt);

@@ -1,5 +1,5 @@
 -- What contracts see of a condition variable and its pass, and what a call changes in a pass.
-use Rattle.std.specs.Prelude.{◌≡◌, ℕ, Some, None}
+use Rattle.std.specs.Prelude.{◌≡◌, ℕ, Option, Some, None}
 use Rattle.std.specs.Borrow.{Bor}
 use Rattle.std.specs.Fn.{Shared, Once, FnOnceReturnsAt}
 use Rattle.steps_events.specs.declared.WaitAction.{WaitAction}
@@ -12,7 +12,16 @@ use Rattle.passes.specs.Answers.{MayAnswerAbort, HasAsked}
 use Rattle.passes.specs.declared.wait.WaitResult.{WaitResult}
 use Rattle.passes.specs.declared.wait.WaitResult.TheVariants.{Success, Interrupted}
 use Rattle.passes.specs.Objects.{IsPassOf}
-use Rattle.playing.specs.Passes.{counts_of}
+use Rattle.playing.specs.Passes.{counts_of, parties_of}
+use Rattle.playing.specs.Slots.{Parties}
+use Rattle.playing.specs.Plays.{HasCalled}
+use Rattle.steps_events.specs.declared.event.Call.TheVariants as calls
+use Rattle.steps_events.specs.declared.event.Answer.{Answer}
+use Rattle.steps_events.specs.declared.event.Answer.TheVariants as model_answers
+use Rattle.steps_events.specs.declared.hold.HoldKind.{HoldKind}
+use Rattle.steps_events.specs.declared.hold.HoldKind.TheVariants as kinds
+use Rattle.tallies.specs.MutexScript.{mutex_model}
+use Rattle.running_mutex.specs.MutexParties.{Unlocks}
 use Rattle.playing.specs.Counts.{HasMoved, WasRefused}
 use Rattle.playing.specs.Counts as counts
 use Rattle.tallies.specs.declared.mutex.Holds.{Holds}
@@ -114,3 +123,7 @@ pub record HasLeft {F W : Type 0} (g : Shared F (Bor W × (Bor ℕ × Unit {0}))
 pub record LeavesCounted {F Y : Type 0} (g : Once F (Bor CountedWait × Unit {0}) Y) (leave : F) (left : Y) : Type 0 where
   pub counted : CountedWait
   pub says : FnOnceReturnsAt g leave counted left
+
+-- the mutex's pass has made an `Unlock`, as the party that had the mutex, and then one `Lock`, as a party that is new, which was answered so; and no other call
+abbrev pub HasPlayedAgain : Answer ℕ → Option HoldKind → MutexPass → MutexPass → Type 0
+HasPlayedAgain answer hold p q = (between : Parties ℕ) × Unlocks (parties_of p) between × HasCalled mutex_model calls.Lock answer hold between (parties_of q)

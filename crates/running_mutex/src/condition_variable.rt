@@ -4,13 +4,16 @@
 //! stands on the public calls of `Mutex` and `Semaphore`, and in this crate, since a wait takes the pass out of the hold that it was
 //! handed, and nobody else is to reach it there. No closure sees the count of those that wait; so its tally stands here.
 
-ghost use Rattle.std.specs.Prelude.{◌≡◌, true, false, MatchBool, IfOk};
+ghost use Rattle.std.specs.Prelude.{◌≡◌, true, false, MatchBool, IfOk, Some, None};
+ghost use Rattle.steps_events.specs.declared.event.Call.TheVariants as calls;
+ghost use Rattle.steps_events.specs.declared.event.Answer.TheVariants as answers;
+ghost use Rattle.steps_events.specs.declared.hold.HoldKind.TheVariants as kinds;
 ghost use Rattle.passes.specs.Answers.{MayAnswerAbort};
 ghost use Rattle.playing.specs.Counts.{HasGivenUp};
 ghost use Rattle.playing.specs.Passes.{parties_of};
 ghost use Rattle.passes.specs.Objects.{count_of};
 ghost use Rattle.passes.specs.Passes.{tally_of};
-ghost use Rattle.running_mutex.specs.MutexShown.{IsMutexPass, IsAlone, IsLocked, HasEntered};
+ghost use Rattle.running_mutex.specs.MutexShown.{IsMutexPass, IsAlone, IsLocked, HasEntered, HasPlayed};
 ghost use Rattle.running_mutex.specs.MutexParties.{HasMutex};
 ghost use Rattle.running_mutex.specs.CondRule.{CountIsInside};
 
@@ -225,9 +228,10 @@ impl<A: Allocator> ConditionVariable<A> {
     ghost use Rattle.playing.specs.Passes.{played};
     ghost use Rattle.tallies.specs.SemaphoreRule.{first_permits};
     ghost use Rattle.running_mutex.specs.CondRule.{no_waits, Loaded, went_in, went_out};
-    ghost use Rattle.running_semaphore.specs.SemaphoreShown.{worth_of, HasTaken};
+    ghost use Rattle.running_semaphore.specs.SemaphoreShown.{worth_of, HasTaken, initial_of, HasPlayed as HasPlayedPermit};
+    ghost use Rattle.running_mutex.specs.MutexShown.{HasPlayedUnlock};
     ghost use Rattle.running_mutex.specs.MutexShown.{holds_of, pass_of, borrow_of, HasUnlocked};
-    ghost use Rattle.running_mutex.specs.CondShown.{IsCondPass, waits_in, permits_in, HasGiven, HasNotified, held_by, woken_of, IfSignalled, IfUnsignalled, HasWaited, HasNotTaken, HasRegained, HasLeft, LeavesCounted};
+    ghost use Rattle.running_mutex.specs.CondShown.{IsCondPass, waits_in, permits_in, HasGiven, HasNotified, held_by, woken_of, IfSignalled, IfUnsignalled, HasWaited, HasNotTaken, HasRegained, HasLeft, LeavesCounted, HasPlayedAgain};
 
     /// A condition variable at which nobody waits, and the pass that is whole. `Err` where there was no memory; then nothing was made.
     pub fn new(alloc: A) -> Result<(ConditionVariable<A>, CondPass), AllocError>
@@ -297,7 +301,10 @@ impl<A: Allocator> ConditionVariable<A> {
     ) -> WaitResult<Woken<MutexHold<'p>>>
         requires own { IsCondPass this.now pass.old × IsMutexPass mtx.now (pass_of hold) }
         requires may { K.IsAlwaysCallable mtx_wake_one × W.IsAlwaysCallable wait × M.IsAlwaysCallable mtx_wait }
-        ensures* left { sem 𝓛 (RestsIfInterrupted (the_row (played_row.the_row script_row.the_row place_row.the_row u64 holds_row.the_row)) hold.entry.pass (λ woken. borrow_of (held_by woken)) result (HasLeft M.Fn mtx_wait (pass_of hold.entry))) }
+        ensures* left { sem 𝓛 (RestsIfInterrupted (the_row (played_row.the_row script_row.the_row place_row.the_row u64 holds_row.the_row)) hold.entry.pass (λ woken. borrow_of (held_by woken)) result (λ q. HasLeft M.Fn mtx_wait (pass_of hold.entry) q × HasPlayedAgain answers.Interrupted None (pass_of hold.entry) q)) }
+        ensures relocked { IfSuccess result (λ woken. HasPlayedAgain answers.Success (Some kinds.Write) (pass_of hold.entry) (pass_of (held_by woken))) }
+        ensures took { IfSignalled result (HasPlayedPermit (initial_of this.now.semaphore) calls.Wait answers.Success (permits_in pass.old) (permits_in pass.new)) }
+        ensures took_none { IfUnsignalled result (HasPlayedPermit (initial_of this.now.semaphore) calls.Wait answers.Interrupted (permits_in pass.old) (permits_in pass.new)) }
         ensures same_borrow { IfSuccess result (λ woken. borrow_of (held_by woken) ≡ borrow_of hold.entry) }
         ensures regained { IfSuccess result (λ woken. HasRegained (pass_of hold.entry) (pass_of (held_by woken))) }
         ensures counted { HasWaited pass.old pass.new }
@@ -349,6 +356,9 @@ impl<A: Allocator> ConditionVariable<A> {
         ensures same_borrow { IfSuccess (woken_of result) (λ woken. borrow_of (held_by woken) ≡ borrow_of hold.entry) }
         ensures regained { IfSuccess (woken_of result) (λ woken. HasRegained (pass_of hold.entry) (pass_of (held_by woken))) }
         ensures counted { HasWaited pass.old pass.new }
+        ensures relocked { IfSuccess (woken_of result) (λ woken. HasPlayedAgain answers.Success (Some kinds.Write) (pass_of hold.entry) (pass_of (held_by woken))) }
+        ensures took { IfSignalled (woken_of result) (HasPlayedPermit (initial_of this.now.semaphore) calls.Wait answers.Success (permits_in pass.old) (permits_in pass.new)) }
+        ensures took_none { IfUnsignalled (woken_of result) (HasPlayedPermit (initial_of this.now.semaphore) calls.Wait answers.Interrupted (permits_in pass.old) (permits_in pass.new)) }
         ensures signalled { IfSignalled (woken_of result) (HasTaken (permits_in pass.old) (permits_in pass.new)) }
         ensures unsignalled { IfUnsignalled (woken_of result) (HasNotTaken W.Fn wait pass.old pass.new) }
         ensures gave_up { IfInterrupted (woken_of result) (HasTaken (permits_in pass.old) (permits_in pass.new) ⊎ HasNotTaken W.Fn wait pass.old pass.new) }
@@ -379,6 +389,8 @@ impl<A: Allocator> ConditionVariable<A> {
         ensures counted { HasWaited cond_pass.old cond_pass.new }
         ensures signalled { IfSuccess result.1 (λ _. HasTaken (permits_in cond_pass.old) (permits_in cond_pass.new)) }
         ensures unsignalled { IfInterrupted result.1 (HasNotTaken W.Fn wait cond_pass.old cond_pass.new) }
+        ensures took { IfSuccess result.1 (λ _. HasPlayedPermit (initial_of self.now.semaphore) calls.Wait answers.Success (permits_in cond_pass.old) (permits_in cond_pass.new)) }
+        ensures took_none { IfInterrupted result.1 (HasPlayedPermit (initial_of self.now.semaphore) calls.Wait answers.Interrupted (permits_in cond_pass.old) (permits_in cond_pass.new)) }
     {
         self.count_in(&mut cond_pass.waits);
         let left = leave(&CountedWait {
@@ -409,6 +421,8 @@ impl<A: Allocator> ConditionVariable<A> {
         ensures unlocked { HasUnlocked mtx_pass.old mtx_pass.new }
         ensures counted { HasWaited pass.old pass.new }
         ensures slept { MatchBool result (HasTaken (permits_in pass.old) (permits_in pass.new)) (HasNotTaken W.Fn wait pass.old pass.new) }
+        ensures played_permit { MatchBool result (HasPlayedPermit (initial_of self.now.semaphore) calls.Wait answers.Success (permits_in pass.old) (permits_in pass.new)) (HasPlayedPermit (initial_of self.now.semaphore) calls.Wait answers.Interrupted (permits_in pass.old) (permits_in pass.new)) }
+        ensures played_unlock { HasPlayedUnlock mtx_pass.old mtx_pass.new }
         ensures some { IsWhole (part_of (permits_in pass.old)) → MatchBool result (0 < worth_of (permits_in pass.old)) (worth_of (permits_in pass.old) ≡ 0) }
         ensures woke { HasWoken K.Fn mtx_wake_one }
     {
@@ -467,6 +481,7 @@ fn lock_again<A: Allocator, R: Wait, M: Fn(&WaitWord, &u64) -> WaitAction>(
     requires own { IsMutexPass mtx.now pass.old }
     requires may { M.IsAlwaysCallable mtx_wait }
     ensures locked { MatchBool result (HasEntered pass.old pass.new) (HasGivenUp M.Fn mtx_wait IsLocked pass.old pass.new) }
+    ensures played { MatchBool result (HasPlayed calls.Lock answers.Success (Some kinds.Write) pass.old pass.new) (HasPlayed calls.Lock answers.Interrupted None pass.old pass.new) }
     ensures has { result ≡ true → HasMutex (parties_of pass.new) }
     ensures exact { IsAlone pass.old → result ≡ true }
     ensures aborted { result ≡ false → MayAnswerAbort M.Fn mtx_wait IsLocked }

@@ -6,9 +6,13 @@ ghost use Rattle.passes.specs.declared.part.Part.{Part};
 ghost use Rattle.passes.specs.Parts.{half, IsSamePart, IsAgain};
 ghost use denote.Param.Send.{IsSync, IsSend};
 
+use running_atomic::{Atomic, AtomicPass};
 use running_barrier::{Barrier, BarrierPass};
+use running_guarded::{Guarded, GuardedPass};
+use running_lazy_lock::{Gives, LazyLock, LazyPass};
 use running_mutex::condition_variable::{CondPass, ConditionVariable};
 use running_mutex::{Mutex, MutexPass};
+use running_once::{Once, OncePass};
 use running_rw_reader::{RwLockReaderPreference, RwReaderPass};
 use running_rw_writer::{RwLockWriterPreference, RwWriterPass};
 use running_semaphore::{SemPass, Semaphore};
@@ -235,6 +239,171 @@ impl<T, A: Allocator> Shares<SpinLock<T, A>> for SpinPass {
 
     fn mend(one: SpinPass, other: SpinPass, of: &SpinLock<T, A>) -> SpinPass {
         let Ok(pass) = SpinPass::join(one, other, of) else {
+            unreachable!()
+        };
+        pass
+    }
+}
+
+impl<T, A: Allocator> Shares<Guarded<T, A>> for GuardedPass {
+    ghost use Rattle.running_guarded.specs.GuardedShown.{IsGuardedPass, part_of};
+
+    ghost idle = { IsGuardedPass };
+
+    ghost part = { part_of };
+
+    fn cut(self, of: &Guarded<T, A>) -> (GuardedPass, GuardedPass) {
+        let Ok(parts) = self.split(of) else {
+            unreachable!()
+        };
+        parts
+    }
+
+    fn mend(one: GuardedPass, other: GuardedPass, of: &Guarded<T, A>) -> GuardedPass {
+        let Ok(pass) = GuardedPass::join(one, other, of) else {
+            unreachable!()
+        };
+        pass
+    }
+}
+
+// For each type by itself: the borrow checker covers no call of `split` that is generic in the value.
+
+impl<A: Allocator> Shares<Atomic<u64, A>> for AtomicPass<u64> {
+    ghost use Rattle.running_atomic.specs.AtomicShown.{IsAtomicPass, part_of_atomic};
+
+    ghost idle = { IsAtomicPass };
+
+    ghost part = { part_of_atomic };
+
+    fn cut(self, of: &Atomic<u64, A>) -> (AtomicPass<u64>, AtomicPass<u64>) {
+        let Ok(parts) = self.split(of) else {
+            unreachable!()
+        };
+        parts
+    }
+
+    fn mend(one: AtomicPass<u64>, other: AtomicPass<u64>, of: &Atomic<u64, A>) -> AtomicPass<u64> {
+        let Ok(pass) = AtomicPass::join(one, other, of) else {
+            unreachable!()
+        };
+        pass
+    }
+}
+
+impl<A: Allocator> Shares<Atomic<u128, A>> for AtomicPass<u128> {
+    ghost use Rattle.running_atomic.specs.AtomicShown.{IsAtomicPass, part_of_atomic};
+
+    ghost idle = { IsAtomicPass };
+
+    ghost part = { part_of_atomic };
+
+    fn cut(self, of: &Atomic<u128, A>) -> (AtomicPass<u128>, AtomicPass<u128>) {
+        let Ok(parts) = self.split(of) else {
+            unreachable!()
+        };
+        parts
+    }
+
+    fn mend(
+        one: AtomicPass<u128>,
+        other: AtomicPass<u128>,
+        of: &Atomic<u128, A>,
+    ) -> AtomicPass<u128> {
+        let Ok(pass) = AtomicPass::join(one, other, of) else {
+            unreachable!()
+        };
+        pass
+    }
+}
+
+impl<A: Allocator> Shares<Atomic<i64, A>> for AtomicPass<i64> {
+    ghost use Rattle.running_atomic.specs.AtomicShown.{IsAtomicPass, part_of_atomic};
+
+    ghost idle = { IsAtomicPass };
+
+    ghost part = { part_of_atomic };
+
+    fn cut(self, of: &Atomic<i64, A>) -> (AtomicPass<i64>, AtomicPass<i64>) {
+        let Ok(parts) = self.split(of) else {
+            unreachable!()
+        };
+        parts
+    }
+
+    fn mend(one: AtomicPass<i64>, other: AtomicPass<i64>, of: &Atomic<i64, A>) -> AtomicPass<i64> {
+        let Ok(pass) = AtomicPass::join(one, other, of) else {
+            unreachable!()
+        };
+        pass
+    }
+}
+
+impl<A: Allocator> Shares<Atomic<i128, A>> for AtomicPass<i128> {
+    ghost use Rattle.running_atomic.specs.AtomicShown.{IsAtomicPass, part_of_atomic};
+
+    ghost idle = { IsAtomicPass };
+
+    ghost part = { part_of_atomic };
+
+    fn cut(self, of: &Atomic<i128, A>) -> (AtomicPass<i128>, AtomicPass<i128>) {
+        let Ok(parts) = self.split(of) else {
+            unreachable!()
+        };
+        parts
+    }
+
+    fn mend(
+        one: AtomicPass<i128>,
+        other: AtomicPass<i128>,
+        of: &Atomic<i128, A>,
+    ) -> AtomicPass<i128> {
+        let Ok(pass) = AtomicPass::join(one, other, of) else {
+            unreachable!()
+        };
+        pass
+    }
+}
+
+impl<A: Allocator> Shares<Once<A>> for OncePass {
+    ghost use Rattle.running_once.specs.OnceShown.{IsOncePass, part_of_once};
+
+    ghost idle = { IsOncePass };
+
+    ghost part = { part_of_once };
+
+    fn cut(self, of: &Once<A>) -> (OncePass, OncePass) {
+        let Ok(parts) = self.split(of) else {
+            unreachable!()
+        };
+        parts
+    }
+
+    fn mend(one: OncePass, other: OncePass, of: &Once<A>) -> OncePass {
+        let Ok(pass) = OncePass::join(one, other, of) else {
+            unreachable!()
+        };
+        pass
+    }
+}
+
+impl<T: Drop, F: Drop, G: Gives<T, F>, A: Allocator + Clone> Shares<LazyLock<T, F, G, A>>
+    for LazyPass {
+    ghost use Rattle.running_lazy_lock.specs.LazyShown.{IsLazyPass, part_of, part_of_init};
+
+    ghost idle = { λ lazy p. IsLazyPass lazy p × (part_of_init p ≡ part_of p) };
+
+    ghost part = { part_of };
+
+    fn cut(self, of: &LazyLock<T, F, G, A>) -> (LazyPass, LazyPass) {
+        let Ok(parts) = self.split(of) else {
+            unreachable!()
+        };
+        parts
+    }
+
+    fn mend(one: LazyPass, other: LazyPass, of: &LazyLock<T, F, G, A>) -> LazyPass {
+        let Ok(pass) = LazyPass::join(one, other, of) else {
             unreachable!()
         };
         pass

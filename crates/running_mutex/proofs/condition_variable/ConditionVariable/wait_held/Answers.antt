@@ -7,10 +7,13 @@ use Rattle.running_mutex.proofs.condition_variable.ConditionVariable.wait_held.G
 
 pub returns-then-not-lock_again : goal.returns-then-not-lock_again
 returns-then-not-lock_again g c = let slept = c.sleep-signalled.ensures in (
-  (refl, λ _. tt, leaves _ _ (pass_of c.args.hold) c.sleep-signalled.new.mtx_pass c.lock_again.new.pass slept.unlocked c.if-not-lock_again.ensures.locked),
+  (refl, λ _. tt, (leaves _ _ (pass_of c.args.hold) c.sleep-signalled.new.mtx_pass c.lock_again.new.pass slept.unlocked c.if-not-lock_again.ensures.locked, (_, slept.played_unlock, c.if-not-lock_again.ensures.played))),
   record {
     left = tt;
     same_borrow = tt;
+    relocked = tt;
+    took = tt;
+    took_none = tt;
     regained = tt;
     counted = slept.counted;
     signalled = tt;
@@ -32,6 +35,9 @@ returns-then-signalled g c = let slept = c.sleep-signalled.ensures in (
     same_borrow = refl;
     regained = regains (pass_of c.args.hold) c.sleep-signalled.new.mtx_pass c.lock_again.new.pass slept.unlocked c.if-not-lock_again.ensures.locked;
     counted = slept.counted;
+    relocked = (_, slept.played_unlock, c.if-not-lock_again.ensures.played);
+    took = c.if-signalled.ensures.played_permit;
+    took_none = tt;
     signalled = c.if-signalled.ensures.slept;
     unsignalled = tt;
     gave_up = tt;
@@ -51,6 +57,9 @@ returns-else-signalled g c = let slept = c.sleep-signalled.ensures in (
     same_borrow = refl;
     regained = regains (pass_of c.args.hold) c.sleep-signalled.new.mtx_pass c.lock_again.new.pass slept.unlocked c.if-not-lock_again.ensures.locked;
     counted = slept.counted;
+    relocked = (_, slept.played_unlock, c.if-not-lock_again.ensures.played);
+    took = tt;
+    took_none = c.if-signalled.ensures.played_permit;
     signalled = tt;
     unsignalled = c.if-signalled.ensures.slept;
     gave_up = tt;
