@@ -1,10 +1,8 @@
 -- The steps of a writer-preferring lock are those of its table.
 use Rattle.std.proofs.lemmas.Bool.{eqb-false}
 use Rattle.std.proofs.lemmas.Bool.{eqb-true}
-use Rattle.std.proofs.Common.{◌≡◌, ◌≢◌, ℕ, ◌+◌, ◌-◌, ◌%◌, ◌^◌, ◌<◌, ◌≤◌, ◌==◌, ◌&&◌, not, Bool, true, false, cond, refl, sym, ap, subst, ◌∙◌, List, [], ◌∷◌, Option, Some, None, inl, inr, arith}
+use Rattle.std.proofs.Common.{◌≡◌, ◌≢◌, ℕ, ◌+◌, ◌-◌, ◌%◌, ◌^◌, ◌<◌, ◌≤◌, ◌==◌, Bool, true, false, cond, refl, sym, subst, ◌∙◌, List, [], ◌∷◌, Option, Some, None, arith}
 use Rattle.std.specs.Prelude.{nat_lt, MatchBool}
-use mathlib.Core.Logic.{dite}
-use native.Mathlib.Decide.{ℕ_discrete}
 use Rattle.std.proofs.lemmas.Bool.{ne_eqb}
 use Rattle.std.proofs.lemmas.Bool.Decides.{nat_tests}
 use Rattle.steps_events.specs.declared.WaitAction.TheVariants as actions
@@ -22,19 +20,20 @@ use Rattle.steps_events.specs.declared.row.Intent.{Intent}
 use Rattle.steps_events.specs.declared.row.Intent.TheVariants as intents
 use Rattle.steps_events.specs.declared.row.After.{After}
 use Rattle.steps_events.specs.declared.row.After.TheVariants as afters
-use Rattle.steps_events.specs.Rows.{within, refused}
 use Rattle.steps_events.proofs.Holds.{eqb_same}
 use Rattle.steps_rw_writer.specs.declared.Leaver.{Leaver}
 use Rattle.steps_rw_writer.specs.declared.Leaver.TheVariants as leavers
 use Rattle.steps_rw_writer.specs.declared.RwWriterPlace.{RwWriterPlace}
 use Rattle.steps_rw_writer.specs.declared.RwWriterPlace.TheVariants as places
-use Rattle.steps_rw_writer.specs.Table.{rw_writer_intent, rw_writer_grant, is_odd, lets_readers_in, lets_writer_in, lets_mark, is_marked, is_blocked, try_read_look, read_look, spins, marks_or_spins, unmarks_or_leaves, write_refused, write_look, last_look, released}
+use Rattle.steps_rw_writer.specs.Table.{rw_writer_intent, rw_writer_grant, lets_readers_in, lets_writer_in, lets_mark, is_marked, is_blocked, try_read_look, read_look, spins, marks_or_spins, unmarks_or_leaves, write_refused, write_look, last_look, released, woken_all}
 use Rattle.tallies.specs.RwWriterScript.{rw_writer_model}
 use Rattle.steps_rw_writer.proofs.WordLaws.{is_marking}
 use Rattle.playing.specs.Slots.{Slot, Parties, all_of}
 use Rattle.playing.specs.Words.{IsNamed, IsStepOn}
 use Rattle.playing.specs.Plays.{Coming, Going, Beginning, Continuing, Answered, ComesBy, IsHolding, Led, HasCalled, HasEnded}
-use Rattle.playing.specs.Tries.{spun, IsRefused, IsGranted, MayTry, StandsToWait, IsToWake, IsToWakeTwice}
+use Rattle.playing.specs.Tries.{spun, IsRefused, IsGranted, MayTry, StandsToWait, IsToWake}
+use Rattle.playing.specs.Turns.{IsToWakeAgain, IsOver, IsOverAside, IsOverAfterTwo}
+use Rattle.playing.proofs.Over.{is_over}
 use Rattle.playing.proofs.Holding.{holding_told, holding_is}
 use Rattle.tallies.specs.RwWriterScript.{rw_writer_handed}
 use Rattle.running_rw_writer.specs.RwWriterSteps.{IsMarked}
@@ -328,22 +327,49 @@ is_to_wake i who p is goes = record {
   word = subst (λ (n : ℕ). IsNamed (words.State ∷ words.Counter ∷ []) n words.Counter) (sym is) refl;
 }
 
-pub is_to_wake_both : (i j : ℕ) (p : Parties ℕ) → i ≡ 1 → j ≡ 0 → IsToWakeBoth p → IsToWakeTwice rw_writer_model (words.State ∷ words.Counter ∷ []) rw_writer_handed i j p
-is_to_wake_both i j p first second both = record {
+pub is_to_wake_again : (j : ℕ) (p : Parties ℕ) → j ≡ 0 → IsToWakeBoth p → IsToWakeAgain rw_writer_model (words.State ∷ words.Counter ∷ []) rw_writer_handed j p
+is_to_wake_again j p is both = record {
   call = both.wakes.call;
   place = places.WakeOne both.who;
   hold = None;
   done = both.wakes.done;
   at = both.wakes.at;
-  who = wakes.One;
-  wakes = refl;
-  word = subst (λ (n : ℕ). IsNamed (words.State ∷ words.Counter ∷ []) n words.Counter) (sym first) refl;
+  aside = tt;
   later = places.WakeAll both.who;
   goes_on = both.both;
-  also = wakes.All;
-  wakes_also = refl;
-  word_also = subst (λ (n : ℕ). IsNamed (words.State ∷ words.Counter ∷ []) n words.State) (sym second) refl;
+  who = wakes.All;
+  wakes = refl;
+  word = subst (λ (n : ℕ). IsNamed (words.State ∷ words.Counter ∷ []) n words.State) (sym is) refl;
 }
+
+-- who has woken all is answered so
+abbrev ended_by : Leaver → Answer ℕ
+ended_by leavers.Reader = answers.Done
+ended_by leavers.Writer = answers.Done
+ended_by leavers.GivenUp = answers.Interrupted
+
+all_woken : (who : Leaver) → woken_all {T = ℕ} who ≡ afters.Ends (ended_by who)
+all_woken leavers.Reader = refl
+all_woken leavers.Writer = refl
+all_woken leavers.GivenUp = refl
+
+pub both_are_over : (p : Parties ℕ) → IsToWakeBoth p → IsOverAfterTwo rw_writer_model p
+both_are_over p both = record {
+  call = both.wakes.call;
+  place = places.WakeOne both.who;
+  hold = None;
+  done = both.wakes.done;
+  at = both.wakes.at;
+  aside = tt;
+  later = places.WakeAll both.who;
+  goes_on = both.both;
+  also = tt;
+  answer = ended_by both.who;
+  ends = all_woken both.who;
+}
+
+pub reader_is_over : (p : Parties ℕ) → SomeCallGoes (afters.At (places.WakeOne leavers.Reader)) p → IsOverAside rw_writer_model p
+reader_is_over p goes = record { call = goes.call; place = places.WakeOne leavers.Reader; hold = None; done = goes.done; at = goes.at; aside = tt; answer = answers.Done; ends = refl }
 
 -- `Unlock`
 
@@ -374,3 +400,17 @@ wakes_so found done q test at = rw test at
 pub wakes_writer : (found last : ℕ) (p q r : Parties ℕ) → found ≡ 3 → last ≡ found → Unlocks kinds.Read (afters.At (places.Count leavers.Reader)) p q → GoesFromTo calls.Unlock (afters.At (places.Count leavers.Reader)) (afters.At (places.WakeOne leavers.Reader)) q r →
     Unlocks kinds.Read (unlocked kinds.Read last) p r
 wakes_writer found last p q r is saw goes on = λ done holding. wakes_so last done r (hit last 3 (saw ∙ is)) (on done (goes done holding))
+
+-- another reader is answered
+
+leaves_so : (found : ℕ) (done : List (Slot ℕ)) (q : Parties ℕ) → (found == 3) ≡ false → CallGoes calls.Unlock (afters.Ends answers.Done) done q → CallGoes calls.Unlock (unlocked kinds.Read found) done q
+leaves_so found done q test at = rw test at
+
+ends_reading : (found : ℕ) (done : List (Slot ℕ)) (q : Parties ℕ) → found ≢ 3 → CallGoes calls.Unlock (released (Some found)) done q → CallGoes calls.Unlock (afters.Ends answers.Done) done q
+ends_reading found done q other at = when_false calls.Unlock (found == 3) (afters.At (places.Count leavers.Reader)) (afters.Ends answers.Done) done q (ne_eqb found 3 other) at
+
+pub other_reader : (found last : ℕ) (p q : Parties ℕ) → found ≢ 3 → last ≡ found → Unlocks kinds.Read (released (Some found)) p q → Unlocks kinds.Read (unlocked kinds.Read last) p q
+other_reader found last p q other saw goes = λ done holding. leaves_so last done q (ne_eqb last 3 (λ is. other (sym saw ∙ is))) (ends_reading found done q other (goes done holding))
+
+pub other_is_over : (found : ℕ) (p q : Parties ℕ) → found ≢ 3 → has_hold kinds.Read p ≡ true → Unlocks kinds.Read (released (Some found)) p q → IsOver rw_writer_model q
+other_is_over found p q other has goes = is_over rw_writer_model calls.Unlock answers.Done None p.resting q (ends_reading found p.resting q other (goes p.resting (holding_told rw_writer_model kinds.Read p has)))

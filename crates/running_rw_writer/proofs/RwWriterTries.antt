@@ -9,13 +9,14 @@ use Rattle.passes.specs.declared.pass.Pass.{Pass}
 use Rattle.passes.specs.Parts.{IsWhole}
 use Rattle.passes.specs.Passes.{IsSamePass, sights_of}
 use Rattle.passes.specs.Sights.{seen_instead}
+use Rattle.passes.specs.Views.{looked, wrote}
 use Rattle.playing.specs.Passes.{counts_of, counted}
 use Rattle.steps_events.proofs.Holds.{eqb_same}
 use Rattle.tallies.specs.declared.rw_writer.MarkedHolds.{MarkedHolds}
 use Rattle.tallies.specs.Held.{read_holds, write_holds}
 use Rattle.tallies.specs.RwReaderRule.{Holds}
-use Rattle.running_rw_writer.specs.RwWriterShown.{IsAloneWithin, IsShut, HasTried, HasJustSeen, HasMissedIt, MayGiveUp, HasGivenUpWriting, HasEnteredSeenFree}
-use Rattle.running_rw_writer.specs.RwWriterSteps.{PlayedRwWriter, IsMarked, IsSeenByWriter, LoadedToWrite, Missed, WriterIn, flagged, written}
+use Rattle.running_rw_writer.specs.RwWriterShown.{IsAloneWithin, IsShut, HasTried, HasJustSeen, HasMissedIt, MayGiveUp, HasGivenUpWriting, HasEnteredSeenFree, HasLeftReading, HasLeftWriting}
+use Rattle.running_rw_writer.specs.RwWriterSteps.{PlayedRwWriter, IsMarked, LoadedToWrite, Missed, WriterIn, flagged, written, no_more_read}
 
 -- what a function of the lock's model says of a word, by whether it answers another word
 
@@ -197,3 +198,25 @@ alone_still n found p q tried just none alone = (
   ap (λ (t : MarkedHolds). read_holds t.held) tried.tally ∙ alone.1,
   ap (λ (t : MarkedHolds). write_holds t.held) tried.tally ∙ alone.2,
 )
+
+-- a hold was let go, and nothing was counted after it
+
+pub left_still : (p q r : Pass PlayedRwWriter) → HasLeftReading p q → IsSamePass q r → counted r ≡ counted q → HasLeftReading p r
+left_still p q r left same is =
+    let tally : counts_of r ≡ counts_of q = ap (λ (v : View MarkedHolds). v.tally) is in
+    let last : (sights_of r).last ≡ (sights_of q).last = ap (λ (v : View MarkedHolds). v.sights.last) is in record {
+      same = (same.0 ∙ left.same.0, same.1 ∙ left.same.1);
+      reads = ap (λ (t : MarkedHolds). read_holds t.held + 1) tally ∙ left.reads;
+      writes = (left.writes.0, ap (λ (t : MarkedHolds). write_holds t.held) tally ∙ left.writes.1);
+      done = is ∙ left.done ∙ ap (λ (n : ℕ). wrote (looked (counted p) n) (no_more_read (counts_of p))) (sym last);
+      saw = (subst (λ (n : ℕ). 2 ≤ n) (sym last) left.saw.0, subst (λ (n : ℕ). n < 2 ^ 64 - 1) (sym last) left.saw.1);
+    }
+
+pub written_still : (p q r : Pass PlayedRwWriter) → HasLeftWriting p q → IsSamePass q r → counted r ≡ counted q → HasLeftWriting p r
+written_still p q r left same is =
+    let tally : counts_of r ≡ counts_of q = ap (λ (v : View MarkedHolds). v.tally) is in record {
+      same = (same.0 ∙ left.same.0, same.1 ∙ left.same.1);
+      on = left.on;
+      off = (ap (λ (t : MarkedHolds). read_holds t.held) tally ∙ left.off.0, ap (λ (t : MarkedHolds). write_holds t.held) tally ∙ left.off.1);
+      done = is ∙ left.done;
+    }

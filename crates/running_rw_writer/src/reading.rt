@@ -1,34 +1,39 @@
 //! What calls of a writer-preferring lock do for a reader.
+ghost use Rattle.std.specs.Prelude.{◌≡◌, IfOk};
+ghost use Rattle.playing.specs.Passes.{parties_of};
+
+use crate::steps::PlayedPass;
 use crate::{RwLockWriterPreference, RwWriterPass};
-use passes::Pass;
-use playing::{Attempt, Entry, try_again};
-use running_rw_hold::{ReadBegins, TryReadBegins};
+use playing::turn::{Attempt, Called, Goes, Turn, Way, begin_held, begin_new, try_again};
+use running_rw_hold::{ReadCall, TryReadCall, UnlockCall};
 use std::alloc::Allocator;
 use std::sync::Wait;
 use steps_events::WaitAction;
 use steps_rw_writer::{RwWriterPlace, reader_enters};
-use tallies::{MarkedHolds, PlayedRwWriter, RwWriterScript, WaitWord};
+use tallies::{MarkedHolds, RwWriterScript, WaitWord};
 
 impl<A: Allocator> RwLockWriterPreference<A> {
-    ghost use Rattle.std.specs.Prelude.{true, false, ◌≡◌, ◌+◌, ◌<◌, MatchBool, IfOk, IfErr, is_ok, Some, None};
+    ghost use Rattle.std.specs.Prelude.{true, false, ◌+◌, ◌<◌, MatchBool, IfErr, is_ok, Some, None};
     ghost use Rattle.steps_events.specs.declared.event.Call.TheVariants as calls;
     ghost use Rattle.steps_events.specs.declared.event.Answer.TheVariants as answers;
     ghost use Rattle.steps_events.specs.declared.hold.HoldKind.TheVariants as kinds;
+    ghost use Rattle.steps_events.specs.declared.row.Intent.TheVariants as intents;
     ghost use Rattle.steps_rw_writer.specs.declared.RwWriterPlace.TheVariants as places;
     ghost use Rattle.tallies.specs.RwWriterScript.{rw_writer_model};
     ghost use Rattle.passes.specs.Answers.{MayAnswerAbort, HasAsked, HasWoken};
     ghost use Rattle.passes.specs.Passes.{part_of, sights_of};
-    ghost use Rattle.playing.specs.Passes.{parties_of, counts_of as tally_of};
-    ghost use Rattle.playing.specs.Counts.{WasRefused, WasRefusedAt};
+    ghost use Rattle.playing.specs.Passes.{counts_of as tally_of, counted};
+    ghost use Rattle.playing.specs.Counts.{HasSeen, WasRefused, WasRefusedAt};
+    ghost use Rattle.playing.specs.Plays.{Beginning};
     ghost use Rattle.playing.specs.Stages.{IsPassOf};
     ghost use Rattle.playing.specs.Tries.{MayTry, Tried, IsGranted, IsRefused};
-    ghost use Rattle.running_rw_writer.specs.RwWriterParties.{has_hold, Unlocks, unlocked};
-    ghost use Rattle.running_rw_writer.specs.RwWriterSteps.{IsOnly};
+    ghost use Rattle.running_rw_writer.specs.RwWriterParties.{has_hold, TableHas, TableLed, Unlocks, unlocked};
+    ghost use Rattle.running_rw_writer.specs.RwWriterSteps.{IsOnly, SaysAlone};
     ghost use Rattle.running_rw_writer.specs.RwWriterShown.{IsRwWriterPass, IsAloneWithin, IsShut, pass_in, sights_in, reads_of, HasEnteredToRead, HasReadAtOnce, HasLeftReading, WasTurnedAway, HasPlayed};
 
     /// What `try_read_lock` does, and whether the hold is on.
     #[inline(always)]
-    pub(crate) fn try_to_read(&self, pass: &mut Pass<PlayedRwWriter>) -> bool
+    pub(crate) fn try_to_read(&self, pass: &mut PlayedPass) -> bool
         requires own { IsPassOf self.now.stage pass.old }
         ensures entered { MatchBool result (HasEnteredToRead pass.old pass.new) (WasTurnedAway pass.old pass.new) }
         ensures played { MatchBool result (HasPlayed calls.TryReadLock answers.Success (Some kinds.Read) pass.old pass.new) (HasPlayed calls.TryReadLock answers.Interrupted None pass.old pass.new) }
@@ -36,49 +41,98 @@ impl<A: Allocator> RwLockWriterPreference<A> {
         ensures at_once { result ≡ true → HasReadAtOnce pass.old pass.new }
         ensures exact { IsAloneWithin pass.old → result ≡ true }
     {
-        let seen = self.look(TryReadBegins, pass);
+        let (seen, turn) = self.first_look::<TryReadCall>(pass);
         match reader_enters(seen) {
-            Some(more) => self.come_to_read(pass, seen, more) == seen,
-            None => false,
+            Some(more) => {
+                let (found, last) = self.come_to_read(turn, seen, more);
+                let _pass = last.end(&self.stage);
+                found == seen
+            }
+            None => {
+                let _pass = turn.end(&self.stage);
+                false
+            }
         }
+    }
+
+    /// The load with which a call begins.
+    #[inline(always)]
+    fn first_look<'p, L: Called<u64>>(
+        &self,
+        pass: &'p mut PlayedPass,
+    ) -> (u64, Turn<'p, PlayedPass, Goes>)
+        requires own { IsPassOf self.now.stage pass.old }
+        requires may { TableHas (Beginning L.call) 0 (λ w. intents.Load w) (parties_of pass.old) }
+        ensures same_borrow { result.1.pass.ghost_name ≡ pass.entry.ghost_name }
+        ensures saw { HasSeen result.0 pass.old result.1.pass.now }
+        ensures went { TableLed (Beginning L.call) (parties_of pass.old) result.0 (parties_of result.1.pass.now) }
+        ensures alone { SaysAlone (counted pass.old) result.0 }
+    {
+        let begun = begin_new::<L, PlayedPass>(pass);
+        self.look(begun)
     }
 
     /// Looks, and turns a read hold on while a reader enters. `Err` with a value at which none did.
     #[inline(always)]
-    fn read_unless_shut<E: Entry<u64>, R: Wait>(
+    fn read_unless_shut<'p, W: Way<u64>, R: Wait>(
         &self,
-        entry: E,
+        turn: Turn<'p, PlayedPass, W>,
         rt: &R,
-        pass: &mut Pass<PlayedRwWriter>,
-    ) -> Result<(), u64>
-        requires own { IsPassOf self.now.stage pass.old }
-        requires comes { MayTry rw_writer_model calls.ReadLock places.ReadLook E.coming (parties_of pass.old) }
-        ensures entered { IfOk result (λ _. HasEnteredToRead pass.old pass.new) }
-        ensures refused { IfErr result (λ seen. WasRefusedAt IsShut seen 1 pass.old pass.new) }
-        ensures once { IfErr result (λ _. IsOnly (part_of pass.old) (tally_of pass.old) → (sights_of pass.new).count ≡ (sights_of pass.old).count + 1) }
-        ensures granted { IfOk result (λ _. Tried rw_writer_model calls.ReadLock places.ReadLook E.coming (parties_of pass.old) (λ _ done. IsGranted rw_writer_model calls.ReadLock places.ReadLook (Some kinds.Read) done (parties_of pass.new))) }
-        ensures failed { IfErr result (λ seen. Tried rw_writer_model calls.ReadLock places.ReadLook E.coming (parties_of pass.old) (λ patience done. IsRefused rw_writer_model calls.ReadLock places.ReadLook patience seen done (parties_of pass.new))) }
-        ensures exact { IsAloneWithin pass.old → is_ok result ≡ true }
+    ) -> Result<Turn<'p, PlayedPass, Goes>, (u64, Turn<'p, PlayedPass, Goes>)>
+        requires own { IsPassOf self.now.stage turn.pass.now }
+        requires comes { MayTry rw_writer_model calls.ReadLock places.ReadLook W.coming (parties_of turn.pass.now) }
+        ensures same_borrow { IfOk result (λ next. next.pass.ghost_name ≡ turn.entry.pass.ghost_name) }
+        ensures same_borrow_too { IfErr result (λ missed. missed.1.pass.ghost_name ≡ turn.entry.pass.ghost_name) }
+        ensures entered { IfOk result (λ next. HasEnteredToRead turn.entry.pass.now next.pass.now) }
+        ensures refused { IfErr result (λ missed. WasRefusedAt IsShut missed.0 1 turn.entry.pass.now missed.1.pass.now) }
+        ensures once { IfErr result (λ missed. IsOnly (part_of turn.entry.pass.now) (tally_of turn.entry.pass.now) → (sights_of missed.1.pass.now).count ≡ (sights_of turn.entry.pass.now).count + 1) }
+        ensures granted { IfOk result (λ next. Tried rw_writer_model calls.ReadLock places.ReadLook W.coming (parties_of turn.entry.pass.now) (λ _ done. IsGranted rw_writer_model calls.ReadLock places.ReadLook (Some kinds.Read) done (parties_of next.pass.now))) }
+        ensures failed { IfErr result (λ missed. Tried rw_writer_model calls.ReadLock places.ReadLook W.coming (parties_of turn.entry.pass.now) (λ patience done. IsRefused rw_writer_model calls.ReadLock places.ReadLook patience missed.0 done (parties_of missed.1.pass.now))) }
+        ensures exact { IsAloneWithin turn.entry.pass.now → is_ok result ≡ true }
     {
-        let mut seen = self.look(entry, pass);
+        let (first, after) = self.look(turn);
+        let mut seen = first;
+        let mut next = after;
         for _ in rt.forever() {
             let Some(more) = reader_enters(seen) else {
-                return Err(seen);
+                return Err((seen, next));
             };
-            let found = self.come_to_read(pass, seen, more);
+            let (found, again) = self.come_to_read(next, seen, more);
             if found == seen {
-                return Ok(());
+                return Ok(again);
             }
             seen = found;
+            next = again;
         }
         unreachable!()
+    }
+
+    /// The same, with which a `ReadLock` begins.
+    #[inline(always)]
+    fn first_read<'p, R: Wait>(
+        &self,
+        rt: &R,
+        pass: &'p mut PlayedPass,
+    ) -> Result<Turn<'p, PlayedPass, Goes>, (u64, Turn<'p, PlayedPass, Goes>)>
+        requires own { IsPassOf self.now.stage pass.old }
+        ensures same_borrow { IfOk result (λ next. next.pass.ghost_name ≡ pass.entry.ghost_name) }
+        ensures same_borrow_too { IfErr result (λ missed. missed.1.pass.ghost_name ≡ pass.entry.ghost_name) }
+        ensures entered { IfOk result (λ next. HasEnteredToRead pass.old next.pass.now) }
+        ensures refused { IfErr result (λ missed. WasRefusedAt IsShut missed.0 1 pass.old missed.1.pass.now) }
+        ensures once { IfErr result (λ missed. IsOnly (part_of pass.old) (tally_of pass.old) → (sights_of missed.1.pass.now).count ≡ (sights_of pass.old).count + 1) }
+        ensures granted { IfOk result (λ next. Tried rw_writer_model calls.ReadLock places.ReadLook (Beginning calls.ReadLock) (parties_of pass.old) (λ _ done. IsGranted rw_writer_model calls.ReadLock places.ReadLook (Some kinds.Read) done (parties_of next.pass.now))) }
+        ensures failed { IfErr result (λ missed. Tried rw_writer_model calls.ReadLock places.ReadLook (Beginning calls.ReadLock) (parties_of pass.old) (λ patience done. IsRefused rw_writer_model calls.ReadLock places.ReadLook patience missed.0 done (parties_of missed.1.pass.now))) }
+        ensures exact { IsAloneWithin pass.old → is_ok result ≡ true }
+    {
+        let begun = begin_new::<ReadCall, PlayedPass>(pass);
+        self.read_unless_shut(begun, rt)
     }
 
     /// What `read_lock` does, and whether the hold is on.
     #[inline(always)]
     pub(crate) fn wait_to_read<R: Wait, W: Fn(&WaitWord, &u64) -> WaitAction>(
         &self,
-        pass: &mut Pass<PlayedRwWriter>,
+        pass: &mut PlayedPass,
         rt: &R,
         wait: &W,
     ) -> bool
@@ -91,11 +145,16 @@ impl<A: Allocator> RwLockWriterPreference<A> {
         ensures aborted { result ≡ false → MayAnswerAbort W.Fn wait.now IsShut }
         ensures asked { IsOnly (part_of pass.old) (tally_of pass.old) → result ≡ false → HasAsked W.Fn wait.now IsShut 10001 pass.old pass.new }
     {
-        match self.read_unless_shut(ReadBegins, rt, pass) {
-            Ok(()) => true,
-            Err(seen) => {
+        match self.first_read(rt, pass) {
+            Ok(granted) => {
+                let _pass = granted.end(&self.stage);
+                true
+            }
+            Err((seen, next)) => {
                 let reader = Reader { lock: self };
-                try_again(rt, &reader, pass, &self.word(), seen, wait)
+                let (entered, last) = try_again(rt, next, &reader, &self.word(), seen, wait);
+                let _pass = last.end(&self.stage);
+                entered
             }
         }
     }
@@ -116,12 +175,29 @@ impl<A: Allocator> RwLockWriterPreference<A> {
         ensures played { Unlocks kinds.Read (unlocked kinds.Read (sights_in result.now).last) (parties_of (pass_in pass.old)) (parties_of (pass_in result.now)) }
         ensures woke { (sights_in result.now).last ≡ 3 → HasWoken W.Fn wake_one }
     {
-        if self.leave_reading(&mut pass.pass) != LAST_READER {
-            return pass;
-        }
-        self.count_up(&mut pass.pass);
-        self.wake_one(&pass.pass, &wake_one);
+        self.stop_reading(&mut pass.pass, &wake_one);
         pass
+    }
+
+    /// What it does with the pass inside.
+    #[inline(always)]
+    fn stop_reading<W: Fn(&WaitWord)>(&self, pass: &mut PlayedPass, wake_one: &W)
+        requires own { IsPassOf self.now.stage pass.old }
+        requires on { 0 < reads_of pass.old }
+        requires has { has_hold kinds.Read (parties_of pass.old) ≡ true }
+        requires may { W.IsAlwaysCallable wake_one.now }
+        ensures released { HasLeftReading pass.old pass.new }
+        ensures played { Unlocks kinds.Read (unlocked kinds.Read (sights_of pass.new).last) (parties_of pass.old) (parties_of pass.new) }
+        ensures woke { (sights_of pass.new).last ≡ 3 → HasWoken W.Fn wake_one.now }
+    {
+        let begun = begin_held::<UnlockCall, PlayedPass>(pass);
+        let (found, left) = self.leave_reading(begun);
+        if found != LAST_READER {
+            let _pass = left.end(&self.stage);
+            return;
+        }
+        let counted = self.count_up(left);
+        let _pass = self.wake_one(counted, wake_one);
     }
 }
 
@@ -136,11 +212,16 @@ struct Reader<'l, A: Allocator> {
 
 /// A look of `read_lock`, and its exchanges.
 impl<A: Allocator> Attempt<(), RwWriterScript, RwWriterPlace, u64, MarkedHolds> for Reader<'_, A> {
-    ghost use Rattle.std.specs.Prelude.{Some};
+    ghost use Rattle.std.specs.Prelude.{◌+◌, Some, IfErr};
     ghost use Rattle.std.proofs.Common.{refl};
     ghost use Rattle.steps_events.specs.declared.event.Call.TheVariants as calls;
     ghost use Rattle.steps_events.specs.declared.hold.HoldKind.TheVariants as kinds;
     ghost use Rattle.steps_rw_writer.specs.declared.RwWriterPlace.TheVariants as places;
+    ghost use Rattle.passes.specs.Passes.{object_of, part_of, sights_of};
+    ghost use Rattle.playing.specs.Passes.{counts_of as tally_of};
+    ghost use Rattle.playing.specs.Counts.{HasMoved, WasRefusedAt};
+    ghost use Rattle.playing.specs.Tries.{MayTry, Tried, IsGranted, IsRefused};
+    ghost use Rattle.tallies.specs.RwWriterScript.{rw_writer_model};
     ghost use Rattle.playing.specs.Stages.{id_of};
     ghost use Rattle.running_rw_writer.specs.RwWriterSteps.{IsOnly};
     ghost use Rattle.running_rw_writer.specs.RwWriterShown.{IsShut, EntersToRead};
@@ -164,12 +245,21 @@ impl<A: Allocator> Attempt<(), RwWriterScript, RwWriterPlace, u64, MarkedHolds> 
     ghost answers = { λ _ _ _. refl };
 
     #[inline(always)]
-    fn attempt<E: Entry<u64>, R: Wait>(
+    fn attempt<'p, W: Way<u64>, R: Wait>(
         &self,
-        entry: E,
+        turn: Turn<'p, PlayedPass, W>,
         rt: &R,
-        pass: &mut Pass<PlayedRwWriter>,
-    ) -> Result<(), u64> {
-        self.lock.read_unless_shut(entry, rt, pass)
+    ) -> Result<Turn<'p, PlayedPass, Goes>, (u64, Turn<'p, PlayedPass, Goes>)>
+        requires own { object_of turn.pass.now ≡ id_of self.now.lock.now.stage }
+        requires comes { MayTry rw_writer_model calls.ReadLock places.ReadLook W.coming (parties_of turn.pass.now) }
+        ensures same_borrow { IfOk result (λ next. next.pass.ghost_name ≡ turn.entry.pass.ghost_name) }
+        ensures same_borrow_too { IfErr result (λ missed. missed.1.pass.ghost_name ≡ turn.entry.pass.ghost_name) }
+        ensures moved { IfOk result (λ next. HasMoved EntersToRead turn.entry.pass.now next.pass.now) }
+        ensures refused { IfErr result (λ missed. WasRefusedAt IsShut missed.0 1 turn.entry.pass.now missed.1.pass.now) }
+        ensures once { IfErr result (λ missed. IsOnly (part_of turn.entry.pass.now) (tally_of turn.entry.pass.now) → (sights_of missed.1.pass.now).count ≡ (sights_of turn.entry.pass.now).count + 1) }
+        ensures granted { IfOk result (λ next. Tried rw_writer_model calls.ReadLock places.ReadLook W.coming (parties_of turn.entry.pass.now) (λ _ done. IsGranted rw_writer_model calls.ReadLock places.ReadLook (Some kinds.Read) done (parties_of next.pass.now))) }
+        ensures failed { IfErr result (λ missed. Tried rw_writer_model calls.ReadLock places.ReadLook W.coming (parties_of turn.entry.pass.now) (λ patience done. IsRefused rw_writer_model calls.ReadLock places.ReadLook patience missed.0 done (parties_of missed.1.pass.now))) }
+    {
+        self.lock.read_unless_shut(turn, rt)
     }
 }

@@ -7,11 +7,15 @@ use crate::deeds::{
 };
 use crate::{COUNTER, LOCK, RwLockWriterPreference};
 use passes::Pass;
-use playing::{Entry, GoesOn, Sealed};
-use running_rw_hold::UnlockBegins;
+use playing::Sealed;
+use playing::turn::{Continues, Goes, Turn, Way};
+use running_rw_hold::UnlockCall;
 use std::alloc::Allocator;
 use steps_rw_writer::writer_enters;
 use tallies::{PlayedRwWriter, WaitWord};
+
+/// The pass inside.
+pub(crate) type PlayedPass = Pass<PlayedRwWriter>;
 
 impl<A: Allocator> RwLockWriterPreference<A> {
     ghost use Rattle.std.specs.Prelude.{◌≢◌, ◌%◌, ◌+◌, ◌<◌, IfOk, IfErr, true, List, Some, ℕ};
@@ -39,213 +43,260 @@ impl<A: Allocator> RwLockWriterPreference<A> {
 
     /// A load by a reader.
     #[inline(always)]
-    pub(crate) fn look<E: Entry<u64>>(&self, entry: E, pass: &mut Pass<PlayedRwWriter>) -> u64
-        requires own { IsPassOf self.now.stage pass.old }
-        requires may { TableHas E.coming 0 (λ w. intents.Load w) (parties_of pass.old) }
-        ensures saw { HasSeen result pass.old pass.new }
-        ensures went { TableLed E.coming (parties_of pass.old) result (parties_of pass.new) }
-        ensures alone { SaysAlone (counted pass.old) result }
+    pub(crate) fn look<'p, W: Way<u64>>(
+        &self,
+        turn: Turn<'p, PlayedPass, W>,
+    ) -> (u64, Turn<'p, PlayedPass, Goes>)
+        requires own { IsPassOf self.now.stage turn.pass.now }
+        requires may { TableHas W.coming 0 (λ w. intents.Load w) (parties_of turn.pass.now) }
+        ensures same_borrow { result.1.pass.ghost_name ≡ turn.entry.pass.ghost_name }
+        ensures saw { HasSeen result.0 turn.entry.pass.now result.1.pass.now }
+        ensures went { TableLed W.coming (parties_of turn.entry.pass.now) result.0 (parties_of result.1.pass.now) }
+        ensures alone { SaysAlone (counted turn.entry.pass.now) result.0 }
     {
-        self.stage.load::<_, Look>(entry, pass, LOCK)
+        turn.load_by::<(), A, Look>(&self.stage, LOCK)
     }
 
     /// An exchange of the value seen for two more, and the value that it found.
     #[inline(always)]
-    pub(crate) fn come_to_read(&self, pass: &mut Pass<PlayedRwWriter>, seen: u64, more: u64) -> u64
-        requires own { IsPassOf self.now.stage pass.old }
+    pub(crate) fn come_to_read<'p>(
+        &self,
+        turn: Turn<'p, PlayedPass, Goes>,
+        seen: u64,
+        more: u64,
+    ) -> (u64, Turn<'p, PlayedPass, Goes>)
+        requires own { IsPassOf self.now.stage turn.pass.now }
         requires even { seen % 2 ≡ 0 }
         requires room { seen < 2 ^ 64 - 4 }
         requires more { more ≡ seen + 2 }
-        requires may { TableHas Going 0 (λ w. intents.Exchange w seen more) (parties_of pass.old) }
-        ensures went { TableLed Going (parties_of pass.old) result (parties_of pass.new) }
-        ensures done { result ≡ seen → HasDone read pass.old pass.new }
-        ensures reads { result ≡ seen → reads_of pass.new ≡ reads_of pass.old + 1 }
-        ensures writes { result ≡ seen → (writes_of pass.old ≡ 0) × (writes_of pass.new ≡ 0) }
-        ensures failed { result ≢ seen → HasMissed seen result pass.old pass.new }
-        ensures alone { SaysAlone (counted pass.old) result }
+        requires may { TableHas Going 0 (λ w. intents.Exchange w seen more) (parties_of turn.pass.now) }
+        ensures same_borrow { result.1.pass.ghost_name ≡ turn.entry.pass.ghost_name }
+        ensures went { TableLed Going (parties_of turn.entry.pass.now) result.0 (parties_of result.1.pass.now) }
+        ensures done { result.0 ≡ seen → HasDone read turn.entry.pass.now result.1.pass.now }
+        ensures reads { result.0 ≡ seen → reads_of result.1.pass.now ≡ reads_of turn.entry.pass.now + 1 }
+        ensures writes { result.0 ≡ seen → (writes_of turn.entry.pass.now ≡ 0) × (writes_of result.1.pass.now ≡ 0) }
+        ensures failed { result.0 ≢ seen → HasMissed seen result.0 turn.entry.pass.now result.1.pass.now }
+        ensures alone { SaysAlone (counted turn.entry.pass.now) result.0 }
     {
-        self.stage
-            .exchange::<_, ComeToRead>(GoesOn, pass, LOCK, seen, more)
+        turn.exchange_by::<(), A, ComeToRead>(&self.stage, LOCK, seen, more)
     }
 
     /// A subtraction of 2, by a pass that has a read hold, and the value that it found.
     #[inline(always)]
-    pub(crate) fn leave_reading(&self, pass: &mut Pass<PlayedRwWriter>) -> u64
-        requires own { IsPassOf self.now.stage pass.old }
-        requires on { 0 < reads_of pass.old }
-        requires has { has_hold kinds.Read (parties_of pass.old) ≡ true }
-        ensures released { HasLeftReading pass.old pass.new }
-        ensures played { Unlocks kinds.Read (released (Some result)) (parties_of pass.old) (parties_of pass.new) }
-        ensures saw { (sights_of pass.new).last ≡ result }
+    pub(crate) fn leave_reading<'p>(
+        &self,
+        turn: Turn<'p, PlayedPass, Continues<UnlockCall>>,
+    ) -> (u64, Turn<'p, PlayedPass, Goes>)
+        requires own { IsPassOf self.now.stage turn.pass.now }
+        requires on { 0 < reads_of turn.pass.now }
+        requires has { has_hold kinds.Read (parties_of turn.pass.now) ≡ true }
+        ensures same_borrow { result.1.pass.ghost_name ≡ turn.entry.pass.ghost_name }
+        ensures released { HasLeftReading turn.entry.pass.now result.1.pass.now }
+        ensures played { Unlocks kinds.Read (released (Some result.0)) (parties_of turn.entry.pass.now) (parties_of result.1.pass.now) }
+        ensures saw { (sights_of result.1.pass.now).last ≡ result.0 }
     {
-        self.stage
-            .subtract::<_, LeaveReading>(UnlockBegins, pass, LOCK, 2)
+        turn.subtract_by::<(), A, LeaveReading>(&self.stage, LOCK, 2)
     }
 
     /// A load by a writer.
     #[inline(always)]
-    pub(crate) fn look_to_write<E: Entry<u64>>(
+    pub(crate) fn look_to_write<'p, W: Way<u64>>(
         &self,
-        entry: E,
-        pass: &mut Pass<PlayedRwWriter>,
-    ) -> u64
-        requires own { IsPassOf self.now.stage pass.old }
-        requires comes { (patience : Patience) × (done : List (Slot ℕ)) × ComesToWrite E.coming patience done (parties_of pass.old) }
-        ensures tried { HasTried 1 pass.old pass.new }
-        ensures just { HasJustSeen result pass.new }
-        ensures alone { SaysAlone (counted pass.old) result }
-        ensures looked { (patience : Patience) (done : List (Slot ℕ)) → ComesToWrite E.coming patience done (parties_of pass.old) → WriteGoes (write_look patience result) done (parties_of pass.new) }
+        turn: Turn<'p, PlayedPass, W>,
+    ) -> (u64, Turn<'p, PlayedPass, Goes>)
+        requires own { IsPassOf self.now.stage turn.pass.now }
+        requires comes { (patience : Patience) × (done : List (Slot ℕ)) × ComesToWrite W.coming patience done (parties_of turn.pass.now) }
+        ensures same_borrow { result.1.pass.ghost_name ≡ turn.entry.pass.ghost_name }
+        ensures tried { HasTried 1 turn.entry.pass.now result.1.pass.now }
+        ensures just { HasJustSeen result.0 result.1.pass.now }
+        ensures alone { SaysAlone (counted turn.entry.pass.now) result.0 }
+        ensures looked { (patience : Patience) (done : List (Slot ℕ)) → ComesToWrite W.coming patience done (parties_of turn.entry.pass.now) → WriteGoes (write_look patience result.0) done (parties_of result.1.pass.now) }
     {
-        self.stage.load::<_, LookToWrite>(entry, pass, LOCK)
+        turn.load_by::<(), A, LookToWrite>(&self.stage, LOCK)
     }
 
     /// The last load by a writer before it stands: it has loaded the counter just before, and found this.
     #[inline(always)]
-    pub(crate) fn look_last(&self, pass: &mut Pass<PlayedRwWriter>, count: u64) -> u64
-        requires own { IsPassOf self.now.stage pass.old }
-        requires at { (patience : Patience) × (done : List (Slot ℕ)) × WriteGoes (afters.At (places.LastLook count patience)) done (parties_of pass.old) }
-        ensures tried { HasTried 1 pass.old pass.new }
-        ensures just { HasJustSeen result pass.new }
-        ensures alone { SaysAlone (counted pass.old) result }
-        ensures looked { (patience : Patience) → GoesFromTo calls.WriteLock (afters.At (places.LastLook count patience)) (last_look count patience result) (parties_of pass.old) (parties_of pass.new) }
+    pub(crate) fn look_last<'p>(
+        &self,
+        turn: Turn<'p, PlayedPass, Goes>,
+        count: u64,
+    ) -> (u64, Turn<'p, PlayedPass, Goes>)
+        requires own { IsPassOf self.now.stage turn.pass.now }
+        requires at { (patience : Patience) × (done : List (Slot ℕ)) × WriteGoes (afters.At (places.LastLook count patience)) done (parties_of turn.pass.now) }
+        ensures same_borrow { result.1.pass.ghost_name ≡ turn.entry.pass.ghost_name }
+        ensures tried { HasTried 1 turn.entry.pass.now result.1.pass.now }
+        ensures just { HasJustSeen result.0 result.1.pass.now }
+        ensures alone { SaysAlone (counted turn.entry.pass.now) result.0 }
+        ensures looked { (patience : Patience) → GoesFromTo calls.WriteLock (afters.At (places.LastLook count patience)) (last_look count patience result.0) (parties_of turn.entry.pass.now) (parties_of result.1.pass.now) }
     {
         let _count = count;
-        self.stage.load::<_, LookToWrite>(GoesOn, pass, LOCK)
+        turn.load_by::<(), A, LookToWrite>(&self.stage, LOCK)
     }
 
     /// An exchange of a value at which nobody holds the lock for 2^64 - 1, and the value that it found.
     #[inline(always)]
-    pub(crate) fn come_to_write<E: Entry<u64>>(
+    pub(crate) fn come_to_write<'p, W: Way<u64>>(
         &self,
-        entry: E,
-        pass: &mut Pass<PlayedRwWriter>,
+        turn: Turn<'p, PlayedPass, W>,
         seen: u64,
-    ) -> u64
-        requires own { IsPassOf self.now.stage pass.old }
+    ) -> (u64, Turn<'p, PlayedPass, Goes>)
+        requires own { IsPassOf self.now.stage turn.pass.now }
         requires free { seen < 2 }
-        requires may { (put : ℕ) → put ≡ 2 ^ 64 - 1 → TableHas E.coming 0 (λ w. intents.Exchange w seen put) (parties_of pass.old) }
-        ensures same { IsSamePass pass.old pass.new }
-        ensures told { WriterIn seen (counted pass.old) result (counted pass.new) }
-        ensures went { TableLed E.coming (parties_of pass.old) result (parties_of pass.new) }
+        requires may { (put : ℕ) → put ≡ 2 ^ 64 - 1 → TableHas W.coming 0 (λ w. intents.Exchange w seen put) (parties_of turn.pass.now) }
+        ensures same_borrow { result.1.pass.ghost_name ≡ turn.entry.pass.ghost_name }
+        ensures same { IsSamePass turn.entry.pass.now result.1.pass.now }
+        ensures told { WriterIn seen (counted turn.entry.pass.now) result.0 (counted result.1.pass.now) }
+        ensures went { TableLed W.coming (parties_of turn.entry.pass.now) result.0 (parties_of result.1.pass.now) }
     {
-        self.stage
-            .exchange::<_, ComeToWrite>(entry, pass, LOCK, seen, write_locked())
+        turn.exchange_by::<(), A, ComeToWrite>(&self.stage, LOCK, seen, write_locked())
     }
 
     /// A store of 0, by the pass that has the write hold.
     #[inline(always)]
-    pub(crate) fn leave_writing(&self, pass: &mut Pass<PlayedRwWriter>)
-        requires own { IsPassOf self.now.stage pass.old }
-        requires on { writes_of pass.old ≡ 1 }
-        requires has { has_hold kinds.Write (parties_of pass.old) ≡ true }
-        ensures released { HasLeftWriting pass.old pass.new }
-        ensures played { Unlocks kinds.Write (afters.At (places.Count leavers.Writer)) (parties_of pass.old) (parties_of pass.new) }
+    pub(crate) fn leave_writing<'p>(
+        &self,
+        turn: Turn<'p, PlayedPass, Continues<UnlockCall>>,
+    ) -> Turn<'p, PlayedPass, Goes>
+        requires own { IsPassOf self.now.stage turn.pass.now }
+        requires on { writes_of turn.pass.now ≡ 1 }
+        requires has { has_hold kinds.Write (parties_of turn.pass.now) ≡ true }
+        ensures same_borrow { result.pass.ghost_name ≡ turn.entry.pass.ghost_name }
+        ensures released { HasLeftWriting turn.entry.pass.now result.pass.now }
+        ensures played { Unlocks kinds.Write (afters.At (places.Count leavers.Writer)) (parties_of turn.entry.pass.now) (parties_of result.pass.now) }
     {
-        self.stage
-            .store::<_, LeaveWriting>(UnlockBegins, pass, LOCK, 0);
+        turn.store_by::<(), A, LeaveWriting>(&self.stage, LOCK, 0)
     }
 
     /// An exchange of the value just seen for one more. `Err` with another value that it found.
     #[inline(always)]
-    pub(crate) fn set_mark(
+    pub(crate) fn set_mark<'p>(
         &self,
-        pass: &mut Pass<PlayedRwWriter>,
+        turn: Turn<'p, PlayedPass, Goes>,
         seen: u64,
         marked: u64,
-    ) -> Result<(), u64>
-        requires own { IsPassOf self.now.stage pass.old }
-        requires just { HasJustSeen seen pass.old }
+    ) -> Result<Turn<'p, PlayedPass, Goes>, (u64, Turn<'p, PlayedPass, Goes>)>
+        requires own { IsPassOf self.now.stage turn.pass.now }
+        requires just { HasJustSeen seen turn.pass.now }
         requires even { seen % 2 ≡ 0 }
         requires other { seen ≢ 2 ^ 64 - 2 }
         requires marked { marked ≡ seen + 1 }
-        requires at { (patience : Patience) × (done : List (Slot ℕ)) × WriteGoes (marks_or_spins patience seen) done (parties_of pass.old) }
-        ensures spins { IfOk result (λ _. (patience : Patience) → GoesFromTo calls.WriteLock (marks_or_spins patience seen) (spins patience) (parties_of pass.old) (parties_of pass.new)) }
-        ensures looks { IfErr result (λ found. (patience : Patience) → GoesFromTo calls.WriteLock (marks_or_spins patience seen) (write_look patience found) (parties_of pass.old) (parties_of pass.new)) }
-        ensures done { IfOk result (λ _. HasTried 0 pass.old pass.new) }
-        ensures missed { IfErr result (λ found. HasMissedIt found pass.old pass.new) }
+        requires at { (patience : Patience) × (done : List (Slot ℕ)) × WriteGoes (marks_or_spins patience seen) done (parties_of turn.pass.now) }
+        ensures same_borrow { IfOk result (λ next. next.pass.ghost_name ≡ turn.entry.pass.ghost_name) }
+        ensures same_borrow_too { IfErr result (λ missed. missed.1.pass.ghost_name ≡ turn.entry.pass.ghost_name) }
+        ensures spins { IfOk result (λ next. (patience : Patience) → GoesFromTo calls.WriteLock (marks_or_spins patience seen) (spins patience) (parties_of turn.entry.pass.now) (parties_of next.pass.now)) }
+        ensures looks { IfErr result (λ missed. (patience : Patience) → GoesFromTo calls.WriteLock (marks_or_spins patience seen) (write_look patience missed.0) (parties_of turn.entry.pass.now) (parties_of missed.1.pass.now)) }
+        ensures done { IfOk result (λ next. HasTried 0 turn.entry.pass.now next.pass.now) }
+        ensures missed { IfErr result (λ missed. HasMissedIt missed.0 turn.entry.pass.now missed.1.pass.now) }
     {
-        let found = self
-            .stage
-            .exchange::<_, SetMark>(GoesOn, pass, LOCK, seen, marked);
-        if found == seen { Ok(()) } else { Err(found) }
+        let (found, next) = turn.exchange_by::<(), A, SetMark>(&self.stage, LOCK, seen, marked);
+        if found == seen {
+            Ok(next)
+        } else {
+            Err((found, next))
+        }
     }
 
     /// An exchange of the value just seen for one less. `Err` with another value that it found.
     #[inline(always)]
-    pub(crate) fn take_mark(
+    pub(crate) fn take_mark<'p>(
         &self,
-        pass: &mut Pass<PlayedRwWriter>,
+        turn: Turn<'p, PlayedPass, Goes>,
         seen: u64,
         unmarked: u64,
-    ) -> Result<(), u64>
-        requires own { IsPassOf self.now.stage pass.old }
-        requires just { HasJustSeen seen pass.old }
-        requires cause { MayGiveUp pass.old }
+    ) -> Result<Turn<'p, PlayedPass, Goes>, (u64, Turn<'p, PlayedPass, Goes>)>
+        requires own { IsPassOf self.now.stage turn.pass.now }
+        requires just { HasJustSeen seen turn.pass.now }
+        requires cause { MayGiveUp turn.pass.now }
         requires set { IsMarked seen }
         requires unmarked { unmarked ≡ seen - 1 }
-        requires at { (done : List (Slot ℕ)) × WriteGoes (unmarks_or_leaves seen) done (parties_of pass.old) }
-        ensures counts { IfOk result (λ _. GoesFromTo calls.WriteLock (unmarks_or_leaves seen) (afters.At (places.Count leavers.GivenUp)) (parties_of pass.old) (parties_of pass.new)) }
-        ensures looks { IfErr result (λ found. GoesFromTo calls.WriteLock (unmarks_or_leaves seen) (unmarks_or_leaves found) (parties_of pass.old) (parties_of pass.new)) }
-        ensures done { IfOk result (λ _. HasGivenUpWriting 0 pass.old pass.new) }
-        ensures missed { IfErr result (λ found. HasMissedIt found pass.old pass.new) }
+        requires at { (done : List (Slot ℕ)) × WriteGoes (unmarks_or_leaves seen) done (parties_of turn.pass.now) }
+        ensures same_borrow { IfOk result (λ next. next.pass.ghost_name ≡ turn.entry.pass.ghost_name) }
+        ensures same_borrow_too { IfErr result (λ missed. missed.1.pass.ghost_name ≡ turn.entry.pass.ghost_name) }
+        ensures counts { IfOk result (λ next. GoesFromTo calls.WriteLock (unmarks_or_leaves seen) (afters.At (places.Count leavers.GivenUp)) (parties_of turn.entry.pass.now) (parties_of next.pass.now)) }
+        ensures looks { IfErr result (λ missed. GoesFromTo calls.WriteLock (unmarks_or_leaves seen) (unmarks_or_leaves missed.0) (parties_of turn.entry.pass.now) (parties_of missed.1.pass.now)) }
+        ensures done { IfOk result (λ next. HasGivenUpWriting 0 turn.entry.pass.now next.pass.now) }
+        ensures missed { IfErr result (λ missed. HasMissedIt missed.0 turn.entry.pass.now missed.1.pass.now) }
     {
-        let found = self
-            .stage
-            .exchange::<_, TakeMark>(GoesOn, pass, LOCK, seen, unmarked);
-        if found == seen { Ok(()) } else { Err(found) }
+        let (found, next) = turn.exchange_by::<(), A, TakeMark>(&self.stage, LOCK, seen, unmarked);
+        if found == seen {
+            Ok(next)
+        } else {
+            Err((found, next))
+        }
     }
 
     /// A load of the counter.
     #[inline(always)]
-    pub(crate) fn load_count(&self, pass: &mut Pass<PlayedRwWriter>) -> u64
-        requires own { IsPassOf self.now.stage pass.old }
-        requires at { (patience : Patience) × (done : List (Slot ℕ)) × WriteGoes (afters.At (places.LoadCounter patience)) done (parties_of pass.old) }
-        ensures loaded { (patience : Patience) → GoesFromTo calls.WriteLock (afters.At (places.LoadCounter patience)) (afters.At (places.LastLook result patience)) (parties_of pass.old) (parties_of pass.new) }
-        ensures same { IsSamePass pass.old pass.new }
-        ensures unchanged { Unchanged (counted pass.old) (counted pass.new) }
+    pub(crate) fn load_count<'p>(
+        &self,
+        turn: Turn<'p, PlayedPass, Goes>,
+    ) -> (u64, Turn<'p, PlayedPass, Goes>)
+        requires own { IsPassOf self.now.stage turn.pass.now }
+        requires at { (patience : Patience) × (done : List (Slot ℕ)) × WriteGoes (afters.At (places.LoadCounter patience)) done (parties_of turn.pass.now) }
+        ensures same_borrow { result.1.pass.ghost_name ≡ turn.entry.pass.ghost_name }
+        ensures loaded { (patience : Patience) → GoesFromTo calls.WriteLock (afters.At (places.LoadCounter patience)) (afters.At (places.LastLook result.0 patience)) (parties_of turn.entry.pass.now) (parties_of result.1.pass.now) }
+        ensures same { IsSamePass turn.entry.pass.now result.1.pass.now }
+        ensures unchanged { Unchanged (counted turn.entry.pass.now) (counted result.1.pass.now) }
     {
-        self.stage.load::<_, Count>(GoesOn, pass, COUNTER)
+        turn.load_by::<(), A, Count>(&self.stage, COUNTER)
     }
 
     /// An add of 1 to the counter.
     #[inline(always)]
-    pub(crate) fn count_up(&self, pass: &mut Pass<PlayedRwWriter>)
-        requires own { IsPassOf self.now.stage pass.old }
-        requires at { (who : Leaver) × SomeCallGoes (afters.At (places.Count who)) (parties_of pass.old) }
-        ensures counted { (call : Call ℕ) (who : Leaver) → GoesFromTo call (afters.At (places.Count who)) (afters.At (places.WakeOne who)) (parties_of pass.old) (parties_of pass.new) }
-        ensures same { IsSamePass pass.old pass.new }
-        ensures unchanged { Unchanged (counted pass.old) (counted pass.new) }
+    pub(crate) fn count_up<'p>(
+        &self,
+        turn: Turn<'p, PlayedPass, Goes>,
+    ) -> Turn<'p, PlayedPass, Goes>
+        requires own { IsPassOf self.now.stage turn.pass.now }
+        requires at { (who : Leaver) × SomeCallGoes (afters.At (places.Count who)) (parties_of turn.pass.now) }
+        ensures same_borrow { result.pass.ghost_name ≡ turn.entry.pass.ghost_name }
+        ensures counted { (call : Call ℕ) (who : Leaver) → GoesFromTo call (afters.At (places.Count who)) (afters.At (places.WakeOne who)) (parties_of turn.entry.pass.now) (parties_of result.pass.now) }
+        ensures same { IsSamePass turn.entry.pass.now result.pass.now }
+        ensures unchanged { Unchanged (counted turn.entry.pass.now) (counted result.pass.now) }
     {
-        self.stage.add::<GoesOn, Count>(pass, COUNTER, 1);
+        let (_, next) = turn.add_by::<(), A, Count>(&self.stage, COUNTER, 1);
+        next
     }
 
-    /// Calls the closure that wakes one writer, with the counter.
+    /// Calls the closure that wakes one writer, with the counter, with which the call is over. Gives the pass back.
     #[inline(always)]
-    pub(crate) fn wake_one<W: Fn(&WaitWord)>(&self, pass: &Pass<PlayedRwWriter>, wake_one: &W)
-        requires own { IsPassOf self.now.stage pass.now }
-        requires wakes { SomeCallGoes (afters.At (places.WakeOne leavers.Reader)) (parties_of pass.now) }
+    pub(crate) fn wake_one<'p, W: Fn(&WaitWord)>(
+        &self,
+        turn: Turn<'p, PlayedPass, Goes>,
+        wake_one: &W,
+    ) -> &'p mut PlayedPass
+        requires own { IsPassOf self.now.stage turn.pass.now }
+        requires wakes { SomeCallGoes (afters.At (places.WakeOne leavers.Reader)) (parties_of turn.pass.now) }
         requires may { W.IsAlwaysCallable wake_one.now }
+        ensures same_borrow { result.ghost_name ≡ turn.entry.pass.ghost_name }
+        ensures still { result.now ≡ turn.entry.pass.now }
         ensures woke { HasWoken W.Fn wake_one.now }
     {
-        self.stage.wake(pass, &self.counter(), wake_one);
+        let woken = turn.wake(&self.stage, &self.counter(), wake_one);
+        woken.end_aside(&self.stage)
     }
 
-    /// Calls the closure that wakes one writer, with the counter, and then the one that wakes all readers, with the lock's word.
+    /// Calls the closure that wakes one writer, with the counter, and then the one that wakes all readers, with the lock's word, with
+    /// which the call is over. Gives the pass back.
     #[inline(always)]
-    pub(crate) fn wake_both<W: Fn(&WaitWord), V: Fn(&WaitWord)>(
+    pub(crate) fn wake_both<'p, W: Fn(&WaitWord), V: Fn(&WaitWord)>(
         &self,
-        pass: &Pass<PlayedRwWriter>,
+        turn: Turn<'p, PlayedPass, Goes>,
         wake_one: &W,
         wake_all: &V,
-    )
-        requires own { IsPassOf self.now.stage pass.now }
-        requires wakes { IsToWakeBoth (parties_of pass.now) }
+    ) -> &'p mut PlayedPass
+        requires own { IsPassOf self.now.stage turn.pass.now }
+        requires wakes { IsToWakeBoth (parties_of turn.pass.now) }
         requires may_one { W.IsAlwaysCallable wake_one.now }
         requires may_all { V.IsAlwaysCallable wake_all.now }
+        ensures same_borrow { result.ghost_name ≡ turn.entry.pass.ghost_name }
+        ensures still { result.now ≡ turn.entry.pass.now }
         ensures woke { HasWoken W.Fn wake_one.now × HasWoken V.Fn wake_all.now }
     {
-        self.stage
-            .wake_twice(pass, &self.counter(), wake_one, &self.word(), wake_all);
+        let one = turn.wake(&self.stage, &self.counter(), wake_one);
+        let both = one.wake_again(&self.stage, &self.word(), wake_all);
+        both.end_after_two(&self.stage)
     }
 
     /// The lock's word, as closures see it.

@@ -2,16 +2,16 @@
 ghost use Rattle.std.specs.Prelude.{◌≡◌};
 ghost use Rattle.steps_rw_writer.specs.Table.{is_blocked as blocked};
 
+use crate::steps::PlayedPass;
 use crate::{RwLockWriterPreference, RwWriterPass};
-use passes::Pass;
-use playing::{Aborted, Answered, Entry, GoesOn};
-use running_rw_hold::{TryWriteBegins, WriteBegins};
+use playing::turn::{Aborted, Answered, Goes, Turn, Way, begin_held, begin_new};
+use running_rw_hold::{TryWriteCall, UnlockCall, WriteCall};
 use std::alloc::Allocator;
 use std::hint::spin_loop;
 use std::sync::Wait;
 use steps_events::{SPIN_REPETITIONS, WaitAction};
 use steps_rw_writer::{marks, unmarks, writer_enters};
-use tallies::{PlayedRwWriter, WaitWord};
+use tallies::WaitWord;
 
 impl<A: Allocator> RwLockWriterPreference<A> {
     ghost use Rattle.std.specs.Prelude.{true, false, ◌^◌, ◌<◌, MatchBool, IfOk, IfErr, is_ok, ℕ, List, Some, None};
@@ -24,18 +24,19 @@ impl<A: Allocator> RwLockWriterPreference<A> {
     ghost use Rattle.steps_rw_writer.specs.declared.RwWriterPlace.TheVariants as places;
     ghost use Rattle.steps_rw_writer.specs.Table.{spins, unmarks_or_leaves, write_look, write_refused};
     ghost use Rattle.passes.specs.Answers.{MayAnswerAbort, HasWoken};
-    ghost use Rattle.passes.specs.Passes.{sights_of};
-    ghost use Rattle.playing.specs.Slots.{Slot};
+    ghost use Rattle.passes.specs.Passes.{sights_of, IsSamePass};
+    ghost use Rattle.playing.specs.Plays.{Beginning};
+    ghost use Rattle.playing.specs.Slots.{Slot, all_of};
     ghost use Rattle.playing.specs.Tries.{spun};
-    ghost use Rattle.playing.specs.Passes.{parties_of};
+    ghost use Rattle.playing.specs.Passes.{parties_of, counted};
     ghost use Rattle.playing.specs.Stages.{IsPassOf};
-    ghost use Rattle.running_rw_writer.specs.RwWriterParties.{has_hold, GoesFromTo, OnceWriting, WriteGoes, WriteIsGranted, WriteGivesUp, ComesToWrite, ComesToGiveUp, Unlocks};
-    ghost use Rattle.running_rw_writer.specs.RwWriterSteps.{IsMarked};
+    ghost use Rattle.running_rw_writer.specs.RwWriterParties.{has_hold, TableLed, GoesFromTo, OnceWriting, WriteGoes, WriteIsGranted, WriteGivesUp, ComesToWrite, ComesToGiveUp, Unlocks};
+    ghost use Rattle.running_rw_writer.specs.RwWriterSteps.{IsMarked, WriterIn};
     ghost use Rattle.running_rw_writer.specs.RwWriterShown.{IsRwWriterPass, IsAloneWithin, pass_in, writes_of, flags_of, HasEnteredToWrite, HasEnteredSeenFree, HasWrittenAtOnce, HasSeenTaken, HasTried, HasJustSeen, MayGiveUp, HasGivenUpWriting, HasLeftWriting, HasPlayed, HasPlayedGivingUp};
 
     /// What `try_write_lock` does, and whether the hold is on.
     #[inline(always)]
-    pub(crate) fn try_to_write(&self, pass: &mut Pass<PlayedRwWriter>) -> bool
+    pub(crate) fn try_to_write(&self, pass: &mut PlayedPass) -> bool
         requires own { IsPassOf self.now.stage pass.old }
         requires down { flags_of pass.old ≡ 0 }
         ensures entered { MatchBool result (HasEnteredToWrite pass.old pass.new) (HasSeenTaken pass.old pass.new) }
@@ -44,7 +45,22 @@ impl<A: Allocator> RwLockWriterPreference<A> {
         ensures at_once { result ≡ true → HasWrittenAtOnce pass.old pass.new }
         ensures exact { IsAloneWithin pass.old → result ≡ true }
     {
-        self.come_to_write(TryWriteBegins, pass, 0) == 0
+        let (found, last) = self.first_write(pass);
+        let _pass = last.end(&self.stage);
+        found == 0
+    }
+
+    /// The exchange of 0 for 2^64 - 1 with which a `TryWriteLock` begins, and the value that it found.
+    #[inline(always)]
+    fn first_write<'p>(&self, pass: &'p mut PlayedPass) -> (u64, Turn<'p, PlayedPass, Goes>)
+        requires own { IsPassOf self.now.stage pass.old }
+        ensures same_borrow { result.1.pass.ghost_name ≡ pass.entry.ghost_name }
+        ensures same { IsSamePass pass.old result.1.pass.now }
+        ensures told { WriterIn 0 (counted pass.old) result.0 (counted result.1.pass.now) }
+        ensures went { TableLed (Beginning calls.TryWriteLock) (parties_of pass.old) result.0 (parties_of result.1.pass.now) }
+    {
+        let begun = begin_new::<TryWriteCall, PlayedPass>(pass);
+        self.come_to_write(begun, 0)
     }
 
     /// What `write_lock` does, and whether the hold is on.
@@ -54,7 +70,7 @@ impl<A: Allocator> RwLockWriterPreference<A> {
         W: Fn(&WaitWord, &u64) -> WaitAction,
         K: Fn(&WaitWord),
         V: Fn(&WaitWord),
-    >(&self, pass: &mut Pass<PlayedRwWriter>, rt: &R, wait: &W, wake_one: &K, wake_all: &V) -> bool
+    >(&self, pass: &mut PlayedPass, rt: &R, wait: &W, wake_one: &K, wake_all: &V) -> bool
         requires own { IsPassOf self.now.stage pass.old }
         requires may { W.IsAlwaysCallable wait.now }
         requires may_one { K.IsAlwaysCallable wake_one.now }
@@ -66,60 +82,89 @@ impl<A: Allocator> RwLockWriterPreference<A> {
         ensures aborted { result ≡ false → MayAnswerAbort W.Fn wait.now (λ n. n < 2 ^ 64) }
         ensures woke { result ≡ false → IsMarked (sights_of pass.new).last → HasWoken K.Fn wake_one.now × HasWoken V.Fn wake_all.now }
     {
-        if self.enter_or_mark(WriteBegins, rt, pass) {
+        let (at_once, marked) = self.first_try(pass, rt);
+        if at_once {
+            let _pass = marked.end(&self.stage);
             return true;
         }
-        if self.spin_to_write(rt, pass) {
+        let (in_time, spun) = self.spin_to_write(marked, rt);
+        if in_time {
+            let _pass = spun.end(&self.stage);
             return true;
         }
-        self.ask_to_write(pass, rt, wait, wake_one, wake_all)
+        let (entered, _pass) = self.ask_to_write(spun, rt, wait, wake_one, wake_all);
+        entered
+    }
+
+    /// What `enter_or_mark` does, with which a `WriteLock` begins.
+    #[inline(always)]
+    fn first_try<'p, R: Wait>(
+        &self,
+        pass: &'p mut PlayedPass,
+        rt: &R,
+    ) -> (bool, Turn<'p, PlayedPass, Goes>)
+        requires own { IsPassOf self.now.stage pass.old }
+        ensures same_borrow { result.1.pass.ghost_name ≡ pass.entry.ghost_name }
+        ensures entered { MatchBool result.0 (HasEnteredSeenFree pass.old result.1.pass.now) (HasTried 1 pass.old result.1.pass.now) }
+        ensures played { MatchBool result.0 (WriteIsGranted (all_of (parties_of pass.old)) (parties_of result.1.pass.now)) (WriteGoes (spins (spun 0)) (all_of (parties_of pass.old)) (parties_of result.1.pass.now)) }
+        ensures exact { IsAloneWithin pass.old → result.0 ≡ true }
+    {
+        let begun = begin_new::<WriteCall, PlayedPass>(pass);
+        self.enter_or_mark(begun, rt)
     }
 
     /// Looks, and enters where nobody holds the lock; else sees to it that no reader enters. Whether it entered.
-    #[inline(always)]
-    fn enter_or_mark<E: Entry<u64>, R: Wait>(
+    fn enter_or_mark<'p, W: Way<u64>, R: Wait>(
         &self,
-        entry: E,
+        turn: Turn<'p, PlayedPass, W>,
         rt: &R,
-        pass: &mut Pass<PlayedRwWriter>,
-    ) -> bool
-        requires own { IsPassOf self.now.stage pass.old }
-        requires at { (n : ℕ) × (done : List (Slot ℕ)) × ComesToWrite E.coming (spun n) done (parties_of pass.old) }
-        ensures entered { MatchBool result (HasEnteredSeenFree pass.old pass.new) (HasTried 1 pass.old pass.new) }
-        ensures played { (n : ℕ) (done : List (Slot ℕ)) → ComesToWrite E.coming (spun n) done (parties_of pass.old) → MatchBool result (WriteIsGranted done (parties_of pass.new)) (WriteGoes (spins (spun n)) done (parties_of pass.new)) }
-        ensures exact { IsAloneWithin pass.old → result ≡ true }
+    ) -> (bool, Turn<'p, PlayedPass, Goes>)
+        requires own { IsPassOf self.now.stage turn.pass.now }
+        requires at { (n : ℕ) × (done : List (Slot ℕ)) × ComesToWrite W.coming (spun n) done (parties_of turn.pass.now) }
+        ensures same_borrow { result.1.pass.ghost_name ≡ turn.entry.pass.ghost_name }
+        ensures entered { MatchBool result.0 (HasEnteredSeenFree turn.entry.pass.now result.1.pass.now) (HasTried 1 turn.entry.pass.now result.1.pass.now) }
+        ensures played { (n : ℕ) (done : List (Slot ℕ)) → ComesToWrite W.coming (spun n) done (parties_of turn.entry.pass.now) → MatchBool result.0 (WriteIsGranted done (parties_of result.1.pass.now)) (WriteGoes (spins (spun n)) done (parties_of result.1.pass.now)) }
+        ensures exact { IsAloneWithin turn.entry.pass.now → result.0 ≡ true }
     {
-        let seen = self.look_to_write(entry, pass);
-        self.enter_or_mark_from(rt, pass, seen)
+        let (seen, looked) = self.look_to_write(turn);
+        self.enter_or_mark_from(looked, rt, seen)
     }
 
     /// The same from a value that it has just seen: an exchange that failed is a new look.
     #[inline(always)]
-    fn enter_or_mark_from<R: Wait>(
+    fn enter_or_mark_from<'p, R: Wait>(
         &self,
+        turn: Turn<'p, PlayedPass, Goes>,
         rt: &R,
-        pass: &mut Pass<PlayedRwWriter>,
         seen: u64,
-    ) -> bool
-        requires own { IsPassOf self.now.stage pass.old }
-        requires just { HasJustSeen seen pass.old }
-        requires at { (n : ℕ) × (done : List (Slot ℕ)) × WriteGoes (write_look (spun n) seen) done (parties_of pass.old) }
-        ensures entered { MatchBool result (HasEnteredSeenFree pass.old pass.new) (HasTried 0 pass.old pass.new) }
-        ensures played { (n : ℕ) → OnceWriting (write_look (spun n) seen) (parties_of pass.old) (λ done. MatchBool result (WriteIsGranted done (parties_of pass.new)) (WriteGoes (spins (spun n)) done (parties_of pass.new))) }
-        ensures exact { seen ≡ 0 → IsAloneWithin pass.old → result ≡ true }
+    ) -> (bool, Turn<'p, PlayedPass, Goes>)
+        requires own { IsPassOf self.now.stage turn.pass.now }
+        requires just { HasJustSeen seen turn.pass.now }
+        requires at { (n : ℕ) × (done : List (Slot ℕ)) × WriteGoes (write_look (spun n) seen) done (parties_of turn.pass.now) }
+        ensures same_borrow { result.1.pass.ghost_name ≡ turn.entry.pass.ghost_name }
+        ensures entered { MatchBool result.0 (HasEnteredSeenFree turn.entry.pass.now result.1.pass.now) (HasTried 0 turn.entry.pass.now result.1.pass.now) }
+        ensures played { (n : ℕ) → OnceWriting (write_look (spun n) seen) (parties_of turn.entry.pass.now) (λ done. MatchBool result.0 (WriteIsGranted done (parties_of result.1.pass.now)) (WriteGoes (spins (spun n)) done (parties_of result.1.pass.now))) }
+        ensures exact { seen ≡ 0 → IsAloneWithin turn.entry.pass.now → result.0 ≡ true }
     {
         let mut last = seen;
+        let mut next = turn;
         for _ in rt.forever() {
-            match self.enter_if_free(pass, last) {
-                Ok(()) => return true,
-                Err(found) => last = found,
+            match self.enter_if_free(next, last) {
+                Ok(entered) => return (true, entered),
+                Err((found, refused)) => {
+                    last = found;
+                    next = refused;
+                }
             }
             let Some(marked) = marks(last) else {
-                return false;
+                return (false, next);
             };
-            match self.set_mark(pass, last, marked) {
-                Ok(()) => return false,
-                Err(found) => last = found,
+            match self.set_mark(next, last, marked) {
+                Ok(set) => return (false, set),
+                Err((found, missed)) => {
+                    last = found;
+                    next = missed;
+                }
             }
         }
         unreachable!()
@@ -127,123 +172,211 @@ impl<A: Allocator> RwLockWriterPreference<A> {
 
     /// Enters where nobody held the lock at the value just seen. `Err` with the value seen last, at which it has not.
     #[inline(always)]
-    fn enter_if_free(&self, pass: &mut Pass<PlayedRwWriter>, seen: u64) -> Result<(), u64>
-        requires own { IsPassOf self.now.stage pass.old }
-        requires just { HasJustSeen seen pass.old }
-        requires at { (patience : Patience) × (done : List (Slot ℕ)) × WriteGoes (write_look patience seen) done (parties_of pass.old) }
-        ensures entered { IfOk result (λ _. HasEnteredSeenFree pass.old pass.new) }
-        ensures refused { IfErr result (λ last. HasTried 0 pass.old pass.new × HasJustSeen last pass.new × MayGiveUp pass.new) }
-        ensures granted { IfOk result (λ _. (patience : Patience) → OnceWriting (write_look patience seen) (parties_of pass.old) (λ done. WriteIsGranted done (parties_of pass.new))) }
-        ensures goes_on { IfErr result (λ last. (patience : Patience) → GoesFromTo calls.WriteLock (write_look patience seen) (write_refused patience last) (parties_of pass.old) (parties_of pass.new)) }
-        ensures exact { seen ≡ 0 → IsAloneWithin pass.old → is_ok result ≡ true }
+    fn enter_if_free<'p>(
+        &self,
+        turn: Turn<'p, PlayedPass, Goes>,
+        seen: u64,
+    ) -> Result<Turn<'p, PlayedPass, Goes>, (u64, Turn<'p, PlayedPass, Goes>)>
+        requires own { IsPassOf self.now.stage turn.pass.now }
+        requires just { HasJustSeen seen turn.pass.now }
+        requires at { (patience : Patience) × (done : List (Slot ℕ)) × WriteGoes (write_look patience seen) done (parties_of turn.pass.now) }
+        ensures same_borrow { IfOk result (λ next. next.pass.ghost_name ≡ turn.entry.pass.ghost_name) }
+        ensures same_borrow_too { IfErr result (λ missed. missed.1.pass.ghost_name ≡ turn.entry.pass.ghost_name) }
+        ensures entered { IfOk result (λ next. HasEnteredSeenFree turn.entry.pass.now next.pass.now) }
+        ensures refused { IfErr result (λ missed. HasTried 0 turn.entry.pass.now missed.1.pass.now × HasJustSeen missed.0 missed.1.pass.now × MayGiveUp missed.1.pass.now) }
+        ensures granted { IfOk result (λ next. (patience : Patience) → OnceWriting (write_look patience seen) (parties_of turn.entry.pass.now) (λ done. WriteIsGranted done (parties_of next.pass.now))) }
+        ensures goes_on { IfErr result (λ missed. (patience : Patience) → GoesFromTo calls.WriteLock (write_look patience seen) (write_refused patience missed.0) (parties_of turn.entry.pass.now) (parties_of missed.1.pass.now)) }
+        ensures exact { seen ≡ 0 → IsAloneWithin turn.entry.pass.now → is_ok result ≡ true }
     {
         if writer_enters(seen).is_none() {
-            return Err(seen);
+            return Err((seen, turn));
         }
-        let found = self.come_to_write(GoesOn, pass, seen);
-        if found == seen { Ok(()) } else { Err(found) }
+        let (found, next) = self.come_to_write(turn, seen);
+        if found == seen {
+            Ok(next)
+        } else {
+            Err((found, next))
+        }
     }
 
     /// Tries to enter again, as often as a call does by itself. Whether it entered.
-    fn spin_to_write<R: Wait>(&self, rt: &R, pass: &mut Pass<PlayedRwWriter>) -> bool
-        requires own { IsPassOf self.now.stage pass.old }
-        requires at { (done : List (Slot ℕ)) × WriteGoes (spins (spun 0)) done (parties_of pass.old) }
-        ensures entered { MatchBool result (HasEnteredSeenFree pass.old pass.new) (HasTried 10000 pass.old pass.new) }
-        ensures played { OnceWriting (spins (spun 0)) (parties_of pass.old) (λ done. MatchBool result (WriteIsGranted done (parties_of pass.new)) (WriteGoes (afters.At (places.LoadCounter (spun 10000))) done (parties_of pass.new))) }
+    fn spin_to_write<'p, R: Wait>(
+        &self,
+        turn: Turn<'p, PlayedPass, Goes>,
+        rt: &R,
+    ) -> (bool, Turn<'p, PlayedPass, Goes>)
+        requires own { IsPassOf self.now.stage turn.pass.now }
+        requires at { (done : List (Slot ℕ)) × WriteGoes (spins (spun 0)) done (parties_of turn.pass.now) }
+        ensures same_borrow { result.1.pass.ghost_name ≡ turn.entry.pass.ghost_name }
+        ensures entered { MatchBool result.0 (HasEnteredSeenFree turn.entry.pass.now result.1.pass.now) (HasTried 10000 turn.entry.pass.now result.1.pass.now) }
+        ensures played { OnceWriting (spins (spun 0)) (parties_of turn.entry.pass.now) (λ done. MatchBool result.0 (WriteIsGranted done (parties_of result.1.pass.now)) (WriteGoes (afters.At (places.LoadCounter (spun 10000))) done (parties_of result.1.pass.now))) }
     {
+        let mut next = turn;
         for _ in 0..SPIN_REPETITIONS {
             spin_loop();
-            if self.enter_or_mark(GoesOn, rt, pass) {
-                return true;
+            let (entered, last) = self.enter_or_mark(next, rt);
+            if entered {
+                return (true, last);
             }
+            next = last;
         }
-        false
+        (false, next)
     }
 
     /// Loads the counter and looks; where the lock is blocked it calls the wait closure, with the counter, before it tries to enter again.
-    /// After `Abort` it tries once more, or gives up. Whether it entered.
+    /// After `Abort` it tries once more, or gives up. Whether it entered; the call is over.
     fn ask_to_write<
+        'p,
         R: Wait,
         W: Fn(&WaitWord, &u64) -> WaitAction,
         K: Fn(&WaitWord),
         V: Fn(&WaitWord),
-    >(&self, pass: &mut Pass<PlayedRwWriter>, rt: &R, wait: &W, wake_one: &K, wake_all: &V) -> bool
-        requires own { IsPassOf self.now.stage pass.old }
-        requires at { (done : List (Slot ℕ)) × WriteGoes (afters.At (places.LoadCounter (spun 10000))) done (parties_of pass.old) }
+    >(
+        &self,
+        turn: Turn<'p, PlayedPass, Goes>,
+        rt: &R,
+        wait: &W,
+        wake_one: &K,
+        wake_all: &V,
+    ) -> (bool, &'p mut PlayedPass)
+        requires own { IsPassOf self.now.stage turn.pass.now }
+        requires at { (done : List (Slot ℕ)) × WriteGoes (afters.At (places.LoadCounter (spun 10000))) done (parties_of turn.pass.now) }
         requires may { W.IsAlwaysCallable wait.now }
         requires may_one { K.IsAlwaysCallable wake_one.now }
         requires may_all { V.IsAlwaysCallable wake_all.now }
-        ensures entered { MatchBool result (HasEnteredSeenFree pass.old pass.new) (HasGivenUpWriting 2 pass.old pass.new) }
-        ensures played { OnceWriting (afters.At (places.LoadCounter (spun 10000))) (parties_of pass.old) (λ done. MatchBool result (WriteIsGranted done (parties_of pass.new)) (WriteGivesUp done (parties_of pass.new))) }
-        ensures aborted { result ≡ false → MayAnswerAbort W.Fn wait.now (λ n. n < 2 ^ 64) }
-        ensures woke { result ≡ false → IsMarked (sights_of pass.new).last → HasWoken K.Fn wake_one.now × HasWoken V.Fn wake_all.now }
+        ensures same_borrow { result.1.ghost_name ≡ turn.entry.pass.ghost_name }
+        ensures entered { MatchBool result.0 (HasEnteredSeenFree turn.entry.pass.now result.1.now) (HasGivenUpWriting 2 turn.entry.pass.now result.1.now) }
+        ensures played { OnceWriting (afters.At (places.LoadCounter (spun 10000))) (parties_of turn.entry.pass.now) (λ done. MatchBool result.0 (WriteIsGranted done (parties_of result.1.now)) (WriteGivesUp done (parties_of result.1.now))) }
+        ensures aborted { result.0 ≡ false → MayAnswerAbort W.Fn wait.now (λ n. n < 2 ^ 64) }
+        ensures woke { result.0 ≡ false → IsMarked (sights_of result.1.now).last → HasWoken K.Fn wake_one.now × HasWoken V.Fn wake_all.now }
     {
+        let mut next = turn;
         for _ in rt.forever() {
-            let count = self.load_count(pass);
-            let seen = self.look_last(pass, count);
-            let entered = if is_blocked(seen) {
-                match self.stage.ask(pass, &self.counter(), count, wait) {
-                    Answered::Continue(continued) => self.enter_or_mark(continued, rt, pass),
-                    Answered::Abort(aborted) => {
-                        return self.enter_or_give_up(aborted, pass, rt, wake_one, wake_all);
+            match self.ask_once(next, rt, wait) {
+                Ok((entered, last)) => {
+                    if entered {
+                        return (true, last.end(&self.stage));
                     }
+                    next = last;
                 }
-            } else {
-                self.enter_or_mark_from(rt, pass, seen)
-            };
-            if entered {
-                return true;
+                Err(aborted) => return self.enter_or_give_up(aborted, rt, wake_one, wake_all),
             }
         }
         unreachable!()
     }
 
-    /// Looks, and enters where nobody holds the lock; else gives up. Whether it entered.
-    fn enter_or_give_up<R: Wait, K: Fn(&WaitWord), V: Fn(&WaitWord)>(
+    /// Loads the counter and looks; where the lock is blocked it calls the wait closure, with the counter. Then it tries to enter: whether
+    /// it did. `Err` where the closure has answered `Abort`.
+    #[inline(always)]
+    fn ask_once<'p, R: Wait, W: Fn(&WaitWord, &u64) -> WaitAction>(
         &self,
-        aborted: Aborted,
-        pass: &mut Pass<PlayedRwWriter>,
+        turn: Turn<'p, PlayedPass, Goes>,
+        rt: &R,
+        wait: &W,
+    ) -> Result<(bool, Turn<'p, PlayedPass, Goes>), Turn<'p, PlayedPass, Aborted>>
+        requires own { IsPassOf self.now.stage turn.pass.now }
+        requires at { (done : List (Slot ℕ)) × WriteGoes (afters.At (places.LoadCounter (spun 10000))) done (parties_of turn.pass.now) }
+        requires may { W.IsAlwaysCallable wait.now }
+        ensures same_borrow { IfOk result (λ tried. tried.1.pass.ghost_name ≡ turn.entry.pass.ghost_name) }
+        ensures same_borrow_too { IfErr result (λ aborted. aborted.pass.ghost_name ≡ turn.entry.pass.ghost_name) }
+        ensures entered { IfOk result (λ tried. MatchBool tried.0 (HasEnteredSeenFree turn.entry.pass.now tried.1.pass.now) (HasTried 1 turn.entry.pass.now tried.1.pass.now)) }
+        ensures played { IfOk result (λ tried. OnceWriting (afters.At (places.LoadCounter (spun 10000))) (parties_of turn.entry.pass.now) (λ done. MatchBool tried.0 (WriteIsGranted done (parties_of tried.1.pass.now)) (WriteGoes (afters.At (places.LoadCounter (spun 10000))) done (parties_of tried.1.pass.now)))) }
+        ensures looked { IfErr result (λ aborted. HasTried 1 turn.entry.pass.now aborted.pass.now) }
+        ensures stood { IfErr result (λ aborted. OnceWriting (afters.At (places.LoadCounter (spun 10000))) (parties_of turn.entry.pass.now) (λ done. ComesToGiveUp done (parties_of aborted.pass.now))) }
+        ensures aborted { IfErr result (λ _. MayAnswerAbort W.Fn wait.now (λ n. n < 2 ^ 64)) }
+    {
+        let (count, loaded) = self.load_count(turn);
+        let (seen, looked) = self.look_last(loaded, count);
+        if is_blocked(seen) {
+            return match looked.ask(&self.stage, &self.counter(), count, wait) {
+                Answered::Continue(continued) => Ok(self.enter_or_mark(continued, rt)),
+                Answered::Abort(aborted) => Err(aborted),
+            };
+        }
+        Ok(self.enter_or_mark_from(looked, rt, seen))
+    }
+
+    /// Looks, and enters where nobody holds the lock; else gives up. Whether it entered; the call is over.
+    fn enter_or_give_up<'p, R: Wait, K: Fn(&WaitWord), V: Fn(&WaitWord)>(
+        &self,
+        turn: Turn<'p, PlayedPass, Aborted>,
         rt: &R,
         wake_one: &K,
         wake_all: &V,
-    ) -> bool
-        requires own { IsPassOf self.now.stage pass.old }
-        requires at { (done : List (Slot ℕ)) × ComesToGiveUp done (parties_of pass.old) }
+    ) -> (bool, &'p mut PlayedPass)
+        requires own { IsPassOf self.now.stage turn.pass.now }
+        requires at { (done : List (Slot ℕ)) × ComesToGiveUp done (parties_of turn.pass.now) }
         requires may_one { K.IsAlwaysCallable wake_one.now }
         requires may_all { V.IsAlwaysCallable wake_all.now }
-        ensures entered { MatchBool result (HasEnteredSeenFree pass.old pass.new) (HasGivenUpWriting 1 pass.old pass.new) }
-        ensures played { (done : List (Slot ℕ)) → ComesToGiveUp done (parties_of pass.old) → MatchBool result (WriteIsGranted done (parties_of pass.new)) (WriteGivesUp done (parties_of pass.new)) }
-        ensures woke { result ≡ false → IsMarked (sights_of pass.new).last → HasWoken K.Fn wake_one.now × HasWoken V.Fn wake_all.now }
+        ensures same_borrow { result.1.ghost_name ≡ turn.entry.pass.ghost_name }
+        ensures entered { MatchBool result.0 (HasEnteredSeenFree turn.entry.pass.now result.1.now) (HasGivenUpWriting 1 turn.entry.pass.now result.1.now) }
+        ensures played { (done : List (Slot ℕ)) → ComesToGiveUp done (parties_of turn.entry.pass.now) → MatchBool result.0 (WriteIsGranted done (parties_of result.1.now)) (WriteGivesUp done (parties_of result.1.now)) }
+        ensures woke { result.0 ≡ false → IsMarked (sights_of result.1.now).last → HasWoken K.Fn wake_one.now × HasWoken V.Fn wake_all.now }
     {
-        let seen = self.look_to_write(aborted, pass);
-        let Err(last) = self.enter_if_free(pass, seen) else {
-            return true;
-        };
-        if self.take_mark_away(pass, rt, last) {
-            self.count_up(pass);
-            self.wake_both(pass, wake_one, wake_all);
+        let (seen, looked) = self.look_to_write(turn);
+        match self.enter_if_free(looked, seen) {
+            Ok(entered) => (true, entered.end(&self.stage)),
+            Err((last, refused)) => (false, self.give_up(refused, rt, last, wake_one, wake_all)),
         }
-        false
+    }
+
+    /// Takes the mark away, counts and wakes one and all; or, where it sees that none is set, leaves. The call is over.
+    #[inline(always)]
+    fn give_up<'p, R: Wait, K: Fn(&WaitWord), V: Fn(&WaitWord)>(
+        &self,
+        turn: Turn<'p, PlayedPass, Goes>,
+        rt: &R,
+        seen: u64,
+        wake_one: &K,
+        wake_all: &V,
+    ) -> &'p mut PlayedPass
+        requires own { IsPassOf self.now.stage turn.pass.now }
+        requires just { HasJustSeen seen turn.pass.now }
+        requires cause { MayGiveUp turn.pass.now }
+        requires at { (done : List (Slot ℕ)) × WriteGoes (unmarks_or_leaves seen) done (parties_of turn.pass.now) }
+        requires may_one { K.IsAlwaysCallable wake_one.now }
+        requires may_all { V.IsAlwaysCallable wake_all.now }
+        ensures same_borrow { result.ghost_name ≡ turn.entry.pass.ghost_name }
+        ensures gave_up { HasGivenUpWriting 0 turn.entry.pass.now result.now }
+        ensures played { OnceWriting (unmarks_or_leaves seen) (parties_of turn.entry.pass.now) (λ done. WriteGivesUp done (parties_of result.now)) }
+        ensures woke { IsMarked (sights_of result.now).last → HasWoken K.Fn wake_one.now × HasWoken V.Fn wake_all.now }
+    {
+        let (taken, left) = self.take_mark_away(turn, rt, seen);
+        if taken {
+            let counted = self.count_up(left);
+            return self.wake_both(counted, wake_one, wake_all);
+        }
+        left.end(&self.stage)
     }
 
     /// Takes the mark away, also another writer's, unless it sees that none is set. Whether it did.
-    fn take_mark_away<R: Wait>(&self, pass: &mut Pass<PlayedRwWriter>, rt: &R, seen: u64) -> bool
-        requires own { IsPassOf self.now.stage pass.old }
-        requires just { HasJustSeen seen pass.old }
-        requires cause { MayGiveUp pass.old }
-        requires at { (done : List (Slot ℕ)) × WriteGoes (unmarks_or_leaves seen) done (parties_of pass.old) }
-        ensures gave_up { HasGivenUpWriting 0 pass.old pass.new }
-        ensures played { OnceWriting (unmarks_or_leaves seen) (parties_of pass.old) (λ done. MatchBool result (WriteGoes (afters.At (places.Count leavers.GivenUp)) done (parties_of pass.new)) (WriteGoes (afters.Ends answers.Interrupted) done (parties_of pass.new))) }
-        ensures unmarked { result ≡ false → ¬ IsMarked (sights_of pass.new).last }
+    fn take_mark_away<'p, R: Wait>(
+        &self,
+        turn: Turn<'p, PlayedPass, Goes>,
+        rt: &R,
+        seen: u64,
+    ) -> (bool, Turn<'p, PlayedPass, Goes>)
+        requires own { IsPassOf self.now.stage turn.pass.now }
+        requires just { HasJustSeen seen turn.pass.now }
+        requires cause { MayGiveUp turn.pass.now }
+        requires at { (done : List (Slot ℕ)) × WriteGoes (unmarks_or_leaves seen) done (parties_of turn.pass.now) }
+        ensures same_borrow { result.1.pass.ghost_name ≡ turn.entry.pass.ghost_name }
+        ensures gave_up { HasGivenUpWriting 0 turn.entry.pass.now result.1.pass.now }
+        ensures played { OnceWriting (unmarks_or_leaves seen) (parties_of turn.entry.pass.now) (λ done. MatchBool result.0 (WriteGoes (afters.At (places.Count leavers.GivenUp)) done (parties_of result.1.pass.now)) (WriteGoes (afters.Ends answers.Interrupted) done (parties_of result.1.pass.now))) }
+        ensures unmarked { result.0 ≡ false → ¬ IsMarked (sights_of result.1.pass.now).last }
     {
         let mut last = seen;
+        let mut next = turn;
         for _ in rt.forever() {
             let Some(unmarked) = unmarks(last) else {
-                return false;
+                return (false, next);
             };
-            match self.take_mark(pass, last, unmarked) {
-                Ok(()) => return true,
-                Err(found) => last = found,
+            match self.take_mark(next, last, unmarked) {
+                Ok(taken) => return (true, taken),
+                Err((found, missed)) => {
+                    last = found;
+                    next = missed;
+                }
             }
         }
         unreachable!()
@@ -267,10 +400,31 @@ impl<A: Allocator> RwLockWriterPreference<A> {
         ensures played { Unlocks kinds.Write (afters.At (places.WakeOne leavers.Writer)) (parties_of (pass_in pass.old)) (parties_of (pass_in result.now)) }
         ensures woke { HasWoken W.Fn wake_one × HasWoken V.Fn wake_all }
     {
-        self.leave_writing(&mut pass.pass);
-        self.count_up(&mut pass.pass);
-        self.wake_both(&pass.pass, &wake_one, &wake_all);
+        self.stop_writing(&mut pass.pass, &wake_one, &wake_all);
         pass
+    }
+
+    /// What it does with the pass inside.
+    #[inline(always)]
+    fn stop_writing<W: Fn(&WaitWord), V: Fn(&WaitWord)>(
+        &self,
+        pass: &mut PlayedPass,
+        wake_one: &W,
+        wake_all: &V,
+    )
+        requires own { IsPassOf self.now.stage pass.old }
+        requires on { writes_of pass.old ≡ 1 }
+        requires has { has_hold kinds.Write (parties_of pass.old) ≡ true }
+        requires may_one { W.IsAlwaysCallable wake_one.now }
+        requires may_all { V.IsAlwaysCallable wake_all.now }
+        ensures released { HasLeftWriting pass.old pass.new }
+        ensures played { Unlocks kinds.Write (afters.At (places.WakeOne leavers.Writer)) (parties_of pass.old) (parties_of pass.new) }
+        ensures woke { HasWoken W.Fn wake_one.now × HasWoken V.Fn wake_all.now }
+    {
+        let begun = begin_held::<UnlockCall, PlayedPass>(pass);
+        let left = self.leave_writing(begun);
+        let last = self.count_up(left);
+        let _pass = self.wake_both(last, wake_one, wake_all);
     }
 }
 

@@ -4,8 +4,8 @@ use Rattle.running_rw_writer.proofs.RwWriterCounts.{reader_in_counts}
 use Rattle.running_rw_writer.proofs.RwWriterKeeps.{readers_in}
 use Rattle.running_rw_writer.proofs.RwLockWriterPreference.come_to_read.Goals as goal
 
-pub exchange-requires-clause-update : goal.exchange-requires-clause-update
-exchange-requires-clause-update g c = readers_in _ _ _ c.requires.even c.requires.room c.requires.more
+pub exchange_by-requires-clause-update : goal.exchange_by-requires-clause-update
+exchange_by-requires-clause-update g c = readers_in _ _ _ c.requires.even c.requires.room c.requires.more
 
-pub exchange-requires-clause-follow : goal.exchange-requires-clause-follow
-exchange-requires-clause-follow g c = reader_in_counts Going (parties_of c.args.pass.now) (counted c.args.pass.now) _ _ c.requires.more
+pub exchange_by-requires-clause-follow : goal.exchange_by-requires-clause-follow
+exchange_by-requires-clause-follow g c = reader_in_counts Going (parties_of c.args.turn.pass.now) (counted c.args.turn.pass.now) _ _ c.requires.more

@@ -1,56 +1,19 @@
-use Rattle.std.proofs.Common.{refl, inl, inr}
+use Rattle.std.proofs.Common.{Some, ◌∙◌, sym, subst}
 use Rattle.steps_events.specs.declared.event.Call.TheVariants as calls
-use Rattle.steps_rw_writer.specs.declared.Leaver.TheVariants as leavers
-use Rattle.running_rw_writer.specs.RwWriterParties.{given_up}
-use Rattle.running_rw_writer.proofs.RwWriterTries.{entered_after, tried_again, gave_up_after, gave_up_still}
-use Rattle.std.proofs.Common.{◌∙◌}
+use Rattle.steps_events.specs.declared.event.Answer.TheVariants as answers
+use Rattle.steps_events.specs.declared.hold.HoldKind.TheVariants as kinds
+use Rattle.passes.specs.declared.pass.Pass.{Pass}
+use Rattle.playing.specs.Passes.{parties_of}
+use Rattle.playing.proofs.Over.{is_over}
+use Rattle.tallies.specs.RwWriterScript.{rw_writer_model}
+use Rattle.running_rw_writer.specs.RwWriterSteps.{PlayedRwWriter}
+use Rattle.running_rw_writer.specs.RwWriterParties.{given_up, WriteIsGranted}
+use Rattle.running_rw_writer.specs.RwWriterShown.{HasEnteredSeenFree}
+use Rattle.running_rw_writer.proofs.RwWriterTries.{entered_after, tried_again, gave_up_after}
 use Rattle.running_rw_writer.proofs.RwLockWriterPreference.enter_or_give_up.Goals as goal
 
 pub look_to_write-seen-requires-clause-comes : goal.look_to_write-seen-requires-clause-comes
 look_to_write-seen-requires-clause-comes g c = let w = c.requires.at in (given_up, w.0, w.1)
-
-pub enter_if_free-requires-clause-at : goal.enter_if_free-requires-clause-at
-enter_if_free-requires-clause-at g c = let w = c.requires.at in (given_up, w.0, c.look_to_write-seen.ensures.looked given_up w.0 w.1)
-
-pub returns-in_default-clause-played : goal.returns-in_default-clause-played
-returns-in_default-clause-played g c = λ done comes. c.in_default.ensures.granted given_up done (c.look_to_write-seen.ensures.looked given_up done comes)
-
-pub take_mark_away-requires-clause-at : goal.take_mark_away-requires-clause-at
-take_mark_away-requires-clause-at g c = let w = c.requires.at in (w.0, c.in-Err.ensures.goes_on given_up w.0 (c.look_to_write-seen.ensures.looked given_up w.0 w.1))
-
-pub count_up-requires-clause-at : goal.count_up-requires-clause-at
-count_up-requires-clause-at g c = let w = c.requires.at in (
-  leavers.GivenUp,
-  record { call = calls.WriteLock; done = w.0; at = (c.if-take_mark_away.ensures.played w.0 (c.in-Err.ensures.goes_on given_up w.0 (c.look_to_write-seen.ensures.looked given_up w.0 w.1))) },
-)
-
-pub wake_both-requires-clause-wakes : goal.wake_both-requires-clause-wakes
-wake_both-requires-clause-wakes g c = let w = c.requires.at in record {
-  who = leavers.GivenUp;
-  both = refl;
-  wakes = record {
-    call = calls.WriteLock;
-    done = w.0;
-    at = c.count_up.ensures.counted calls.WriteLock leavers.GivenUp w.0 ((c.if-take_mark_away.ensures.played w.0 (c.in-Err.ensures.goes_on given_up w.0 (c.look_to_write-seen.ensures.looked given_up w.0 w.1))));
-  };
-}
-
-pub returns-then-take_mark_away-clause-played : goal.returns-then-take_mark_away-clause-played
-returns-then-take_mark_away-clause-played g c = λ done comes.
-    inr (c.count_up.ensures.counted calls.WriteLock leavers.GivenUp done ((c.if-take_mark_away.ensures.played done (c.in-Err.ensures.goes_on given_up done (c.look_to_write-seen.ensures.looked given_up done comes)))))
-
-pub returns-else-take_mark_away-clause-played : goal.returns-else-take_mark_away-clause-played
-returns-else-take_mark_away-clause-played g c = λ done comes.
-    inl ((c.if-take_mark_away.ensures.played done (c.in-Err.ensures.goes_on given_up done (c.look_to_write-seen.ensures.looked given_up done comes))))
-
-pub take_mark_away-requires-clause-cause : goal.take_mark_away-requires-clause-cause
-take_mark_away-requires-clause-cause g c = c.in-Err.ensures.refused.2
-
-pub returns-else-take_mark_away-clause-entered : goal.returns-else-take_mark_away-clause-entered
-returns-else-take_mark_away-clause-entered g c = gave_up_after 1 0 _ _ _ (tried_again 1 0 _ _ _ c.look_to_write-seen.ensures.tried c.in-Err.ensures.refused.0) c.if-take_mark_away.ensures.gave_up
-
-pub returns-then-take_mark_away-clause-entered : goal.returns-then-take_mark_away-clause-entered
-returns-then-take_mark_away-clause-entered g c = gave_up_still 1 _ _ _ (gave_up_after 1 0 _ _ _ (tried_again 1 0 _ _ _ c.look_to_write-seen.ensures.tried c.in-Err.ensures.refused.0) c.if-take_mark_away.ensures.gave_up) c.count_up.ensures.same c.count_up.ensures.unchanged
 
 pub enter_if_free-requires-clause-own : goal.enter_if_free-requires-clause-own
 enter_if_free-requires-clause-own g c = c.look_to_write-seen.ensures.tried.same.0 ∙ c.requires.own
@@ -58,23 +21,41 @@ enter_if_free-requires-clause-own g c = c.look_to_write-seen.ensures.tried.same.
 pub enter_if_free-requires-clause-just : goal.enter_if_free-requires-clause-just
 enter_if_free-requires-clause-just g c = c.look_to_write-seen.ensures.just
 
-pub returns-in_default-clause-entered : goal.returns-in_default-clause-entered
-returns-in_default-clause-entered g c = entered_after 1 _ _ _ c.look_to_write-seen.ensures.tried c.in_default.ensures.entered
+pub enter_if_free-requires-clause-at : goal.enter_if_free-requires-clause-at
+enter_if_free-requires-clause-at g c = let w = c.requires.at in (given_up, w.0, c.look_to_write-seen.ensures.looked given_up w.0 w.1)
 
-pub returns-in_default-clause-woke : goal.returns-in_default-clause-woke
-returns-in_default-clause-woke g c = λ no. absurd cc
+pub end-requires-clause-own : goal.end-requires-clause-own
+end-requires-clause-own g c = c.in-Ok.ensures.entered.0.same.0 ∙ c.look_to_write-seen.ensures.tried.same.0 ∙ c.requires.own
 
-pub take_mark_away-requires-clause-own : goal.take_mark_away-requires-clause-own
-take_mark_away-requires-clause-own g c = c.in-Err.ensures.refused.0.same.0 ∙ c.look_to_write-seen.ensures.tried.same.0 ∙ c.requires.own
+pub end-requires-clause-over : goal.end-requires-clause-over
+end-requires-clause-over g c = let w = c.requires.at in is_over rw_writer_model calls.WriteLock answers.Success (Some kinds.Write) w.0 _ (c.in-Ok.ensures.granted given_up w.0 (c.look_to_write-seen.ensures.looked given_up w.0 w.1))
 
-pub take_mark_away-requires-clause-just : goal.take_mark_away-requires-clause-just
-take_mark_away-requires-clause-just g c = c.in-Err.ensures.refused.1
+pub give_up-requires-clause-own : goal.give_up-requires-clause-own
+give_up-requires-clause-own g c = c.in-Err.ensures.refused.0.same.0 ∙ c.look_to_write-seen.ensures.tried.same.0 ∙ c.requires.own
 
-pub count_up-requires-clause-own : goal.count_up-requires-clause-own
-count_up-requires-clause-own g c = c.take_mark_away.ensures.gave_up.same.0 ∙ c.in-Err.ensures.refused.0.same.0 ∙ c.look_to_write-seen.ensures.tried.same.0 ∙ c.requires.own
+pub give_up-requires-clause-just : goal.give_up-requires-clause-just
+give_up-requires-clause-just g c = c.in-Err.ensures.refused.1
 
-pub wake_both-requires-clause-own : goal.wake_both-requires-clause-own
-wake_both-requires-clause-own g c = c.count_up.ensures.same.0 ∙ c.take_mark_away.ensures.gave_up.same.0 ∙ c.in-Err.ensures.refused.0.same.0 ∙ c.look_to_write-seen.ensures.tried.same.0 ∙ c.requires.own
+pub give_up-requires-clause-cause : goal.give_up-requires-clause-cause
+give_up-requires-clause-cause g c = c.in-Err.ensures.refused.2
 
-pub returns-else-take_mark_away-clause-woke : goal.returns-else-take_mark_away-clause-woke
-returns-else-take_mark_away-clause-woke g c = λ _ marked. absurd (c.take_mark_away.ensures.unmarked c.if-take_mark_away.false marked)
+pub give_up-requires-clause-at : goal.give_up-requires-clause-at
+give_up-requires-clause-at g c = let w = c.requires.at in (w.0, c.in-Err.ensures.goes_on given_up w.0 (c.look_to_write-seen.ensures.looked given_up w.0 w.1))
+
+pub returns-in-Ok-clause-entered : goal.returns-in-Ok-clause-entered
+returns-in-Ok-clause-entered g c = subst (λ (q : Pass PlayedRwWriter). HasEnteredSeenFree c.args.turn.pass.now q) (sym c.end.ensures.still) (entered_after 1 _ _ _ c.look_to_write-seen.ensures.tried c.in-Ok.ensures.entered)
+
+pub returns-in-Ok-clause-played : goal.returns-in-Ok-clause-played
+returns-in-Ok-clause-played g c = λ done comes. subst (λ (q : Pass PlayedRwWriter). WriteIsGranted done (parties_of q)) (sym c.end.ensures.still) (c.in-Ok.ensures.granted given_up done (c.look_to_write-seen.ensures.looked given_up done comes))
+
+pub returns-in-Ok-clause-woke : goal.returns-in-Ok-clause-woke
+returns-in-Ok-clause-woke g c = λ no. absurd cc
+
+pub returns-in-Err-clause-entered : goal.returns-in-Err-clause-entered
+returns-in-Err-clause-entered g c = gave_up_after 1 0 _ _ _ (tried_again 1 0 _ _ _ c.look_to_write-seen.ensures.tried c.in-Err.ensures.refused.0) c.give_up.ensures.gave_up
+
+pub returns-in-Err-clause-played : goal.returns-in-Err-clause-played
+returns-in-Err-clause-played g c = λ done comes. c.give_up.ensures.played done (c.in-Err.ensures.goes_on given_up done (c.look_to_write-seen.ensures.looked given_up done comes))
+
+pub returns-in-Err-clause-woke : goal.returns-in-Err-clause-woke
+returns-in-Err-clause-woke g c = λ _. c.give_up.ensures.woke

@@ -22,4 +22,4 @@ pub returns-clause-played : goal.returns-clause-played
 returns-clause-played g c = λ n done comes. c.enter_or_mark_from.ensures.played n done (c.look_to_write-seen.ensures.looked (spun n) done comes)
 
 pub returns-clause-exact : goal.returns-clause-exact
-returns-clause-exact g c = λ alone. let is = c.look_to_write-seen.ensures.alone alone.0 in let none : c.look_to_write-seen.result ≡ 0 = omega (arith, is, alone.1, alone.2) in c.enter_or_mark_from.ensures.exact none (alone_still 1 _ c.args.pass.now _ c.look_to_write-seen.ensures.tried c.look_to_write-seen.ensures.just none alone)
+returns-clause-exact g c = λ alone. let is = c.look_to_write-seen.ensures.alone alone.0 in let none : c.look_to_write-seen.result.0 ≡ 0 = omega (arith, is, alone.1, alone.2) in c.enter_or_mark_from.ensures.exact none (alone_still 1 _ c.args.turn.pass.now _ c.look_to_write-seen.ensures.tried c.look_to_write-seen.ensures.just none alone)

@@ -1,4 +1,4 @@
-use Rattle.std.proofs.Common.{ℕ, Result, is_ok, refl, sym, ap, ◌∙◌, rules}
+use Rattle.std.proofs.Common.{refl, ◌∙◌, rules}
 use Rattle.playing.specs.Tries.{spun}
 use Rattle.running_rw_writer.proofs.RwWriterPlays.{marks_none}
 use Rattle.running_rw_writer.proofs.RwWriterTries.{marks_some, unchanged, fewest, tried_again, entered_after}
@@ -21,9 +21,10 @@ returns-in-Ok-set_mark-clause-played g c = λ n done at. c.in-Ok-set_mark.ensure
 
 pub loop-preserved : goal.loop-preserved
 loop-preserved g c = record {
+  same_borrow = c.in-Err-set_mark.ensures.same_borrow_too ∙ c.in-Err.ensures.same_borrow_too ∙ c.loop.invariant.same_borrow;
   tried = fewest _ _ _ (tried_again 0 1 _ _ _ (tried_again 0 0 _ _ _ c.loop.invariant.tried c.in-Err.ensures.refused.0) c.in-Err-set_mark.ensures.missed.tried);
   just = c.in-Err-set_mark.ensures.missed.just;
-  exact = λ none alone. let at = c.loop.invariant.exact none alone in let no = (sym (ap (λ (r : Result Unit ℕ). is_ok r) c.in-Err.is) ∙ c.enter_if_free.ensures.exact at.0 at.1) in absurd cc;
+  exact = λ none alone. let at = c.loop.invariant.exact none alone in let no = c.in-Err.ensures.exact at.0 at.1 in absurd cc;
   at = λ n done at. c.in-Err-set_mark.ensures.looks (spun n) done (c.in-Err.ensures.goes_on (spun n) done (c.loop.invariant.at n done at));
 }
 
@@ -34,10 +35,10 @@ pub set_mark-requires-clause-marked : goal.set_mark-requires-clause-marked
 set_mark-requires-clause-marked g c = (marks_some _ _ _ c.marks.ensures.«open» c.marks.ensures.marked c.marks.ensures.full c.in-Some-marks.is).2
 
 pub returns-in_default-clause-exact : goal.returns-in_default-clause-exact
-returns-in_default-clause-exact g c = λ none alone. let at = c.loop.invariant.exact none alone in sym (ap (λ (r : Result Unit ℕ). is_ok r) c.in-Err.is) ∙ c.enter_if_free.ensures.exact at.0 at.1
+returns-in_default-clause-exact g c = λ none alone. let at = c.loop.invariant.exact none alone in c.in-Err.ensures.exact at.0 at.1
 
 pub loop-init : goal.loop-init
-loop-init g c = record { tried = unchanged _ _ (refl, refl) refl; just = c.requires.just; exact = λ none alone. (none, alone); at = λ _ _ at. at }
+loop-init g c = record { same_borrow = refl; tried = unchanged _ _ (refl, refl) refl; just = c.requires.just; exact = λ none alone. (none, alone); at = λ _ _ at. at }
 
 pub enter_if_free-requires-clause-own : goal.enter_if_free-requires-clause-own
 enter_if_free-requires-clause-own g c = c.loop.invariant.tried.same.0 ∙ c.requires.own
@@ -67,4 +68,4 @@ pub returns-in-Ok-set_mark-clause-entered : goal.returns-in-Ok-set_mark-clause-e
 returns-in-Ok-set_mark-clause-entered g c = tried_again 0 0 _ _ _ (tried_again 0 0 _ _ _ c.loop.invariant.tried c.in-Err.ensures.refused.0) c.in-Ok-set_mark.ensures.done
 
 pub returns-in-Ok-set_mark-clause-exact : goal.returns-in-Ok-set_mark-clause-exact
-returns-in-Ok-set_mark-clause-exact g c = λ none alone. let at = c.loop.invariant.exact none alone in sym (ap (λ (r : Result Unit ℕ). is_ok r) c.in-Err.is) ∙ c.enter_if_free.ensures.exact at.0 at.1
+returns-in-Ok-set_mark-clause-exact g c = λ none alone. let at = c.loop.invariant.exact none alone in c.in-Err.ensures.exact at.0 at.1

@@ -8,20 +8,21 @@ use Rattle.running_rw_hold.proofs.RwTries.{seen_once, looked_at, seen_instead_on
 use Rattle.running_rw_writer.proofs.RwWriterReads.{says_still, found_again, never_shut, entered_to_read}
 use Rattle.running_rw_writer.proofs.RwLockWriterPreference.read_unless_shut.Goals as goal
 
-pub look-seen-requires-clause-may : goal.look-seen-requires-clause-may
-look-seen-requires-clause-may g c = may_look_to_read _ _ c.requires.comes
+pub look-first-requires-clause-may : goal.look-first-requires-clause-may
+look-first-requires-clause-may g c = may_look_to_read _ _ c.requires.comes
 
 pub loop-init : goal.loop-init
 loop-init g c = record {
-  stayed = seen_once _ c.args.pass.now c.look-seen.new.pass c.look-seen.ensures.saw;
-  last = looked_at _ c.args.pass.now c.look-seen.new.pass c.look-seen.ensures.saw;
-  once = λ _. c.look-seen.ensures.saw.1;
-  exact = c.look-seen.ensures.alone;
-  at = looked _ _ _ _ c.look-seen.ensures.went;
+  same_borrow = c.look-first.ensures.same_borrow;
+  stayed = seen_once _ c.args.turn.pass.now c.look-first.result.1.pass.now c.look-first.ensures.saw;
+  last = looked_at _ c.args.turn.pass.now c.look-first.result.1.pass.now c.look-first.ensures.saw;
+  once = λ _. c.look-first.ensures.saw.1;
+  exact = c.look-first.ensures.alone;
+  at = looked _ _ _ _ c.look-first.ensures.went;
 }
 
 pub returns-in_default-clause-failed : goal.returns-in_default-clause-failed
-returns-in_default-clause-failed g c = λ patience done comes. found_shut patience c.loop.seen done _ (reads_none _ _ c.reader_enters.ensures.«open» c.in_default.is) (c.loop.invariant.at patience done comes)
+returns-in_default-clause-failed g c = λ patience done comes. found_shut patience _ done _ (reads_none _ _ c.reader_enters.ensures.«open» c.in_default.is) (c.loop.invariant.at patience done comes)
 
 pub come_to_read-found-requires-clause-may : goal.come_to_read-found-requires-clause-may
 come_to_read-found-requires-clause-may g c = let w = c.requires.comes in let word = reads_some _ _ _ c.reader_enters.ensures.«open» c.reader_enters.ensures.marked c.reader_enters.ensures.full c.in-Some-reader_enters.is in may_read w.patience _ _ w.done _ word.0 word.1 word.2 (c.loop.invariant.at w.patience w.done w.comes)
@@ -33,11 +34,12 @@ returns-then-found-seen-clause-granted g c =
 
 pub loop-preserved : goal.loop-preserved
 loop-preserved g c = let word = reads_some _ _ _ c.reader_enters.ensures.«open» c.reader_enters.ensures.marked c.reader_enters.ensures.full c.in-Some-reader_enters.is in let miss = c.come_to_read-found.ensures.failed c.if-found-seen.false in record {
-  stayed = seen_twice c.args.pass.now c.loop.pass c.come_to_read-found.new.pass c.loop.invariant.stayed (seen_instead_once _ _ c.loop.pass c.come_to_read-found.new.pass miss);
-  last = looked_again_at _ _ _ c.args.pass.now c.loop.pass c.come_to_read-found.new.pass c.loop.invariant.last miss;
-  once = λ only. absurd (c.if-found-seen.false (found_again c.args.pass.now c.loop.pass _ _ c.loop.invariant.stayed c.loop.invariant.exact c.come_to_read-found.ensures.alone only));
-  exact = says_still c.args.pass.now c.loop.pass _ c.loop.invariant.stayed c.come_to_read-found.ensures.alone;
-  at = λ patience done comes. looked_again patience c.loop.seen c.come_to_read-found.result done _ _ word.0 word.1 c.if-found-seen.false (c.loop.invariant.at patience done comes) c.come_to_read-found.ensures.went;
+  same_borrow = c.come_to_read-found.ensures.same_borrow ∙ c.loop.invariant.same_borrow;
+  stayed = seen_twice c.args.turn.pass.now c.loop.next.pass.now c.come_to_read-found.result.1.pass.now c.loop.invariant.stayed (seen_instead_once _ _ c.loop.next.pass.now c.come_to_read-found.result.1.pass.now miss);
+  last = looked_again_at _ _ _ c.args.turn.pass.now c.loop.next.pass.now c.come_to_read-found.result.1.pass.now c.loop.invariant.last miss;
+  once = λ only. absurd (c.if-found-seen.false (found_again c.args.turn.pass.now c.loop.next.pass.now _ _ c.loop.invariant.stayed c.loop.invariant.exact c.come_to_read-found.ensures.alone only));
+  exact = says_still c.args.turn.pass.now c.loop.next.pass.now _ c.loop.invariant.stayed c.come_to_read-found.ensures.alone;
+  at = λ patience done comes. looked_again patience _ _ done _ _ word.0 word.1 c.if-found-seen.false (c.loop.invariant.at patience done comes) c.come_to_read-found.ensures.went;
 }
 
 pub returns-in_default-clause-refused : goal.returns-in_default-clause-refused
@@ -50,10 +52,10 @@ pub returns-in_default-clause-once : goal.returns-in_default-clause-once
 returns-in_default-clause-once g c = λ only. ap (λ (v : View MarkedHolds). v.sights.count) (c.loop.invariant.once only)
 
 pub returns-in_default-clause-exact : goal.returns-in_default-clause-exact
-returns-in_default-clause-exact g c = λ alone. absurd (never_shut c.args.pass.now _ c.loop.invariant.exact (reads_none _ _ c.reader_enters.ensures.«open» c.in_default.is) alone)
+returns-in_default-clause-exact g c = λ alone. absurd (never_shut c.args.turn.pass.now _ c.loop.invariant.exact (reads_none _ _ c.reader_enters.ensures.«open» c.in_default.is) alone)
 
 pub come_to_read-found-requires-clause-own : goal.come_to_read-found-requires-clause-own
 come_to_read-found-requires-clause-own g c = c.loop.invariant.stayed.same.0 ∙ c.requires.own
 
 pub returns-then-found-seen-clause-entered : goal.returns-then-found-seen-clause-entered
-returns-then-found-seen-clause-entered g c = let word = reads_some _ _ _ c.reader_enters.ensures.«open» c.reader_enters.ensures.marked c.reader_enters.ensures.full c.in-Some-reader_enters.is in entered_to_read c.args.pass.now c.loop.pass c.come_to_read-found.new.pass _ _ c.loop.invariant.stayed c.loop.invariant.last.refusing (word.0, word.1) c.if-found-seen.true (c.come_to_read-found.ensures.done, c.come_to_read-found.ensures.reads, c.come_to_read-found.ensures.writes, c.come_to_read-found.ensures.failed) c.come_to_read-found.ensures.alone
+returns-then-found-seen-clause-entered g c = let word = reads_some _ _ _ c.reader_enters.ensures.«open» c.reader_enters.ensures.marked c.reader_enters.ensures.full c.in-Some-reader_enters.is in entered_to_read c.args.turn.pass.now c.loop.next.pass.now c.come_to_read-found.result.1.pass.now _ _ c.loop.invariant.stayed c.loop.invariant.last.refusing (word.0, word.1) c.if-found-seen.true (c.come_to_read-found.ensures.done, c.come_to_read-found.ensures.reads, c.come_to_read-found.ensures.writes, c.come_to_read-found.ensures.failed) c.come_to_read-found.ensures.alone

@@ -16,9 +16,10 @@ use Rattle.running_rw_writer.proofs.RwLockWriterPreference.read_unless_shut.Give
 -- the value seen is the last one that was seen, by the first look or by an exchange that failed
 abbrev pub invariant-loop : goal.invariant-loop
 invariant-loop g l = record {
-  stayed : HasOnlySeen l.fn.pass l.pass;
-  last : HasLooked (λ n. n ≡ l.seen) 1 (sights_of l.fn.pass) (sights_of l.pass);
-  once : IsOnly (part_of l.fn.pass) (counts_of l.fn.pass) → counted l.pass ≡ looked (counted l.fn.pass) l.seen;
-  exact : SaysAlone (counted l.fn.pass) l.seen;
-  at : Tried rw_writer_model calls.ReadLock places.ReadLook g.E.Entry.coming (parties_of l.fn.pass) (λ patience done. CallGoes calls.ReadLock (read_look patience l.seen) done (parties_of l.pass));
+  same_borrow : l.next.pass.ghost_name ≡ l.fn.turn.pass.ghost_name;
+  stayed : HasOnlySeen l.fn.turn.pass.now l.next.pass.now;
+  last : HasLooked (λ n. n ≡ l.seen) 1 (sights_of l.fn.turn.pass.now) (sights_of l.next.pass.now);
+  once : IsOnly (part_of l.fn.turn.pass.now) (counts_of l.fn.turn.pass.now) → counted l.next.pass.now ≡ looked (counted l.fn.turn.pass.now) l.seen;
+  exact : SaysAlone (counted l.fn.turn.pass.now) l.seen;
+  at : Tried rw_writer_model calls.ReadLock places.ReadLook g.W.Way.coming (parties_of l.fn.turn.pass.now) (λ patience done. CallGoes calls.ReadLock (read_look patience l.seen) done (parties_of l.next.pass.now));
 }

@@ -1,3 +1,4 @@
+use Rattle.std.proofs.Common.{◌≡◌}
 use Rattle.steps_rw_writer.specs.Table.{spins}
 use Rattle.playing.specs.Passes.{parties_of}
 use Rattle.playing.specs.Tries.{spun}
@@ -7,6 +8,7 @@ use Rattle.running_rw_writer.proofs.RwLockWriterPreference.spin_to_write.Given a
 
 abbrev pub invariant-loop : goal.invariant-loop
 invariant-loop g l = record {
-  tried : HasTried l.counter l.fn.pass l.pass;
-  at : OnceWriting (spins (spun 0)) (parties_of l.fn.pass) (λ done. WriteGoes (spins (spun l.counter)) done (parties_of l.pass));
+  same_borrow : l.next.pass.ghost_name ≡ l.fn.turn.pass.ghost_name;
+  tried : HasTried l.counter l.fn.turn.pass.now l.next.pass.now;
+  at : OnceWriting (spins (spun 0)) (parties_of l.fn.turn.pass.now) (λ done. WriteGoes (spins (spun l.counter)) done (parties_of l.next.pass.now));
 }

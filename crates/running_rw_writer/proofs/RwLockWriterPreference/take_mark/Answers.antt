@@ -6,20 +6,20 @@ use Rattle.running_rw_writer.proofs.RwWriterPlays.{may_unmark, unmarked, unmark_
 use Rattle.running_rw_writer.proofs.RwWriterTries.{missed_it}
 use Rattle.running_rw_writer.proofs.RwLockWriterPreference.take_mark.Goals as goal
 
-pub exchange-found-requires-clause-may : goal.exchange-found-requires-clause-may
-exchange-found-requires-clause-may g c = may_unmark _ _ c.requires.at.0 _ c.requires.set c.requires.unmarked c.requires.at.1
+pub exchange_by-found-requires-clause-may : goal.exchange_by-found-requires-clause-may
+exchange_by-found-requires-clause-may g c = may_unmark _ _ c.requires.at.0 _ c.requires.set c.requires.unmarked c.requires.at.1
 
-pub exchange-found-requires-clause-update : goal.exchange-found-requires-clause-update
-exchange-found-requires-clause-update g c = marks_taken _ _ _ c.requires.set c.requires.unmarked
+pub exchange_by-found-requires-clause-update : goal.exchange_by-found-requires-clause-update
+exchange_by-found-requires-clause-update g c = marks_taken _ _ _ c.requires.set c.requires.unmarked
 
-pub exchange-found-requires-clause-follow : goal.exchange-found-requires-clause-follow
-exchange-found-requires-clause-follow g c = unmark_counts Going (parties_of c.args.pass.now) (counted c.args.pass.now) _ _ c.requires.set c.requires.unmarked
+pub exchange_by-found-requires-clause-follow : goal.exchange_by-found-requires-clause-follow
+exchange_by-found-requires-clause-follow g c = unmark_counts Going (parties_of c.args.turn.pass.now) (counted c.args.turn.pass.now) _ _ c.requires.set c.requires.unmarked
 
 pub returns-then-found-seen-clause-counts : goal.returns-then-found-seen-clause-counts
-returns-then-found-seen-clause-counts g c = unmarked _ _ _ _ c.requires.set c.if-found-seen.true c.exchange-found.ensures.went
+returns-then-found-seen-clause-counts g c = unmarked _ _ _ _ c.requires.set c.if-found-seen.true c.exchange_by-found.ensures.went
 
 pub returns-else-found-seen-clause-looks : goal.returns-else-found-seen-clause-looks
-returns-else-found-seen-clause-looks g c = unmark_missed _ _ _ _ c.requires.set c.if-found-seen.false c.exchange-found.ensures.went
+returns-else-found-seen-clause-looks g c = unmark_missed _ _ _ _ c.requires.set c.if-found-seen.false c.exchange_by-found.ensures.went
 
 pub returns-else-found-seen-clause-missed : goal.returns-else-found-seen-clause-missed
-returns-else-found-seen-clause-missed g c = missed_it _ _ _ _ c.exchange-found.ensures.same c.requires.just (c.exchange-found.ensures.told.failed c.if-found-seen.false)
+returns-else-found-seen-clause-missed g c = missed_it _ _ _ _ c.exchange_by-found.ensures.same c.requires.just (c.exchange_by-found.ensures.told.failed c.if-found-seen.false)

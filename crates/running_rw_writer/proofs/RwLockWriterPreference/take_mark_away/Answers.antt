@@ -1,10 +1,10 @@
-use Rattle.std.proofs.Common.{rules}
+use Rattle.std.proofs.Common.{◌∙◌, rules}
 use Rattle.running_rw_writer.proofs.RwWriterPlays.{leaves}
 use Rattle.running_rw_writer.proofs.RwWriterTries.{unmarks_some, unmarks_none, gives_up, gave_up_after}
 use Rattle.running_rw_writer.proofs.RwLockWriterPreference.take_mark_away.Goals as goal
 
 pub returns-in_default-clause-played : goal.returns-in_default-clause-played
-returns-in_default-clause-played g c = λ done at. leaves c.loop.last done _ (unmarks_none _ _ c.unmarks.ensures.marked c.in_default.is) (c.loop.invariant.at done at)
+returns-in_default-clause-played g c = λ done at. leaves _ done _ (unmarks_none _ _ c.unmarks.ensures.marked c.in_default.is) (c.loop.invariant.at done at)
 
 pub take_mark-requires-clause-at : goal.take_mark-requires-clause-at
 take_mark-requires-clause-at g c = (c.requires.at.0, c.loop.invariant.at c.requires.at.0 c.requires.at.1)
@@ -14,6 +14,7 @@ returns-in-Ok-clause-played g c = λ done at. c.in-Ok.ensures.counts done (c.loo
 
 pub loop-preserved : goal.loop-preserved
 loop-preserved g c = record {
+  same_borrow = c.in-Err.ensures.same_borrow_too ∙ c.loop.invariant.same_borrow;
   tried = search rules;
   just = search rules;
   cause = search rules;

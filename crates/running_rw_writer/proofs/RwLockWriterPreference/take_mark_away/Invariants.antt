@@ -1,3 +1,4 @@
+use Rattle.std.proofs.Common.{◌≡◌}
 use Rattle.steps_rw_writer.specs.Table.{unmarks_or_leaves}
 use Rattle.playing.specs.Passes.{parties_of}
 use Rattle.running_rw_writer.specs.RwWriterParties.{OnceWriting, WriteGoes}
@@ -6,8 +7,9 @@ use Rattle.running_rw_writer.proofs.RwLockWriterPreference.take_mark_away.Given 
 
 abbrev pub invariant-loop : goal.invariant-loop
 invariant-loop g l = record {
-  tried : HasTried 0 l.fn.pass l.pass;
-  just : HasJustSeen l.last l.pass;
-  cause : MayGiveUp l.pass;
-  at : OnceWriting (unmarks_or_leaves l.fn.seen) (parties_of l.fn.pass) (λ done. WriteGoes (unmarks_or_leaves l.last) done (parties_of l.pass));
+  same_borrow : l.next.pass.ghost_name ≡ l.fn.turn.pass.ghost_name;
+  tried : HasTried 0 l.fn.turn.pass.now l.next.pass.now;
+  just : HasJustSeen l.last l.next.pass.now;
+  cause : MayGiveUp l.next.pass.now;
+  at : OnceWriting (unmarks_or_leaves l.fn.seen) (parties_of l.fn.turn.pass.now) (λ done. WriteGoes (unmarks_or_leaves l.last) done (parties_of l.next.pass.now));
 }

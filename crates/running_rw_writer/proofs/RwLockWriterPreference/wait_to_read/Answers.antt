@@ -1,55 +1,58 @@
 use Rattle.std.proofs.lemmas.Bool.{MatchBool-at_true}
 use Rattle.steps_events.specs.declared.event.Call.TheVariants as calls
+use Rattle.steps_events.specs.declared.event.Answer.TheVariants as answers
 use Rattle.steps_events.specs.declared.hold.HoldKind.TheVariants as kinds
 use Rattle.playing.specs.Slots.{all_of}
 use Rattle.playing.specs.Tries.{spun}
 use Rattle.playing.specs.Passes.{parties_of}
-use Rattle.running_rw_writer.proofs.RwWriterPlays.{first_read, read_begins, granted_has}
-use Rattle.std.proofs.Common.{ℕ, [], ◌∷◌, ◌∙◌, refl, sym, subst}
-use Rattle.steps_events.specs.declared.event.Word.TheVariants as words
 use Rattle.playing.specs.Words.{IsNamed}
-use Rattle.playing.proofs.Attempts.{still_so}
+use Rattle.playing.proofs.Over.{is_over, either_is_over}
+use Rattle.tallies.specs.RwWriterScript.{rw_writer_model}
+use Rattle.std.proofs.Common.{◌≡◌, ℕ, true, Some, None, MatchBool, [], ◌∷◌, ◌∙◌, refl, sym, subst}
+use Rattle.steps_events.specs.declared.event.Word.TheVariants as words
+use Rattle.running_rw_writer.specs.RwWriterParties.{has_hold}
+use Rattle.passes.specs.declared.pass.Pass.{Pass}
+use Rattle.passes.specs.Answers.{HasAsked}
+use Rattle.playing.specs.Counts.{WasRefused}
 use Rattle.running_rw_hold.proofs.RwTries.{tried_on, asked_on}
-use Rattle.running_rw_writer.specs.RwWriterSteps.{IsOnly}
-use Rattle.running_rw_writer.specs.RwWriterShown.{IsShut, EntersToRead}
+use Rattle.playing.proofs.Attempts.{still_so}
+use Rattle.running_rw_writer.specs.RwWriterSteps.{PlayedRwWriter, IsOnly}
+use Rattle.running_rw_writer.specs.RwWriterShown.{IsShut, EntersToRead, HasEnteredToRead, HasPlayed}
+use Rattle.running_rw_writer.proofs.RwWriterPlays.{read_begins, granted_has}
 use Rattle.running_rw_writer.proofs.RwLockWriterPreference.wait_to_read.Goals as goal
 
-pub read_unless_shut-requires-clause-comes : goal.read_unless_shut-requires-clause-comes
-read_unless_shut-requires-clause-comes g c = first_read _
+pub try_again-entered-requires-clause-at : goal.try_again-entered-requires-clause-at
+try_again-entered-requires-clause-at g c = (all_of (parties_of c.args.pass.now), (c.in-Err.ensures.failed (spun 0) _ (read_begins (parties_of c.args.pass.now))))
 
-pub try_again-requires-clause-at : goal.try_again-requires-clause-at
-try_again-requires-clause-at g c = (all_of (parties_of c.args.pass.now), c.in-Err.ensures.failed (spun 0) _ (read_begins (parties_of c.args.pass.now)))
+pub try_again-entered-requires-clause-own : goal.try_again-entered-requires-clause-own
+try_again-entered-requires-clause-own g c = c.in-Err.ensures.refused.stayed.same.0 ∙ c.requires.own
 
-pub returns-in-Ok-clause-played : goal.returns-in-Ok-clause-played
-returns-in-Ok-clause-played g c = c.in-Ok.ensures.granted (spun 0) _ (read_begins (parties_of c.args.pass.now))
+pub try_again-entered-requires-clause-seen : goal.try_again-entered-requires-clause-seen
+try_again-entered-requires-clause-seen g c = c.in-Err.ensures.refused.looked.refusing.0
 
-pub returns-in-Ok-clause-has : goal.returns-in-Ok-clause-has
-returns-in-Ok-clause-has g c = λ _. granted_has calls.ReadLock kinds.Read _ _ (c.in-Ok.ensures.granted (spun 0) _ (read_begins (parties_of c.args.pass.now)))
+pub try_again-entered-requires-clause-refused : goal.try_again-entered-requires-clause-refused
+try_again-entered-requires-clause-refused g c = c.in-Err.ensures.refused.looked.refusing.1
 
-pub returns-in-Err-clause-played : goal.returns-in-Err-clause-played
-returns-in-Err-clause-played g c = c.try_again.ensures.over (all_of (parties_of c.args.pass.now)) (c.in-Err.ensures.failed (spun 0) _ (read_begins (parties_of c.args.pass.now)))
+pub try_again-entered-requires-clause-word : goal.try_again-entered-requires-clause-word
+try_again-entered-requires-clause-word g c = c.word.ensures.object
 
-pub returns-in-Err-clause-has : goal.returns-in-Err-clause-has
-returns-in-Err-clause-has g c = λ done. granted_has calls.ReadLock kinds.Read _ _
-    (MatchBool-at_true _ _ done (c.try_again.ensures.over (all_of (parties_of c.args.pass.now)) (c.in-Err.ensures.failed (spun 0) _ (read_begins (parties_of c.args.pass.now)))))
+pub try_again-entered-requires-clause-handed : goal.try_again-entered-requires-clause-handed
+try_again-entered-requires-clause-handed g c = λ _. subst (λ (n : ℕ). IsNamed (words.State ∷ words.Counter ∷ []) n words.State) (sym c.word.ensures.index) refl
 
-pub try_again-requires-clause-own : goal.try_again-requires-clause-own
-try_again-requires-clause-own g c = c.in-Err.ensures.refused.stayed.same.0 ∙ c.requires.own
+pub end-pass-requires-clause-over : goal.end-pass-requires-clause-over
+end-pass-requires-clause-over g c = is_over rw_writer_model calls.ReadLock _ _ _ _ (c.in-Ok.ensures.granted (spun 0) _ (read_begins (parties_of c.args.pass.now)))
 
-pub try_again-requires-clause-seen : goal.try_again-requires-clause-seen
-try_again-requires-clause-seen g c = c.in-Err.ensures.refused.looked.refusing.0
-
-pub try_again-requires-clause-refused : goal.try_again-requires-clause-refused
-try_again-requires-clause-refused g c = c.in-Err.ensures.refused.looked.refusing.1
-
-pub try_again-requires-clause-word : goal.try_again-requires-clause-word
-try_again-requires-clause-word g c = c.word.ensures.object
-
-pub try_again-requires-clause-handed : goal.try_again-requires-clause-handed
-try_again-requires-clause-handed g c = λ _. subst (λ (n : ℕ). IsNamed (words.State ∷ words.Counter ∷ []) n words.State) (sym c.word.ensures.index) refl
+pub end-pass-requires-in-Err-clause-over : goal.end-pass-requires-in-Err-clause-over
+end-pass-requires-in-Err-clause-over g c = either_is_over rw_writer_model c.try_again-entered.result.0 calls.ReadLock _ _ _ (c.try_again-entered.ensures.over (all_of (parties_of c.args.pass.now)) (c.in-Err.ensures.failed (spun 0) _ (read_begins (parties_of c.args.pass.now))))
 
 pub returns-in-Ok-clause-entered : goal.returns-in-Ok-clause-entered
-returns-in-Ok-clause-entered g c = c.in-Ok.ensures.entered
+returns-in-Ok-clause-entered g c = subst (λ (q : Pass PlayedRwWriter). HasEnteredToRead c.args.pass.now q) (sym (c.pass-1.given.1 (sym c.in-Ok.ensures.same_borrow ∙ sym c.end-pass.ensures.same_borrow) ∙ c.end-pass.ensures.still)) c.in-Ok.ensures.entered
+
+pub returns-in-Ok-clause-played : goal.returns-in-Ok-clause-played
+returns-in-Ok-clause-played g c = subst (λ (q : Pass PlayedRwWriter). HasPlayed calls.ReadLock answers.Success (Some kinds.Read) c.args.pass.now q) (sym (c.pass-1.given.1 (sym c.in-Ok.ensures.same_borrow ∙ sym c.end-pass.ensures.same_borrow) ∙ c.end-pass.ensures.still)) (c.in-Ok.ensures.granted (spun 0) _ (read_begins (parties_of c.args.pass.now)))
+
+pub returns-in-Ok-clause-has : goal.returns-in-Ok-clause-has
+returns-in-Ok-clause-has g c = λ _. subst (λ (q : Pass PlayedRwWriter). has_hold kinds.Read (parties_of q) ≡ true) (sym (c.pass-1.given.1 (sym c.in-Ok.ensures.same_borrow ∙ sym c.end-pass.ensures.same_borrow) ∙ c.end-pass.ensures.still)) (granted_has calls.ReadLock kinds.Read _ _ (c.in-Ok.ensures.granted (spun 0) _ (read_begins (parties_of c.args.pass.now))))
 
 pub returns-in-Ok-clause-exact : goal.returns-in-Ok-clause-exact
 returns-in-Ok-clause-exact g c = λ _. refl
@@ -57,17 +60,23 @@ returns-in-Ok-clause-exact g c = λ _. refl
 pub returns-in-Ok-clause-aborted : goal.returns-in-Ok-clause-aborted
 returns-in-Ok-clause-aborted g c = λ no. absurd cc
 
-pub returns-in-Ok-clause-asked : goal.returns-in-Ok-clause-asked
-returns-in-Ok-clause-asked g c = λ _ no. absurd cc
-
 pub returns-in-Err-clause-entered : goal.returns-in-Err-clause-entered
-returns-in-Err-clause-entered g c = tried_on EntersToRead IsShut 10001 _ _ _ _ _ c.in-Err.ensures.refused c.try_again.ensures.told
+returns-in-Err-clause-entered g c = subst (λ (q : Pass PlayedRwWriter). MatchBool c.try_again-entered.result.0 (HasEnteredToRead c.args.pass.now q) (WasRefused IsShut 10002 c.args.pass.now q)) (sym (c.pass-in-Err-1.given.1 (sym c.in-Err.ensures.same_borrow_too ∙ sym c.try_again-entered.ensures.same_borrow ∙ sym c.end-pass-in-Err.ensures.same_borrow) ∙ c.end-pass-in-Err.ensures.still)) (tried_on EntersToRead IsShut 10001 _ _ _ _ _ c.in-Err.ensures.refused c.try_again-entered.ensures.told)
+
+pub returns-in-Err-clause-played : goal.returns-in-Err-clause-played
+returns-in-Err-clause-played g c = subst (λ (q : Pass PlayedRwWriter). MatchBool c.try_again-entered.result.0 (HasPlayed calls.ReadLock answers.Success (Some kinds.Read) c.args.pass.now q) (HasPlayed calls.ReadLock answers.Interrupted None c.args.pass.now q)) (sym (c.pass-in-Err-1.given.1 (sym c.in-Err.ensures.same_borrow_too ∙ sym c.try_again-entered.ensures.same_borrow ∙ sym c.end-pass-in-Err.ensures.same_borrow) ∙ c.end-pass-in-Err.ensures.still)) (c.try_again-entered.ensures.over (all_of (parties_of c.args.pass.now)) (c.in-Err.ensures.failed (spun 0) _ (read_begins (parties_of c.args.pass.now))))
+
+pub returns-in-Err-clause-has : goal.returns-in-Err-clause-has
+returns-in-Err-clause-has g c = λ done. subst (λ (q : Pass PlayedRwWriter). has_hold kinds.Read (parties_of q) ≡ true) (sym (c.pass-in-Err-1.given.1 (sym c.in-Err.ensures.same_borrow_too ∙ sym c.try_again-entered.ensures.same_borrow ∙ sym c.end-pass-in-Err.ensures.same_borrow) ∙ c.end-pass-in-Err.ensures.still)) (granted_has calls.ReadLock kinds.Read _ _ (MatchBool-at_true _ _ done (c.try_again-entered.ensures.over (all_of (parties_of c.args.pass.now)) (c.in-Err.ensures.failed (spun 0) _ (read_begins (parties_of c.args.pass.now))))))
 
 pub returns-in-Err-clause-exact : goal.returns-in-Err-clause-exact
 returns-in-Err-clause-exact g c = λ alone. let no = c.in-Err.ensures.exact alone in absurd cc
 
 pub returns-in-Err-clause-aborted : goal.returns-in-Err-clause-aborted
-returns-in-Err-clause-aborted g c = c.try_again.ensures.aborted
+returns-in-Err-clause-aborted g c = c.try_again-entered.ensures.aborted
+
+pub returns-in-Ok-clause-asked : goal.returns-in-Ok-clause-asked
+returns-in-Ok-clause-asked g c = λ _ no. absurd cc
 
 pub returns-in-Err-clause-asked : goal.returns-in-Err-clause-asked
-returns-in-Err-clause-asked g c = λ only no. asked_on _ _ _ 10000 _ _ _ (c.in-Err.ensures.once only) (c.try_again.ensures.asked no (still_so IsOnly _ _ c.in-Err.ensures.refused.stayed only))
+returns-in-Err-clause-asked g c = λ only no. subst (λ (q : Pass PlayedRwWriter). HasAsked g.W.Fn c.args.wait.now IsShut 10001 c.args.pass.now q) (sym (c.pass-in-Err-1.given.1 (sym c.in-Err.ensures.same_borrow_too ∙ sym c.try_again-entered.ensures.same_borrow ∙ sym c.end-pass-in-Err.ensures.same_borrow) ∙ c.end-pass-in-Err.ensures.still)) (asked_on _ _ _ 10000 _ _ _ (c.in-Err.ensures.once only) (c.try_again-entered.ensures.asked no (still_so IsOnly _ _ c.in-Err.ensures.refused.stayed only)))

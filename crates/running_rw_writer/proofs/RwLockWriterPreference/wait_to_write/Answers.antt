@@ -1,78 +1,96 @@
-use Rattle.std.proofs.lemmas.Bool.{MatchBool-at_true}
+use Rattle.std.proofs.Common.{◌≡◌, ◌∙◌, true, Some, MatchBool, refl, sym, subst}
+use Rattle.std.proofs.lemmas.Bool.{MatchBool-at_true, MatchBool-at_false}
 use Rattle.steps_events.specs.declared.event.Call.TheVariants as calls
+use Rattle.steps_events.specs.declared.event.Answer.TheVariants as answers
 use Rattle.steps_events.specs.declared.hold.HoldKind.TheVariants as kinds
+use Rattle.passes.specs.declared.pass.Pass.{Pass}
+use Rattle.passes.specs.Passes.{sights_of}
+use Rattle.passes.specs.Answers.{HasWoken}
 use Rattle.playing.specs.Slots.{all_of}
 use Rattle.playing.specs.Passes.{parties_of}
-use Rattle.running_rw_writer.proofs.RwWriterPlays.{write_begins, granted_has}
-use Rattle.std.proofs.Common.{◌∙◌, refl}
+use Rattle.playing.proofs.Over.{is_over}
+use Rattle.tallies.specs.RwWriterScript.{rw_writer_model}
+use Rattle.running_rw_writer.specs.RwWriterSteps.{PlayedRwWriter, IsMarked}
+use Rattle.running_rw_writer.specs.RwWriterParties.{has_hold}
+use Rattle.running_rw_writer.specs.RwWriterShown.{HasEnteredSeenFree, HasGivenUpWriting, HasPlayed, HasPlayedGivingUp}
+use Rattle.running_rw_writer.proofs.RwWriterPlays.{granted_has}
 use Rattle.running_rw_writer.proofs.RwWriterTries.{tried_again, entered_after, ends_after}
 use Rattle.running_rw_writer.proofs.RwLockWriterPreference.wait_to_write.Goals as goal
 
-pub enter_or_mark-requires-clause-at : goal.enter_or_mark-requires-clause-at
-enter_or_mark-requires-clause-at g c = (0, all_of (parties_of c.args.pass.now), write_begins (parties_of c.args.pass.now))
+pub end-pass-requires-clause-own : goal.end-pass-requires-clause-own
+end-pass-requires-clause-own g c = (MatchBool-at_true _ _ c.if-at_once.true c.first_try-at_once.ensures.entered).0.same.0 ∙ c.requires.own
 
-pub spin_to_write-requires-clause-at : goal.spin_to_write-requires-clause-at
-spin_to_write-requires-clause-at g c = (all_of (parties_of c.args.pass.now), c.if-enter_or_mark.ensures.played 0 (all_of (parties_of c.args.pass.now)) (write_begins (parties_of c.args.pass.now)))
+pub end-pass-requires-clause-over : goal.end-pass-requires-clause-over
+end-pass-requires-clause-over g c = is_over rw_writer_model calls.WriteLock answers.Success (Some kinds.Write) (all_of (parties_of c.args.pass.now)) _ (MatchBool-at_true _ _ c.if-at_once.true c.first_try-at_once.ensures.played)
 
-pub returns-then-enter_or_mark-clause-played : goal.returns-then-enter_or_mark-clause-played
-returns-then-enter_or_mark-clause-played g c = c.if-enter_or_mark.ensures.played 0 (all_of (parties_of c.args.pass.now)) (write_begins (parties_of c.args.pass.now))
+pub spin_to_write-in_time-requires-clause-own : goal.spin_to_write-in_time-requires-clause-own
+spin_to_write-in_time-requires-clause-own g c = (MatchBool-at_false _ _ c.if-at_once.false c.first_try-at_once.ensures.entered).same.0 ∙ c.requires.own
 
-pub returns-then-enter_or_mark-clause-has : goal.returns-then-enter_or_mark-clause-has
-returns-then-enter_or_mark-clause-has g c = λ _. granted_has calls.WriteLock kinds.Write _ _ (c.if-enter_or_mark.ensures.played 0 (all_of (parties_of c.args.pass.now)) (write_begins (parties_of c.args.pass.now)))
+pub spin_to_write-in_time-requires-clause-at : goal.spin_to_write-in_time-requires-clause-at
+spin_to_write-in_time-requires-clause-at g c = ((all_of (parties_of c.args.pass.now)), (MatchBool-at_false _ _ c.if-at_once.false c.first_try-at_once.ensures.played))
 
-pub returns-then-spin_to_write-clause-played : goal.returns-then-spin_to_write-clause-played
-returns-then-spin_to_write-clause-played g c = c.if-spin_to_write.ensures.played (all_of (parties_of c.args.pass.now)) (c.if-enter_or_mark.ensures.played 0 (all_of (parties_of c.args.pass.now)) (write_begins (parties_of c.args.pass.now)))
+pub end-pass-requires-then-in_time-clause-own : goal.end-pass-requires-then-in_time-clause-own
+end-pass-requires-then-in_time-clause-own g c = (MatchBool-at_true _ _ c.if-in_time.true c.spin_to_write-in_time.ensures.entered).0.same.0 ∙ (MatchBool-at_false _ _ c.if-at_once.false c.first_try-at_once.ensures.entered).same.0 ∙ c.requires.own
 
-pub returns-then-spin_to_write-clause-has : goal.returns-then-spin_to_write-clause-has
-returns-then-spin_to_write-clause-has g c = λ _. granted_has calls.WriteLock kinds.Write _ _ (c.if-spin_to_write.ensures.played (all_of (parties_of c.args.pass.now)) (c.if-enter_or_mark.ensures.played 0 (all_of (parties_of c.args.pass.now)) (write_begins (parties_of c.args.pass.now))))
+pub end-pass-requires-then-in_time-clause-over : goal.end-pass-requires-then-in_time-clause-over
+end-pass-requires-then-in_time-clause-over g c = is_over rw_writer_model calls.WriteLock answers.Success (Some kinds.Write) (all_of (parties_of c.args.pass.now)) _ (MatchBool-at_true _ _ c.if-in_time.true (c.spin_to_write-in_time.ensures.played (all_of (parties_of c.args.pass.now)) (MatchBool-at_false _ _ c.if-at_once.false c.first_try-at_once.ensures.played)))
 
-pub ask_to_write-requires-clause-at : goal.ask_to_write-requires-clause-at
-ask_to_write-requires-clause-at g c = ((all_of (parties_of c.args.pass.now)), c.if-spin_to_write.ensures.played (all_of (parties_of c.args.pass.now)) (c.if-enter_or_mark.ensures.played 0 (all_of (parties_of c.args.pass.now)) (write_begins (parties_of c.args.pass.now))))
+pub ask_to_write-entered-requires-clause-own : goal.ask_to_write-entered-requires-clause-own
+ask_to_write-entered-requires-clause-own g c = (MatchBool-at_false _ _ c.if-in_time.false c.spin_to_write-in_time.ensures.entered).same.0 ∙ (MatchBool-at_false _ _ c.if-at_once.false c.first_try-at_once.ensures.entered).same.0 ∙ c.requires.own
 
-pub returns-clause-played : goal.returns-clause-played
-returns-clause-played g c = c.ask_to_write.ensures.played (all_of (parties_of c.args.pass.now)) (c.if-spin_to_write.ensures.played (all_of (parties_of c.args.pass.now)) (c.if-enter_or_mark.ensures.played 0 (all_of (parties_of c.args.pass.now)) (write_begins (parties_of c.args.pass.now))))
+pub ask_to_write-entered-requires-clause-at : goal.ask_to_write-entered-requires-clause-at
+ask_to_write-entered-requires-clause-at g c = ((all_of (parties_of c.args.pass.now)), (MatchBool-at_false _ _ c.if-in_time.false (c.spin_to_write-in_time.ensures.played (all_of (parties_of c.args.pass.now)) (MatchBool-at_false _ _ c.if-at_once.false c.first_try-at_once.ensures.played))))
 
-pub returns-clause-has : goal.returns-clause-has
-returns-clause-has g c = λ done. granted_has calls.WriteLock kinds.Write _ _ (MatchBool-at_true _ _ done (c.ask_to_write.ensures.played (all_of (parties_of c.args.pass.now)) (c.if-spin_to_write.ensures.played (all_of (parties_of c.args.pass.now)) (c.if-enter_or_mark.ensures.played 0 (all_of (parties_of c.args.pass.now)) (write_begins (parties_of c.args.pass.now))))))
+pub returns-then-at_once-clause-entered : goal.returns-then-at_once-clause-entered
+returns-then-at_once-clause-entered g c = subst (λ (q : Pass PlayedRwWriter). HasEnteredSeenFree c.args.pass.now q) (sym (c.pass-1.given.1 (sym c.first_try-at_once.ensures.same_borrow ∙ sym c.end-pass.ensures.same_borrow) ∙ c.end-pass.ensures.still)) (MatchBool-at_true _ _ c.if-at_once.true c.first_try-at_once.ensures.entered)
 
-pub returns-then-enter_or_mark-clause-entered : goal.returns-then-enter_or_mark-clause-entered
-returns-then-enter_or_mark-clause-entered g c = c.if-enter_or_mark.ensures.entered
+pub returns-then-at_once-clause-played : goal.returns-then-at_once-clause-played
+returns-then-at_once-clause-played g c = subst (λ (q : Pass PlayedRwWriter). HasPlayed calls.WriteLock answers.Success (Some kinds.Write) c.args.pass.now q) (sym (c.pass-1.given.1 (sym c.first_try-at_once.ensures.same_borrow ∙ sym c.end-pass.ensures.same_borrow) ∙ c.end-pass.ensures.still)) (MatchBool-at_true _ _ c.if-at_once.true c.first_try-at_once.ensures.played)
 
-pub returns-then-enter_or_mark-clause-exact : goal.returns-then-enter_or_mark-clause-exact
-returns-then-enter_or_mark-clause-exact g c = λ _. refl
+pub returns-then-at_once-clause-has : goal.returns-then-at_once-clause-has
+returns-then-at_once-clause-has g c = λ _. subst (λ (q : Pass PlayedRwWriter). has_hold kinds.Write (parties_of q) ≡ true) (sym (c.pass-1.given.1 (sym c.first_try-at_once.ensures.same_borrow ∙ sym c.end-pass.ensures.same_borrow) ∙ c.end-pass.ensures.still)) (granted_has calls.WriteLock kinds.Write _ _ (MatchBool-at_true _ _ c.if-at_once.true c.first_try-at_once.ensures.played))
 
-pub returns-then-enter_or_mark-clause-aborted : goal.returns-then-enter_or_mark-clause-aborted
-returns-then-enter_or_mark-clause-aborted g c = λ no. absurd cc
+pub returns-then-at_once-clause-exact : goal.returns-then-at_once-clause-exact
+returns-then-at_once-clause-exact g c = λ _. refl
 
-pub returns-then-enter_or_mark-clause-woke : goal.returns-then-enter_or_mark-clause-woke
-returns-then-enter_or_mark-clause-woke g c = λ no. absurd cc
+pub returns-then-at_once-clause-aborted : goal.returns-then-at_once-clause-aborted
+returns-then-at_once-clause-aborted g c = λ no. absurd cc
 
-pub spin_to_write-requires-clause-own : goal.spin_to_write-requires-clause-own
-spin_to_write-requires-clause-own g c = c.if-enter_or_mark.ensures.entered.same.0 ∙ c.requires.own
+pub returns-then-at_once-clause-woke : goal.returns-then-at_once-clause-woke
+returns-then-at_once-clause-woke g c = λ no. absurd cc
 
-pub returns-then-spin_to_write-clause-entered : goal.returns-then-spin_to_write-clause-entered
-returns-then-spin_to_write-clause-entered g c = entered_after 1 _ _ _ c.if-enter_or_mark.ensures.entered c.if-spin_to_write.ensures.entered
+pub returns-then-in_time-clause-entered : goal.returns-then-in_time-clause-entered
+returns-then-in_time-clause-entered g c = subst (λ (q : Pass PlayedRwWriter). HasEnteredSeenFree c.args.pass.now q) (sym (c.pass-then-in_time-1.given.1 (sym c.first_try-at_once.ensures.same_borrow ∙ sym c.spin_to_write-in_time.ensures.same_borrow ∙ sym c.end-pass-then-in_time.ensures.same_borrow) ∙ c.end-pass-then-in_time.ensures.still)) (entered_after 1 _ _ _ (MatchBool-at_false _ _ c.if-at_once.false c.first_try-at_once.ensures.entered) (MatchBool-at_true _ _ c.if-in_time.true c.spin_to_write-in_time.ensures.entered))
 
-pub returns-then-spin_to_write-clause-exact : goal.returns-then-spin_to_write-clause-exact
-returns-then-spin_to_write-clause-exact g c = λ _. refl
+pub returns-then-in_time-clause-played : goal.returns-then-in_time-clause-played
+returns-then-in_time-clause-played g c = subst (λ (q : Pass PlayedRwWriter). HasPlayed calls.WriteLock answers.Success (Some kinds.Write) c.args.pass.now q) (sym (c.pass-then-in_time-1.given.1 (sym c.first_try-at_once.ensures.same_borrow ∙ sym c.spin_to_write-in_time.ensures.same_borrow ∙ sym c.end-pass-then-in_time.ensures.same_borrow) ∙ c.end-pass-then-in_time.ensures.still)) (MatchBool-at_true _ _ c.if-in_time.true (c.spin_to_write-in_time.ensures.played (all_of (parties_of c.args.pass.now)) (MatchBool-at_false _ _ c.if-at_once.false c.first_try-at_once.ensures.played)))
 
-pub returns-then-spin_to_write-clause-aborted : goal.returns-then-spin_to_write-clause-aborted
-returns-then-spin_to_write-clause-aborted g c = λ no. absurd cc
+pub returns-then-in_time-clause-has : goal.returns-then-in_time-clause-has
+returns-then-in_time-clause-has g c = λ _. subst (λ (q : Pass PlayedRwWriter). has_hold kinds.Write (parties_of q) ≡ true) (sym (c.pass-then-in_time-1.given.1 (sym c.first_try-at_once.ensures.same_borrow ∙ sym c.spin_to_write-in_time.ensures.same_borrow ∙ sym c.end-pass-then-in_time.ensures.same_borrow) ∙ c.end-pass-then-in_time.ensures.still)) (granted_has calls.WriteLock kinds.Write _ _ (MatchBool-at_true _ _ c.if-in_time.true (c.spin_to_write-in_time.ensures.played (all_of (parties_of c.args.pass.now)) (MatchBool-at_false _ _ c.if-at_once.false c.first_try-at_once.ensures.played))))
 
-pub returns-then-spin_to_write-clause-woke : goal.returns-then-spin_to_write-clause-woke
-returns-then-spin_to_write-clause-woke g c = λ no. absurd cc
+pub returns-then-in_time-clause-exact : goal.returns-then-in_time-clause-exact
+returns-then-in_time-clause-exact g c = λ _. refl
 
-pub ask_to_write-requires-clause-own : goal.ask_to_write-requires-clause-own
-ask_to_write-requires-clause-own g c = c.if-spin_to_write.ensures.entered.same.0 ∙ c.if-enter_or_mark.ensures.entered.same.0 ∙ c.requires.own
+pub returns-then-in_time-clause-aborted : goal.returns-then-in_time-clause-aborted
+returns-then-in_time-clause-aborted g c = λ no. absurd cc
+
+pub returns-then-in_time-clause-woke : goal.returns-then-in_time-clause-woke
+returns-then-in_time-clause-woke g c = λ no. absurd cc
 
 pub returns-clause-entered : goal.returns-clause-entered
-returns-clause-entered g c = ends_after 10001 2 _ _ _ _ (tried_again 1 10000 _ _ _ c.if-enter_or_mark.ensures.entered c.if-spin_to_write.ensures.entered) c.ask_to_write.ensures.entered
+returns-clause-entered g c = subst (λ (q : Pass PlayedRwWriter). MatchBool c.ask_to_write-entered.result.0 (HasEnteredSeenFree c.args.pass.now q) (HasGivenUpWriting 10003 c.args.pass.now q)) (sym (c.pass-2-1.given.1 (sym c.first_try-at_once.ensures.same_borrow ∙ sym c.spin_to_write-in_time.ensures.same_borrow ∙ sym c.ask_to_write-entered.ensures.same_borrow))) (ends_after 10001 2 _ _ _ _ (tried_again 1 10000 _ _ _ (MatchBool-at_false _ _ c.if-at_once.false c.first_try-at_once.ensures.entered) (MatchBool-at_false _ _ c.if-in_time.false c.spin_to_write-in_time.ensures.entered)) c.ask_to_write-entered.ensures.entered)
+
+pub returns-clause-played : goal.returns-clause-played
+returns-clause-played g c = subst (λ (q : Pass PlayedRwWriter). MatchBool c.ask_to_write-entered.result.0 (HasPlayed calls.WriteLock answers.Success (Some kinds.Write) c.args.pass.now q) (HasPlayedGivingUp c.args.pass.now q)) (sym (c.pass-2-1.given.1 (sym c.first_try-at_once.ensures.same_borrow ∙ sym c.spin_to_write-in_time.ensures.same_borrow ∙ sym c.ask_to_write-entered.ensures.same_borrow))) (c.ask_to_write-entered.ensures.played (all_of (parties_of c.args.pass.now)) (MatchBool-at_false _ _ c.if-in_time.false (c.spin_to_write-in_time.ensures.played (all_of (parties_of c.args.pass.now)) (MatchBool-at_false _ _ c.if-at_once.false c.first_try-at_once.ensures.played))))
+
+pub returns-clause-has : goal.returns-clause-has
+returns-clause-has g c = λ done. subst (λ (q : Pass PlayedRwWriter). has_hold kinds.Write (parties_of q) ≡ true) (sym (c.pass-2-1.given.1 (sym c.first_try-at_once.ensures.same_borrow ∙ sym c.spin_to_write-in_time.ensures.same_borrow ∙ sym c.ask_to_write-entered.ensures.same_borrow))) (granted_has calls.WriteLock kinds.Write _ _ (MatchBool-at_true _ _ done (c.ask_to_write-entered.ensures.played (all_of (parties_of c.args.pass.now)) (MatchBool-at_false _ _ c.if-in_time.false (c.spin_to_write-in_time.ensures.played (all_of (parties_of c.args.pass.now)) (MatchBool-at_false _ _ c.if-at_once.false c.first_try-at_once.ensures.played))))))
 
 pub returns-clause-exact : goal.returns-clause-exact
-returns-clause-exact g c = λ alone. let entered = c.enter_or_mark.ensures.exact alone in let not = c.if-enter_or_mark.false in absurd cc
+returns-clause-exact g c = λ alone. let entered = c.first_try-at_once.ensures.exact alone in let no = c.if-at_once.false in absurd cc
 
 pub returns-clause-aborted : goal.returns-clause-aborted
-returns-clause-aborted g c = c.ask_to_write.ensures.aborted
+returns-clause-aborted g c = c.ask_to_write-entered.ensures.aborted
 
 pub returns-clause-woke : goal.returns-clause-woke
-returns-clause-woke g c = c.ask_to_write.ensures.woke
+returns-clause-woke g c = λ no. subst (λ (q : Pass PlayedRwWriter). IsMarked (sights_of q).last → HasWoken g.K.Fn c.args.wake_one.now × HasWoken g.V.Fn c.args.wake_all.now) (sym (c.pass-2-1.given.1 (sym c.first_try-at_once.ensures.same_borrow ∙ sym c.spin_to_write-in_time.ensures.same_borrow ∙ sym c.ask_to_write-entered.ensures.same_borrow))) (c.ask_to_write-entered.ensures.woke no)

@@ -1,5 +1,19 @@
-use Rattle.running_rw_writer.proofs.RwWriterPlays.{is_to_wake_both}
+use Rattle.std.proofs.Common.{◌∙◌, sym, subst}
+use Rattle.passes.specs.declared.pass.Pass.{Pass}
+use Rattle.playing.specs.Passes.{parties_of}
+use Rattle.running_rw_writer.specs.RwWriterParties.{IsToWakeBoth}
+use Rattle.running_rw_writer.specs.RwWriterSteps.{PlayedRwWriter}
+use Rattle.running_rw_writer.proofs.RwWriterPlays.{is_to_wake, is_to_wake_again, both_are_over}
 use Rattle.running_rw_writer.proofs.RwLockWriterPreference.wake_both.Goals as goal
 
-pub wake_twice-requires-clause-wakes : goal.wake_twice-requires-clause-wakes
-wake_twice-requires-clause-wakes g c = is_to_wake_both _ _ _ c.counter.ensures.index c.word.ensures.index c.requires.wakes
+pub wake-one-requires-clause-wakes : goal.wake-one-requires-clause-wakes
+wake-one-requires-clause-wakes g c = is_to_wake _ c.requires.wakes.who _ c.counter.ensures.index c.requires.wakes.wakes
+
+pub wake_again-both-requires-clause-wakes : goal.wake_again-both-requires-clause-wakes
+wake_again-both-requires-clause-wakes g c = is_to_wake_again _ _ c.word.ensures.index (subst (λ (p : Pass PlayedRwWriter). IsToWakeBoth (parties_of p)) (sym c.wake-one.ensures.still) c.requires.wakes)
+
+pub end_after_two-requires-clause-over : goal.end_after_two-requires-clause-over
+end_after_two-requires-clause-over g c = both_are_over _ (subst (λ (p : Pass PlayedRwWriter). IsToWakeBoth (parties_of p)) (sym (c.wake_again-both.ensures.still ∙ c.wake-one.ensures.still)) c.requires.wakes)
+
+pub returns-clause-woke : goal.returns-clause-woke
+returns-clause-woke g c = (record { word = _; says = c.wake-one.ensures.woke }, record { word = _; says = c.wake_again-both.ensures.woke })
