@@ -49,8 +49,8 @@ RT
 use Rattle.std.proofs.Common.{ap, not}
 use Rattle.sizes.proofs.no.Goals as goal
 
-pub returns-clause-says : goal.returns-clause-says
-returns-clause-says c = ap not c.yes.ensures.says
+pub returns : goal.returns
+returns c = record { says = ap not c.yes.ensures.says }
 ANTT
     plant yes_is_no "    true" "    false"
     plant no_is_yes "    !yes()" "    yes()"
