@@ -11,16 +11,17 @@ import re
 HEAD = re.compile(r"^(\s*)(?:pub(?:\([^)]*\))?\s+)?(?:const\s+|unsafe\s+)*fn (\w+)")
 # A goal that a check leaves open: the function whose proof file it stands in, and what is said of it.
 GOAL = re.compile(r"^(?:note: )?\./(?:proofs/\S*?(\w+)/(?:Answers|Invariants|Proof)\.antt|\S+):\d+:\d+: error(?:\[[\w-]+\])?: (.*)")
-NO_PROOF = re.compile(r"^fn \S*?(\w+): no proof: expected answers")
+# One that has no answer, and was searched for in vain; it is told before the line of its function.
+UNANSWERED = re.compile(r"^note: \S+:\d+:\d+: (it is not proved that .*)")
+FUNCTION = re.compile(r"^fn \S*?(\w+): (.*)")
 # What is said of a proof that cites a broken one: no goal of its own.
 DEPENDS = re.compile(r"declarations? that depends? on `")
-# What says little of a contract: a proof misses a name that the edit took away.
+# What says nothing of a contract: a proof misses a name that the edit took away, or a search ended at a limit. The kit's gate takes an edit for
+# refused that has no other reason; here it fails.
 NAME_GONE = re.compile(r"has no field|has no `|is not in scope")
-
-# What an edit comes to that shows what it is to show: a goal of its own that does not hold; and, told each time since it shows less, a name that
-# a proof misses, or a search that ended at a limit. The kit's gate takes these for refused too.
-WEAK = ("only a name is gone", "at a limit")
-REFUSED = ("refused", *WEAK)
+GAVE_UP = re.compile(r"gave up at one of its limits|went on past its bounds")
+# What a call requires that the edit may have brought in.
+REQUIRED = re.compile(r"it is not proved that what `(\w+)` requires holds at this call")
 
 
 class BadEdit(Exception):
@@ -33,16 +34,24 @@ class Edit:
     def __init__(self, crate, name):
         self.name = name
         texts = applied(crate, name)
-        self.hunks, functions = {}, set()
+        self.hunks, functions, words, had = {}, set(), set(), set()
         for path, new in texts.items():
             old, new = text_of(f"{crate}/{path}").split("\n"), new.split("\n")
             codes = difflib.SequenceMatcher(None, old, new, autojunk=False).get_opcodes()
             self.hunks[path] = [(start, end, new[at:to]) for tag, start, end, at, to in codes if tag != "equal"]
+            for start, end, lines in self.hunks[path]:
+                had |= words_of(old[start:end])
+                words |= words_of(lines)
             functions |= {body_at(old, start) if path.startswith("src/") else None for start, _, _ in self.hunks[path]}
         self.functions = frozenset() if None in functions else frozenset(functions)
+        self.brought = words - had
 
     def is_alone(self):
         return not self.functions
+
+
+def words_of(lines):
+    return {it for line in lines for it in re.findall(r"\w+", line)}
 
 
 def text_of(path):
@@ -96,19 +105,30 @@ def with_edits(crate, edits):
 
 def open_goals(said):
     """What a check says of each function whose goals it leaves open."""
-    found = {}
+    found, unanswered = {}, []
     for line in said.split("\n"):
-        goal, none = GOAL.match(line), NO_PROOF.match(line)
+        goal, note, function = GOAL.match(line), UNANSWERED.match(line), FUNCTION.match(line)
         if goal and goal[1] and not DEPENDS.search(line):
             found.setdefault(goal[1], []).append(goal[2])
-        elif none:
-            found.setdefault(none[1], []).append("no proof was found")
-    return found
+        elif note:
+            unanswered.append(note[1])
+        elif function:
+            if function[2].startswith("no proof: expected answers") and not unanswered:
+                unanswered.append("no proof was found")
+            found.setdefault(function[1], []).extend(unanswered)
+            unanswered = []
+    return {name: reasons for name, reasons in found.items() if reasons}
 
 
-def is_only_a_name(reasons):
-    """Whether all that refuses an edit is that a proof misses a name."""
-    return bool(reasons) and all(NAME_GONE.search(it) for it in reasons)
+def telling(reasons, brought):
+    """The reasons that show something of the contract. Where names are gone the goals may have others, so one without an answer shows something
+    only if a call requires it that the edit has brought in: as a second wake, which the types let through to a call that asks for more."""
+    is_renamed = any(NAME_GONE.search(it) for it in reasons)
+    for it in reasons:
+        required = REQUIRED.match(it)
+        is_new = required and required[1] in brought
+        if not NAME_GONE.search(it) and not GAVE_UP.search(it) and (is_new or not is_renamed or not it.startswith("it is not proved")):
+            yield it
 
 
 class Batches:
@@ -137,13 +157,13 @@ class Batches:
         goals = open_goals(said) if is_verdict else {}
         if batch[0].is_alone() or len(batch) == 1 and batch[0] in self.apart:
             self.apart = self.apart[1:]
-            reasons = errors_of(said) or [it for own in goals.values() for it in own]
-            self.told[batch[0].name] = judged(status, is_verdict, reasons, said)
+            reasons = errors_of(said) + [it for own in goals.values() for it in own]
+            self.told[batch[0].name] = judged(batch[0], status, is_verdict, reasons, said)
             return
         for edit in batch:
             reasons = [it for name in edit.functions for it in goals.get(name, [])]
             if reasons:
-                self.told[edit.name] = judged(status, True, reasons, said)
+                self.told[edit.name] = judged(edit, status, True, reasons, said)
         told = [it for it in batch if it.name in self.told]
         self.left = [it for it in self.left if it not in told]
         if not is_verdict and len(batch) > 1:
@@ -160,14 +180,16 @@ def errors_of(said):
     return [it for it in re.findall(r"(?m)^\S+:\d+:\d+: error(?:\[[\w-]+\])?: (.*)", said) if not DEPENDS.search(it)]
 
 
-def judged(status, is_verdict, reasons, said):
+def judged(edit, status, is_verdict, reasons, said):
     """What an edit came to, and why."""
     if is_verdict:
-        return (WEAK[0], reasons[0]) if is_only_a_name(reasons) else ("refused", reasons[0] if reasons else "")
+        for it in telling(reasons, edit.brought):
+            return "refused", it
+        return "SHOWS NOTHING", reasons[0] if reasons else "its check says no reason"
     if status == 0:
         return "NOT REFUSED", "the crate is still proved with this edit"
     if status == 1 and re.search(r"\berror\[", said):
         return "BAD", next(iter(errors_of(said)), "it did not reach the prover")
     if status == 3:
-        return WEAK[1], "the prover gave no verdict"
+        return "SHOWS NOTHING", "the prover gave no verdict"
     return "NOT TRIED", f"its check ended with status {status}"

@@ -250,12 +250,10 @@ class Tries:
                 put(folder, old)
             checks += 1
             batches.judge(batch, status, said)
-        refused = {name for name, it in batches.told.items() if it[0] in edits.REFUSED}
-        weak = {name: it for name, it in batches.told.items() if it[0] in edits.WEAK}
-        wrong = {name: it for name, it in batches.told.items() if name not in refused}
-        left = len(crate.edits) - len(batches.told)
-        line = f"{len(refused)} of its {len(crate.edits)} edits are refused, in {checks} checks" + (f"; {left} were not tried" if left else "")
-        return Told(len(refused), len(wrong), line, "\n".join(f"{name}: {kind}: {why[:300]}" for name, (kind, why) in {**weak, **wrong}.items()))
+        wrong = {name: it for name, it in batches.told.items() if it[0] != "refused"}
+        refused, left = len(batches.told) - len(wrong), len(crate.edits) - len(batches.told)
+        line = f"{refused} of its {len(crate.edits)} edits are refused, in {checks} checks" + (f"; {left} were not tried" if left else "")
+        return Told(refused, len(wrong), line, "\n".join(f"{name}: {kind}: {why[:300]}" for name, (kind, why) in wrong.items()))
 
 
 def put(folder, texts):

@@ -1,8 +1,8 @@
-# The tool that proves and tries edits, on a crate of three functions and one test: what is no bug, and what cannot be read, fails it and says so,
-# beside wrong bodies in the same check; so do a test that fails and a crate that is not proved.
+# The tool that proves and tries edits, on a crate of three functions and one test: what is no bug, what cannot be read, and what is refused for a name
+# alone, fails it and says so, beside wrong bodies in the same check; so do a test that fails and a crate that is not proved.
 test_batches() {
     local top=$room/batches crate=$room/batches/crates/sizes
-    mkdir -p -- "$top/tools" "$crate/src" "$crate/must-fail"
+    mkdir -p -- "$top/tools" "$crate/src" "$crate/proofs/no" "$crate/must-fail"
     cp -- tools/prove.py tools/edits.py "$top/tools"
     cp -- HANDLES "$top"
     echo "sizes:" >"$top/crates.txt"
@@ -45,13 +45,22 @@ mod tests {
     }
 }
 RT
+    cat >"$crate/proofs/no/Answers.antt" <<'ANTT'
+use Rattle.std.proofs.Common.{ap, not}
+use Rattle.sizes.proofs.no.Goals as goal
+
+pub returns : goal.returns
+returns c = record { says = ap not c.yes.ensures.says }
+ANTT
     plant yes_is_no "    true" "    false"
     plant no_is_yes "    !yes()" "    yes()"
     plant another_way "    let again = given;" "    let again: u64 = given;"
+    plant says_so_by_a_name "    !yes()" "    { let is = yes(); !is }"
     plant cannot_be_read "    !yes()" "    !yes("
     plant stands_nowhere "    maybe()" "    yes()"
-    tries "edits of which two are wrong bodies" "edits tests" "4 passed, 3 failed" \
-        "2 of its 5 edits are refused" "another_way.edit: NOT REFUSED" "cannot_be_read.edit: BAD" "stands_nowhere.edit: BAD"
+    tries "edits of which two are wrong bodies" "edits tests" "4 passed, 4 failed" \
+        "2 of its 6 edits are refused" "another_way.edit: NOT REFUSED" "says_so_by_a_name.edit: SHOWS NOTHING" "cannot_be_read.edit: BAD" \
+        "stands_nowhere.edit: BAD"
     sed -i -- 's/same(3) == 3/same(3) == 4/' "$crate/src/lib.rt"
     tries "a test that fails, unproved" tries "0 passed, 1 failed" each_answers
     sed -i -- 's/    true/    false/' "$crate/src/lib.rt"

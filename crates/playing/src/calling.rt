@@ -157,7 +157,7 @@ impl<'p, M, P, V, C> Turn<'p, Pass<Played<M, P, V, C>>, AfterAside> {
         self,
         at: &Stage<K, M, P, V, C, A>,
         word: &Sealed<X>,
-        wake: &W,
+        second: &W,
     ) -> Turn<'p, Pass<Played<M, P, V, C>>, AfterTwo>
     where
         M: Script<K, P, V>,
@@ -165,14 +165,14 @@ impl<'p, M, P, V, C> Turn<'p, Pass<Played<M, P, V, C>>, AfterAside> {
         requires own { IsPassOf at.now self.pass.now }
         requires word { X.object word.now.shown ≡ id_of at.now }
         requires wakes { IsToWakeAgain (M.model (key_of at.now)) M.names M.handed (X.index word.now.shown) (parties_of self.pass.now) }
-        requires may { W.IsAlwaysCallable wake.now }
+        requires may { W.IsAlwaysCallable second.now }
         ensures same_borrow { result.pass.ghost_name ≡ self.entry.pass.ghost_name }
         ensures still { result.pass.now ≡ self.entry.pass.now }
-        ensures woke { FnReturnsAt W.Fn wake.now word.now.shown tt }
+        ensures woke { FnReturnsAt W.Fn second.now word.now.shown tt }
     {
         let _at = at;
         let Turn { pass, by: _ } = self;
-        call(wake, &word.shown);
+        call(second, &word.shown);
         Turn {
             pass,
             by: PhantomData,

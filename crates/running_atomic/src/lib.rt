@@ -8,7 +8,6 @@
 mod begins;
 mod calls;
 mod deeds;
-mod ends;
 mod history;
 mod pass;
 mod script;

@@ -6,7 +6,7 @@ ghost use Rattle.sync_lines.specs.NumeralLaws as laws;
 
 use crate::fault::LineFault;
 use crate::lexer::{is, number_within, signed_number, wide_number};
-use std::alloc::AllocError;
+use std::alloc::{AllocError, Allocator};
 use steps_events::atomic::internal::AtomicInteger;
 
 /// An integer type whose values a text can write.
@@ -23,7 +23,7 @@ pub trait TextInteger: AtomicInteger {
         ensures { result ≡ numerals.value_of word.now };
 
     /// Prints the value in decimal.
-    fn print(self, out: &mut String) -> Result<(), AllocError>
+    fn print<A: Allocator>(self, out: &mut String<A>) -> Result<(), AllocError>
         ensures { OnOk result (string_bytes out.new ≡ string_bytes out.old ++ numerals.decimal_of self) };
 
     /// Whatever a word writes is a value of the type.
@@ -43,7 +43,7 @@ impl TextInteger for u64 {
         number_within(0, u64::MAX, word)
     }
 
-    fn print(self, out: &mut String) -> Result<(), AllocError> {
+    fn print<A: Allocator>(self, out: &mut String<A>) -> Result<(), AllocError> {
         write!(out, "{self}")
     }
 }
@@ -64,7 +64,7 @@ impl TextInteger for u128 {
         }
     }
 
-    fn print(self, out: &mut String) -> Result<(), AllocError> {
+    fn print<A: Allocator>(self, out: &mut String<A>) -> Result<(), AllocError> {
         write!(out, "{self}")
     }
 }
@@ -88,7 +88,7 @@ impl TextInteger for i64 {
         }
     }
 
-    fn print(self, out: &mut String) -> Result<(), AllocError> {
+    fn print<A: Allocator>(self, out: &mut String<A>) -> Result<(), AllocError> {
         i128::from(self).print(out)
     }
 }
@@ -109,7 +109,7 @@ impl TextInteger for i128 {
         }
     }
 
-    fn print(self, out: &mut String) -> Result<(), AllocError> {
+    fn print<A: Allocator>(self, out: &mut String<A>) -> Result<(), AllocError> {
         write!(out, "{self}")
     }
 }

@@ -57,15 +57,15 @@ pub fn type_of(text: &[u8]) -> ValueType
     }
 }
 
-/// Calls a function that has the type of values as its parameter, with the type of a text's values.
+/// Calls a function whose first parameter is the type of values, with the type of a text's values.
 #[macro_export]
 macro_rules! by_value_type {
-    ($text:expr, $function:ident($($argument:expr),*)) => {
+    ($text:expr, $function:ident $(<$further:ty>)? ($($argument:expr),*)) => {
         match $crate::value_type::type_of($text) {
-            $crate::value_type::ValueType::U64 => $function::<u64>($($argument),*),
-            $crate::value_type::ValueType::U128 => $function::<u128>($($argument),*),
-            $crate::value_type::ValueType::I64 => $function::<i64>($($argument),*),
-            $crate::value_type::ValueType::I128 => $function::<i128>($($argument),*),
+            $crate::value_type::ValueType::U64 => $function::<u64 $(, $further)?>($($argument),*),
+            $crate::value_type::ValueType::U128 => $function::<u128 $(, $further)?>($($argument),*),
+            $crate::value_type::ValueType::I64 => $function::<i64 $(, $further)?>($($argument),*),
+            $crate::value_type::ValueType::I128 => $function::<i128 $(, $further)?>($($argument),*),
         }
     };
 }

@@ -8,6 +8,7 @@ ghost use Rattle.steps_events.specs.declared.event.Object.{Object as AnObject};
 ghost use Rattle.sync_play.specs.Player.{steps_left, left_after};
 ghost use Rattle.sync_play.specs.Walk as meaning;
 
+use std::alloc::Allocator;
 use steps_events::atomic::internal::AtomicInteger;
 use sync_lines::command::{Command, Task};
 use sync_lines::fault::LineFault;
@@ -42,8 +43,8 @@ fn left_after<T: Copy>(task: Task<T>, stride: &Stride<T>) -> Task<T>
 ///
 /// After a fault the machine and `left` are as they were. It takes no memory.
 #[inline(always)]
-pub fn next_events<T: AtomicInteger>(
-    machine: &mut Machine<T>,
+pub fn next_events<T: AtomicInteger, A: Allocator>(
+    machine: &mut Machine<T, A>,
     left: &mut Command<T>,
 ) -> Result<Option<Stride<T>>, LineFault>
     ensures turn { (o : AnObject T) (parties : ℕ) (past : List (AnEvent T)) → StandsAt T.arithmetic o parties past machine.old →

@@ -6,12 +6,15 @@ ghost use Rattle.sync_steps.specs.Machine.{StandsAt};
 ghost use Rattle.sync_steps.specs.Runs.{word_in};
 ghost use Rattle.sync_play.specs.Print.{answer_words, party_words, wake_line, then_line, event_lines, further_words, last_line};
 
-use std::alloc::AllocError;
+use std::alloc::{AllocError, Allocator};
 use sync_lines::integer::TextInteger;
 use sync_steps::steps::{Act, Answer, Event, Machine, Object, Then, Wake};
 
 /// Prints what a call answers.
-pub fn print_answer<T: TextInteger>(out: &mut String, answer: Answer<T>) -> Result<(), AllocError>
+pub fn print_answer<T: TextInteger, A: Allocator>(
+    out: &mut String<A>,
+    answer: Answer<T>,
+) -> Result<(), AllocError>
     ensures { OnOk result (string_bytes out.new ≡ string_bytes out.old ++ answer_words T.numerals answer) }
 {
     match answer {
@@ -39,7 +42,7 @@ pub fn print_answer<T: TextInteger>(out: &mut String, answer: Answer<T>) -> Resu
 /// Prints the number of a party, which is counted from 0 here and from 1 in a text, and a space.
 ///
 /// A number of one digit is there already: to write one out takes longer than a step.
-fn print_number(out: &mut String, party: usize) -> Result<(), AllocError>
+fn print_number<A: Allocator>(out: &mut String<A>, party: usize) -> Result<(), AllocError>
     ensures { OnOk result (string_bytes out.new ≡ string_bytes out.old ++ party_words party) }
 {
     match party {
@@ -62,7 +65,11 @@ fn print_number(out: &mut String, party: usize) -> Result<(), AllocError>
 
 /// A call of a wake closure, by a party counted from 0.
 #[inline(never)]
-fn print_wake(out: &mut String, party: usize, wake: Wake) -> Result<(), AllocError>
+fn print_wake<A: Allocator>(
+    out: &mut String<A>,
+    party: usize,
+    wake: Wake,
+) -> Result<(), AllocError>
     ensures { OnOk result (string_bytes out.new ≡ string_bytes out.old ++ wake_line party wake) }
 {
     print_number(out, party)?;
@@ -74,8 +81,8 @@ fn print_wake(out: &mut String, party: usize, wake: Wake) -> Result<(), AllocErr
 
 /// How the call of a party stands then.
 #[inline(never)]
-fn print_then<T: TextInteger>(
-    out: &mut String,
+fn print_then<T: TextInteger, A: Allocator>(
+    out: &mut String<A>,
     party: usize,
     then: Then<T>,
 ) -> Result<(), AllocError>
@@ -105,7 +112,10 @@ fn print_then<T: TextInteger>(
 ///
 /// Most events print nothing, so what prints stands apart.
 #[inline(always)]
-pub fn print_event<T: TextInteger>(out: &mut String, event: &Event<T>) -> Result<(), AllocError>
+pub fn print_event<T: TextInteger, A: Allocator>(
+    out: &mut String<A>,
+    event: &Event<T>,
+) -> Result<(), AllocError>
     ensures { OnOk result (string_bytes out.new ≡ string_bytes out.old ++ event_lines T.numerals event.now) }
 {
     if let Act::Woke(wake) = event.act {
@@ -118,9 +128,9 @@ pub fn print_event<T: TextInteger>(out: &mut String, event: &Event<T>) -> Result
 }
 
 /// Prints the words that the last line tells after the first.
-pub fn print_further_words<T: TextInteger>(
-    out: &mut String,
-    machine: &Machine<T>,
+pub fn print_further_words<T: TextInteger, A: Allocator, B: Allocator>(
+    out: &mut String<A>,
+    machine: &Machine<T, B>,
 ) -> Result<(), AllocError>
     ensures { (o : AnObject T) (parties : ℕ) (past : List (AnEvent T)) → StandsAt T.arithmetic o parties past machine.now →
         OnOk result (string_bytes out.new ≡ string_bytes out.old ++ further_words T.arithmetic T.numerals o (word_in T.arithmetic o past)) }
@@ -151,7 +161,10 @@ pub fn print_further_words<T: TextInteger>(
 }
 
 /// Prints the last line: the words of the object, and how many exchanges failed.
-pub fn print_last<T: TextInteger>(out: &mut String, machine: &Machine<T>) -> Result<(), AllocError>
+pub fn print_last<T: TextInteger, A: Allocator, B: Allocator>(
+    out: &mut String<A>,
+    machine: &Machine<T, B>,
+) -> Result<(), AllocError>
     ensures { (o : AnObject T) (parties : ℕ) (past : List (AnEvent T)) → StandsAt T.arithmetic o parties past machine.now →
         OnOk result (string_bytes out.new ≡ string_bytes out.old ++ last_line T.arithmetic T.numerals o past) }
 {

@@ -4,7 +4,7 @@ ghost use Rattle.std.specs.Io.KnownBytes.{Appends};
 ghost use Rattle.sync_play.specs.Run.{HasRead, HasPlayed, HasBegun, TellsFault, EndsReading, Begins};
 
 use crate::text::play_text;
-use std::alloc::Global;
+use std::alloc::Allocator;
 use std::io::{Read, Write};
 use sync_lines::fault::RunFault;
 
@@ -12,7 +12,7 @@ use sync_lines::fault::RunFault;
 const CHUNK: usize = 4096;
 
 /// Reads to the end. An error of any kind ends it, also an interruption.
-pub fn read_all<R: Read>(alloc: Global, reader: &mut R) -> Result<Vec<u8>, RunFault>
+pub fn read_all<R: Read, A: Allocator>(alloc: A, reader: &mut R) -> Result<Vec<u8, A>, RunFault>
     ensures ok { IfOk result (λ text. HasRead (R.remaining reader.old) (R.remaining reader.new) text.items) }
     ensures err { IfErr result EndsReading }
 {
@@ -44,7 +44,11 @@ pub fn write_all<W: Write>(writer: &mut W, bytes: &[u8]) -> Result<(), RunFault>
 }
 
 /// Reads a schedule text to its end, plays it, and writes what it prints, and nothing else.
-pub fn run<R: Read, W: Write>(alloc: Global, reader: &mut R, writer: &mut W) -> Result<(), RunFault>
+pub fn run<R: Read, W: Write, A: Allocator + Copy>(
+    alloc: A,
+    reader: &mut R,
+    writer: &mut W,
+) -> Result<(), RunFault>
     ensures ok { OnOk result (HasPlayed (R.remaining reader.old) (R.remaining reader.new)
         (W.contents writer.old) (W.contents writer.new)) }
     ensures text { IfErr result (λ e. TellsFault e (R.remaining reader.old) (R.remaining reader.new)) }

@@ -9,7 +9,7 @@ ghost use Rattle.sync_play.specs.Player.{steps_left};
 ghost use Rattle.sync_play.specs.Walk as meaning;
 
 use crate::player::next_events;
-use std::alloc::AllocError;
+use std::alloc::{AllocError, Allocator};
 use sync_lines::command::{Command, Task};
 use sync_lines::fault::{FaultyLine, LineFault};
 use sync_lines::header::Header;
@@ -126,8 +126,8 @@ pub fn open<T: TextInteger>(text: &[u8]) -> Result<(Header<T>, Rest<'_, T>), Fau
 /// `None` once all lines are played.
 ///
 /// After a fault nothing more is to be asked.
-pub fn next_stride<T: TextInteger>(
-    machine: &mut Machine<T>,
+pub fn next_stride<T: TextInteger, A: Allocator>(
+    machine: &mut Machine<T, A>,
     rest: &mut Rest<'_, T>,
 ) -> Result<Option<Stride<T>>, FaultyLine>
     requires countable { rest.old.line + length rest.old.lines.now < 2 ^ 64 }

@@ -1,4 +1,4 @@
-use Rattle.std.proofs.Common.{◌∙◌, ap, [], ℕ, Vec, Global}
+use Rattle.std.proofs.Common.{◌∙◌, ap, [], ℕ, Vec}
 use Rattle.std.proofs.lemmas.Result.{err_from_is_err_and}
 use Rattle.sync_lines.specs.Lexer.{lines_of}
 use Rattle.sync_play.proofs.PlayLaws.{opens_none, faults_so, text_is_printed}
@@ -21,4 +21,4 @@ returns-clause-played g c =
     let told = c.in_ok-header.ensures in
     let header = c.in_ok-header.header in
     text_is_printed g.T.AtomicInteger.arithmetic g.T.TextInteger.numerals (lines_of c.args.text.now) header c.in_ok-header.rest _ _ _ _ told.opened told.line told.left c.new-out.ensures.bytes (c.in_ok-play_rest.ensures header.object header.parties [] c.in_ok-machine.ensures)
-    (λ o parties past stands. ap (λ (v : Vec ℕ Global). v.items) c.into_bytes.ensures.value ∙ c.in_ok-print_last.ensures o parties past stands)
+    (λ o parties past stands. ap (λ (v : Vec ℕ g.row.A.Denot). v.items) c.into_bytes.ensures.value ∙ c.in_ok-print_last.ensures o parties past stands)

@@ -2,4 +2,4 @@ use Rattle.std.proofs.Common.{rules}
 use Rattle.sync_lines.proofs.integer.I64TextInteger.print.Goals as goal
 
 pub returns : goal.returns
-returns c = search rules
+returns g c = search rules
