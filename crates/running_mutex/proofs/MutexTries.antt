@@ -9,12 +9,10 @@ use Rattle.passes.specs.Parts.{IsWhole}
 use Rattle.passes.specs.Passes.{part_of, sights_of}
 use Rattle.passes.specs.Answers.{HasAsked}
 use Rattle.playing.specs.Words.{IsNamed}
-use Rattle.playing.specs.Passes.{counts_of}
 use Rattle.playing.specs.Counts.{HasMoved, WasRefused, WasRefusedAt, HasGivenUp}
 use Rattle.playing.proofs.Attempts.{missed_once, told_after, asked_after}
 use Rattle.tallies.specs.declared.mutex.Holds.{Holds}
-use Rattle.running_mutex.specs.MutexSteps.{granted}
-use Rattle.running_mutex.specs.MutexShown.{MutexPass, IsLocked, IsAlone, Enters, HasLocked, HasSeenLocked, HasUnlocked, HasEntered, HasStayed, grants_of}
+use Rattle.running_mutex.specs.MutexShown.{MutexPass, IsLocked, IsAlone, Enters, HasLocked, HasSeenLocked, HasUnlocked, HasEntered}
 
 pub locks_once : (p q : MutexPass) → HasLocked p q → HasEntered p q
 locks_once p q locked = let count = ap (λ (v : View Holds). v.sights.count) locked.2 in record {
@@ -46,27 +44,5 @@ pub state_named : (i : ℕ) → i ≡ 0 → IsNamed (words.State ∷ []) i words
 state_named i is = subst (λ (n : ℕ). IsNamed (words.State ∷ []) n words.State) (sym is) refl
 
 -- the hold, once it is off again
-
 pub alone_again : (p q : MutexPass) → HasUnlocked p q → IsWhole (part_of p) → IsAlone q
 alone_again p q off whole = (subst IsWhole (sym (ap (λ (v : View Holds). v.part) off.2)) whole, ap (λ (v : View Holds). v.tally.holds) off.2)
-
-pub grants_once : (p q r : MutexPass) → HasEntered p q → HasUnlocked q r → grants_of r ≡ (granted (counts_of p)).grants
-grants_once p q r on off = ap (λ (v : View Holds). v.tally.grants) off.2 ∙ on.counts.grants
-
-pub stays : (p q r : MutexPass) → HasEntered p q → HasUnlocked q r → HasStayed p r
-stays p q r on off = let once = grants_once p q r on off in let count = ap (λ (v : View Holds). v.sights.count) off.2 in record {
-  same = (off.0.0 ∙ on.same.0, off.0.1 ∙ on.same.1);
-  holds = ap (λ (v : View Holds). v.tally.holds) off.2 ∙ sym on.counts.off;
-  part = ap (λ (v : View Holds). v.part) off.2 ∙ on.part;
-  grants = omega (arith, once);
-  saw = omega (arith, count, on.saw.more);
-}
-
-pub stays_refused : (P : ℕ → Type 0) (n : ℕ) (p q : MutexPass) → WasRefused P n p q → HasStayed p q
-stays_refused P n p q refused = let grants = ap (λ (t : Holds). t.grants) refused.stayed.counts in record {
-  same = refused.stayed.same;
-  holds = ap (λ (t : Holds). t.holds) refused.stayed.counts;
-  part = refused.stayed.part;
-  grants = omega (arith, grants);
-  saw = refused.stayed.saw.more;
-}

@@ -155,7 +155,14 @@ impl<A: Allocator> Mutex<A> {
         ensures exact { IsAlone pass.old → IsSuccess result }
         ensures aborted { IfInterrupted result (MayAnswerAbort W.Fn wait IsLocked) }
     {
-        if this.enter(pass, rt, &wait) {
+        let (free, turn) = this.first::<LockCall>(pass);
+        if free {
+            let _pass = turn.end(&this.stage);
+            return WaitResult::Success(MutexHold { pass });
+        }
+        let (granted, last) = try_again(rt, turn, this, &this.word(), locked(), &wait);
+        let _pass = last.end(&this.stage);
+        if granted {
             WaitResult::Success(MutexHold { pass })
         } else {
             WaitResult::Interrupted
@@ -221,38 +228,14 @@ impl<A: Allocator> Mutex<A> {
         ensures aborted { IfInterrupted result (MayAnswerAbort W.Fn wait IsLocked) }
         ensures woke { IfSuccess result (λ _. HasWoken K.Fn wake_one) }
     {
-        if !self.enter(pass, rt, &wait) {
-            return WaitResult::Interrupted;
+        match Self::lock(pass, self, rt, wait) {
+            WaitResult::Success(hold) => {
+                let given = act();
+                self.unlock(hold, wake_one);
+                WaitResult::Success(given)
+            }
+            WaitResult::Interrupted => WaitResult::Interrupted,
         }
-        let given = act();
-        self.leave(pass, &wake_one);
-        WaitResult::Success(given)
-    }
-
-    /// What `lock` does, and whether the hold is on.
-    #[inline(always)]
-    fn enter<R: Wait, W: Fn(&WaitWord, &u64) -> WaitAction>(
-        &self,
-        pass: &mut MutexPass,
-        rt: &R,
-        wait: &W,
-    ) -> bool
-        requires own { IsMutexPass self.now pass.old }
-        requires may { W.IsAlwaysCallable wait.now }
-        ensures entered { MatchBool result (HasEntered pass.old pass.new) (HasGivenUp W.Fn wait.now IsLocked pass.old pass.new) }
-        ensures played { MatchBool result (HasPlayed calls.Lock answers.Success (Some kinds.Write) pass.old pass.new) (HasPlayed calls.Lock answers.Interrupted None pass.old pass.new) }
-        ensures has { result ≡ true → HasMutex (parties_of pass.new) }
-        ensures exact { IsAlone pass.old → result ≡ true }
-        ensures aborted { result ≡ false → MayAnswerAbort W.Fn wait.now IsLocked }
-    {
-        let (free, turn) = self.first::<LockCall>(pass);
-        if free {
-            let _pass = turn.end(&self.stage);
-            return true;
-        }
-        let (granted, last) = try_again(rt, turn, self, &self.word(), locked(), wait);
-        let _pass = last.end(&self.stage);
-        granted
     }
 
     /// What `try_lock` does, and whether the hold is on.
