@@ -14,6 +14,9 @@ GOAL = re.compile(r"^(?:note: )?\./(?:proofs/\S*?(\w+)/(?:Answers|Invariants|Pro
 # One that has no answer, and was searched for in vain; it is told before the line of its function.
 UNANSWERED = re.compile(r"^note: \S+:\d+:\d+: (it is not proved that .*)")
 FUNCTION = re.compile(r"^fn \S*?(\w+): (.*)")
+# The goals that a search did not prove, and the one that an error is in.
+UNPROVED = re.compile(r"^fn \S*?(\w+): no proof: expected answers.*?did not prove (.*?)(?:; it calls.*)?$")
+WRONG_ANSWER = re.compile(r"^(?:note: )?\./proofs/\S*?(\w+)/(?:Answers|Invariants|Proof)\.antt:\d+:\d+: error(?:\[[\w-]+\])?: `([^`]+)`")
 # What is said of a proof that cites a broken one: no goal of its own.
 DEPENDS = re.compile(r"declarations? that depends? on `")
 # What says nothing of a contract: a proof misses a name that the edit took away, or a search ended at a limit. The kit's gate takes an edit for
@@ -131,11 +134,31 @@ def telling(reasons, brought):
             yield it
 
 
+def open_clauses(said):
+    """Of each function whose goals a check leaves open, in its order, which clauses they are of; a goal of no clause by its own name."""
+    found = {}
+    for line in said.split("\n"):
+        unproved, wrong = UNPROVED.match(line), WRONG_ANSWER.match(line)
+        goals = re.findall(r"`([^`]+)`", unproved[2]) if unproved else [wrong[2]] if wrong and not DEPENDS.search(line) else []
+        for goal in goals:
+            clause = re.search(r"-clause-(\w+)$", goal)
+            found.setdefault((unproved or wrong)[1], {})[clause[1] if clause else "its one clause" if goal.startswith("returns") else goal] = True
+    return {name: [*clauses] for name, clauses in found.items()}
+
+
+def refusal(clauses):
+    """What refused an edit, in a few words."""
+    few = lambda names: ", ".join(it if it == "its one clause" else f"`{it}`" for it in names[:3]) + (", .." if len(names) > 3 else "")
+    return "; ".join(f"`{name}`: {few(names)}" for name, names in [*clauses.items()][:2]) + ("; .." if len(clauses) > 2 else "")
+
+
 class Batches:
     """The tries of a crate's edits: `next` gives the edits of the next check, and `judge` takes what it said. `told` has what each came to."""
 
     def __init__(self, crate, names):
         self.told, self.left, self.apart, self.most = {}, [], [], len(names)
+        # What refused each edit.
+        self.refusals = {}
         for name in names:
             try:
                 edit = Edit(crate, name)
@@ -155,6 +178,7 @@ class Batches:
         """Takes the status of a check with these edits, and what it said."""
         is_verdict = status == 1 and "logic=not-proved" in said
         goals = open_goals(said) if is_verdict else {}
+        clauses = open_clauses(said) if is_verdict else {}
         if batch[0].is_alone() or len(batch) == 1 and batch[0] in self.apart:
             self.apart = self.apart[1:]
             reasons = errors_of(said) + [it for own in goals.values() for it in own]

@@ -18,6 +18,7 @@ import argparse
 import concurrent.futures
 import fcntl
 import glob
+import json
 import os
 import re
 import shutil
@@ -232,6 +233,10 @@ def play(lane, crate, jobs):
     return Told(number, 0, f"{number} examples are as they should be, unproved")
 
 
+# What refused each edit that was tried, by its crate and name.
+REFUSALS = {}
+
+
 class Tries:
     """The edits of a crate, tried in its lane."""
 
@@ -250,6 +255,7 @@ class Tries:
                 put(folder, old)
             checks += 1
             batches.judge(batch, status, said)
+        REFUSALS.update({f"{crate.name}/{name.removesuffix('.edit')}": why for name, why in batches.refusals.items() if why})
         wrong = {name: it for name, it in batches.told.items() if it[0] != "refused"}
         refused, left = len(batches.told) - len(wrong), len(crate.edits) - len(batches.told)
         line = f"{refused} of its {len(crate.edits)} edits are refused, in {checks} checks" + (f"; {left} were not tried" if left else "")
@@ -390,6 +396,14 @@ def lanes_at(top):
     return f"{ran.stdout.strip()}/lanes" if ran.returncode == 0 else tempfile.mkdtemp(prefix="lanes-")
 
 
+def keep_refusals(path):
+    """Keeps what refused the edits, for tools/wrong_bodies.py."""
+    kept = json.loads(edits.text_of(path)) if os.path.exists(path) else {}
+    if REFUSALS and os.path.isdir(os.path.dirname(path)):
+        with open(path, "w", encoding="utf-8") as it:
+            json.dump({**kept, **REFUSALS}, it, indent=1, sort_keys=True)
+
+
 def tell(given, crates, tasks, began):
     """Says what was proved in this call, what only ran, what was not tried, and what it cost."""
     of = lambda kind: [name for done, name in given if done == kind]
@@ -441,6 +455,7 @@ def main(words):
     finally:
         if at.startswith(tempfile.gettempdir()):
             shutil.rmtree(at, ignore_errors=True)
+    keep_refusals(f"{at}/refused.json")
     passed, failed = (sum(getattr(it, what) for it, _ in given.values()) for what in ("passed", "failed"))
     tell(given, crates, tasks, began)
     print(f"{passed} passed, {failed} failed", flush=True)
