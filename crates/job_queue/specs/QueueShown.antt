@@ -42,7 +42,8 @@ pub record HasStayed (p q : QueuePass) : Type 0 where
 pub record HasGoneInOnce (p q : QueuePass) : Type 0 where
   pub mutex : HasLockedOnce (mutex_in p) (mutex_in q)
   pub state : spins.HasLockedOnce (state_in p) (state_in q)
-  -- by one `BlockingLock` and its `Unlock`, and no other call
+  -- by one `Lock` of the mutex and one `BlockingLock` of the state's lock, each with its `Unlock`, and no other call
+  pub locked : mutexes.HasPlayedBoth (mutex_in p) (mutex_in q)
   pub spun : HasPlayedBoth calls.BlockingLock (spins.view (state_in p)) (spins.view (state_in q))
 
 -- so, each at least once

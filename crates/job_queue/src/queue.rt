@@ -2,7 +2,7 @@
 ghost use Rattle.std.specs.Prelude.{◌≡◌, ◌+◌, ◌≤◌, min, IfOk, IfErr};
 ghost use Rattle.passes.specs.Answers.{MayAnswerAbort, HasWoken};
 ghost use Rattle.running_semaphore.specs.SemaphoreShown.{IsEmpty};
-ghost use Rattle.running_mutex.specs.MutexShown.{IsMutexPass, holds_of, grants_of, pass_of, borrow_of, HasStayed as HasLockedAtMost};
+ghost use Rattle.running_mutex.specs.MutexShown.{IsMutexPass, holds_of, grants_of, pass_of, borrow_of, HasStayed as HasLockedAtMost, HasPlayedBoth as HasLockedAndUnlocked};
 ghost use Rattle.running_mutex.specs.CondShown.{IsCondPass, HasNotified, held_by, HasStayed as HasWaitedAtMost};
 ghost use Rattle.running_spin_lock.specs.SpinShown.{IsSpinPass, HasLockedOnce as HasSpunOnce, HasStayed as HasSpunAtMost, grants_of as state_grants_of, view};
 ghost use Rattle.running_spin_lock.specs.SpinSteps.{HasPlayedBoth};
@@ -183,6 +183,7 @@ fn put_locked<T, A: Allocator, R: Wait, K: Fn(&WaitWord)>(
     requires off { holds_of mtx_pass.old ≡ 0 }
     requires may { K.IsAlwaysCallable wake_one.now }
     ensures locked { HasLockedOnce mtx_pass.old mtx_pass.new }
+    ensures played { HasLockedAndUnlocked mtx_pass.old mtx_pass.new }
     ensures spun { HasSpunOnce pass.old pass.new }
     ensures called { HasPlayedBoth calls.BlockingLock (view pass.old) (view pass.new) }
     ensures handed_back { IfErr result (λ fault. job_of fault ≡ job) }
@@ -217,6 +218,7 @@ fn close_locked<T, A: Allocator, R: Wait, K: Fn(&WaitWord)>(
     requires off { holds_of mtx_pass.old ≡ 0 }
     requires may { K.IsAlwaysCallable wake_one.now }
     ensures locked { HasLockedOnce mtx_pass.old mtx_pass.new }
+    ensures played { HasLockedAndUnlocked mtx_pass.old mtx_pass.new }
     ensures spun { HasSpunOnce pass.old pass.new }
     ensures called { HasPlayedBoth calls.BlockingLock (view pass.old) (view pass.new) }
 {
