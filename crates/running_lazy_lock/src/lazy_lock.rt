@@ -116,18 +116,10 @@ impl<T: Drop, F: FnOnce() -> T + Drop, G: Gives<T, F>, A: Allocator> LazyLock<T,
         );
         match made {
             Some(written) => this.value.value(&written),
-            None => this.read(rt),
-        }
-    }
-
-    /// The value, once it can be read.
-    #[inline(always)]
-    fn read<R: Wait>(&self, rt: &R) -> &T
-        ensures given { IsGiven G.may G.gives result.now }
-    {
-        match self.value.get() {
-            Some(value) => value,
-            None => never(rt),
+            None => match this.value.get() {
+                Some(value) => value,
+                None => never(rt),
+            },
         }
     }
 

@@ -237,9 +237,9 @@ impl<A: Allocator> Once<A> {
         ensures exact { IsWhole (part_of_once pass.old) → ended_of pass.new ≡ 1 }
         ensures played { HasPlayed calls.CallOnce answers.Done pass.old pass.new }
     {
-        self.call_once_on(
+        self.run_or_wait(
             rt,
-            pass,
+            &mut pass.pass,
             &mut (),
             |_: &mut ()|
                 requires { F.IsAlwaysCallable f }
