@@ -183,11 +183,13 @@ class Batches:
             self.apart = self.apart[1:]
             reasons = errors_of(said) + [it for own in goals.values() for it in own]
             self.told[batch[0].name] = judged(batch[0], status, is_verdict, reasons, said)
+            self.refusals[batch[0].name] = refusal(clauses)
             return
         for edit in batch:
             reasons = [it for name in edit.functions for it in goals.get(name, [])]
             if reasons:
                 self.told[edit.name] = judged(edit, status, True, reasons, said)
+                self.refusals[edit.name] = refusal({name: clauses[name] for name in sorted(edit.functions & clauses.keys())})
         told = [it for it in batch if it.name in self.told]
         self.left = [it for it in self.left if it not in told]
         if not is_verdict and len(batch) > 1:
