@@ -21,7 +21,7 @@ WRONG_ANSWER = re.compile(r"^(?:note: )?\./proofs/\S*?(\w+)/(?:Answers|Invariant
 DEPENDS = re.compile(r"declarations? that depends? on `")
 # What says nothing of a contract: a proof misses a name that the edit took away, or a search ended at a limit. The kit's gate takes an edit for
 # refused that has no other reason; here it fails.
-NAME_GONE = re.compile(r"has no field|has no `|is not in scope")
+NAME_GONE = re.compile(r"has no field|has no `|is not in scope|: module `[^`]*`$")
 GAVE_UP = re.compile(r"gave up at one of its limits|went on past its bounds")
 # What a call requires that the edit may have brought in.
 REQUIRED = re.compile(r"it is not proved that what `(\w+)` requires holds at this call")
