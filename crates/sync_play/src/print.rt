@@ -65,11 +65,7 @@ fn print_number<A: Allocator>(out: &mut String<A>, party: usize) -> Result<(), A
 
 /// A call of a wake closure, by a party counted from 0.
 #[inline(never)]
-fn print_wake<A: Allocator>(
-    out: &mut String<A>,
-    party: usize,
-    wake: Wake,
-) -> Result<(), AllocError>
+fn print_wake<A: Allocator>(out: &mut String<A>, party: usize, wake: Wake) -> Result<(), AllocError>
     ensures { OnOk result (string_bytes out.new ≡ string_bytes out.old ++ wake_line party wake) }
 {
     print_number(out, party)?;

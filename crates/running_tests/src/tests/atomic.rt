@@ -44,7 +44,10 @@ fn add<T: AtomicInteger, R: Wait>(
 fn sums_wrap(rt: HostRuntime) -> Result<(), Fail> {
     let carry = 1u128 << 64;
     assert_eq!(rt; add(&rt, rt.alloc(), u64::MAX, 1)?, [u64::MAX, 0, 0]);
-    assert_eq!(rt; add(&rt, rt.alloc(), carry - 1, 1)?, [carry - 1, carry, carry]);
+    assert_eq!(rt;
+        add(&rt, rt.alloc(), carry - 1, 1)?,
+        [carry - 1, carry, carry]
+    );
     assert_eq!(rt; add(&rt, rt.alloc(), -1i128, 1)?, [-1, 0, 0]);
     let (atomic, mut pass) = Atomic::<i64>::new(rt.alloc(), i64::MIN)?;
     let old = atomic.fetch_sub(&rt, &mut pass, 1, ORDER);
