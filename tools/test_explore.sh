@@ -1,5 +1,6 @@
 # Each question of examples/explore is answered: NAME.txt has beside it the answer (NAME.out), NAME.err for standard error where it is not
-# empty, and NAME.status where the status is not 0. Each text in an answer is played by sync-play, and prints what its line says.
+# empty, and NAME.status where the status is not 0. Each text in an answer is played by sync-play, and prints what its line says. And
+# questions that are made at random are answered as tools/brute.py answers them, which knows nothing but the pages.
 test_explore() {
     local text
     source tools/test_examples.sh
@@ -12,4 +13,6 @@ test_explore() {
         attempt python3 tools/replayed.py "$text" "${text%.txt}.out"
         judge "the texts in ${text%.txt}.out" 0 /dev/null /dev/null
     done
+    attempt python3 tools/brute.py --random 200 1
+    judge_line "tools/brute.py" 0 "200 questions, 0 wrong" ""
 }
