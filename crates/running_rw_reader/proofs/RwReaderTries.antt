@@ -7,7 +7,8 @@ use Rattle.passes.specs.Parts.{IsWhole}
 use Rattle.passes.specs.Passes.{part_of, sights_of}
 use Rattle.passes.specs.Views.{looked, wrote}
 use Rattle.playing.specs.Passes.{counts_of, counted}
-use Rattle.playing.specs.Counts.{HasSeen, HasMissed, HasDone, HasOnlySeen, WasRefusedAt}
+use Rattle.playing.specs.Counts.{HasSeen, HasMissed, HasDone, HasOnlySeen, WasRefused, WasRefusedAt}
+use Rattle.playing.proofs.Attempts.{seen_twice, moved_later}
 use Rattle.tallies.specs.RwReaderRule.{Holds}
 use Rattle.running_rw_hold.proofs.RwTries.{last_seen, last_kept, seen_once, moved_after, overtaken}
 use Rattle.running_rw_reader.specs.RwReaderSteps.{read, word_of}
@@ -68,4 +69,20 @@ taken_at p q seen saw last taken = let count = ap (λ (v : View Holds). v.sights
     saw = record { more = omega (arith, count); still = λ none. absurd (omega (arith, count, none)) };
   };
   looked = record { more = omega (arith, count); refusing = (last, taken) };
+}
+
+-- what is told of what came after nothing was counted; and after a sight
+pub told_still : (n : ℕ) (p q r : RwReaderPass) (granted : Bool) → HasOnlySeen p q → MatchBool granted (HasEnteredToRead q r) (WasRefused IsShut n q r) → MatchBool granted (HasEnteredToRead p r) (WasRefused IsShut n p r)
+told_still n p q r true seen moved = moved_later EntersToRead p q r seen moved
+told_still n p q r false seen again = record {
+  stayed = seen_twice p q r seen again.stayed;
+  looked = record { more = omega (arith, seen.saw.more, again.looked.more); refusing = again.looked.refusing };
+}
+
+pub told_once : (n : ℕ) (p q r : RwReaderPass) (granted : Bool) → HasOnlySeen p q → (sights_of p).count + 1 ≤ (sights_of q).count → MatchBool granted (HasEnteredToRead q r) (WasRefused IsShut n q r) →
+    MatchBool granted (HasEnteredToRead p r) (WasRefused IsShut (n + 1) p r)
+told_once n p q r true seen more moved = moved_later EntersToRead p q r seen moved
+told_once n p q r false seen more again = record {
+  stayed = seen_twice p q r seen again.stayed;
+  looked = record { more = omega (arith, more, again.looked.more); refusing = again.looked.refusing };
 }

@@ -98,11 +98,12 @@ impl Deed<(), Held<()>> for LeaveWriting {
 
 impl<A: Allocator> RwLockReaderPreference<A> {
     ghost use Rattle.std.specs.Borrow.{sem, u64, unit};
-    ghost use Rattle.std.specs.Prelude.{true, false, ◌+◌, ◌<◌, ◌≢◌, [], ◌∷◌, Some, None, MatchBool, IfErr, is_ok};
+    ghost use Rattle.std.specs.Prelude.{true, false, ◌+◌, ◌<◌, ◌≢◌, List, [], ◌∷◌, Some, None, MatchBool, IfErr, is_ok};
     ghost use Rattle.steps_events.specs.declared.event.Word.TheVariants as words;
     ghost use Rattle.steps_events.specs.declared.event.Call.TheVariants as calls;
     ghost use Rattle.steps_events.specs.declared.event.Answer.TheVariants as answers;
     ghost use Rattle.steps_events.specs.declared.hold.HoldKind.TheVariants as kinds;
+    ghost use Rattle.steps_events.specs.declared.patience.Patience.{Patience};
     ghost use Rattle.steps_events.specs.declared.row.Intent.TheVariants as intents;
     ghost use Rattle.steps_rw_reader.specs.declared.RwReaderPlace.TheVariants as places;
     ghost use Rattle.tallies.specs.RwReaderScript.{rw_reader_model};
@@ -113,20 +114,20 @@ impl<A: Allocator> RwLockReaderPreference<A> {
     ghost use Rattle.passes.specs.Views.{first_view};
     ghost use Rattle.passes.specs.contracts.pass.Pass.{the_row};
     ghost use Rattle.playing.specs.contracts.played.Played as played_row;
-    ghost use Rattle.playing.specs.Slots.{no_parties};
+    ghost use Rattle.playing.specs.Slots.{Slot, no_parties, all_of};
     ghost use Rattle.playing.specs.Plays.{Beginning, Going, MayStep, Went};
     ghost use Rattle.playing.specs.Passes.{played};
-    ghost use Rattle.playing.specs.Counts.{HasSeen, HasMissed, HasDone, WasRefused, WasRefusedAt, HasGivenUp};
+    ghost use Rattle.playing.specs.Counts.{HasSeen, HasMissed, HasDone, HasOnlySeen, WasRefused, WasRefusedAt, HasGivenUp};
     ghost use Rattle.playing.specs.Stages.{id_of};
-    ghost use Rattle.playing.specs.Tries.{MayTry, Tried, IsGranted, IsRefused};
+    ghost use Rattle.playing.specs.Tries.{spun, MayTry, Tried, IsGranted, IsRefused, HasGivenUp as HasEndedRefused};
     ghost use Rattle.tallies.specs.contracts.held.Held as held_row;
     ghost use Rattle.tallies.specs.contracts.rw_reader.RwReaderScript as script_row;
     ghost use Rattle.tallies.specs.Shown.{object_shown, index_shown};
     ghost use Rattle.running_rw_hold.specs.RwShown.{IsReadHold, IsWriteHold, pass_of, borrow_of};
     ghost use Rattle.tallies.specs.RwReaderRule.{no_holds};
-    ghost use Rattle.running_rw_reader.specs.RwReaderParties.{has_hold, Unlocks};
+    ghost use Rattle.running_rw_reader.specs.RwReaderParties.{has_hold, HasLooked, Unlocks};
     ghost use Rattle.running_rw_reader.specs.RwReaderSteps.{read, written, word_of};
-    ghost use Rattle.running_rw_reader.specs.RwReaderShown.{IsRwReaderPass, IsAlone, IsShut, IsTaken, reads_of, writes_of, WasTurnedAway, HasEnteredToRead, HasEnteredToWrite, HasReadAtOnce, HasWrittenAtOnce, HasSeenTaken, HasLeftReading, HasLeftWriting, HasUnlocked, HasPlayed, HasPlayedUnlock};
+    ghost use Rattle.running_rw_reader.specs.RwReaderShown.{IsRwReaderPass, IsAlone, IsShut, IsTaken, reads_of, writes_of, WasTurnedAway, HasEnteredToRead, HasEnteredToWrite, HasReadAtOnce, HasWrittenAtOnce, HasSeenTaken, HasSeenLast, HasLeftReading, HasLeftWriting, HasUnlocked, HasPlayed, HasPlayedUnlock};
 
     /// A lock that is free, and the pass that is whole. `Err` where there was no memory; then nothing was made.
     pub fn new(alloc: A) -> Result<(RwLockReaderPreference<A>, RwReaderPass), AllocError>
@@ -291,7 +292,6 @@ impl<A: Allocator> RwLockReaderPreference<A> {
     }
 
     /// Looks, and turns a read hold on while there is room. `Err` with a value at which there was none.
-    #[inline(always)]
     fn read_unless_shut<'p, W: Way<u64>, R: Wait>(
         &self,
         turn: Turn<'p, RwReaderPass, W>,
@@ -306,44 +306,75 @@ impl<A: Allocator> RwLockReaderPreference<A> {
         ensures once { IfErr result (λ missed. IsWhole (part_of turn.entry.pass.now) → (sights_of missed.1.pass.now).count ≡ (sights_of turn.entry.pass.now).count + 1) }
         ensures granted { IfOk result (λ next. Tried rw_reader_model calls.ReadLock places.ReadLook W.coming (parties_of turn.entry.pass.now) (λ _ done. IsGranted rw_reader_model calls.ReadLock places.ReadLook (Some kinds.Read) done (parties_of next.pass.now))) }
         ensures failed { IfErr result (λ missed. Tried rw_reader_model calls.ReadLock places.ReadLook W.coming (parties_of turn.entry.pass.now) (λ patience done. IsRefused rw_reader_model calls.ReadLock places.ReadLook patience missed.0 done (parties_of missed.1.pass.now))) }
-        ensures exact { IsAlone turn.entry.pass.now → is_ok result ≡ true }
     {
-        let (first, after) = self.look(turn);
-        let mut seen = first;
-        let mut next = after;
+        let (seen, looked) = self.look(turn);
+        match self.read_from(looked, rt, seen) {
+            Ok(entered) => Ok(entered),
+            Err(shut) => Err(shut),
+        }
+    }
+
+    /// The same from a value that it has just seen.
+    #[inline(always)]
+    fn read_from<'p, R: Wait>(
+        &self,
+        turn: Turn<'p, RwReaderPass, Goes>,
+        rt: &R,
+        seen: u64,
+    ) -> Result<Turn<'p, RwReaderPass, Goes>, (u64, Turn<'p, RwReaderPass, Goes>)>
+        requires own { IsRwReaderPass self.now turn.pass.now }
+        requires last { (sights_of turn.pass.now).last ≡ seen }
+        requires at { (patience : Patience) × (done : List (Slot ℕ)) × HasLooked patience seen done (parties_of turn.pass.now) }
+        ensures same_borrow { IfOk result (λ next. next.pass.ghost_name ≡ turn.entry.pass.ghost_name) }
+        ensures same_borrow_too { IfErr result (λ missed. missed.1.pass.ghost_name ≡ turn.entry.pass.ghost_name) }
+        ensures entered { IfOk result (λ next. HasEnteredToRead turn.entry.pass.now next.pass.now) }
+        ensures refused { IfErr result (λ missed. HasOnlySeen turn.entry.pass.now missed.1.pass.now × ((sights_of missed.1.pass.now).last ≡ missed.0) × IsShut missed.0) }
+        ensures once { IfErr result (λ missed. (IsWhole (part_of turn.entry.pass.now) → seen ≡ word_of (tally_of turn.entry.pass.now)) → IsWhole (part_of turn.entry.pass.now) → (sights_of missed.1.pass.now).count ≡ (sights_of turn.entry.pass.now).count) }
+        ensures granted { IfOk result (λ next. (patience : Patience) (done : List (Slot ℕ)) → HasLooked patience seen done (parties_of turn.entry.pass.now) → IsGranted rw_reader_model calls.ReadLock places.ReadLook (Some kinds.Read) done (parties_of next.pass.now)) }
+        ensures failed { IfErr result (λ missed. (patience : Patience) (done : List (Slot ℕ)) → HasLooked patience seen done (parties_of turn.entry.pass.now) → IsRefused rw_reader_model calls.ReadLock places.ReadLook patience missed.0 done (parties_of missed.1.pass.now)) }
+    {
+        let mut last = seen;
+        let mut next = turn;
         for _ in rt.forever() {
-            let Some(more) = reader_enters(seen) else {
-                return Err((seen, next));
+            let Some(more) = reader_enters(last) else {
+                return Err((last, next));
             };
-            let (found, again) = self.come_to_read(next, seen, more);
-            if found == seen {
+            let (found, again) = self.come_to_read(next, last, more);
+            if found == last {
                 return Ok(again);
             }
-            seen = found;
+            last = found;
             next = again;
         }
         unreachable!()
     }
 
-    /// The same, with which a `ReadLock` begins.
+    /// The look with which a `ReadLock` begins, and one exchange where there is room: no loop, so that these are inlined. `Err` with the
+    /// value seen last, at which it has not entered.
     #[inline(always)]
-    fn first_read<'p, R: Wait>(
+    fn first_read<'p>(
         &self,
-        rt: &R,
         pass: &'p mut RwReaderPass,
     ) -> Result<Turn<'p, RwReaderPass, Goes>, (u64, Turn<'p, RwReaderPass, Goes>)>
         requires own { IsRwReaderPass self.now pass.old }
         ensures same_borrow { IfOk result (λ next. next.pass.ghost_name ≡ pass.entry.ghost_name) }
         ensures same_borrow_too { IfErr result (λ missed. missed.1.pass.ghost_name ≡ pass.entry.ghost_name) }
         ensures entered { IfOk result (λ next. HasEnteredToRead pass.old next.pass.now) }
-        ensures refused { IfErr result (λ missed. WasRefusedAt IsShut missed.0 1 pass.old missed.1.pass.now) }
-        ensures once { IfErr result (λ missed. IsWhole (part_of pass.old) → (sights_of missed.1.pass.now).count ≡ (sights_of pass.old).count + 1) }
-        ensures granted { IfOk result (λ next. Tried rw_reader_model calls.ReadLock places.ReadLook (Beginning calls.ReadLock) (parties_of pass.old) (λ _ done. IsGranted rw_reader_model calls.ReadLock places.ReadLook (Some kinds.Read) done (parties_of next.pass.now))) }
-        ensures failed { IfErr result (λ missed. Tried rw_reader_model calls.ReadLock places.ReadLook (Beginning calls.ReadLock) (parties_of pass.old) (λ patience done. IsRefused rw_reader_model calls.ReadLock places.ReadLook patience missed.0 done (parties_of missed.1.pass.now))) }
+        ensures looked { IfErr result (λ missed. HasSeenLast missed.0 pass.old missed.1.pass.now) }
+        ensures granted { IfOk result (λ next. IsGranted rw_reader_model calls.ReadLock places.ReadLook (Some kinds.Read) (all_of (parties_of pass.old)) (parties_of next.pass.now)) }
+        ensures goes_on { IfErr result (λ missed. HasLooked (spun 0) missed.0 (all_of (parties_of pass.old)) (parties_of missed.1.pass.now)) }
         ensures exact { IsAlone pass.old → is_ok result ≡ true }
     {
-        let begun = begin_new::<ReadCall, RwReaderPass>(pass);
-        self.read_unless_shut(begun, rt)
+        let (seen, turn) = self.first_look::<ReadCall>(pass);
+        let Some(more) = reader_enters(seen) else {
+            return Err((seen, turn));
+        };
+        let (found, next) = self.come_to_read(turn, seen, more);
+        if found == seen {
+            Ok(next)
+        } else {
+            Err((found, next))
+        }
     }
 
     /// What `read_lock` does, and whether the hold is on.
@@ -363,16 +394,42 @@ impl<A: Allocator> RwLockReaderPreference<A> {
         ensures aborted { result ≡ false → MayAnswerAbort W.Fn wait.now IsShut }
         ensures asked { IsWhole (part_of pass.old) → result ≡ false → HasAsked W.Fn wait.now IsShut 10001 pass.old pass.new }
     {
-        match self.first_read(rt, pass) {
+        match self.first_read(pass) {
             Ok(granted) => {
                 let _pass = granted.end(&self.stage);
                 true
             }
             Err((seen, next)) => {
-                let reader = Reader { lock: self };
-                let (entered, last) = try_again(rt, next, &reader, &self.word(), seen, wait);
+                let (entered, last) = self.read_later(next, rt, seen, wait);
                 let _pass = last.end(&self.stage);
                 entered
+            }
+        }
+    }
+
+    /// What it does from a value that it has just seen, once its first look, or its first exchange, did not let it in.
+    fn read_later<'p, R: Wait, W: Fn(&WaitWord, &u64) -> WaitAction>(
+        &self,
+        turn: Turn<'p, RwReaderPass, Goes>,
+        rt: &R,
+        seen: u64,
+        wait: &W,
+    ) -> (bool, Turn<'p, RwReaderPass, Goes>)
+        requires own { IsRwReaderPass self.now turn.pass.now }
+        requires may { W.IsAlwaysCallable wait.now }
+        requires last { (sights_of turn.pass.now).last ≡ seen }
+        requires at { (done : List (Slot ℕ)) × HasLooked (spun 0) seen done (parties_of turn.pass.now) }
+        ensures same_borrow { result.1.pass.ghost_name ≡ turn.entry.pass.ghost_name }
+        ensures told { MatchBool result.0 (HasEnteredToRead turn.entry.pass.now result.1.pass.now) (WasRefused IsShut 10001 turn.entry.pass.now result.1.pass.now) }
+        ensures aborted { result.0 ≡ false → MayAnswerAbort W.Fn wait.now IsShut }
+        ensures asked { (IsWhole (part_of turn.entry.pass.now) → seen ≡ word_of (tally_of turn.entry.pass.now)) → IsWhole (part_of turn.entry.pass.now) → result.0 ≡ false → HasAsked W.Fn wait.now IsShut 10000 turn.entry.pass.now result.1.pass.now }
+        ensures over { (done : List (Slot ℕ)) → HasLooked (spun 0) seen done (parties_of turn.entry.pass.now) → MatchBool result.0 (IsGranted rw_reader_model calls.ReadLock places.ReadLook (Some kinds.Read) done (parties_of result.1.pass.now)) (HasEndedRefused rw_reader_model calls.ReadLock places.ReadLook done (parties_of result.1.pass.now)) }
+    {
+        match self.read_from(turn, rt, seen) {
+            Ok(granted) => (true, granted),
+            Err((shut, next)) => {
+                let reader = Reader { lock: self };
+                try_again(rt, next, &reader, &self.word(), shut, wait)
             }
         }
     }

@@ -1,5 +1,5 @@
 -- What the sights and exchanges of a reader at a writer-preferring lock come to.
-use Rattle.std.proofs.Common.{◌≡◌, ◌≢◌, ℕ, ◌+◌, ◌==◌, Bool, true, false, MatchBool, inl, inr, refl, sym, ap, subst, ◌∙◌, arith}
+use Rattle.std.proofs.Common.{◌≡◌, ◌≢◌, ◌≤◌, ℕ, ◌+◌, ◌==◌, Bool, true, false, MatchBool, inl, inr, refl, sym, ap, subst, ◌∙◌, arith}
 use Rattle.std.proofs.lemmas.Bool.{eqb-true, eqb-false}
 use Rattle.steps_events.proofs.Holds.{eqb_same}
 use Rattle.passes.specs.declared.view.View.{View}
@@ -7,8 +7,8 @@ use Rattle.passes.specs.declared.pass.Pass.{Pass}
 use Rattle.passes.specs.Passes.{part_of, sights_of}
 use Rattle.passes.specs.Views.{looked, wrote}
 use Rattle.playing.specs.Passes.{counts_of, counted}
-use Rattle.playing.specs.Counts.{HasSeen, HasMissed, HasDone, HasOnlySeen}
-use Rattle.playing.proofs.Attempts.{still_so}
+use Rattle.playing.specs.Counts.{HasSeen, HasMissed, HasDone, HasOnlySeen, WasRefused}
+use Rattle.playing.proofs.Attempts.{seen_twice, moved_later, still_so}
 use Rattle.tallies.specs.declared.rw_writer.MarkedHolds.{MarkedHolds}
 use Rattle.running_rw_hold.proofs.RwTries.{last_seen, last_kept, seen_once, moved_after, overtaken}
 use Rattle.running_rw_writer.specs.RwWriterSteps.{PlayedRwWriter, IsOnly, SaysAlone, read, word_of}
@@ -56,3 +56,19 @@ read_at_once p q r seen saw done =
 
 pub surely_read : (p q : Pass PlayedRwWriter) (seen found : ℕ) → HasSeen seen p q → SaysAlone (counted p) seen → SaysAlone (counted q) found → IsAloneWithin p → (found == seen) ≡ true
 surely_read p q seen found saw is says alone = subst (λ (n : ℕ). (n == seen) ≡ true) (sym (found_again p q seen found (seen_once seen p q saw) is says alone.0)) (eqb_same seen)
+
+-- what is told of what came after nothing was counted; and after a sight
+pub told_still : (n : ℕ) (p q r : Pass PlayedRwWriter) (granted : Bool) → HasOnlySeen p q → MatchBool granted (HasEnteredToRead q r) (WasRefused IsShut n q r) → MatchBool granted (HasEnteredToRead p r) (WasRefused IsShut n p r)
+told_still n p q r true seen moved = moved_later EntersToRead p q r seen moved
+told_still n p q r false seen again = record {
+  stayed = seen_twice p q r seen again.stayed;
+  looked = record { more = omega (arith, seen.saw.more, again.looked.more); refusing = again.looked.refusing };
+}
+
+pub told_once : (n : ℕ) (p q r : Pass PlayedRwWriter) (granted : Bool) → HasOnlySeen p q → (sights_of p).count + 1 ≤ (sights_of q).count → MatchBool granted (HasEnteredToRead q r) (WasRefused IsShut n q r) →
+    MatchBool granted (HasEnteredToRead p r) (WasRefused IsShut (n + 1) p r)
+told_once n p q r true seen more moved = moved_later EntersToRead p q r seen moved
+told_once n p q r false seen more again = record {
+  stayed = seen_twice p q r seen again.stayed;
+  looked = record { more = omega (arith, more, again.looked.more); refusing = again.looked.refusing };
+}

@@ -16,7 +16,7 @@ use Rattle.steps_rw_writer.specs.declared.Leaver.{Leaver}
 use Rattle.steps_rw_writer.specs.declared.Leaver.TheVariants as leavers
 use Rattle.steps_rw_writer.specs.declared.RwWriterPlace.{RwWriterPlace}
 use Rattle.steps_rw_writer.specs.declared.RwWriterPlace.TheVariants as places
-use Rattle.steps_rw_writer.specs.Table.{rw_writer_table, woken_one}
+use Rattle.steps_rw_writer.specs.Table.{rw_writer_table, read_look, woken_one}
 use Rattle.tallies.specs.RwWriterScript.{rw_writer_model}
 use Rattle.playing.specs.Slots.{Slot, Parties}
 use Rattle.playing.specs.Plays.{Coming, Answered, ComesBy, IsHolding, Leads, HasEnded, MayStep, Went}
@@ -37,6 +37,10 @@ TableLed coming p found q = Went rw_writer_model coming p found q
 -- a call goes on so, by a party that has no hold before
 abbrev pub CallGoes : Call ℕ → After ℕ RwWriterPlace → List (Slot ℕ) → Parties ℕ → Type 0
 CallGoes call after done p = Leads rw_writer_model call after None done p
+
+-- a `ReadLock` saw this last, and goes on so
+abbrev pub HasLooked : Patience → ℕ → List (Slot ℕ) → Parties ℕ → Type 0
+HasLooked patience seen done p = CallGoes calls.ReadLock (read_look patience seen) done p
 
 -- so, a `WriteLock`
 abbrev pub WriteGoes : After ℕ RwWriterPlace → List (Slot ℕ) → Parties ℕ → Type 0

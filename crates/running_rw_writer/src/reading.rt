@@ -13,23 +13,25 @@ use steps_rw_writer::{RwWriterPlace, reader_enters};
 use tallies::{MarkedHolds, RwWriterScript, WaitWord};
 
 impl<A: Allocator> RwLockWriterPreference<A> {
-    ghost use Rattle.std.specs.Prelude.{true, false, ◌+◌, ◌<◌, MatchBool, IfErr, is_ok, Some, None};
+    ghost use Rattle.std.specs.Prelude.{true, false, ◌+◌, ◌<◌, MatchBool, IfErr, is_ok, List, Some, None, ℕ};
     ghost use Rattle.steps_events.specs.declared.event.Call.TheVariants as calls;
     ghost use Rattle.steps_events.specs.declared.event.Answer.TheVariants as answers;
     ghost use Rattle.steps_events.specs.declared.hold.HoldKind.TheVariants as kinds;
+    ghost use Rattle.steps_events.specs.declared.patience.Patience.{Patience};
     ghost use Rattle.steps_events.specs.declared.row.Intent.TheVariants as intents;
     ghost use Rattle.steps_rw_writer.specs.declared.RwWriterPlace.TheVariants as places;
     ghost use Rattle.tallies.specs.RwWriterScript.{rw_writer_model};
     ghost use Rattle.passes.specs.Answers.{MayAnswerAbort, HasAsked, HasWoken};
     ghost use Rattle.passes.specs.Passes.{part_of, sights_of};
     ghost use Rattle.playing.specs.Passes.{counts_of as tally_of, counted};
-    ghost use Rattle.playing.specs.Counts.{HasSeen, WasRefused, WasRefusedAt};
+    ghost use Rattle.playing.specs.Counts.{HasSeen, HasOnlySeen, WasRefused, WasRefusedAt};
+    ghost use Rattle.playing.specs.Slots.{Slot, all_of};
     ghost use Rattle.playing.specs.Plays.{Beginning};
     ghost use Rattle.playing.specs.Stages.{IsPassOf};
-    ghost use Rattle.playing.specs.Tries.{MayTry, Tried, IsGranted, IsRefused};
-    ghost use Rattle.running_rw_writer.specs.RwWriterParties.{has_hold, TableHas, TableLed, Unlocks, unlocked};
-    ghost use Rattle.running_rw_writer.specs.RwWriterSteps.{IsOnly, SaysAlone};
-    ghost use Rattle.running_rw_writer.specs.RwWriterShown.{IsRwWriterPass, IsAloneWithin, IsShut, pass_in, sights_in, reads_of, HasEnteredToRead, HasReadAtOnce, HasLeftReading, WasTurnedAway, HasPlayed};
+    ghost use Rattle.playing.specs.Tries.{spun, MayTry, Tried, IsGranted, IsRefused, HasGivenUp as HasEndedRefused};
+    ghost use Rattle.running_rw_writer.specs.RwWriterParties.{has_hold, HasLooked, TableHas, TableLed, Unlocks, unlocked};
+    ghost use Rattle.running_rw_writer.specs.RwWriterSteps.{IsOnly, SaysAlone, word_of};
+    ghost use Rattle.running_rw_writer.specs.RwWriterShown.{IsRwWriterPass, IsAloneWithin, IsShut, pass_in, sights_in, reads_of, HasEnteredToRead, HasReadAtOnce, HasLeftReading, WasTurnedAway, HasSeenLast, HasPlayed};
 
     /// What `try_read_lock` does, and whether the hold is on.
     #[inline(always)]
@@ -73,7 +75,6 @@ impl<A: Allocator> RwLockWriterPreference<A> {
     }
 
     /// Looks, and turns a read hold on while a reader enters. `Err` with a value at which none did.
-    #[inline(always)]
     fn read_unless_shut<'p, W: Way<u64>, R: Wait>(
         &self,
         turn: Turn<'p, PlayedPass, W>,
@@ -88,44 +89,75 @@ impl<A: Allocator> RwLockWriterPreference<A> {
         ensures once { IfErr result (λ missed. IsOnly (part_of turn.entry.pass.now) (tally_of turn.entry.pass.now) → (sights_of missed.1.pass.now).count ≡ (sights_of turn.entry.pass.now).count + 1) }
         ensures granted { IfOk result (λ next. Tried rw_writer_model calls.ReadLock places.ReadLook W.coming (parties_of turn.entry.pass.now) (λ _ done. IsGranted rw_writer_model calls.ReadLock places.ReadLook (Some kinds.Read) done (parties_of next.pass.now))) }
         ensures failed { IfErr result (λ missed. Tried rw_writer_model calls.ReadLock places.ReadLook W.coming (parties_of turn.entry.pass.now) (λ patience done. IsRefused rw_writer_model calls.ReadLock places.ReadLook patience missed.0 done (parties_of missed.1.pass.now))) }
-        ensures exact { IsAloneWithin turn.entry.pass.now → is_ok result ≡ true }
     {
-        let (first, after) = self.look(turn);
-        let mut seen = first;
-        let mut next = after;
+        let (seen, looked) = self.look(turn);
+        match self.read_from(looked, rt, seen) {
+            Ok(entered) => Ok(entered),
+            Err(shut) => Err(shut),
+        }
+    }
+
+    /// The same from a value that it has just seen.
+    #[inline(always)]
+    fn read_from<'p, R: Wait>(
+        &self,
+        turn: Turn<'p, PlayedPass, Goes>,
+        rt: &R,
+        seen: u64,
+    ) -> Result<Turn<'p, PlayedPass, Goes>, (u64, Turn<'p, PlayedPass, Goes>)>
+        requires own { IsPassOf self.now.stage turn.pass.now }
+        requires last { (sights_of turn.pass.now).last ≡ seen }
+        requires at { (patience : Patience) × (done : List (Slot ℕ)) × HasLooked patience seen done (parties_of turn.pass.now) }
+        ensures same_borrow { IfOk result (λ next. next.pass.ghost_name ≡ turn.entry.pass.ghost_name) }
+        ensures same_borrow_too { IfErr result (λ missed. missed.1.pass.ghost_name ≡ turn.entry.pass.ghost_name) }
+        ensures entered { IfOk result (λ next. HasEnteredToRead turn.entry.pass.now next.pass.now) }
+        ensures refused { IfErr result (λ missed. HasOnlySeen turn.entry.pass.now missed.1.pass.now × ((sights_of missed.1.pass.now).last ≡ missed.0) × IsShut missed.0) }
+        ensures once { IfErr result (λ missed. (IsOnly (part_of turn.entry.pass.now) (tally_of turn.entry.pass.now) → seen ≡ word_of (tally_of turn.entry.pass.now)) → IsOnly (part_of turn.entry.pass.now) (tally_of turn.entry.pass.now) → (sights_of missed.1.pass.now).count ≡ (sights_of turn.entry.pass.now).count) }
+        ensures granted { IfOk result (λ next. (patience : Patience) (done : List (Slot ℕ)) → HasLooked patience seen done (parties_of turn.entry.pass.now) → IsGranted rw_writer_model calls.ReadLock places.ReadLook (Some kinds.Read) done (parties_of next.pass.now)) }
+        ensures failed { IfErr result (λ missed. (patience : Patience) (done : List (Slot ℕ)) → HasLooked patience seen done (parties_of turn.entry.pass.now) → IsRefused rw_writer_model calls.ReadLock places.ReadLook patience missed.0 done (parties_of missed.1.pass.now)) }
+    {
+        let mut last = seen;
+        let mut next = turn;
         for _ in rt.forever() {
-            let Some(more) = reader_enters(seen) else {
-                return Err((seen, next));
+            let Some(more) = reader_enters(last) else {
+                return Err((last, next));
             };
-            let (found, again) = self.come_to_read(next, seen, more);
-            if found == seen {
+            let (found, again) = self.come_to_read(next, last, more);
+            if found == last {
                 return Ok(again);
             }
-            seen = found;
+            last = found;
             next = again;
         }
         unreachable!()
     }
 
-    /// The same, with which a `ReadLock` begins.
+    /// The look with which a `ReadLock` begins, and one exchange where a reader enters: no loop, so that these are inlined. `Err` with the
+    /// value seen last, at which it has not entered.
     #[inline(always)]
-    fn first_read<'p, R: Wait>(
+    fn first_read<'p>(
         &self,
-        rt: &R,
         pass: &'p mut PlayedPass,
     ) -> Result<Turn<'p, PlayedPass, Goes>, (u64, Turn<'p, PlayedPass, Goes>)>
         requires own { IsPassOf self.now.stage pass.old }
         ensures same_borrow { IfOk result (λ next. next.pass.ghost_name ≡ pass.entry.ghost_name) }
         ensures same_borrow_too { IfErr result (λ missed. missed.1.pass.ghost_name ≡ pass.entry.ghost_name) }
         ensures entered { IfOk result (λ next. HasEnteredToRead pass.old next.pass.now) }
-        ensures refused { IfErr result (λ missed. WasRefusedAt IsShut missed.0 1 pass.old missed.1.pass.now) }
-        ensures once { IfErr result (λ missed. IsOnly (part_of pass.old) (tally_of pass.old) → (sights_of missed.1.pass.now).count ≡ (sights_of pass.old).count + 1) }
-        ensures granted { IfOk result (λ next. Tried rw_writer_model calls.ReadLock places.ReadLook (Beginning calls.ReadLock) (parties_of pass.old) (λ _ done. IsGranted rw_writer_model calls.ReadLock places.ReadLook (Some kinds.Read) done (parties_of next.pass.now))) }
-        ensures failed { IfErr result (λ missed. Tried rw_writer_model calls.ReadLock places.ReadLook (Beginning calls.ReadLock) (parties_of pass.old) (λ patience done. IsRefused rw_writer_model calls.ReadLock places.ReadLook patience missed.0 done (parties_of missed.1.pass.now))) }
+        ensures looked { IfErr result (λ missed. HasSeenLast missed.0 pass.old missed.1.pass.now) }
+        ensures granted { IfOk result (λ next. IsGranted rw_writer_model calls.ReadLock places.ReadLook (Some kinds.Read) (all_of (parties_of pass.old)) (parties_of next.pass.now)) }
+        ensures goes_on { IfErr result (λ missed. HasLooked (spun 0) missed.0 (all_of (parties_of pass.old)) (parties_of missed.1.pass.now)) }
         ensures exact { IsAloneWithin pass.old → is_ok result ≡ true }
     {
-        let begun = begin_new::<ReadCall, PlayedPass>(pass);
-        self.read_unless_shut(begun, rt)
+        let (seen, turn) = self.first_look::<ReadCall>(pass);
+        let Some(more) = reader_enters(seen) else {
+            return Err((seen, turn));
+        };
+        let (found, next) = self.come_to_read(turn, seen, more);
+        if found == seen {
+            Ok(next)
+        } else {
+            Err((found, next))
+        }
     }
 
     /// What `read_lock` does, and whether the hold is on.
@@ -145,16 +177,42 @@ impl<A: Allocator> RwLockWriterPreference<A> {
         ensures aborted { result ≡ false → MayAnswerAbort W.Fn wait.now IsShut }
         ensures asked { IsOnly (part_of pass.old) (tally_of pass.old) → result ≡ false → HasAsked W.Fn wait.now IsShut 10001 pass.old pass.new }
     {
-        match self.first_read(rt, pass) {
+        match self.first_read(pass) {
             Ok(granted) => {
                 let _pass = granted.end(&self.stage);
                 true
             }
             Err((seen, next)) => {
-                let reader = Reader { lock: self };
-                let (entered, last) = try_again(rt, next, &reader, &self.word(), seen, wait);
+                let (entered, last) = self.read_later(next, rt, seen, wait);
                 let _pass = last.end(&self.stage);
                 entered
+            }
+        }
+    }
+
+    /// What it does from a value that it has just seen, once its first look, or its first exchange, did not let it in.
+    fn read_later<'p, R: Wait, W: Fn(&WaitWord, &u64) -> WaitAction>(
+        &self,
+        turn: Turn<'p, PlayedPass, Goes>,
+        rt: &R,
+        seen: u64,
+        wait: &W,
+    ) -> (bool, Turn<'p, PlayedPass, Goes>)
+        requires own { IsPassOf self.now.stage turn.pass.now }
+        requires may { W.IsAlwaysCallable wait.now }
+        requires last { (sights_of turn.pass.now).last ≡ seen }
+        requires at { (done : List (Slot ℕ)) × HasLooked (spun 0) seen done (parties_of turn.pass.now) }
+        ensures same_borrow { result.1.pass.ghost_name ≡ turn.entry.pass.ghost_name }
+        ensures told { MatchBool result.0 (HasEnteredToRead turn.entry.pass.now result.1.pass.now) (WasRefused IsShut 10001 turn.entry.pass.now result.1.pass.now) }
+        ensures aborted { result.0 ≡ false → MayAnswerAbort W.Fn wait.now IsShut }
+        ensures asked { (IsOnly (part_of turn.entry.pass.now) (tally_of turn.entry.pass.now) → seen ≡ word_of (tally_of turn.entry.pass.now)) → IsOnly (part_of turn.entry.pass.now) (tally_of turn.entry.pass.now) → result.0 ≡ false → HasAsked W.Fn wait.now IsShut 10000 turn.entry.pass.now result.1.pass.now }
+        ensures over { (done : List (Slot ℕ)) → HasLooked (spun 0) seen done (parties_of turn.entry.pass.now) → MatchBool result.0 (IsGranted rw_writer_model calls.ReadLock places.ReadLook (Some kinds.Read) done (parties_of result.1.pass.now)) (HasEndedRefused rw_writer_model calls.ReadLock places.ReadLook done (parties_of result.1.pass.now)) }
+    {
+        match self.read_from(turn, rt, seen) {
+            Ok(granted) => (true, granted),
+            Err((shut, next)) => {
+                let reader = Reader { lock: self };
+                try_again(rt, next, &reader, &self.word(), shut, wait)
             }
         }
     }

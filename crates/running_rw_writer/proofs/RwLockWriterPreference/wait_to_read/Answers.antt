@@ -1,58 +1,47 @@
 use Rattle.std.proofs.lemmas.Bool.{MatchBool-at_true}
+use Rattle.std.proofs.Common.{◌≡◌, true, Some, None, MatchBool, ◌∙◌, refl, sym, ap, subst}
 use Rattle.steps_events.specs.declared.event.Call.TheVariants as calls
 use Rattle.steps_events.specs.declared.event.Answer.TheVariants as answers
 use Rattle.steps_events.specs.declared.hold.HoldKind.TheVariants as kinds
+use Rattle.passes.specs.declared.pass.Pass.{Pass}
+use Rattle.playing.proofs.Attempts.{still_so}
+use Rattle.passes.specs.Answers.{HasAsked}
 use Rattle.playing.specs.Slots.{all_of}
-use Rattle.playing.specs.Tries.{spun}
 use Rattle.playing.specs.Passes.{parties_of}
-use Rattle.playing.specs.Words.{IsNamed}
+use Rattle.playing.specs.Counts.{WasRefused}
 use Rattle.playing.proofs.Over.{is_over, either_is_over}
 use Rattle.tallies.specs.RwWriterScript.{rw_writer_model}
-use Rattle.std.proofs.Common.{◌≡◌, ℕ, true, Some, None, MatchBool, [], ◌∷◌, ◌∙◌, refl, sym, subst}
-use Rattle.steps_events.specs.declared.event.Word.TheVariants as words
+use Rattle.running_rw_hold.proofs.RwTries.{asked_on}
 use Rattle.running_rw_writer.specs.RwWriterParties.{has_hold}
-use Rattle.passes.specs.declared.pass.Pass.{Pass}
-use Rattle.passes.specs.Answers.{HasAsked}
-use Rattle.playing.specs.Counts.{WasRefused}
-use Rattle.running_rw_hold.proofs.RwTries.{tried_on, asked_on}
-use Rattle.playing.proofs.Attempts.{still_so}
-use Rattle.running_rw_writer.specs.RwWriterSteps.{PlayedRwWriter, IsOnly}
-use Rattle.running_rw_writer.specs.RwWriterShown.{IsShut, EntersToRead, HasEnteredToRead, HasPlayed}
-use Rattle.running_rw_writer.proofs.RwWriterPlays.{read_begins, granted_has}
+use Rattle.running_rw_writer.specs.RwWriterSteps.{PlayedRwWriter, IsOnly, word_of}
+use Rattle.running_rw_writer.specs.RwWriterShown.{IsShut, HasEnteredToRead, HasPlayed}
+use Rattle.running_rw_writer.proofs.RwWriterPlays.{granted_has}
+use Rattle.running_rw_writer.proofs.RwWriterReads.{told_once}
 use Rattle.running_rw_writer.proofs.RwLockWriterPreference.wait_to_read.Goals as goal
 
-pub try_again-entered-requires-clause-at : goal.try_again-entered-requires-clause-at
-try_again-entered-requires-clause-at g c = (all_of (parties_of c.args.pass.now), (c.in-Err.ensures.failed (spun 0) _ (read_begins (parties_of c.args.pass.now))))
+pub read_later-entered-requires-clause-own : goal.read_later-entered-requires-clause-own
+read_later-entered-requires-clause-own g c = c.in-Err.ensures.looked.stayed.same.0 ∙ c.requires.own
 
-pub try_again-entered-requires-clause-own : goal.try_again-entered-requires-clause-own
-try_again-entered-requires-clause-own g c = c.in-Err.ensures.refused.stayed.same.0 ∙ c.requires.own
+pub read_later-entered-requires-clause-last : goal.read_later-entered-requires-clause-last
+read_later-entered-requires-clause-last g c = c.in-Err.ensures.looked.last
 
-pub try_again-entered-requires-clause-seen : goal.try_again-entered-requires-clause-seen
-try_again-entered-requires-clause-seen g c = c.in-Err.ensures.refused.looked.refusing.0
-
-pub try_again-entered-requires-clause-refused : goal.try_again-entered-requires-clause-refused
-try_again-entered-requires-clause-refused g c = c.in-Err.ensures.refused.looked.refusing.1
-
-pub try_again-entered-requires-clause-word : goal.try_again-entered-requires-clause-word
-try_again-entered-requires-clause-word g c = c.word.ensures.object
-
-pub try_again-entered-requires-clause-handed : goal.try_again-entered-requires-clause-handed
-try_again-entered-requires-clause-handed g c = λ _. subst (λ (n : ℕ). IsNamed (words.State ∷ words.Counter ∷ []) n words.State) (sym c.word.ensures.index) refl
+pub read_later-entered-requires-clause-at : goal.read_later-entered-requires-clause-at
+read_later-entered-requires-clause-at g c = ((all_of (parties_of c.args.pass.now)), c.in-Err.ensures.goes_on)
 
 pub end-pass-requires-clause-over : goal.end-pass-requires-clause-over
-end-pass-requires-clause-over g c = is_over rw_writer_model calls.ReadLock _ _ _ _ (c.in-Ok.ensures.granted (spun 0) _ (read_begins (parties_of c.args.pass.now)))
+end-pass-requires-clause-over g c = is_over rw_writer_model calls.ReadLock _ _ _ _ c.in-Ok.ensures.granted
 
 pub end-pass-requires-in-Err-clause-over : goal.end-pass-requires-in-Err-clause-over
-end-pass-requires-in-Err-clause-over g c = either_is_over rw_writer_model c.try_again-entered.result.0 calls.ReadLock _ _ _ (c.try_again-entered.ensures.over (all_of (parties_of c.args.pass.now)) (c.in-Err.ensures.failed (spun 0) _ (read_begins (parties_of c.args.pass.now))))
+end-pass-requires-in-Err-clause-over g c = either_is_over rw_writer_model c.read_later-entered.result.0 calls.ReadLock _ _ _ (c.read_later-entered.ensures.over (all_of (parties_of c.args.pass.now)) c.in-Err.ensures.goes_on)
 
 pub returns-in-Ok-clause-entered : goal.returns-in-Ok-clause-entered
 returns-in-Ok-clause-entered g c = subst (λ (q : Pass PlayedRwWriter). HasEnteredToRead c.args.pass.now q) (sym (c.pass-1.given.1 (sym c.in-Ok.ensures.same_borrow ∙ sym c.end-pass.ensures.same_borrow) ∙ c.end-pass.ensures.still)) c.in-Ok.ensures.entered
 
 pub returns-in-Ok-clause-played : goal.returns-in-Ok-clause-played
-returns-in-Ok-clause-played g c = subst (λ (q : Pass PlayedRwWriter). HasPlayed calls.ReadLock answers.Success (Some kinds.Read) c.args.pass.now q) (sym (c.pass-1.given.1 (sym c.in-Ok.ensures.same_borrow ∙ sym c.end-pass.ensures.same_borrow) ∙ c.end-pass.ensures.still)) (c.in-Ok.ensures.granted (spun 0) _ (read_begins (parties_of c.args.pass.now)))
+returns-in-Ok-clause-played g c = subst (λ (q : Pass PlayedRwWriter). HasPlayed calls.ReadLock answers.Success (Some kinds.Read) c.args.pass.now q) (sym (c.pass-1.given.1 (sym c.in-Ok.ensures.same_borrow ∙ sym c.end-pass.ensures.same_borrow) ∙ c.end-pass.ensures.still)) c.in-Ok.ensures.granted
 
 pub returns-in-Ok-clause-has : goal.returns-in-Ok-clause-has
-returns-in-Ok-clause-has g c = λ _. subst (λ (q : Pass PlayedRwWriter). has_hold kinds.Read (parties_of q) ≡ true) (sym (c.pass-1.given.1 (sym c.in-Ok.ensures.same_borrow ∙ sym c.end-pass.ensures.same_borrow) ∙ c.end-pass.ensures.still)) (granted_has calls.ReadLock kinds.Read _ _ (c.in-Ok.ensures.granted (spun 0) _ (read_begins (parties_of c.args.pass.now))))
+returns-in-Ok-clause-has g c = λ _. subst (λ (q : Pass PlayedRwWriter). has_hold kinds.Read (parties_of q) ≡ true) (sym (c.pass-1.given.1 (sym c.in-Ok.ensures.same_borrow ∙ sym c.end-pass.ensures.same_borrow) ∙ c.end-pass.ensures.still)) (granted_has calls.ReadLock kinds.Read _ _ c.in-Ok.ensures.granted)
 
 pub returns-in-Ok-clause-exact : goal.returns-in-Ok-clause-exact
 returns-in-Ok-clause-exact g c = λ _. refl
@@ -60,23 +49,23 @@ returns-in-Ok-clause-exact g c = λ _. refl
 pub returns-in-Ok-clause-aborted : goal.returns-in-Ok-clause-aborted
 returns-in-Ok-clause-aborted g c = λ no. absurd cc
 
+pub returns-in-Ok-clause-asked : goal.returns-in-Ok-clause-asked
+returns-in-Ok-clause-asked g c = λ _ no. absurd cc
+
 pub returns-in-Err-clause-entered : goal.returns-in-Err-clause-entered
-returns-in-Err-clause-entered g c = subst (λ (q : Pass PlayedRwWriter). MatchBool c.try_again-entered.result.0 (HasEnteredToRead c.args.pass.now q) (WasRefused IsShut 10002 c.args.pass.now q)) (sym (c.pass-in-Err-1.given.1 (sym c.in-Err.ensures.same_borrow_too ∙ sym c.try_again-entered.ensures.same_borrow ∙ sym c.end-pass-in-Err.ensures.same_borrow) ∙ c.end-pass-in-Err.ensures.still)) (tried_on EntersToRead IsShut 10001 _ _ _ _ _ c.in-Err.ensures.refused c.try_again-entered.ensures.told)
+returns-in-Err-clause-entered g c = subst (λ (q : Pass PlayedRwWriter). MatchBool c.read_later-entered.result.0 (HasEnteredToRead c.args.pass.now q) (WasRefused IsShut 10002 c.args.pass.now q)) (sym (c.pass-in-Err-1.given.1 (sym c.in-Err.ensures.same_borrow_too ∙ sym c.read_later-entered.ensures.same_borrow ∙ sym c.end-pass-in-Err.ensures.same_borrow) ∙ c.end-pass-in-Err.ensures.still)) (told_once 10001 _ _ _ _ c.in-Err.ensures.looked.stayed c.in-Err.ensures.looked.more c.read_later-entered.ensures.told)
 
 pub returns-in-Err-clause-played : goal.returns-in-Err-clause-played
-returns-in-Err-clause-played g c = subst (λ (q : Pass PlayedRwWriter). MatchBool c.try_again-entered.result.0 (HasPlayed calls.ReadLock answers.Success (Some kinds.Read) c.args.pass.now q) (HasPlayed calls.ReadLock answers.Interrupted None c.args.pass.now q)) (sym (c.pass-in-Err-1.given.1 (sym c.in-Err.ensures.same_borrow_too ∙ sym c.try_again-entered.ensures.same_borrow ∙ sym c.end-pass-in-Err.ensures.same_borrow) ∙ c.end-pass-in-Err.ensures.still)) (c.try_again-entered.ensures.over (all_of (parties_of c.args.pass.now)) (c.in-Err.ensures.failed (spun 0) _ (read_begins (parties_of c.args.pass.now))))
+returns-in-Err-clause-played g c = subst (λ (q : Pass PlayedRwWriter). MatchBool c.read_later-entered.result.0 (HasPlayed calls.ReadLock answers.Success (Some kinds.Read) c.args.pass.now q) (HasPlayed calls.ReadLock answers.Interrupted None c.args.pass.now q)) (sym (c.pass-in-Err-1.given.1 (sym c.in-Err.ensures.same_borrow_too ∙ sym c.read_later-entered.ensures.same_borrow ∙ sym c.end-pass-in-Err.ensures.same_borrow) ∙ c.end-pass-in-Err.ensures.still)) (c.read_later-entered.ensures.over (all_of (parties_of c.args.pass.now)) c.in-Err.ensures.goes_on)
 
 pub returns-in-Err-clause-has : goal.returns-in-Err-clause-has
-returns-in-Err-clause-has g c = λ done. subst (λ (q : Pass PlayedRwWriter). has_hold kinds.Read (parties_of q) ≡ true) (sym (c.pass-in-Err-1.given.1 (sym c.in-Err.ensures.same_borrow_too ∙ sym c.try_again-entered.ensures.same_borrow ∙ sym c.end-pass-in-Err.ensures.same_borrow) ∙ c.end-pass-in-Err.ensures.still)) (granted_has calls.ReadLock kinds.Read _ _ (MatchBool-at_true _ _ done (c.try_again-entered.ensures.over (all_of (parties_of c.args.pass.now)) (c.in-Err.ensures.failed (spun 0) _ (read_begins (parties_of c.args.pass.now))))))
+returns-in-Err-clause-has g c = λ done. subst (λ (q : Pass PlayedRwWriter). has_hold kinds.Read (parties_of q) ≡ true) (sym (c.pass-in-Err-1.given.1 (sym c.in-Err.ensures.same_borrow_too ∙ sym c.read_later-entered.ensures.same_borrow ∙ sym c.end-pass-in-Err.ensures.same_borrow) ∙ c.end-pass-in-Err.ensures.still)) (granted_has calls.ReadLock kinds.Read _ _ (MatchBool-at_true _ _ done (c.read_later-entered.ensures.over (all_of (parties_of c.args.pass.now)) c.in-Err.ensures.goes_on)))
 
 pub returns-in-Err-clause-exact : goal.returns-in-Err-clause-exact
 returns-in-Err-clause-exact g c = λ alone. let no = c.in-Err.ensures.exact alone in absurd cc
 
 pub returns-in-Err-clause-aborted : goal.returns-in-Err-clause-aborted
-returns-in-Err-clause-aborted g c = c.try_again-entered.ensures.aborted
-
-pub returns-in-Ok-clause-asked : goal.returns-in-Ok-clause-asked
-returns-in-Ok-clause-asked g c = λ _ no. absurd cc
+returns-in-Err-clause-aborted g c = c.read_later-entered.ensures.aborted
 
 pub returns-in-Err-clause-asked : goal.returns-in-Err-clause-asked
-returns-in-Err-clause-asked g c = λ only no. subst (λ (q : Pass PlayedRwWriter). HasAsked g.W.Fn c.args.wait.now IsShut 10001 c.args.pass.now q) (sym (c.pass-in-Err-1.given.1 (sym c.in-Err.ensures.same_borrow_too ∙ sym c.try_again-entered.ensures.same_borrow ∙ sym c.end-pass-in-Err.ensures.same_borrow) ∙ c.end-pass-in-Err.ensures.still)) (asked_on _ _ _ 10000 _ _ _ (c.in-Err.ensures.once only) (c.try_again-entered.ensures.asked no (still_so IsOnly _ _ c.in-Err.ensures.refused.stayed only)))
+returns-in-Err-clause-asked g c = λ whole no. subst (λ (q : Pass PlayedRwWriter). HasAsked g.W.Fn c.args.wait.now IsShut 10001 c.args.pass.now q) (sym (c.pass-in-Err-1.given.1 (sym c.in-Err.ensures.same_borrow_too ∙ sym c.read_later-entered.ensures.same_borrow ∙ sym c.end-pass-in-Err.ensures.same_borrow) ∙ c.end-pass-in-Err.ensures.still)) (asked_on _ _ _ 10000 _ _ _ (c.in-Err.ensures.looked.once whole) (c.read_later-entered.ensures.asked (λ _. c.in-Err.ensures.looked.says whole ∙ sym (ap word_of c.in-Err.ensures.looked.stayed.counts)) (still_so IsOnly _ _ c.in-Err.ensures.looked.stayed whole) no))
