@@ -10,7 +10,6 @@ use Rattle.steps_events.specs.declared.event.Then.TheVariants as thens
 use Rattle.steps_events.specs.declared.hold.HoldKind.{HoldKind}
 use Rattle.steps_events.specs.declared.patience.Patience.{Patience}
 use Rattle.steps_events.specs.declared.row.Intent.TheVariants as intents
-use Rattle.steps_events.specs.declared.row.After.TheVariants as afters
 use Rattle.steps_events.specs.Rows.{within, refused}
 use Rattle.playing.specs.Models.{Model}
 use Rattle.playing.specs.Slots.{Slot, Parties}
@@ -94,19 +93,3 @@ module _ {V P : Type 0} (m : Model V P) (names : List Word) (handed : P → Word
     pub who : Wake
     pub wakes : m.table.intent place hold ≡ intents.Wake who
     pub word : IsNamed names index (handed place)
-
-  -- the next two that it does are so: it calls its wake closure of the word at the first index, and then that of the word at the second
-  pub record IsToWakeTwice (first second : ℕ) (p : Parties V) : Type 0 where
-    pub call : Call V
-    pub place : P
-    pub hold : Option HoldKind
-    pub done : List (Slot V)
-    pub at : IsAt m call place thens.GoesOn hold done p
-    pub who : Wake
-    pub wakes : m.table.intent place hold ≡ intents.Wake who
-    pub word : IsNamed names first (handed place)
-    pub later : P
-    pub goes_on : m.table.after place None ≡ afters.At later
-    pub also : Wake
-    pub wakes_also : m.table.intent later hold ≡ intents.Wake also
-    pub word_also : IsNamed names second (handed later)

@@ -3,7 +3,6 @@
 #![tactic(auto)]
 
 mod acting;
-mod attempt;
 mod calling;
 mod counts;
 mod ending;
@@ -17,7 +16,6 @@ mod tries;
 pub mod turn;
 mod wait;
 
-pub use attempt::{Attempt, ask, try_again};
 pub use counts::{Counts, CountsByActs};
 pub use entry::{Aborted, AddEntry, AfterAside, Answered, By, Continued, Entry, GoesOn, Way};
 pub use played::{Parties, Played};
