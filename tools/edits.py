@@ -19,10 +19,11 @@ UNPROVED = re.compile(r"^fn \S*?(\w+): no proof: expected answers.*?did not prov
 WRONG_ANSWER = re.compile(r"^(?:note: )?\./proofs/\S*?(\w+)/(?:Answers|Invariants|Proof)\.antt:\d+:\d+: error(?:\[[\w-]+\])?: `([^`]+)`")
 # What is said of a proof that cites a broken one: no goal of its own.
 DEPENDS = re.compile(r"declarations? that depends? on `")
-# What says nothing of a contract: a proof misses a name that the edit took away, or a search ended at a limit. The kit's gate takes an edit for
-# refused that has no other reason; here it fails.
+# What says nothing of a contract: a proof misses a name that the edit took away. The kit's gate takes an edit for refused that has no other reason;
+# here it fails.
 NAME_GONE = re.compile(r"has no field|has no `|is not in scope|: module `[^`]*`$")
-GAVE_UP = re.compile(r"gave up at one of its limits|went on past its bounds")
+# What says less than a search that tried every way: this is told, and counts as refused.
+GAVE_UP = re.compile(r"gave up at one of its limits|went on past its bounds|stopped at its own limit")
 # What a call requires that the edit may have brought in.
 REQUIRED = re.compile(r"it is not proved that what `(\w+)` requires holds at this call")
 
@@ -130,7 +131,7 @@ def telling(reasons, brought):
     for it in reasons:
         required = REQUIRED.match(it)
         is_new = required and required[1] in brought
-        if not NAME_GONE.search(it) and not GAVE_UP.search(it) and (is_new or not is_renamed or not it.startswith("it is not proved")):
+        if not NAME_GONE.search(it) and (is_new or not is_renamed or not it.startswith("it is not proved")):
             yield it
 
 
@@ -209,8 +210,8 @@ def errors_of(said):
 def judged(edit, status, is_verdict, reasons, said):
     """What an edit came to, and why."""
     if is_verdict:
-        for it in telling(reasons, edit.brought):
-            return "refused", it
+        for it in sorted(telling(reasons, edit.brought), key=lambda it: bool(GAVE_UP.search(it))):
+            return "refused at a limit" if GAVE_UP.search(it) else "refused", it
         return "SHOWS NOTHING", reasons[0] if reasons else "its check says no reason"
     if status == 0:
         return "NOT REFUSED", "the crate is still proved with this edit"

@@ -256,10 +256,11 @@ class Tries:
             checks += 1
             batches.judge(batch, status, said)
         REFUSALS.update({f"{crate.name}/{name.removesuffix('.edit')}": why for name, why in batches.refusals.items() if why})
-        wrong = {name: it for name, it in batches.told.items() if it[0] != "refused"}
+        shown = {name: it for name, it in batches.told.items() if it[0] != "refused"}
+        wrong = [name for name, it in shown.items() if not it[0].startswith("refused")]
         refused, left = len(batches.told) - len(wrong), len(crate.edits) - len(batches.told)
         line = f"{refused} of its {len(crate.edits)} edits are refused, in {checks} checks" + (f"; {left} were not tried" if left else "")
-        return Told(refused, len(wrong), line, "\n".join(f"{name}: {kind}: {why[:300]}" for name, (kind, why) in wrong.items()))
+        return Told(refused, len(wrong), line, "\n".join(f"{name}: {kind}: {why[:300]}" for name, (kind, why) in shown.items()))
 
 
 def put(folder, texts):

@@ -1,6 +1,4 @@
-//! What no text can say: readers and writers that fail, or that come in pieces, memory that is refused, and what the player answers step
-//! by step.
-mod growths;
+//! What no text can say: readers and writers that fail, or that come in pieces, and what the player answers step by step.
 mod limits;
 mod long;
 mod player;
