@@ -27,6 +27,9 @@ TESTED = {
     "running_rw_writer RwLockWriterPreference::new": "a_writer_preferring_lock_that_finds_no_memory",
     "running_semaphore Semaphore::new": "a_semaphore_that_finds_no_memory",
     "running_spin_lock SpinLock::new": "a_spin_lock_that_finds_no_memory_hands_its_value_back",
+    "sync_play play_text": "texts_that_find_no_memory",
+    "sync_play read_all": "texts_that_find_no_memory",
+    "sync_play run": "texts_that_find_no_memory",
     "sync_steps Machine::new": "a_machine_that_finds_no_memory",
     "sync_steps play": "events_that_find_no_memory",
     # What the running types are made of: each `new` above is one of these.
@@ -36,7 +39,7 @@ TESTED = {
 
 # The libraries of the programs, whose calls take memory of the system alone. `./test streams` sweeps the limit of each program.
 SWEPT = {
-    *("sync_lines", "sync_play", "sync_advice", "sync_trace", "sync_search", "sync_explore"),
+    *("sync_lines", "sync_advice", "sync_trace", "sync_search", "sync_explore"),
     *("markup", "draw_shapes", "sync_story", "draw_layout", "draw_parts", "sync_draw"),
 }
 

@@ -1,4 +1,6 @@
-//! What no text can say: readers and writers that fail, or that come in pieces, and what the player answers step by step.
+//! What no text can say: readers and writers that fail, or that come in pieces, memory that is refused, and what the player answers step
+//! by step.
+mod growths;
 mod limits;
 mod long;
 mod player;

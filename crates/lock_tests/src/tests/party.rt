@@ -41,20 +41,22 @@ pub(super) fn is_refused<P: Party>(party: &mut P) -> bool {
     tried.is_none()
 }
 
-/// A call that waits, and whose wait closure answers `Abort` at once: whether it was interrupted, and what the closure noted.
+/// A call that waits, and whose wait closure answers `Abort` at once: whether it was interrupted, and what the closure noted. Its closures
+/// are gathered, that one too.
 pub(super) fn wait_and_abort<P: Party, R: Wait>(
     rt: &R,
     party: &mut P,
-    wakes: &Gathering,
+    gathering: &Gathering,
 ) -> (bool, Noted) {
     let notes = Notes::new();
     let waited = party.wait_to(
         rt,
         |word, seen| {
             notes.note(word.load(), *seen);
+            gathering.wait(*seen);
             WaitAction::Abort
         },
-        wakes,
+        gathering,
         || (),
     );
     (waited.is_none(), notes.noted())

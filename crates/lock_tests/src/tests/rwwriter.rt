@@ -4,6 +4,7 @@ ghost use Rattle.passes.specs.Parts.{IsAgain};
 ghost use Rattle.passes.specs.Passes.{object_of};
 ghost use Rattle.running_rw_writer.specs.RwWriterShown.{IsRwWriterPass, IsAlone, HasStayed, pass_in, part_in, reads_of, writes_of};
 
+use super::give_up;
 use super::party::{self, Kind, Noted, Party};
 use iceoryx2_pal_concurrency_sync::strategy::rwlock::{RwLockWriterPreference, RwWriterPass};
 use iceoryx2_pal_concurrency_sync::{
@@ -367,15 +368,15 @@ fn only_readers_enter_together(rt: HostRuntime) -> Result<(), Fail> {
     Ok(())
 }
 
-/// While one has the lock: what a writer is told that gives up, and whether its pass is then refused to read.
+/// While one has the lock: what a writer is told that gives up, and whether its pass is then refused to read. Its closures are gathered.
 fn give_up_beside<R: Wait>(
     rt: &R,
     holder: &mut WriterLockParty<'_>,
     writer: &mut WriterLockParty<'_>,
-    wakes: &Gathering,
+    closures: &Gathering,
 ) -> Option<((bool, Noted), bool)> {
     holder.try_to(&Gathering::new(), || {
-        let waited = party::wait_and_abort(rt, writer, wakes);
+        let waited = party::wait_and_abort(rt, writer, closures);
         writer.kind = Kind::Read;
         let refused = party::is_refused(writer);
         writer.kind = Kind::Write;
@@ -383,18 +384,18 @@ fn give_up_beside<R: Wait>(
     })
 }
 
-/// A writer beside a reader gives up: it takes its mark away, wakes one and then all. So a reader enters, and a writer once the first has
-/// left. A writer that waits is told the count: the first 0, and one that comes after one has given up and another has left 2.
+/// A writer beside a reader asks, and gives up: it takes its mark away, wakes one and then all. So a reader enters, and a writer once the
+/// first has left. A writer that waits is told the count: the first 0, and one that comes after one has given up and another has left 2.
 #[test]
 fn abort_wakes_and_counts(rt: HostRuntime) -> Result<(), Fail> {
     let (lock, one, two) = in_two_parts(rt.alloc())?;
     let mut reader = party_of(&lock, one, Kind::Read);
     let mut writer = party_of(&lock, two, Kind::Write);
-    for (told, woken) in [(0, (23, 12)), (2, (23, 32))] {
-        let wakes = Gathering::new();
-        let answers = give_up_beside(&rt, &mut reader, &mut writer, &wakes);
+    for (told, called) in [(0, (123, 12)), (2, (123, 232))] {
+        let closures = Gathering::new();
+        let answers = give_up_beside(&rt, &mut reader, &mut writer, &closures);
         let gave_up = ((true, (1, told, told)), false);
-        assert_eq!(rt; (answers, wakes.gathered()), (Some(gave_up), woken));
+        assert_eq!(rt; (answers, closures.gathered()), (Some(gave_up), called));
         assert!(rt; !party::is_refused(&mut writer));
     }
     Ok(())
@@ -406,12 +407,61 @@ fn abort_beside_a_writer_wakes_nobody(rt: HostRuntime) -> Result<(), Fail> {
     let (lock, one, two) = in_two_parts(rt.alloc())?;
     let mut holder = party_of(&lock, one, Kind::Write);
     let mut writer = party_of(&lock, two, Kind::Write);
-    let wakes = Gathering::new();
-    let answers = give_up_beside(&rt, &mut holder, &mut writer, &wakes);
+    let closures = Gathering::new();
+    let answers = give_up_beside(&rt, &mut holder, &mut writer, &closures);
     assert_eq!(rt;
-        (answers, wakes.gathered()),
-        (Some(((true, (1, 0, 0)), true)), (0, 0))
+        (answers, closures.gathered()),
+        (Some(((true, (1, 0, 0)), true)), (1, 0))
     );
+    Ok(())
+}
+
+/// Whether a writer gives up while a reader is in, which then leaves.
+fn gives_up_beside_a_reader<R: Wait>(
+    rt: &R,
+    lock: &RwLockWriterPreference,
+    reader: &mut RwWriterPass,
+    writer: &mut RwWriterPass,
+) -> bool
+    requires own { IsRwWriterPass lock.now reader.old × IsRwWriterPass lock.now writer.old }
+    ensures stayed { HasStayed reader.old reader.new × HasStayed writer.old writer.new }
+{
+    match RwLockWriterPreference::try_read_lock(reader, lock) {
+        WaitResult::Success(hold) => {
+            let wakes = Gathering::new();
+            let wrote = wait_to(rt, lock, writer, Kind::Write, give_up, &wakes, || ());
+            lock.unlock(hold, wake_nobody, wake_nobody);
+            wrote.is_none()
+        }
+        WaitResult::Interrupted => false,
+    }
+}
+
+/// Whether it gives up so, and the word that is left of the lock then.
+#[tactic(auto, using(running_rw_hold::proofs::RwJoins::nobody_joins))]
+fn give_up_and_close<R: Wait>(
+    rt: &R,
+    lock: RwLockWriterPreference,
+    pass: RwWriterPass,
+) -> (bool, u64)
+    requires own { IsRwWriterPass lock pass }
+    requires alone { IsAlone pass }
+    ensures free { result.1 ≡ 0 }
+{
+    let Ok((mut one, mut two)) = pass.split(&lock) else {
+        unreachable!()
+    };
+    let gave_up = gives_up_beside_a_reader(rt, &lock, &mut one, &mut two);
+    let Ok(pass) = RwWriterPass::join(one, two, &lock) else {
+        unreachable!()
+    };
+    (gave_up, lock.close(pass))
+}
+
+#[test]
+fn a_writer_that_gave_up_leaves_no_mark(rt: HostRuntime) -> Result<(), Fail> {
+    let (lock, pass) = RwLockWriterPreference::new(rt.alloc())?;
+    assert_eq!(rt; give_up_and_close(&rt, lock, pass), (true, 0));
     Ok(())
 }
 

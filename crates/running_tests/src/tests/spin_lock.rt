@@ -205,6 +205,21 @@ fn parts_are_the_whole_again(rt: HostRuntime) -> Result<(), Fail> {
     Ok(())
 }
 
+fn shared<X: Sync>(_: &X) {}
+
+/// A spin lock may be shared also where its value may only be moved from thread to thread.
+fn shared_where_it_moves<T: Send>(lock: &SpinLock<T>) {
+    shared(lock);
+}
+
+#[test]
+fn a_spin_lock_is_shared_where_its_value_moves(rt: HostRuntime) -> Result<(), Fail> {
+    let (lock, mut pass) = SpinLock::new(rt.alloc(), 7u64)?;
+    shared_where_it_moves(&lock);
+    assert_eq!(rt; value_if_free(&lock, &mut pass), Some(7));
+    Ok(())
+}
+
 #[test]
 fn a_poison_error_gives_its_guard_back(rt: HostRuntime) -> Result<(), Fail> {
     assert_eq!(rt; PoisonError::new(7).into_inner(), 7);
