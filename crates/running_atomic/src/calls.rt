@@ -146,7 +146,7 @@ fn pause(tries: u64) -> u64 {
 }
 
 impl<T: AtomicInteger, A: Allocator> Atomic<T, A> {
-    ghost use Rattle.running_atomic.specs.AtomicShown.{IsAtomicPass, opening_of, loaded_in, pass_in, IsLastOf, IsLastInRun, HasActed, HasActedAt, HasTaken, HasCompared, HasPlayed, IsHolding, HasGot};
+    ghost use Rattle.running_atomic.specs.AtomicShown.{IsAtomicPass, opening_of, loaded_in, pass_in, HasActed, HasActedAt, HasTaken, HasCompared, HasPlayed, IsHolding, HasGot};
 
     /// An atomic of this value, and the pass that is whole. `Err` where there was no memory; then nothing was made.
     pub fn new(alloc: A, value: T) -> Result<(Atomic<T, A>, AtomicPass<T>), AllocError>
@@ -158,19 +158,6 @@ impl<T: AtomicInteger, A: Allocator> Atomic<T, A> {
         let (low, high) = value.to_words();
         let (stage, pass) = Stage::new(alloc, &[0, low, high], &value)?;
         Ok((Atomic { stage }, AtomicPass { pass }))
-    }
-
-    /// Ends the atomic, and answers its value. With the whole pass that is the register's after the pass's own acts, which are all: those
-    /// of a run of the model in which it alone is the parties, one for one and in order.
-    pub fn into_inner(self, pass: AtomicPass<T>) -> T
-        requires own { IsAtomicPass self pass }
-        ensures last { IsLastOf T.arithmetic (opening_of self) pass result }
-        ensures in_run { IsLastInRun T.arithmetic (opening_of self) pass result }
-    {
-        let Atomic { stage } = self;
-        let AtomicPass { pass } = pass;
-        let (low, high) = stage.close_two(pass, 1, 2);
-        T::from_words(low, high)
     }
 
     /// The value.

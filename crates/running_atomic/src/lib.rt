@@ -8,6 +8,7 @@
 mod begins;
 mod calls;
 mod deeds;
+mod ends;
 mod history;
 mod pass;
 mod script;
