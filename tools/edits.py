@@ -153,6 +153,12 @@ def refusal(clauses):
     return "; ".join(f"`{name}`: {few(names)}" for name, names in [*clauses.items()][:2]) + ("; .." if len(clauses) > 2 else "")
 
 
+def by_lemmas(said):
+    """The lemmas that no longer hold where no function's own goal is open, as of a wrong table."""
+    names = [it[1] for it in re.findall(r"(?m)^\./proofs/(\w+)\.antt:\d+:\d+: error(?:\[[\w-]+\])?: `([^`]+)`(?!.*depends? on `)", said)]
+    return ", ".join(f"`{it}`" for it in [*dict.fromkeys(names)][:3])
+
+
 class Batches:
     """The tries of a crate's edits: `next` gives the edits of the next check, and `judge` takes what it said. `told` has what each came to."""
 
@@ -184,7 +190,7 @@ class Batches:
             self.apart = self.apart[1:]
             reasons = errors_of(said) + [it for own in goals.values() for it in own]
             self.told[batch[0].name] = judged(batch[0], status, is_verdict, reasons, said)
-            self.refusals[batch[0].name] = refusal(clauses)
+            self.refusals[batch[0].name] = refusal(clauses) or by_lemmas(said)
             return
         for edit in batch:
             reasons = [it for name in edit.functions for it in goals.get(name, [])]

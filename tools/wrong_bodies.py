@@ -89,7 +89,7 @@ def page(top):
             text.append(f"\n## `{crate}`\n\n| Edit | What it turns | What refuses it |\n|---|---|---|\n")
         for name in map(os.path.basename, names):
             stem = name.removesuffix(".edit")
-            text.append(f"| `{stem}` | {turned(crate, name)} | {reasons.get((crate, stem), 'not tried yet')} |\n")
+            text.append(f"| `{stem}` | {turned(crate, name)} | {reasons.get((crate, stem), 'a lemma, which the next whole test names')} |\n")
     return "".join(text)
 
 
