@@ -48,7 +48,7 @@ play_example() {
     if [[ -f $3.err ]]; then
         wanted_err=$3.err
     fi
-    if [[ $1 != sync-play && -f $3.err ]]; then
+    if [[ $1 != sync-play && -f $3.advice ]]; then
         wanted_err=$room/wanted_err
         cat -- "$3.err" "$3.advice" >"$wanted_err"
     fi
