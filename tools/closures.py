@@ -1,11 +1,11 @@
 #!/usr/bin/env python3
-"""Where a running call may call a closure past its model, which no clause can say.
+"""Where a running call may call a closure, or make a step, past its model, which no clause can say.
 
     python3 tools/closures.py [ROOT]
 
 A running call hands its caller's closure on to `playing`, which calls it where the call of the model stands at that. What types and clauses
 leave open is told by lines: a closure of the library's own, handed on in its place; a closure that a body calls; how a pass comes to a step,
-said by the body itself. Each such line stands in tools/closures.txt, with what it is for. Prints those that do not, and those of the
+said by the body itself; a step that no turn makes. Each such line stands in tools/closures.txt, with what it is for. Prints those that do not, and those of the
 list that are gone, and then how many there are. The status is 0 where both agree.
 """
 import pathlib
@@ -14,7 +14,9 @@ import sys
 
 LITERAL = re.compile(r"(?:^|[(,=&]\s*|\bmove )\|[^|]*\|")
 CALLED = re.compile(r"(?<![\w.:])(?:passes::wake|wait|wakeup|wake|wake_one|wake_all|mtx_wait|mtx_wake_one|leave|act|f|make|choose)\)?\(|::call\w*\(")
-SAID = re.compile(r"(?<!fn )\bspend\(|\bBy::<|::<Brand\b|^impl\b.*\bWay<")
+# A step on a table or on words that is no turn's: a turn's names the rule or the object first.
+STEP = re.compile(r"(?:\.|::)(?:load|look|store|swap|fetch_\w+|compare_exchange\w*|\w+_new_seat)::<(?!_,)")
+SAID = re.compile(r"(?<!fn )\bspend\(|\bBy::<|::<(?:\w+, )*Brand\b|^impl\b.*\bWay<")
 COMING = re.compile(r"^ghost coming = \{ (?:λ \w+\. )?(\w+)")
 BEGINS = ("Beginning", "Continuing", "Choosing")
 
@@ -26,7 +28,7 @@ def tells(line, is_playing):
         return not is_playing and coming[1] not in BEGINS
     if line.startswith(("//", "ghost", "requires", "ensures", "fn ", "pub fn ", "pub(crate) fn ")):
         return False
-    return bool(LITERAL.search(line) or CALLED.search(line) or not is_playing and SAID.search(line))
+    return bool(LITERAL.search(line) or CALLED.search(line) or not is_playing and (SAID.search(line) or STEP.search(line)))
 
 
 def found(root):

@@ -22,8 +22,10 @@ DEPENDS = re.compile(r"declarations? that depends? on `")
 # What says nothing of a contract: a proof misses a name that the edit took away. The kit's gate takes an edit for refused that has no other reason;
 # here it fails.
 NAME_GONE = re.compile(r"has no field|has no `|is not in scope|: module `[^`]*`$")
-# What says less than a search that tried every way: this is told, and counts as refused.
+# What says less than a search that tried every way. Where the edit has a control beside it, a harmless change at the same place (NAME.control),
+# that has to be proved: then the search gives up on the wrong body, and not on any that is changed there. One without is told, and counts.
 GAVE_UP = re.compile(r"gave up at one of its limits|went on past its bounds|stopped at its own limit")
+AT_A_LIMIT = "refused at a limit"
 # What a call requires that the edit may have brought in.
 REQUIRED = re.compile(r"it is not proved that what `(\w+)` requires holds at this call")
 
@@ -163,6 +165,7 @@ class Batches:
     """The tries of a crate's edits: `next` gives the edits of the next check, and `judge` takes what it said. `told` has what each came to."""
 
     def __init__(self, crate, names):
+        self.crate = crate
         self.told, self.left, self.apart, self.most = {}, [], [], len(names)
         # What refused each edit.
         self.refusals = {}
@@ -207,6 +210,33 @@ class Batches:
             self.left = [it for it in self.left if it not in batch]
             self.apart += batch
 
+    def controls(self):
+        """The controls of the edits of which it is told only that a search gave up, those of different functions together."""
+        groups = []
+        for name in [it for it, (kind, _) in self.told.items() if kind == AT_A_LIMIT]:
+            try:
+                control = Edit(self.crate, control_of(name))
+            except OSError:
+                continue
+            except BadEdit as why:
+                self.told[name] = "BAD", f"its control: {why}"
+                continue
+            apart = [it for it in groups if not any(control.functions & other.functions or control.is_alone() for other in it)]
+            (apart or groups.append([]) or groups[-1:])[0].append(control)
+        return groups
+
+    def judge_controls(self, group, is_proved):
+        """Takes whether the crate is proved with these controls in it, and returns the groups that are still to be tried."""
+        if not is_proved and len(group) > 1:
+            return [group[: len(group) // 2], group[len(group) // 2 :]]
+        for name in [it for it in self.told if control_of(it) in [control.name for control in group]]:
+            self.told[name] = ("refused", "and its control is proved") if is_proved else ("SHOWS NOTHING", f"{self.told[name][1]}; and its control is refused too")
+        return []
+
+
+def control_of(name):
+    return name.removesuffix(".edit") + ".control"
+
 
 def errors_of(said):
     """Each error that a check prints, but for those of proofs that cite a broken one."""
@@ -217,7 +247,7 @@ def judged(edit, status, is_verdict, reasons, said):
     """What an edit came to, and why."""
     if is_verdict:
         for it in sorted(telling(reasons, edit.brought), key=lambda it: bool(GAVE_UP.search(it))):
-            return "refused at a limit" if GAVE_UP.search(it) else "refused", it
+            return AT_A_LIMIT if GAVE_UP.search(it) else "refused", it
         return "SHOWS NOTHING", reasons[0] if reasons else "its check says no reason"
     if status == 0:
         return "NOT REFUSED", "the crate is still proved with this edit"

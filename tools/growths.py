@@ -25,6 +25,7 @@ TESTED = {
     "running_once Once::new": "a_once_that_finds_no_memory",
     "running_rw_reader RwLockReaderPreference::new": "a_reader_preferring_lock_that_finds_no_memory",
     "running_rw_writer RwLockWriterPreference::new": "a_writer_preferring_lock_that_finds_no_memory",
+    "running_rw_value RwLock::new": "a_value_comes_back_where_there_is_no_memory",
     "running_semaphore Semaphore::new": "a_semaphore_that_finds_no_memory",
     "running_spin_lock SpinLock::new": "a_spin_lock_that_finds_no_memory_hands_its_value_back",
     "sync_play play_text": "texts_that_find_no_memory",
@@ -39,12 +40,12 @@ TESTED = {
 
 # The libraries of the programs, whose calls take memory of the system alone. `./test streams` sweeps the limit of each program.
 SWEPT = {
-    *("sync_lines", "sync_advice", "sync_trace", "sync_search", "sync_explore"),
+    *("sync_lines", "sync_advice", "sync_trace", "sync_search", "sync_explore", "sync_client"),
     *("markup", "draw_shapes", "sync_story", "draw_layout", "draw_parts", "sync_draw"),
 }
 
 # Programs that nobody calls, and tests.
-APART = re.compile(r".*_tests|.*_main|sync_bench|bench_.*|storm|two_threads|spin_counter|four_meet|patient_writer|.*_pool|closures")
+APART = re.compile(r".*_tests|.*_main|sync_bench|bench_.*|storm|two_threads|spin_counter|four_meet|patient_writer|shared_cache|.*_pool|closures")
 
 FUNCTION = re.compile(r"^ *pub fn (\w+)", re.M)
 OWNER = re.compile(r"^impl\b(?:<.*>)? (?:[\w:]+(?:<.*>)? for )?(\w+)", re.M)

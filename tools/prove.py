@@ -246,18 +246,26 @@ class Tries:
     def __call__(self, lane, crate, jobs):
         folder = f"{lane.folder}/crates/{crate.name}"
         batches, checks = edits.Batches(folder, crate.edits), 0
-        while (batch := batches.next()) and time.time() < self.until:
-            new, old = edits.with_edits(folder, batch)
+
+        def check(changed):
+            new, old = edits.with_edits(folder, changed)
             try:
                 put(folder, new)
-                status, said = lane.run(crate, ["rt", "check", "--jobs", str(jobs)])
+                return lane.run(crate, ["rt", "check", "--jobs", str(jobs)])
             finally:
                 put(folder, old)
+
+        while (batch := batches.next()) and time.time() < self.until:
+            batches.judge(batch, *check(batch))
             checks += 1
-            batches.judge(batch, status, said)
+        groups = batches.controls()
+        while groups:
+            group = groups.pop()
+            groups += batches.judge_controls(group, check(group)[0] == 0)
+            checks += 1
         REFUSALS.update({f"{crate.name}/{name.removesuffix('.edit')}": why for name, why in batches.refusals.items() if why})
         shown = {name: it for name, it in batches.told.items() if it[0] != "refused"}
-        wrong = [name for name, it in shown.items() if not it[0].startswith("refused")]
+        wrong = [name for name, it in shown.items() if it[0] != edits.AT_A_LIMIT]
         refused, left = len(batches.told) - len(wrong), len(crate.edits) - len(batches.told)
         line = f"{refused} of its {len(crate.edits)} edits are refused, in {checks} checks" + (f"; {left} were not tried" if left else "")
         return Told(refused, len(wrong), line, "\n".join(f"{name}: {kind}: {why[:300]}" for name, (kind, why) in shown.items()))

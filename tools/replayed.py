@@ -14,6 +14,19 @@ NO_ANSWERS = ("waits", "wakes", "chooses")
 CLOSURES = (["aborts"], ["may", "abort"], ["sleeps"])
 
 
+def variables_of(question):
+    """The names of a client's variables; none where the question is about calls alone."""
+    return [line.split()[1] for line in question.splitlines()[1:] if line.split()[:1] == ["let"]]
+
+
+def call_in(item):
+    """The call of an item, behind its test; None where it changes a variable."""
+    words = item.split()
+    if words and words[0] in ("if", "while"):
+        words = words[4:]
+    return None if words and words[0] in ("set", "add", "sub") else " ".join(words)
+
+
 def calls_of(question):
     """The calls of each party, in the question's order: (party, call)."""
     calls = []
@@ -22,7 +35,7 @@ def calls_of(question):
         if not party.isdigit():
             continue
         if rest.strip() and rest.split() not in CLOSURES:
-            calls += [(party, " ".join(call.split())) for call in rest.split(",")]
+            calls += [(party, call) for call in map(call_in, rest.split(",")) if call is not None]
     return calls
 
 
@@ -80,6 +93,21 @@ def told(question, entries, output):
             rows.append(f"{party} {fate}")
     rows.append(output.splitlines()[-1].split(" failed ")[0])
     return " | ".join(rows)
+
+
+def is_told_client(question, entries, output, outcome):
+    """Whether a client's line can be so, by what sync-play printed of the text: of a call that its party may make again any answer of the
+    party's. What the variables hold no text tells."""
+    *parts, words, _ = outcome.split(" | ")
+    answers = answers_in(output)
+    if words != output.splitlines()[-1].split(" failed ")[0]:
+        return False
+    for part in parts:
+        party, _, fates = part.partition(" ")
+        for fate in fates.split(", "):
+            if fate not in ("-", unanswered(question, entries, output, party)) and fate not in answers.get(party, []):
+                return False
+    return True
 
 
 def run(program, text):
@@ -194,6 +222,8 @@ def have_ended(question, text, entries, output):
     begun = [entry for entry in entries if tuple(entry.split(" ", 1)) in calls_of(question)]
     if len(begun) != sum(len(answers) for answers in answers_in(output).values()):
         return False
+    if variables_of(question):
+        return True
     left = left_of(question, entries)
     return all(run("./sync-play", f"{text}{party} {call}\n").returncode == 2 for party in left for call in left[party])
 
@@ -203,6 +233,8 @@ def holds(term, question, text, entries, output):
     if term == "ends":
         return have_ended(question, text, entries, output)
     first, _, what = term.partition(" ")
+    if first in variables_of(question):
+        return True
     if term == "stuck":
         begun = [entry.split()[0] for entry in entries if tuple(entry.split(" ", 1)) in calls_of(question)]
         under_way = [party for party in set(begun) if begun.count(party) > len(answers_in(output).get(party, []))]
@@ -229,7 +261,10 @@ def wrong_outcomes(question, answer):
         outcome, _, text = line.partition(" : ")
         entries = text.split(" / ") if text else []
         played = run("./sync-play", "\n".join([question.splitlines()[0], *entries]) + "\n")
-        if played.returncode != 0 or told(question, entries, played.stdout) != outcome:
+        if variables_of(question):
+            if played.returncode != 0 or not is_told_client(question, entries, played.stdout, outcome):
+                wrong.append(f"{text}: {played.stderr.strip() or played.stdout}, and not {outcome}")
+        elif played.returncode != 0 or told(question, entries, played.stdout) != outcome:
             wrong.append(f"{text}: {played.stderr.strip() or told(question, entries, played.stdout)}, and not {outcome}")
         wrong += slept_wrong(question, "\n".join([question.splitlines()[0], *entries]) + "\n", outcome)
     return wrong

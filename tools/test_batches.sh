@@ -1,5 +1,6 @@
 # The tool that proves and tries edits, on a crate of three functions and one test: what is no bug, what cannot be read, and what is refused for a name
-# alone, fails it and says so, beside wrong bodies in the same check; so do a test that fails and a crate that is not proved.
+# alone, fails it and says so, beside wrong bodies in the same check; so do a test that fails and a crate that is not proved. Of three edits on which a
+# search gave up, over a checker that only pretends, the one fails whose control is refused like it.
 test_batches() {
     local top=$room/batches crate=$room/batches/crates/sizes
     mkdir -p -- "$top/tools" "$crate/src" "$crate/proofs/no" "$crate/must-fail"
@@ -61,6 +62,37 @@ ANTT
     tries "edits of which two are wrong bodies" "edits tests" "4 passed, 4 failed" \
         "2 of its 6 edits are refused" "another_way.edit: NOT REFUSED" "says_so_by_a_name.edit: SHOWS NOTHING" "cannot_be_read.edit: BAD" \
         "stands_nowhere.edit: BAD"
+    printf '%s\n' "file: src/lib.rt" "old:     true" "new:     { let is = true; is }" >"$crate/must-fail/yes_is_no.control"
+    printf '%s\n' "file: src/lib.rt" "old:     again" "new:     3" >"$crate/must-fail/same_is_three.edit"
+    printf '%s\n' "file: src/lib.rt" "old:     again" "new:     given + 0" >"$crate/must-fail/same_is_three.control"
+    attempt python3 - "$top" <<'PY'
+import sys
+
+sys.path.insert(0, f"{sys.argv[1]}/tools")
+import edits
+import prove
+
+
+class Lane:
+    folder = sys.argv[1]
+
+    def run(self, crate, words):
+        text = edits.text_of(f"{crate.folder}/src/lib.rt")
+        wrong = [name for name, body in (("yes", "    false\n"), ("no", "    yes()\n"), ("same", "    3\n"), ("same", "    given + 0\n")) if body in text]
+        said = [f"note: src/lib.rt:1:1: it is not proved that it says so; `search` gave up at one of its limits\nfn sizes::{it}: no proof: expected answers" for it in wrong]
+        return (1, "\n".join([*said, "logic=not-proved"])) if wrong else (0, "logic=proved")
+
+
+crate = prove.Crate(sys.argv[1], "sizes", [])
+crate.edits = ["no_is_yes.edit", "same_is_three.edit", "yes_is_no.edit"]
+told = prove.Tries(1e12)(Lane(), crate, 1)
+print(told.line, told.why)
+PY
+    if [[ $(<"$room/out") == "2 of its 3 edits are refused, in "*"no_is_yes.edit: refused at a limit: "*"same_is_three.edit: SHOWS NOTHING: "*"its control is refused too" ]]; then
+        succeed
+    else
+        fail "an edit at a limit" "it said: $(<"$room/out") $(tail -n 3 -- "$room/err")"
+    fi
     sed -i -- 's/same(3) == 3/same(3) == 4/' "$crate/src/lib.rt"
     tries "a test that fails, unproved" tries "0 passed, 1 failed" each_answers
     sed -i -- 's/    true/    false/' "$crate/src/lib.rt"

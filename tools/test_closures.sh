@@ -1,4 +1,4 @@
-# Where a running call may call a closure past its model: only in the lines that tools/closures.txt lists.
+# Where a running call may call a closure, or make a step, past its model: only in the lines that tools/closures.txt lists.
 test_closures() {
     local line
     attempt python3 tools/closures.py

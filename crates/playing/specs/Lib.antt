@@ -6,9 +6,9 @@ pub mod Plays
 pub mod Passes
 pub mod Stages
 pub mod Counts
-pub mod Answers
 pub mod Tries
 pub mod Holding
 pub mod Sums
 pub mod Turns
 pub mod Sees
+pub mod Choices

@@ -1,6 +1,8 @@
 -- What a wait closure has answered a call under way, and how a call is over.
 use Rattle.std.specs.Prelude.{◌≡◌, ℕ, List, Option, None}
 use Rattle.std.specs.Borrow.{MutBor}
+use Rattle.atomic_table.specs.declared.shared.Seat.{Seat}
+use Rattle.passes.specs.declared.view.View.{View}
 use Rattle.steps_events.specs.declared.WaitAction.{WaitAction}
 use Rattle.steps_events.specs.declared.WaitAction.TheVariants as actions
 use Rattle.steps_events.specs.declared.event.Word.{Word}
@@ -13,6 +15,8 @@ use Rattle.steps_events.specs.declared.row.Intent.TheVariants as intents
 use Rattle.steps_events.specs.declared.row.After.TheVariants as afters
 use Rattle.playing.specs.declared.turn.Answered.{Answered}
 use Rattle.playing.specs.declared.turn.Answered.TheVariants as answers
+use Rattle.playing.specs.declared.seat.SeatAnswered.{SeatAnswered}
+use Rattle.playing.specs.declared.seat.SeatAnswered.TheVariants as seated
 use Rattle.playing.specs.Models.{Model}
 use Rattle.playing.specs.Slots.{Slot, Parties}
 use Rattle.playing.specs.Words.{IsNamed, IsAside}
@@ -26,6 +30,15 @@ action_in (answers.Abort turn) = actions.Abort
 abbrev pub pass_in : {T : Type 0} → Answered T → MutBor T
 pass_in (answers.Continue turn) = turn.pass
 pass_in (answers.Abort turn) = turn.pass
+
+-- the same of a call whose pass is out with its seat
+abbrev pub action_heard : {S T : Type 0} → SeatAnswered S T → WaitAction
+action_heard (seated.Continue turn) = actions.Continue
+action_heard (seated.Abort turn) = actions.Abort
+
+abbrev pub seat_in : {S T : Type 0} → SeatAnswered S T → Seat S (View T)
+seat_in (seated.Continue turn) = turn.seat
+seat_in (seated.Abort turn) = turn.seat
 
 module _ {V P : Type 0} (m : Model V P) where
   -- Its wake closure, or the closure that it was to end, has been called; and the next that it does is to call another wake closure, of the

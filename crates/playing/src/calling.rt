@@ -222,9 +222,18 @@ impl<'p, M, P, V, C> Turn<'p, Pass<Played<M, P, V, C>>, AfterTwo> {
 
 /// Calls a wake closure, of this word.
 #[inline(always)]
-fn call<X, W: Fn(&X)>(wake: &W, word: &X)
+pub(crate) fn call<X, W: Fn(&X)>(wake: &W, word: &X)
     requires may { W.IsAlwaysCallable wake.now }
     ensures woke { FnReturnsAt W.Fn wake.now word.now tt }
 {
     wake(word);
+}
+
+/// Calls a wait closure, and says what it has answered.
+#[inline(always)]
+pub(crate) fn answer<X, W: Fn(&X, &u64) -> WaitAction>(word: &X, told: u64, wait: &W) -> WaitAction
+    requires may { W.IsAlwaysCallable wait.now }
+    ensures answered { MayAnswer W.Fn wait.now (λ n. n ≡ told) result }
+{
+    wait(word, &told)
 }

@@ -4,12 +4,11 @@
 
 mod acting;
 mod calling;
+mod choosing;
 mod counts;
-mod ending;
-mod entry;
 mod played;
 mod script;
-mod seat;
+pub mod seat;
 mod stage;
 mod step;
 mod tries;
@@ -17,9 +16,7 @@ pub mod turn;
 mod wait;
 
 pub use counts::{Counts, CountsByActs};
-pub use entry::{Aborted, AddEntry, AfterAside, Answered, By, Continued, Entry, GoesOn, Way};
 pub use played::{Parties, Played};
 pub use script::Script;
-pub use seat::{ask_seat, wake_seat};
 pub use stage::Stage;
 pub use wait::{OfWord, Sealed, Shown};

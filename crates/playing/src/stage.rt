@@ -1,9 +1,7 @@
-//! The words of an object that plays a model, and the steps that its table has.
-ghost use Rattle.std.specs.Prelude.{◌≡◌, ◌<◌, ◌+◌, ◌-◌, ◌%◌, ◌^◌, ◌==◌, [], length, IfOk};
-ghost use prog.Atomic.{either};
+//! The words of an object that plays a model.
+ghost use Rattle.std.specs.Prelude.{◌≡◌, ◌<◌, [], length, IfOk};
 
 use crate::counts::Counts;
-use crate::entry::{AddEntry, Entry};
 use crate::played::Played;
 use crate::script::Script;
 use crate::wait::{OfWord, Sealed};
@@ -11,42 +9,6 @@ use passes::{Deed, Origin, Pass, Word, Words};
 use std::alloc::{AllocError, Allocator, Global};
 use std::marker::PhantomData;
 use std::ops::Deref;
-
-/// A step that its table has, of a pass that comes to it by `E`, and what it tells of what the pass counts beside.
-struct Step<M, P, V, E, D> {
-    of: PhantomData<M>,
-    at: PhantomData<P>,
-    over: PhantomData<V>,
-    by: PhantomData<E>,
-    tells: PhantomData<D>,
-}
-
-impl<K, P, V, M: Script<K, P, V>, C: Counts<K, V>, E: Entry<V>, D: Deed<K, C>> Deed<
-    K,
-    Played<M, P, V, C>,
-> for Step<M, P, V, E, D> {
-    ghost use Rattle.playing.specs.Passes.{Stepped};
-
-    ghost tells = { λ key first second before found after. Stepped (M.model key) (C.follow key) E.coming (D.tells key first second) before found after };
-}
-
-/// An add that its table has.
-struct AddStep<M, P, V, E, D> {
-    of: PhantomData<M>,
-    at: PhantomData<P>,
-    over: PhantomData<V>,
-    by: PhantomData<E>,
-    tells: PhantomData<D>,
-}
-
-impl<K, P, V, M: Script<K, P, V>, C: Counts<K, V>, E: AddEntry<V>, D: Deed<K, C>> Deed<
-    K,
-    Played<M, P, V, C>,
-> for AddStep<M, P, V, E, D> {
-    ghost use Rattle.playing.specs.Passes.{Stepped};
-
-    ghost tells = { λ key more second before found after. Stepped (M.model key) (C.follow key) (E.coming more) (D.tells key more second) before found after };
-}
 
 /// A load that is no step of the model.
 struct Look<M, P, V, D> {
@@ -84,7 +46,6 @@ impl<K, M: Script<K, P, V>, P, V, C: Counts<K, V>, A: Allocator> Deref for Stage
 }
 
 impl<K, M: Script<K, P, V>, P, V, C: Counts<K, V>, A: Allocator> Stage<K, M, P, V, C, A> {
-    ghost use Rattle.steps_events.specs.declared.row.Intent.TheVariants as intents;
     ghost use Rattle.passes.specs.declared.words.Word.{Word as PassesWord};
     ghost use Rattle.passes.specs.Parts.{IsWhole};
     ghost use Rattle.passes.specs.Passes.{view, part_of, tally_of, IsSamePass};
@@ -93,8 +54,7 @@ impl<K, M: Script<K, P, V>, P, V, C: Counts<K, V>, A: Allocator> Stage<K, M, P, 
     ghost use Rattle.playing.specs.declared.played.Played.{Played as PlayedBy};
     ghost use Rattle.playing.specs.Slots.{no_parties};
     ghost use Rattle.playing.specs.Words.{AllHold};
-    ghost use Rattle.playing.specs.Plays.{MayStep, Went, WentAlone};
-    ghost use Rattle.playing.specs.Passes.{played, parties_of, counts_of, counted, PlaysAndCounts, GoesOnCounting, StaysCounting};
+    ghost use Rattle.playing.specs.Passes.{played, parties_of, counts_of, counted, PlaysAndCounts, StaysCounting};
     ghost use Rattle.playing.specs.Stages.{IsPassOf, IsWordOf, key_of, count_of};
 
     /// The words of an object that nobody has called, and the pass that is whole. `Err` where there was no memory; then nothing was made.
@@ -129,96 +89,6 @@ impl<K, M: Script<K, P, V>, P, V, C: Counts<K, V>, A: Allocator> Stage<K, M, P, 
         }
     }
 
-    /// The load that the table has.
-    #[inline(always)]
-    pub fn load<E: Entry<V>, D: Deed<K, C>>(
-        &self,
-        entry: E,
-        pass: &mut Pass<Played<M, P, V, C>>,
-        word: usize,
-    ) -> u64
-        requires own { IsPassOf self.now pass.old }
-        requires inside { word < count_of self.now }
-        requires may { MayStep (M.model (key_of self.now)) M.names E.coming word (λ w. intents.Load w) (parties_of pass.old) }
-        requires update { Updates C.none C.add (C.agrees (key_of self.now)) (counted pass.old) word (λ n. n) (D.tells (key_of self.now) 0 0 (counted pass.old)) }
-        requires follow { GoesOnCounting (M.model (key_of self.now)) M.names C.add (C.agrees (key_of self.now)) (C.follow (key_of self.now)) E.coming word (λ w. intents.Load w) (parties_of pass.old) (counts_of pass.old) (D.tells (key_of self.now) 0 0 (counted pass.old)) }
-        ensures same { IsSamePass pass.old pass.new }
-        ensures went { Went (M.model (key_of self.now)) E.coming (parties_of pass.old) result (parties_of pass.new) }
-        ensures alone { IsWhole (part_of pass.old) → WentAlone (M.model (key_of self.now)) (λ past. C.follow (key_of self.now) past (counts_of pass.old)) E.coming (parties_of pass.old) result }
-        ensures told { D.tells (key_of self.now) 0 0 (counted pass.old) result (counted pass.new) }
-    {
-        entry.spend();
-        self.words.load::<Step<M, P, V, E, D>>(pass, word)
-    }
-
-    /// The store that the table has. It tells of what was stored, and not of what it found.
-    #[inline(always)]
-    pub fn store<E: Entry<V>, D: Deed<K, C>>(
-        &self,
-        entry: E,
-        pass: &mut Pass<Played<M, P, V, C>>,
-        word: usize,
-        put: u64,
-    )
-        requires own { IsPassOf self.now pass.old }
-        requires inside { word < count_of self.now }
-        requires may { MayStep (M.model (key_of self.now)) M.names E.coming word (λ w. intents.Store w put) (parties_of pass.old) }
-        requires update { Updates C.none C.add (C.agrees (key_of self.now)) (counted pass.old) word (λ _. put) (λ _. D.tells (key_of self.now) put 0 (counted pass.old) put) }
-        requires follow { GoesOnCounting (M.model (key_of self.now)) M.names C.add (C.agrees (key_of self.now)) (C.follow (key_of self.now)) E.coming word (λ w. intents.Store w put) (parties_of pass.old) (counts_of pass.old) (D.tells (key_of self.now) put 0 (counted pass.old)) }
-        ensures same { IsSamePass pass.old pass.new }
-        ensures went { Went (M.model (key_of self.now)) E.coming (parties_of pass.old) put (parties_of pass.new) }
-        ensures alone { IsWhole (part_of pass.old) → WentAlone (M.model (key_of self.now)) (λ past. C.follow (key_of self.now) past (counts_of pass.old)) E.coming (parties_of pass.old) put }
-        ensures told { D.tells (key_of self.now) put 0 (counted pass.old) put (counted pass.new) }
-    {
-        entry.spend();
-        self.words.store::<Step<M, P, V, E, D>>(pass, word, put);
-    }
-
-    /// The load that the table has. What it tells may speak of what is handed in; its caller picks it.
-    #[inline(always)]
-    pub fn load_of<E: Entry<V>, D: Deed<K, C>, H>(
-        &self,
-        entry: E,
-        pass: &mut Pass<Played<M, P, V, C>>,
-        word: usize,
-        _of: &H,
-    ) -> u64
-        requires own { IsPassOf self.now pass.old }
-        requires inside { word < count_of self.now }
-        requires may { MayStep (M.model (key_of self.now)) M.names E.coming word (λ w. intents.Load w) (parties_of pass.old) }
-        requires update { Updates C.none C.add (C.agrees (key_of self.now)) (counted pass.old) word (λ n. n) (D.tells (key_of self.now) 0 0 (counted pass.old)) }
-        requires follow { GoesOnCounting (M.model (key_of self.now)) M.names C.add (C.agrees (key_of self.now)) (C.follow (key_of self.now)) E.coming word (λ w. intents.Load w) (parties_of pass.old) (counts_of pass.old) (D.tells (key_of self.now) 0 0 (counted pass.old)) }
-        ensures same { IsSamePass pass.old pass.new }
-        ensures went { Went (M.model (key_of self.now)) E.coming (parties_of pass.old) result (parties_of pass.new) }
-        ensures alone { IsWhole (part_of pass.old) → WentAlone (M.model (key_of self.now)) (λ past. C.follow (key_of self.now) past (counts_of pass.old)) E.coming (parties_of pass.old) result }
-        ensures told { D.tells (key_of self.now) 0 0 (counted pass.old) result (counted pass.new) }
-    {
-        self.load::<E, D>(entry, pass, word)
-    }
-
-    /// The store that the table has. How the pass comes to it, and what it tells, may speak of what is handed in; its caller picks them.
-    #[inline(always)]
-    pub fn store_of<E: Entry<V>, D: Deed<K, C>, H>(
-        &self,
-        entry: E,
-        pass: &mut Pass<Played<M, P, V, C>>,
-        word: usize,
-        put: u64,
-        _of: &H,
-    )
-        requires own { IsPassOf self.now pass.old }
-        requires inside { word < count_of self.now }
-        requires may { MayStep (M.model (key_of self.now)) M.names E.coming word (λ w. intents.Store w put) (parties_of pass.old) }
-        requires update { Updates C.none C.add (C.agrees (key_of self.now)) (counted pass.old) word (λ _. put) (λ _. D.tells (key_of self.now) put 0 (counted pass.old) put) }
-        requires follow { GoesOnCounting (M.model (key_of self.now)) M.names C.add (C.agrees (key_of self.now)) (C.follow (key_of self.now)) E.coming word (λ w. intents.Store w put) (parties_of pass.old) (counts_of pass.old) (D.tells (key_of self.now) put 0 (counted pass.old)) }
-        ensures same { IsSamePass pass.old pass.new }
-        ensures went { Went (M.model (key_of self.now)) E.coming (parties_of pass.old) put (parties_of pass.new) }
-        ensures alone { IsWhole (part_of pass.old) → WentAlone (M.model (key_of self.now)) (λ past. C.follow (key_of self.now) past (counts_of pass.old)) E.coming (parties_of pass.old) put }
-        ensures told { D.tells (key_of self.now) put 0 (counted pass.old) put (counted pass.new) }
-    {
-        self.store::<E, D>(entry, pass, word, put);
-    }
-
     /// A load that is no step of the model: it tells of what the pass counts alone, and the parties stay as they are.
     #[inline(always)]
     pub fn look<D: Deed<K, C>>(&self, pass: &mut Pass<Played<M, P, V, C>>, word: usize) -> u64
@@ -231,77 +101,6 @@ impl<K, M: Script<K, P, V>, P, V, C: Counts<K, V>, A: Allocator> Stage<K, M, P, 
         ensures told { D.tells (key_of self.now) 0 0 (counted pass.old) result (counted pass.new) }
     {
         self.words.load::<Look<M, P, V, D>>(pass, word)
-    }
-
-    /// The compare-exchange that the table has: it puts `to` where it finds `from`, and answers what it found.
-    #[inline(always)]
-    pub fn exchange<E: Entry<V>, D: Deed<K, C>>(
-        &self,
-        entry: E,
-        pass: &mut Pass<Played<M, P, V, C>>,
-        word: usize,
-        from: u64,
-        to: u64,
-    ) -> u64
-        requires own { IsPassOf self.now pass.old }
-        requires inside { word < count_of self.now }
-        requires may { MayStep (M.model (key_of self.now)) M.names E.coming word (λ w. intents.Exchange w from to) (parties_of pass.old) }
-        requires update { Updates C.none C.add (C.agrees (key_of self.now)) (counted pass.old) word (λ n. either (n == from) to n) (D.tells (key_of self.now) from to (counted pass.old)) }
-        requires follow { GoesOnCounting (M.model (key_of self.now)) M.names C.add (C.agrees (key_of self.now)) (C.follow (key_of self.now)) E.coming word (λ w. intents.Exchange w from to) (parties_of pass.old) (counts_of pass.old) (D.tells (key_of self.now) from to (counted pass.old)) }
-        ensures same { IsSamePass pass.old pass.new }
-        ensures went { Went (M.model (key_of self.now)) E.coming (parties_of pass.old) result (parties_of pass.new) }
-        ensures alone { IsWhole (part_of pass.old) → WentAlone (M.model (key_of self.now)) (λ past. C.follow (key_of self.now) past (counts_of pass.old)) E.coming (parties_of pass.old) result }
-        ensures told { D.tells (key_of self.now) from to (counted pass.old) result (counted pass.new) }
-    {
-        entry.spend();
-        self.words
-            .compare_exchange::<Step<M, P, V, E, D>>(pass, word, from, to)
-    }
-
-    /// The add that the table has, which wraps. It answers what it found.
-    #[inline(always)]
-    pub fn add<E: AddEntry<V>, D: Deed<K, C>>(
-        &self,
-        pass: &mut Pass<Played<M, P, V, C>>,
-        word: usize,
-        more: u64,
-    ) -> u64
-        requires own { IsPassOf self.now pass.old }
-        requires inside { word < count_of self.now }
-        requires may { MayStep (M.model (key_of self.now)) M.names (E.coming more) word (λ w. intents.Add w more) (parties_of pass.old) }
-        requires update { Updates C.none C.add (C.agrees (key_of self.now)) (counted pass.old) word (λ n. (n + more) % 2 ^ 64) (D.tells (key_of self.now) more 0 (counted pass.old)) }
-        requires follow { GoesOnCounting (M.model (key_of self.now)) M.names C.add (C.agrees (key_of self.now)) (C.follow (key_of self.now)) (E.coming more) word (λ w. intents.Add w more) (parties_of pass.old) (counts_of pass.old) (D.tells (key_of self.now) more 0 (counted pass.old)) }
-        ensures same { IsSamePass pass.old pass.new }
-        ensures went { Went (M.model (key_of self.now)) (E.coming more) (parties_of pass.old) result (parties_of pass.new) }
-        ensures alone { IsWhole (part_of pass.old) → WentAlone (M.model (key_of self.now)) (λ past. C.follow (key_of self.now) past (counts_of pass.old)) (E.coming more) (parties_of pass.old) result }
-        ensures told { D.tells (key_of self.now) more 0 (counted pass.old) result (counted pass.new) }
-    {
-        self.words
-            .fetch_add::<AddStep<M, P, V, E, D>>(pass, word, more)
-    }
-
-    /// The subtraction that the table has, which wraps. It answers what it found.
-    #[inline(always)]
-    pub fn subtract<E: Entry<V>, D: Deed<K, C>>(
-        &self,
-        entry: E,
-        pass: &mut Pass<Played<M, P, V, C>>,
-        word: usize,
-        less: u64,
-    ) -> u64
-        requires own { IsPassOf self.now pass.old }
-        requires inside { word < count_of self.now }
-        requires may { MayStep (M.model (key_of self.now)) M.names E.coming word (λ w. intents.Subtract w less) (parties_of pass.old) }
-        requires update { Updates C.none C.add (C.agrees (key_of self.now)) (counted pass.old) word (λ n. (n + (2 ^ 64 - less)) % 2 ^ 64) (D.tells (key_of self.now) less 0 (counted pass.old)) }
-        requires follow { GoesOnCounting (M.model (key_of self.now)) M.names C.add (C.agrees (key_of self.now)) (C.follow (key_of self.now)) E.coming word (λ w. intents.Subtract w less) (parties_of pass.old) (counts_of pass.old) (D.tells (key_of self.now) less 0 (counted pass.old)) }
-        ensures same { IsSamePass pass.old pass.new }
-        ensures went { Went (M.model (key_of self.now)) E.coming (parties_of pass.old) result (parties_of pass.new) }
-        ensures alone { IsWhole (part_of pass.old) → WentAlone (M.model (key_of self.now)) (λ past. C.follow (key_of self.now) past (counts_of pass.old)) E.coming (parties_of pass.old) result }
-        ensures told { D.tells (key_of self.now) less 0 (counted pass.old) result (counted pass.new) }
-    {
-        entry.spend();
-        self.words
-            .fetch_sub::<Step<M, P, V, E, D>>(pass, word, less)
     }
 
     /// Ends the object, and answers a word. With the whole pass, that word is of a run in which only the pass's own parties are.

@@ -3,7 +3,8 @@ ghost use Rattle.std.specs.Prelude.{◌≡◌, ℕ};
 ghost use Rattle.passes.specs.Answers.{MayAnswer};
 ghost use Rattle.playing.specs.Turns.{action_in, pass_in};
 
-use crate::entry::answer;
+use crate::calling::answer;
+pub use crate::choosing::{Choice, Chooses, Chosen, Nothing, TurnWith};
 pub use crate::tries::{Attempt, try_again};
 use std::marker::{Brand, PhantomData};
 use steps_events::WaitAction;

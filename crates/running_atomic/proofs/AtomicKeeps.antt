@@ -1,5 +1,5 @@
 -- Each step of an atomic keeps its rule.
-use Rattle.std.proofs.Common.{◌≡◌, ℕ, ◌+◌, ◌-◌, ◌%◌, ◌^◌, ◌<◌, ◌==◌, Bool, true, false, List, [], ◌∷◌, ◌++◌, get_or, set, sym, refl, ap, ◌∙◌, subst, arith, length-set, get_or-set_same, get_or-set_other}
+use Rattle.std.proofs.Common.{◌≡◌, ℕ, ◌+◌, ◌-◌, ◌%◌, ◌^◌, ◌<◌, ◌==◌, Bool, true, false, List, [], ◌∷◌, ◌++◌, get_or, set, sym, refl, ap, ◌∙◌, subst, arith, length-set, get_or-set_same, get_or-set_other, None}
 use Rattle.std.specs.Prelude.{MatchBool}
 use prog.Atomic.{either}
 use Rattle.steps_events.specs.Arithmetic.{Arithmetic, IsValue, IsClosed}
@@ -19,7 +19,7 @@ use Rattle.running_atomic.specs.declared.history.Heard.{Heard}
 use Rattle.running_atomic.specs.History.{content, heard, both_heard, atomic_tally, no_acts, both_tallies, heard_adds_up, same_content, tells_same_content}
 use Rattle.steps_atomic.specs.Register.{value_after, answer_to, after_acts}
 use Rattle.running_atomic.specs.AtomicRule.{IsRegister, HasHistory, AtomicAgrees, data_of, register_of, value_of, act_in, acts_in, history_in, known, each_once}
-use Rattle.running_atomic.specs.AtomicSteps.{StartsWith, now_holds, EntersRead, EntersWrite, Leaves, IfHeld, ReadsLow, ReadsHigh, EndsLoad, IfWriting, StoresLow, EndsStore, EndsUnchanged, Settles, Acts, ActsAt, Records, IsReading, IsSettled, IsWriting, IsOn, IsRight, ChangesNothing, KeepsOthers, ComparesHigh, IsLast}
+use Rattle.running_atomic.specs.AtomicSteps.{StartsWith, now_holds, EntersRead, EntersWrite, Leaves, IfHeld, ReadsLow, ReadsHigh, EndsLoad, IfWriting, StoresLow, EndsStore, EndsUnchanged, Settles, Acts, ActsAt, Records, IsReading, IsSettled, IsWriting, IsOn, IsRight, KeepsOthers, ComparesHigh, IsLast}
 use Rattle.running_atomic.proofs.LockKeeps.{enters_read, enters_write, reads, leaves_read, writes}
 use Rattle.running_atomic.proofs.HistoryKeeps.{begins, alone, marks_in, more, extends, absorbs, absorbs_first, keeps_more, seen_known, acts_append, acts_length, each_act}
 
@@ -210,17 +210,16 @@ module _ {T : Type 0} (z : Arithmetic T) (k : T) where
         );
   }
 
-  pub ends_unchanged : (v : View B) (a : AtomicAct) → IsSettled v.tally.hold → ChangesNothing z a v.tally.hold → Update v 2 (λ n. n) (λ _ w. EndsUnchanged z k a v w)
-  ends_unchanged v a on so = by_look no_acts both_tallies (AtomicAgrees z k) v 2 (λ _ w. EndsUnchanged z k a v w) (λ words homes rest r only fits. let x = (settled_is v.tally.hold on).0 in let is = (settled_is v.tally.hold on).1 in let d : Content = data_of words in let n : ℕ = get_or words 0 0 in
+  pub ends_unchanged : (v : View B) → IsSettled v.tally.hold → Update v 2 (λ n. n) (λ _ w. EndsUnchanged z k (act.FetchUpdate None) v w)
+  ends_unchanged v on = by_look no_acts both_tallies (AtomicAgrees z k) v 2 (λ _ w. EndsUnchanged z k (act.FetchUpdate None) v w) (λ words homes rest r only fits. let x = (settled_is v.tally.hold on).0 in let is = (settled_is v.tally.hold on).1 in let d : Content = data_of words in let n : ℕ = get_or words 0 0 in
       let t = writes same_content tells_same_content n d x x rest.hold (subst (λ (h : Held Content). Locks n d (both_held same_content h rest.hold)) is r.locks) in
-      let right = subst (ChangesNothing z a) is so in
       let old_is : value_of z (register_of (both_held same_content v.tally.hold rest.hold) d) ≡ value_of z x = ap (value_of z) (ap (λ (g : Held Content). register_of (both_held same_content g rest.hold) d) is ∙ ap (λ (g : Held Content). register_of (both_held same_content (Writing x x) g) d) t.0) in
       let has : HasHistory z k (both_heard v.tally.heard rest.heard) (value_of z x) = subst (HasHistory z k (both_heard v.tally.heard rest.heard)) old_is r.has in
-      let w : View B = after has.history a v.tally.hold v in (
+      let w : View B = after has.history (act.FetchUpdate None) v.tally.hold v in (
         w,
         refl,
-        record { closed = r.closed; opening_is = r.opening_is; three_words = r.three_words; locks = r.locks; has = subst (HasHistory z k (both_heard w.tally.heard rest.heard)) (right ∙ sym old_is) (extends z k v.tally.heard rest.heard a (value_of z x) has) },
-        (refl, subst (λ (g : Held Content). IfWriting g (λ c found. ActsAt z k a found v w)) (sym is) (acts v rest v.tally.hold a (value_of z x) has only), recorded v rest v.tally.hold a (value_of z x) has),
+        record { closed = r.closed; opening_is = r.opening_is; three_words = r.three_words; locks = r.locks; has = subst (HasHistory z k (both_heard w.tally.heard rest.heard)) (sym old_is) (extends z k v.tally.heard rest.heard (act.FetchUpdate None) (value_of z x) has) },
+        (refl, subst (λ (g : Held Content). IfWriting g (λ c found. ActsAt z k (act.FetchUpdate None) found v w)) (sym is) (acts v rest v.tally.hold (act.FetchUpdate None) (value_of z x) has only), recorded v rest v.tally.hold (act.FetchUpdate None) (value_of z x) has),
       ))
 
   -- by the value that is compared: where it is another, the act is made

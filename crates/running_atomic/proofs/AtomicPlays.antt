@@ -14,6 +14,7 @@ use Rattle.steps_events.specs.declared.hold.HoldKind.TheVariants as kinds
 use Rattle.steps_events.specs.declared.row.Intent.TheVariants as intents
 use Rattle.steps_events.specs.declared.row.After.TheVariants as afters
 use Rattle.steps_events.specs.Arithmetic.{Arithmetic, IsValue}
+use Rattle.steps_events.specs.Moves.{CallValues}
 use Rattle.steps_events.specs.Past.{hold_or}
 use Rattle.steps_atomic.specs.declared.AtomicPlace.{AtomicPlace}
 use Rattle.steps_atomic.specs.declared.AtomicPlace.TheVariants as places
@@ -106,15 +107,15 @@ module _ {T : Type 0} (z : Arithmetic T) (v : T) where
 
   -- The other calls take it.
 
-  call_begins : (call : Call T) (p : Parties T) → Writes z v call → ComesBy (atomic_model z v) (Beginning call) call (places.Take call) None (all_of p) p
-  call_begins call p w = (refl, record { may = record { begins = w.begins; free = w.free; values = w.values }; new = refl; others = refl })
+  call_begins : (call : Call T) (p : Parties T) → Writes z v call → CallValues z call → ComesBy (atomic_model z v) (Beginning call) call (places.Take call) None (all_of p) p
+  call_begins call p w values = (refl, record { may = record { begins = w.begins; free = w.free; values = values }; new = refl; others = refl })
 
   may_take : (coming : Coming T) (call : Call T) (done : List (Slot T)) (p : Parties T) → ComesBy (atomic_model z v) coming call (places.Take call) None done p →
       MayStep (atomic_model z v) atomic_names coming 0 (λ w. intents.Exchange w 0 (2 ^ 64 - 1)) p
   may_take coming call done p comes = record { call = call; place = places.Take call; hold = None; done = done; comes = comes; name = words.State; named = refl; intends = refl; on = refl }
 
-  pub may_take_first : (call : Call T) (p : Parties T) → Writes z v call → MayStep (atomic_model z v) atomic_names (Beginning call) 0 (λ w. intents.Exchange w 0 (2 ^ 64 - 1)) p
-  may_take_first call p w = may_take (Beginning call) call (all_of p) p (call_begins call p w)
+  pub may_take_first : (call : Call T) (p : Parties T) → Writes z v call → CallValues z call → MayStep (atomic_model z v) atomic_names (Beginning call) 0 (λ w. intents.Exchange w 0 (2 ^ 64 - 1)) p
+  may_take_first call p w values = may_take (Beginning call) call (all_of p) p (call_begins call p w values)
 
   pub may_take_again : (call : Call T) (done : List (Slot T)) (p : Parties T) → IsNext z v call (places.Take call) None done p → MayStep (atomic_model z v) atomic_names Going 0 (λ w. intents.Exchange w 0 (2 ^ 64 - 1)) p
   may_take_again call done p at = may_take Going call done p at
@@ -127,11 +128,11 @@ module _ {T : Type 0} (z : Arithmetic T) (v : T) where
   missed call found true done q test miss led = absurd cc
   missed call found false done q test miss led = rw test at led
 
-  pub takes_first : (call : Call T) (found : ℕ) (p q : Parties T) → Writes z v call → found ≡ 0 → Went (atomic_model z v) (Beginning call) p found q → IsNext z v call (inside z call) (Some kinds.Write) (all_of p) q
-  takes_first call found p q w hit went = taken call found (all_of p) q w hit (went call (places.Take call) None (all_of p) (call_begins call p w))
+  pub takes_first : (call : Call T) (found : ℕ) (p q : Parties T) → Writes z v call → CallValues z call → found ≡ 0 → Went (atomic_model z v) (Beginning call) p found q → IsNext z v call (inside z call) (Some kinds.Write) (all_of p) q
+  takes_first call found p q w values hit went = taken call found (all_of p) q w hit (went call (places.Take call) None (all_of p) (call_begins call p w values))
 
-  pub misses_first : (call : Call T) (found : ℕ) (p q : Parties T) → Writes z v call → found ≢ 0 → Went (atomic_model z v) (Beginning call) p found q → IsNext z v call (places.Take call) None (all_of p) q
-  misses_first call found p q w miss went = missed call found (found == 0) (all_of p) q refl (ne_eqb found 0 miss) (went call (places.Take call) None (all_of p) (call_begins call p w))
+  pub misses_first : (call : Call T) (found : ℕ) (p q : Parties T) → Writes z v call → CallValues z call → found ≢ 0 → Went (atomic_model z v) (Beginning call) p found q → IsNext z v call (places.Take call) None (all_of p) q
+  misses_first call found p q w values miss went = missed call found (found == 0) (all_of p) q refl (ne_eqb found 0 miss) (went call (places.Take call) None (all_of p) (call_begins call p w values))
 
   pub takes_again : (call : Call T) (found : ℕ) (done : List (Slot T)) (p q : Parties T) → Writes z v call → found ≡ 0 → IsNext z v call (places.Take call) None done p → Went (atomic_model z v) Going p found q →
       IsNext z v call (inside z call) (Some kinds.Write) done q
@@ -256,6 +257,6 @@ module _ {T : Type 0} (z : Arithmetic T) (v : T) where
   answers_so call one other p q is called = subst (λ (x : Answer T). HasCalled (atomic_model z v) call x None p q) is called
 
   -- a call that compares and found another value leaves next
-  pub differs : (call : Call T) (current old new : T) (done : List (Slot T)) (p : Parties T) → z.same old current ≡ false → Leads (atomic_model z v) call (afters.At (compares z (z.same old current) old new)) (Some kinds.Write) done p →
+  pub differs : (call : Call T) (current old new : T) (done : List (Slot T)) (p : Parties T) → knows z call old ≡ afters.At (compares z (z.same old current) old new) → z.same old current ≡ false → Knows z v call old done p →
       IsNext z v call (places.Leave (answers.ErrOld old)) (Some kinds.Write) done p
-  differs call current old new done p is at = subst (λ (b : Bool). IsNext z v call (compares z b old new) (Some kinds.Write) done p) is at
+  differs call current old new done p goes is at = subst (λ (b : Bool). IsNext z v call (compares z b old new) (Some kinds.Write) done p) is (subst (λ a. Leads (atomic_model z v) call a (Some kinds.Write) done p) goes at)

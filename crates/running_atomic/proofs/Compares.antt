@@ -1,18 +1,16 @@
 -- What a call knows that compares: it has taken the lock and the value, or has acted.
-use Rattle.std.proofs.Common.{◌≡◌, ℕ, refl, sym, ap, subst, ◌∙◌, Bool, true, false, length}
+use Rattle.std.proofs.Common.{◌≡◌, ℕ, refl, sym, ap, subst, ◌∙◌, Bool, true, false, length, None}
 use Rattle.std.specs.Prelude.{MatchBool}
 use Rattle.steps_events.specs.declared.event.Call.{Call}
 use Rattle.steps_events.specs.declared.event.Answer.{Answer}
 use Rattle.steps_events.specs.declared.event.Answer.TheVariants as answers
-use Rattle.steps_events.specs.declared.row.After.{After}
 use Rattle.steps_events.specs.declared.row.After.TheVariants as afters
 use Rattle.steps_events.specs.Arithmetic.{Arithmetic}
 use Rattle.passes.specs.declared.pass.Pass.{Pass}
 use Rattle.passes.specs.declared.view.View.{View}
 use Rattle.passes.specs.Passes.{IsSamePass}
 use Rattle.passes.specs.Parts.{IsWhole}
-use Rattle.steps_atomic.specs.declared.AtomicPlace.{AtomicPlace}
-use Rattle.steps_atomic.specs.Table.{compares, puts}
+use Rattle.steps_atomic.specs.Table.{compares, knows, puts}
 use Rattle.steps_atomic.specs.Register as register
 use Rattle.tallies.specs.Counts.{one_more}
 use Rattle.tallies.specs.declared.held.Held.{Held}
@@ -22,9 +20,10 @@ use Rattle.running_atomic.specs.declared.history.AtomicTally.{AtomicTally}
 use Rattle.running_atomic.specs.declared.history.Content.{Content}
 use Rattle.running_atomic.specs.declared.history.AtomicAct.{AtomicAct}
 use Rattle.running_atomic.specs.declared.history.Heard.{Heard}
-use Rattle.steps_atomic.specs.Register.{RegisterAct, plain, answer_to}
+use Rattle.steps_atomic.specs.Register.{RegisterAct, Outcome, plain, answer_to, value_after}
 use Rattle.running_atomic.specs.AtomicRule.{value_of, act_in, history_in}
 use Rattle.running_atomic.specs.AtomicSteps.{PlayedAtomic, StartsWith, Acts, ActsAt, IfHeld, IfWriting, IsSettled, Leaves, now_holds, ReadsLow, EndsUnchanged, ComparesHigh}
+use Rattle.running_atomic.specs.AtomicParties.{Puts}
 use Rattle.running_atomic.specs.AtomicShown.{HasGot, HasActedAt, HasTaken, HasCompared}
 use Rattle.running_atomic.proofs.AtomicKeeps.{settled_is}
 
@@ -38,6 +37,13 @@ low_read v w low on read =
     let low_is : low ≡ settled.0.low = subst (λ (h : Held Content). IfHeld h (λ (c : Content). low ≡ c.low)) settled.1 read.1 in
     subst (λ (h : Held Content). IfWriting h (λ x found. low ≡ x.low)) (sym (ap (λ (u : View AtomicTally). u.tally.hold) read.0 ∙ settled.1)) low_is
 
+-- a hold that stands already was got
+pub on_already : {T : Type 0} (p : Pass (PlayedAtomic T)) → IsSettled (counts_of p).hold → HasGot IsSettled p p
+on_already p on = record { same = (refl, refl); part = refl; heard = refl; on = on }
+
+pub taken_later : {T : Type 0} (z : Arithmetic T) (value : T) (p q r : Pass (PlayedAtomic T)) → HasGot IsSettled p q → HasTaken z value q r → HasTaken z value p r
+taken_later z value p q r got taken = record { same = same_twice p q r got.same taken.same; part = taken.part ∙ got.part; heard = taken.heard ∙ got.heard; holding = taken.holding }
+
 module _ {T : Type 0} (z : Arithmetic T) (k : T) where
   -- an act counts from whatever the pass was before, where it had seen and weighed the same
   pub acts_since : (a : RegisterAct T) (answer : Answer T) (v u w : View AtomicTally) → u.tally.heard ≡ v.tally.heard → u.part ≡ v.part → Acts z k a answer u w → Acts z k a answer v w
@@ -50,6 +56,13 @@ module _ {T : Type 0} (z : Arithmetic T) (k : T) where
     own = acts.own ∙ ap (λ (h : Heard). one_more (length acts.before) h.own) heard;
     marks = acts.marks;
     part = acts.part ∙ part;
+  }
+
+  pub compared_later : (a : AtomicAct) (value : T) (b : Bool) (p q r : Pass (PlayedAtomic T)) → HasGot IsSettled p q → MatchBool b (HasTaken z value q r) (HasCompared z k a value q r) → MatchBool b (HasTaken z value p r) (HasCompared z k a value p r)
+  compared_later a value true p q r got taken = taken_later z value p q r got taken
+  compared_later a value false p q r got made = record {
+    acted = (same_twice p q r got.same made.acted.0, acts_since (act_in z a) (answer_to z (act_in z a) value) (counted p) (counted q) (counted r) got.heard got.part made.acted.1);
+    on = made.on;
   }
 
   by_value : (a : AtomicAct) (x : Content) (p q r s : Pass (PlayedAtomic T)) (b : Bool) → IsSamePass p s → HasGot IsSettled p q → counted r ≡ counted q → (counts_of q).hold ≡ Writing x x →
@@ -97,17 +110,22 @@ module _ {T : Type 0} (z : Arithmetic T) (k : T) where
       } in
       (same_twice p q r made.acted.0 same, subst (λ (x : View AtomicTally). Acts z k (plain call) (answers.ErrOld old) (counted p) x) (sym left) after)
 
-  -- it answers that it found another
-  pub answers_other : (current old new : T) → z.same old current ≡ false → (register.compared (z.same old current) old new).0 ≡ answers.ErrOld old
-  answers_other current old new is = ap (λ (b : Bool). (register.compared b old new).0) is
+  -- What it answers, and what it makes of the value.
+  module _ (call : Call T) (current old new : T) (acts : register.act_of z call None old ≡ register.compared (z.same old current) old new) where
+    compared_so : (b : Bool) → z.same old current ≡ b → register.act_of z call None old ≡ register.compared b old new
+    compared_so b is = acts ∙ ap (λ (c : Bool). register.compared c old new) is
 
-  -- it answers that it found this one
-  pub answers_same : (current old new : T) (x : Content) → value_of z x ≡ current → z.same old current ≡ true → (register.compared (z.same old (value_of z x)) old new).0 ≡ answers.OkOld old
-  answers_same current old new x is same = ap (λ (u : T). (register.compared (z.same old u) old new).0) is ∙ ap (λ (b : Bool). (register.compared b old new).0) same
+    pub answers_other : z.same old current ≡ false → answer_to z (plain call) old ≡ answers.ErrOld old
+    answers_other is = ap (λ (o : Outcome T). o.0) (compared_so false is)
 
-  -- and then it puts the new value, whatever the words are called
-  pub writes_new : (current old new : T) (x y : Content) → value_of z x ≡ current → value_of z y ≡ new → z.same old current ≡ true → (register.compared (z.same old (value_of z x)) old (value_of z y)).1 ≡ new
-  writes_new current old new x y is new_is same = ap (λ (u : T). (register.compared (z.same old u) old (value_of z y)).1) is ∙ ap (λ (b : Bool). (register.compared b old (value_of z y)).1) same ∙ new_is
+    pub answers_same : z.same old current ≡ true → answer_to z (plain call) old ≡ answers.OkOld old
+    answers_same is = ap (λ (o : Outcome T). o.0) (compared_so true is)
 
-  pub puts_new : (current old new : T) (answer : Answer T) → z.same old current ≡ true → answer ≡ answers.OkOld old → ◌≡◌ {A = After T (AtomicPlace T)} (afters.At (compares z (z.same old current) old new)) (afters.At (puts z new answer))
-  puts_new current old new answer same is = ap (λ (b : Bool). afters.At (compares z b old new)) same ∙ ap (λ (a : Answer T). afters.At (puts z new a)) (sym is)
+    pub keeps_other : z.same old current ≡ false → value_after z (plain call) old ≡ old
+    keeps_other is = ap (λ (o : Outcome T). o.1) (compared_so false is)
+
+    pub writes_new : z.same old current ≡ true → value_after z (plain call) old ≡ new
+    writes_new is = ap (λ (o : Outcome T). o.1) (compared_so true is)
+
+    pub puts_new : knows z call old ≡ afters.At (compares z (z.same old current) old new) → z.same old current ≡ true → Puts z call old new (answer_to z (plain call) old)
+    puts_new goes is = goes ∙ ap (λ (b : Bool). afters.At (compares z b old new)) is ∙ ap (λ (a : Answer T). afters.At (puts z new a)) (sym (answers_same is))

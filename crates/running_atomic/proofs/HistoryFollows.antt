@@ -16,7 +16,7 @@ use Rattle.steps_events.specs.Past.{PendingCall, call_of, word_in}
 use Rattle.steps_events.specs.Moves.{stage_of}
 use Rattle.steps_atomic.specs.declared.AtomicPlace.{AtomicPlace}
 use Rattle.steps_atomic.specs.declared.AtomicPlace.TheVariants as places
-use Rattle.steps_atomic.specs.Register.{RegisterAct, plain, update, value_after, choice_of, choice_for, act_by, acts_at, acts_of_run}
+use Rattle.steps_atomic.specs.Register.{RegisterAct, plain, value_after, choice_of, choice_for, act_by, acts_at, acts_of_run}
 use Rattle.steps_atomic.specs.Table.{atomic_table}
 use Rattle.steps_atomic.proofs.Acts.{puts_at, looks_at, again_at, put_is_chosen}
 use Rattle.passes.specs.declared.view.View.{View}
@@ -104,12 +104,11 @@ module _ {T : Type 0} (z : Arithmetic T) (k : T) where
       ∙ ap (λ (b : Bool). cond b (plain comparing.call ∷ []) []) (comparing.acts (z.of_words comparing.low found) ∙ (λ i. not (z.same (z.of_words (low_is i) (said.0 i)) current)))) said.1 agrees is
 
   -- the second one, of a `fetch_update` whose closure has chosen nothing
-  pub again_follows : (coming : Coming T) (a : AtomicAct) (p : Parties T) (v : V) → ComesAgain z k coming p → act_in z a ≡ update None → Follows coming 2 (λ w. intents.Load w) p v (λ _ w. EndsUnchanged z k a v w)
-  again_follows coming a p v again is_act call place hold done comes past e found step name named does rest w told agrees is =
+  pub again_follows : (coming : Coming T) (p : Parties T) (v : V) → ComesAgain z k coming p → Follows coming 2 (λ w. intents.Load w) p v (λ _ w. EndsUnchanged z k (act.FetchUpdate None) v w)
+  again_follows coming p v again call place hold done comes past e found step name named does rest w told agrees is =
       let same = same_coming (atomic_model z k) coming call calls.FetchUpdate place (places.Again again.old) hold (Some kinds.Write) done again.done p comes again.comes in
-      one_act past e a v w rest told.2 agrees
-      (again_at z k step.parties past e step.pending step.under_way step.run again.old found (step.called ∙ same.same_call) (step.stage ∙ ap (λ (s : AtomicPlace T). Some s) same.same_place) (does ∙ ap (λ (n : Word). acts.Load n found) (sym named))
-      ∙ ap (λ (x : RegisterAct T). x ∷ []) (sym is_act)) is
+      one_act past e (act.FetchUpdate None) v w rest told.2 agrees
+      (again_at z k step.parties past e step.pending step.under_way step.run again.old found (step.called ∙ same.same_call) (step.stage ∙ ap (λ (s : AtomicPlace T). Some s) same.same_place) (does ∙ ap (λ (n : Word). acts.Load n found) (sym named))) is
 
   -- the store of the low word
   low_store : (c : Option (PendingCall T)) (new : ℕ) → acts_at z c (acts.Store words.Low new) ≡ []

@@ -1,7 +1,8 @@
 -- What the steps of a call leave of its pass: what it saw on the way, the hold, and what the hold knows.
-use Rattle.std.proofs.Common.{◌≡◌, ◌≢◌, ℕ, refl, sym, ap, subst, ◌∙◌}
+use Rattle.std.proofs.Common.{◌≡◌, ◌≢◌, ℕ, refl, sym, ap, subst, ◌∙◌, None}
 use Rattle.steps_events.specs.declared.event.Answer.{Answer}
 use Rattle.steps_events.specs.declared.event.Answer.TheVariants as answers
+use Rattle.steps_events.specs.declared.event.Call.{Call}
 use Rattle.steps_events.specs.declared.event.Call.TheVariants as calls
 use Rattle.steps_events.specs.Arithmetic.{Arithmetic}
 use Rattle.passes.specs.declared.pass.Pass.{Pass}
@@ -9,7 +10,7 @@ use Rattle.passes.specs.declared.view.View.{View}
 use Rattle.passes.specs.Passes.{IsSamePass}
 use Rattle.passes.specs.Views.{looked}
 use Rattle.playing.specs.Passes.{counts_of, counted}
-use Rattle.steps_atomic.specs.Register.{RegisterAct, plain, answer_to, value_after}
+use Rattle.steps_atomic.specs.Register.{RegisterAct, plain, update, answer_to, value_after}
 use Rattle.tallies.specs.declared.held.Held.{Held}
 use Rattle.tallies.specs.declared.held.Held.TheVariants.{Free, Reading, Writing, Torn}
 use Rattle.running_atomic.specs.declared.history.AtomicTally.{AtomicTally}
@@ -18,7 +19,7 @@ use Rattle.running_atomic.specs.declared.history.AtomicAct.{AtomicAct}
 use Rattle.running_atomic.specs.declared.history.AtomicAct.TheVariants as act
 use Rattle.running_atomic.specs.History.{content}
 use Rattle.running_atomic.specs.AtomicRule.{value_of, act_in}
-use Rattle.running_atomic.specs.AtomicSteps.{PlayedAtomic, Acts, ActsAt, EntersRead, EntersWrite, EndsLoad, EndsStore, IfHeld, IfWriting, IsReading, IsRight, IsSettled, Leaves, ReadsLow, ReadsHigh, Records, StoresLow, now_holds}
+use Rattle.running_atomic.specs.AtomicSteps.{PlayedAtomic, Acts, ActsAt, EntersRead, EntersWrite, EndsLoad, EndsStore, EndsUnchanged, IfHeld, IfWriting, IsReading, IsRight, IsSettled, IsStoring, Leaves, ReadsLow, ReadsHigh, Records, StoresLow, now_holds}
 use Rattle.running_atomic.specs.AtomicShown.{IsStill, HasGot, HasTaken, HasActedAt, IsHolding}
 use Rattle.running_atomic.proofs.AtomicKeeps.{reading_is, settled_is}
 use Rattle.running_atomic.proofs.Compares.{same_twice, acts_since}
@@ -34,6 +35,15 @@ module _ {T : Type 0} where
 
   pub not_reading : (p q : Pass (PlayedAtomic T)) (from found : ℕ) → found ≢ from → IsSamePass p q → EntersRead from (counted p) found (counted q) → IsStill p q
   not_reading p q from found other same tried = let saw = tried.failed other in record { same = same; part = ap (λ (v : View AtomicTally). v.part) saw; tally = ap (λ (v : View AtomicTally). v.tally) saw }
+
+  pub as_it_was : (p : Pass (PlayedAtomic T)) → IsStill p p
+  as_it_was p = record { same = (refl, refl); part = refl; tally = refl }
+
+  pub rests_still : (p q : Pass (PlayedAtomic T)) → IsStill p q → (counts_of p).hold ≡ Free → (counts_of q).hold ≡ Free
+  rests_still p q still rest = ap (λ (t : AtomicTally). t.hold) still.tally ∙ rest
+
+  pub rests_left : (p q : Pass (PlayedAtomic T)) → Leaves (counted p) (counted q) → (counts_of q).hold ≡ Free
+  rests_left p q left = ap (λ (v : View AtomicTally). v.tally.hold) left
 
   pub still_on : (p q r : Pass (PlayedAtomic T)) → IsStill p q → IsStill q r → IsStill p r
   still_on p q r one two = record { same = same_twice p q r one.same two.same; part = two.part ∙ one.part; tally = two.tally ∙ one.tally }
@@ -70,10 +80,10 @@ module _ {T : Type 0} where
   settles_holding z old p holding = subst IsSettled (sym holding.on) refl
 
 -- what holds anyway holds of what a hold found
-pub anyway : (h : Held Content) (P : Type 0) → P → IfWriting h (λ _ _. P)
+pub anyway : (h : Held Content) (P : Content → Type 0) → ((found : Content) → P found) → IfWriting h (λ _ found. P found)
 anyway Free P is = tt
 anyway (Reading n x) P is = tt
-anyway (Writing x found) P is = is
+anyway (Writing x found) P is = is found
 anyway Torn P is = tt
 
 module _ {T : Type 0} (z : Arithmetic T) where
@@ -92,6 +102,11 @@ module _ {T : Type 0} (z : Arithmetic T) where
         heard = ap (λ (v : View AtomicTally). v.tally.heard) all ∙ got.heard;
         holding = record { words = x; on = ap (λ (v : View AtomicTally). v.tally.hold) all ∙ settled.1; value_is = sym (given ∙ (λ i. z.of_words (low_is i) (high_is i))) };
       }
+
+  -- the act of a call that asks nobody stores
+  pub stores_plain : (a : AtomicAct) (call : Call T) → act_in z a ≡ plain call → IsStoring a
+  stores_plain (act.FetchUpdate None) call is = let choice = ap (λ (r : RegisterAct T). r.choice) is in absurd cc
+  stores_plain other call is = tt
 
   -- the act makes this of what the hold knows
   pub right_to_put : (a : AtomicAct) (old new : T) (p : Pass (PlayedAtomic T)) → IsHolding z old p → value_after z (act_in z a) old ≡ new → IfWriting (counts_of p).hold (λ _ found. value_after z (act_in z a) (value_of z found) ≡ new)
@@ -166,6 +181,18 @@ module _ {T : Type 0} (z : Arithmetic T) where
         HasActedAt z k (act_in z a) (answer_to z (act_in z a) old) p q
     has_replaced_by a old p q holding same acted =
         (same, subst (λ (u : T). Acts z k (act_in z a) (answer_to z (act_in z a) u) (counted p) (counted q)) holding.value_is (subst (λ (h : Held Content). IfWriting h (λ _ found. ActsAt z k a found (counted p) (counted q))) holding.on acted))
+
+    -- The value was kept, by a `fetch_update` whose closure chose nothing, and the lock is left.
+    pub settles_unchanged : (p q : Pass (PlayedAtomic T)) → IsSettled (counts_of p).hold → EndsUnchanged z k (act.FetchUpdate None) (counted p) (counted q) → IsSettled (counts_of q).hold
+    settles_unchanged p q on ended = subst IsSettled (sym ended.0) on
+
+    pub has_unchanged : (old : T) (p q r : Pass (PlayedAtomic T)) → IsHolding z old p → IsSamePass p q → EndsUnchanged z k (act.FetchUpdate None) (counted p) (counted q) → IsSamePass q r → Leaves (counted q) (counted r) →
+        HasActedAt z k (update None) (answers.ErrOld old) p r
+    has_unchanged old p q r holding first ended second left =
+        let acts : ActsAt z k (act.FetchUpdate None) holding.words (counted p) (counted q) = subst (λ (h : Held Content). IfWriting h (λ _ found. ActsAt z k (act.FetchUpdate None) found (counted p) (counted q))) holding.on ended.1 in (
+          same_twice p q r first second,
+          acts_left (update None) (answers.ErrOld old) (counted p) (counted q) (counted r) (subst (λ (u : T). Acts z k (update None) (answers.ErrOld u) (counted p) (counted q)) holding.value_is acts) left,
+        )
 
     -- A call that took the lock and the value has acted so, however act and answer are written.
     pub acts_after : (a b : RegisterAct T) (given answer : Answer T) (old : T) (p q r : Pass (PlayedAtomic T)) → HasTaken z old p q → HasActedAt z k a given q r → a ≡ b → given ≡ answer → HasActedAt z k b answer p r

@@ -9,22 +9,25 @@ use Rattle.steps_events.specs.declared.hold.HoldKind.{HoldKind}
 use Rattle.steps_events.specs.declared.hold.HoldKind.TheVariants as kinds
 use Rattle.steps_events.specs.declared.row.After.TheVariants as afters
 use Rattle.steps_events.specs.Arithmetic.{Arithmetic}
-use Rattle.steps_events.specs.Moves.{hold_fault, CallValues}
+use Rattle.steps_events.specs.Moves.{hold_fault}
 use Rattle.steps_events.specs.Runs.{IsPast}
 use Rattle.steps_atomic.specs.declared.AtomicPlace.{AtomicPlace}
 use Rattle.steps_atomic.specs.declared.AtomicPlace.TheVariants as places
 use Rattle.steps_atomic.specs.Table.{atomic_table, atomic_begins, atomic_grant, puts, inside, knows}
-use Rattle.steps_atomic.specs.Register.{RegisterAct, register_after, acts_of_run, ends_at_look}
+use Rattle.steps_atomic.specs.Register.{RegisterAct, register_after, acts_of_run, ends_at_look, choice_for}
 use Rattle.playing.specs.Slots.{Slot, Parties, slot_at, all_of}
 use Rattle.playing.specs.Plays.{events_of, Matches, Coming, ComesBy, IsAt, Leads, HasEnded}
 use Rattle.running_atomic.specs.AtomicModel.{atomic_model}
 
--- a call that takes the lock for writing, and what it was handed are values
+-- a call that takes the lock for writing
 pub record Writes {T : Type 0} (z : Arithmetic T) (v : T) (call : Call T) : Type 0 where
   pub begins : atomic_begins call ≡ Some (places.Take call)
   pub grants : atomic_grant call ≡ Some kinds.Write
   pub free : hold_fault (atomic_table z v) call None ≡ None
-  pub values : CallValues z call
+
+-- it has no choice, as a `FetchUpdate` has
+abbrev pub AsksNobody : {T : Type 0} → Call T → Type 0
+AsksNobody call = choice_for call (Some None) ≡ None
 
 -- and reads the value, once it has the lock
 abbrev pub Reads : {T : Type 0} → Arithmetic T → Call T → Type 0

@@ -146,10 +146,6 @@ IsOn Torn = ⊥
 abbrev pub IsRight : {T : Type 0} → Arithmetic T → AtomicAct → ℕ → Held Content → Type 0
 IsRight z a new h = IfWriting h (λ x found. value_after z (act_in z a) (value_of z found) ≡ z.of_words x.low new)
 
--- the act leaves the value as it is
-abbrev pub ChangesNothing : {T : Type 0} → Arithmetic T → AtomicAct → Held Content → Type 0
-ChangesNothing z a h = IfWriting h (λ x found. value_after z (act_in z a) (value_of z found) ≡ value_of z found)
-
 -- the act leaves the value as it is wherever that is not the one compared with
 abbrev pub KeepsOthers : {T : Type 0} → Arithmetic T → AtomicAct → T → Held Content → Type 0
 KeepsOthers z a current h = IfWriting h (λ x found. z.same (value_of z x) current ≡ false → value_after z (act_in z a) (value_of z found) ≡ value_of z found)

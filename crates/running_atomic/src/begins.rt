@@ -1,31 +1,21 @@
-//! How the pass of an atomic comes to the steps of its calls.
+//! The calls of an atomic that are named by a type. The others name a value too: their callers pick them (`Brand`).
 
-use playing::Entry;
+use playing::turn::Called;
 
-/// A `Load` begins.
-#[derive(Drop)]
-pub(crate) struct LoadBegins;
+/// A `Load`.
+pub(crate) struct LoadCall;
 
-impl<T> Entry<T> for LoadBegins {
+impl<T> Called<T> for LoadCall {
     ghost use Rattle.steps_events.specs.declared.event.Call.TheVariants as calls;
-    ghost use Rattle.playing.specs.Plays.{Beginning};
 
-    ghost coming = { Beginning calls.Load };
-
-    #[inline(always)]
-    fn spend(self) {}
+    ghost call = { calls.Load };
 }
 
-/// The closure of a `FetchUpdate` has chosen nothing.
-#[derive(Drop)]
-pub(crate) struct NothingChosen;
+/// A `FetchUpdate`.
+pub(crate) struct FetchUpdateCall;
 
-impl<T> Entry<T> for NothingChosen {
-    ghost use Rattle.std.specs.Prelude.{None};
-    ghost use Rattle.playing.specs.Plays.{Choosing};
+impl<T> Called<T> for FetchUpdateCall {
+    ghost use Rattle.steps_events.specs.declared.event.Call.TheVariants as calls;
 
-    ghost coming = { Choosing None };
-
-    #[inline(always)]
-    fn spend(self) {}
+    ghost call = { calls.FetchUpdate };
 }

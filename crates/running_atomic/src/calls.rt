@@ -3,9 +3,11 @@ ghost use Rattle.std.specs.Prelude.{◌≡◌, List, false, MatchBool, IfOk, IfE
 ghost use Rattle.steps_events.specs.declared.event.Call.TheVariants as calls;
 ghost use Rattle.steps_events.specs.declared.event.Answer.TheVariants as answers;
 ghost use Rattle.steps_events.specs.declared.hold.HoldKind.TheVariants as kinds;
+ghost use Rattle.steps_events.specs.declared.row.After.TheVariants as afters;
 ghost use Rattle.steps_events.specs.Arithmetic.{IsValue};
+ghost use Rattle.steps_events.specs.Moves.{CallValues};
 ghost use Rattle.steps_atomic.specs.declared.AtomicPlace.TheVariants as places;
-ghost use Rattle.steps_atomic.specs.Table.{inside};
+ghost use Rattle.steps_atomic.specs.Table.{atomic_grant, look_at, inside, compares, knows};
 ghost use Rattle.tallies.specs.declared.held.Held.TheVariants.{Free};
 ghost use Rattle.passes.specs.Passes.{IsSamePass, view};
 ghost use Rattle.passes.specs.Views.{first_view};
@@ -13,21 +15,21 @@ ghost use Rattle.playing.specs.Slots.{Slot, no_parties, all_of};
 ghost use Rattle.playing.specs.Plays.{HasCalled};
 ghost use Rattle.playing.specs.Passes.{played, parties_of, counts_of, counted};
 ghost use Rattle.playing.specs.Stages.{IsPassOf, key_of, count_of};
-ghost use Rattle.running_atomic.specs.AtomicParties.{Writes, IsNext, Reads, GoesOnKnowing, ActsAtOther, Knows, Puts, MayPut, HasPut, HasReplaced};
+ghost use Rattle.running_atomic.specs.AtomicParties.{Writes, AsksNobody, IsNext, Reads, GoesOnKnowing, ActsAtOther, Knows, Puts, MayPut, HasPut, HasReplaced};
 ghost use Rattle.running_atomic.specs.AtomicModel.{atomic_model};
-ghost use Rattle.steps_atomic.specs.Register.{plain, update, value_after, answer_to};
+ghost use Rattle.steps_atomic.specs.Register.{act_of as outcome_of, compared, plain, update, value_after, answer_to};
 ghost use Rattle.running_atomic.specs.AtomicRule.{act_in, value_of};
 ghost use Rattle.running_atomic.specs.History.{no_acts};
 ghost use Rattle.running_atomic.specs.AtomicSteps.{IsReading, IsSettled, IfWriting, IsStoring, ActsAt, OneHistory};
 
-use crate::begins::{LoadBegins, NothingChosen};
+use crate::begins::FetchUpdateCall;
 use crate::history::{AtomicAct, AtomicTally, Content};
 use crate::pass::AtomicPass;
-use crate::script::{AtomicScript, PlayedAtomic};
+use crate::script::AtomicScript;
 use crate::shown::AtomicShown;
-use crate::steps::Comparison;
-use passes::Pass;
-use playing::{GoesOn, Stage, Way};
+use crate::steps::{Comparison, Going, PlayedPass};
+use playing::Stage;
+use playing::turn::{Called, Choice, Chooses, Chosen, Nothing, Turn, TurnWith, Way};
 use std::alloc::{AllocError, Allocator, Global};
 use std::hint::spin_loop;
 use std::marker::Brand;
@@ -68,68 +70,55 @@ fn is_same<T: AtomicInteger>(old: T, current: T) -> bool
     old == current
 }
 
-/// Their sum, wrapped.
+/// What a call that asks nobody makes of a value.
 #[inline(always)]
-fn sum<T: AtomicInteger>(old: T, value: T) -> T
-    ensures { result ≡ T.arithmetic.add old value }
+fn new_value<T: AtomicInteger>(call: &Call<T>, old: T) -> T
+    ensures { result ≡ value_after T.arithmetic (plain call.now) old }
 {
-    old.overflowing_add(value).0
+    match call {
+        Call::Store(value) | Call::Swap(value) => *value,
+        Call::CompareExchange(current, new) | Call::CompareExchangeWeak(current, new) => {
+            if old == *current { *new } else { old }
+        }
+        Call::FetchAdd(value) => old.overflowing_add(*value).0,
+        Call::FetchSub(value) => old.overflowing_sub(*value).0,
+        Call::FetchAnd(value) => old & *value,
+        Call::FetchOr(value) => old | *value,
+        Call::FetchXor(value) => old ^ *value,
+        Call::FetchNand(value) => !(old & *value),
+        Call::FetchMax(value) => old.max(*value),
+        Call::FetchMin(value) => old.min(*value),
+        _ => old,
+    }
 }
 
-/// Their difference, wrapped.
+/// The act of a call that writes and asks nobody.
 #[inline(always)]
-fn difference<T: AtomicInteger>(old: T, value: T) -> T
-    ensures { result ≡ T.arithmetic.subtract old value }
+fn act_of<T: AtomicInteger>(call: &Call<T>) -> AtomicAct
+    requires writes { atomic_grant call.now ≡ Some kinds.Write }
+    requires asks_nobody { AsksNobody call.now }
+    ensures act { act_in T.arithmetic result ≡ plain call.now }
+    ensures values { CallValues T.arithmetic call.now }
 {
-    old.overflowing_sub(value).0
-}
-
-/// The greater of the two.
-#[inline(always)]
-fn greater<T: AtomicInteger>(old: T, value: T) -> T
-    ensures { result ≡ T.arithmetic.greater old value }
-{
-    old.max(value)
-}
-
-/// The lesser of the two.
-#[inline(always)]
-fn lesser<T: AtomicInteger>(old: T, value: T) -> T
-    ensures { result ≡ T.arithmetic.lesser old value }
-{
-    old.min(value)
-}
-
-/// The bits that both have.
-#[inline(always)]
-fn and<T: AtomicInteger>(old: T, value: T) -> T
-    ensures { result ≡ T.arithmetic.and old value }
-{
-    old & value
-}
-
-/// The bits that one has.
-#[inline(always)]
-fn or<T: AtomicInteger>(old: T, value: T) -> T
-    ensures { result ≡ T.arithmetic.or old value }
-{
-    old | value
-}
-
-/// The bits that one has and not both.
-#[inline(always)]
-fn xor<T: AtomicInteger>(old: T, value: T) -> T
-    ensures { result ≡ T.arithmetic.xor old value }
-{
-    old ^ value
-}
-
-/// The bits that it has not.
-#[inline(always)]
-fn inverse<T: AtomicInteger>(value: T) -> T
-    ensures { result ≡ T.arithmetic.inverse value }
-{
-    !value
+    match call {
+        Call::Store(value) => AtomicAct::Store(content(*value)),
+        Call::Swap(value) => AtomicAct::Swap(content(*value)),
+        Call::CompareExchange(current, new) => {
+            AtomicAct::CompareExchange(content(*current), content(*new))
+        }
+        Call::CompareExchangeWeak(current, new) => {
+            AtomicAct::CompareExchangeWeak(content(*current), content(*new))
+        }
+        Call::FetchAdd(value) => AtomicAct::FetchAdd(content(*value)),
+        Call::FetchSub(value) => AtomicAct::FetchSub(content(*value)),
+        Call::FetchAnd(value) => AtomicAct::FetchAnd(content(*value)),
+        Call::FetchOr(value) => AtomicAct::FetchOr(content(*value)),
+        Call::FetchXor(value) => AtomicAct::FetchXor(content(*value)),
+        Call::FetchNand(value) => AtomicAct::FetchNand(content(*value)),
+        Call::FetchMax(value) => AtomicAct::FetchMax(content(*value)),
+        Call::FetchMin(value) => AtomicAct::FetchMin(content(*value)),
+        _ => unreachable!(),
+    }
 }
 
 /// What a call does before it tries again, and how often it has then tried: it spins 10000 times, and from then on yields, so that whoever
@@ -177,10 +166,7 @@ impl<T: AtomicInteger, A: Allocator> Atomic<T, A> {
         ensures acted { HasActed T.arithmetic (opening_of self.now) (plain (calls.Store value)) answers.Done pass.old pass.new }
         ensures played { HasPlayed T.arithmetic (opening_of self.now) (calls.Store value) answers.Done pass.old pass.new }
     {
-        let new = content(value);
-        self.write_lock(rt, &mut pass.pass, &Call::Store(value));
-        let act = AtomicAct::Store(new);
-        self.put::<GoesOn>(&mut pass.pass, value, &act);
+        self.store_by(rt, &mut pass.pass, value);
     }
 
     /// Writes the value, and answers the old one.
@@ -190,11 +176,7 @@ impl<T: AtomicInteger, A: Allocator> Atomic<T, A> {
         ensures acted { HasActed T.arithmetic (opening_of self.now) (plain (calls.Swap value)) (answers.Value result) pass.old pass.new }
         ensures played { HasPlayed T.arithmetic (opening_of self.now) (calls.Swap value) (answers.Value result) pass.old pass.new }
     {
-        let call = Call::Swap(value);
-        let words = content(value);
-        let old = self.take(rt, &mut pass.pass, &call);
-        let act = AtomicAct::Swap(words);
-        self.replace(&mut pass.pass, old, value, &act, &call)
+        self.fetch(rt, &mut pass.pass, &Call::Swap(value))
     }
 
     /// Writes `new` where the value is `current`, and answers `Ok` with the old value; else `Err` with it, and nothing is written.
@@ -214,20 +196,13 @@ impl<T: AtomicInteger, A: Allocator> Atomic<T, A> {
         ensures played_changed { IfOk result (λ old. HasPlayed T.arithmetic (opening_of self.now) (calls.CompareExchange current new) (answers.OkOld old) pass.old pass.new) }
         ensures played_kept { IfErr result (λ old. HasPlayed T.arithmetic (opening_of self.now) (calls.CompareExchange current new) (answers.ErrOld old) pass.old pass.new) }
     {
-        let from = content(current);
-        let to = content(new);
-        let call = Call::CompareExchange(current, new);
-        let by = Comparison {
-            act: AtomicAct::CompareExchange(from, to),
+        self.exchange(
+            rt,
+            &mut pass.pass,
+            &Call::CompareExchange(current, new),
             current,
-        };
-        let old = self.compare(rt, &mut pass.pass, &call, &by);
-        if is_same(old, current) {
-            Ok(self.replace(&mut pass.pass, old, new, &by.act, &call))
-        } else {
-            self.leave_write(&mut pass.pass);
-            Err(old)
-        }
+            new,
+        )
     }
 
     /// The same: it fails only where the value differs.
@@ -247,20 +222,13 @@ impl<T: AtomicInteger, A: Allocator> Atomic<T, A> {
         ensures played_changed { IfOk result (λ old. HasPlayed T.arithmetic (opening_of self.now) (calls.CompareExchangeWeak current new) (answers.OkOld old) pass.old pass.new) }
         ensures played_kept { IfErr result (λ old. HasPlayed T.arithmetic (opening_of self.now) (calls.CompareExchangeWeak current new) (answers.ErrOld old) pass.old pass.new) }
     {
-        let from = content(current);
-        let to = content(new);
-        let call = Call::CompareExchangeWeak(current, new);
-        let by = Comparison {
-            act: AtomicAct::CompareExchangeWeak(from, to),
+        self.exchange(
+            rt,
+            &mut pass.pass,
+            &Call::CompareExchangeWeak(current, new),
             current,
-        };
-        let old = self.compare(rt, &mut pass.pass, &call, &by);
-        if is_same(old, current) {
-            Ok(self.replace(&mut pass.pass, old, new, &by.act, &call))
-        } else {
-            self.leave_write(&mut pass.pass);
-            Err(old)
-        }
+            new,
+        )
     }
 
     /// Adds, wrapping, and answers the old value.
@@ -276,12 +244,7 @@ impl<T: AtomicInteger, A: Allocator> Atomic<T, A> {
         ensures acted { HasActed T.arithmetic (opening_of self.now) (plain (calls.FetchAdd value)) (answers.Value result) pass.old pass.new }
         ensures played { HasPlayed T.arithmetic (opening_of self.now) (calls.FetchAdd value) (answers.Value result) pass.old pass.new }
     {
-        let call = Call::FetchAdd(value);
-        let words = content(value);
-        let old = self.take(rt, &mut pass.pass, &call);
-        let new = sum(old, value);
-        let act = AtomicAct::FetchAdd(words);
-        self.replace(&mut pass.pass, old, new, &act, &call)
+        self.fetch(rt, &mut pass.pass, &Call::FetchAdd(value))
     }
 
     /// Subtracts, wrapping, and answers the old value.
@@ -297,12 +260,7 @@ impl<T: AtomicInteger, A: Allocator> Atomic<T, A> {
         ensures acted { HasActed T.arithmetic (opening_of self.now) (plain (calls.FetchSub value)) (answers.Value result) pass.old pass.new }
         ensures played { HasPlayed T.arithmetic (opening_of self.now) (calls.FetchSub value) (answers.Value result) pass.old pass.new }
     {
-        let call = Call::FetchSub(value);
-        let words = content(value);
-        let old = self.take(rt, &mut pass.pass, &call);
-        let new = difference(old, value);
-        let act = AtomicAct::FetchSub(words);
-        self.replace(&mut pass.pass, old, new, &act, &call)
+        self.fetch(rt, &mut pass.pass, &Call::FetchSub(value))
     }
 
     /// Writes the bits that both have, and answers the old value.
@@ -318,12 +276,7 @@ impl<T: AtomicInteger, A: Allocator> Atomic<T, A> {
         ensures acted { HasActed T.arithmetic (opening_of self.now) (plain (calls.FetchAnd value)) (answers.Value result) pass.old pass.new }
         ensures played { HasPlayed T.arithmetic (opening_of self.now) (calls.FetchAnd value) (answers.Value result) pass.old pass.new }
     {
-        let call = Call::FetchAnd(value);
-        let words = content(value);
-        let old = self.take(rt, &mut pass.pass, &call);
-        let new = and(old, value);
-        let act = AtomicAct::FetchAnd(words);
-        self.replace(&mut pass.pass, old, new, &act, &call)
+        self.fetch(rt, &mut pass.pass, &Call::FetchAnd(value))
     }
 
     /// Writes the bits that one of them has, and answers the old value.
@@ -339,12 +292,7 @@ impl<T: AtomicInteger, A: Allocator> Atomic<T, A> {
         ensures acted { HasActed T.arithmetic (opening_of self.now) (plain (calls.FetchOr value)) (answers.Value result) pass.old pass.new }
         ensures played { HasPlayed T.arithmetic (opening_of self.now) (calls.FetchOr value) (answers.Value result) pass.old pass.new }
     {
-        let call = Call::FetchOr(value);
-        let words = content(value);
-        let old = self.take(rt, &mut pass.pass, &call);
-        let new = or(old, value);
-        let act = AtomicAct::FetchOr(words);
-        self.replace(&mut pass.pass, old, new, &act, &call)
+        self.fetch(rt, &mut pass.pass, &Call::FetchOr(value))
     }
 
     /// Writes the bits that only one of them has, and answers the old value.
@@ -360,12 +308,7 @@ impl<T: AtomicInteger, A: Allocator> Atomic<T, A> {
         ensures acted { HasActed T.arithmetic (opening_of self.now) (plain (calls.FetchXor value)) (answers.Value result) pass.old pass.new }
         ensures played { HasPlayed T.arithmetic (opening_of self.now) (calls.FetchXor value) (answers.Value result) pass.old pass.new }
     {
-        let call = Call::FetchXor(value);
-        let words = content(value);
-        let old = self.take(rt, &mut pass.pass, &call);
-        let new = xor(old, value);
-        let act = AtomicAct::FetchXor(words);
-        self.replace(&mut pass.pass, old, new, &act, &call)
+        self.fetch(rt, &mut pass.pass, &Call::FetchXor(value))
     }
 
     /// Writes the bits that not both have, and answers the old value.
@@ -381,12 +324,7 @@ impl<T: AtomicInteger, A: Allocator> Atomic<T, A> {
         ensures acted { HasActed T.arithmetic (opening_of self.now) (plain (calls.FetchNand value)) (answers.Value result) pass.old pass.new }
         ensures played { HasPlayed T.arithmetic (opening_of self.now) (calls.FetchNand value) (answers.Value result) pass.old pass.new }
     {
-        let call = Call::FetchNand(value);
-        let words = content(value);
-        let old = self.take(rt, &mut pass.pass, &call);
-        let new = inverse(and(old, value));
-        let act = AtomicAct::FetchNand(words);
-        self.replace(&mut pass.pass, old, new, &act, &call)
+        self.fetch(rt, &mut pass.pass, &Call::FetchNand(value))
     }
 
     /// Writes the greater of the two, and answers the old value.
@@ -402,12 +340,7 @@ impl<T: AtomicInteger, A: Allocator> Atomic<T, A> {
         ensures acted { HasActed T.arithmetic (opening_of self.now) (plain (calls.FetchMax value)) (answers.Value result) pass.old pass.new }
         ensures played { HasPlayed T.arithmetic (opening_of self.now) (calls.FetchMax value) (answers.Value result) pass.old pass.new }
     {
-        let call = Call::FetchMax(value);
-        let words = content(value);
-        let old = self.take(rt, &mut pass.pass, &call);
-        let new = greater(old, value);
-        let act = AtomicAct::FetchMax(words);
-        self.replace(&mut pass.pass, old, new, &act, &call)
+        self.fetch(rt, &mut pass.pass, &Call::FetchMax(value))
     }
 
     /// Writes the lesser of the two, and answers the old value.
@@ -423,12 +356,7 @@ impl<T: AtomicInteger, A: Allocator> Atomic<T, A> {
         ensures acted { HasActed T.arithmetic (opening_of self.now) (plain (calls.FetchMin value)) (answers.Value result) pass.old pass.new }
         ensures played { HasPlayed T.arithmetic (opening_of self.now) (calls.FetchMin value) (answers.Value result) pass.old pass.new }
     {
-        let call = Call::FetchMin(value);
-        let words = content(value);
-        let old = self.take(rt, &mut pass.pass, &call);
-        let new = lesser(old, value);
-        let act = AtomicAct::FetchMin(words);
-        self.replace(&mut pass.pass, old, new, &act, &call)
+        self.fetch(rt, &mut pass.pass, &Call::FetchMin(value))
     }
 
     /// Asks `f` once, under the write lock, what to write in place of the old value, and writes that; answers `Ok` with the old value.
@@ -441,7 +369,7 @@ impl<T: AtomicInteger, A: Allocator> Atomic<T, A> {
         pass: &mut AtomicPass<T>,
         _set_order: Ordering,
         _fetch_order: Ordering,
-        mut f: F,
+        f: F,
     ) -> Result<T, T>
         requires own { IsAtomicPass self.now pass.old }
         requires may { (value : T) → F.pre f value }
@@ -450,16 +378,7 @@ impl<T: AtomicInteger, A: Allocator> Atomic<T, A> {
         ensures played_changed { IfOk result (λ old. HasPlayed T.arithmetic (opening_of self.now) calls.FetchUpdate (answers.OkOld old) pass.old pass.new) }
         ensures played_kept { IfErr result (λ old. HasPlayed T.arithmetic (opening_of self.now) calls.FetchUpdate (answers.ErrOld old) pass.old pass.new) }
     {
-        let old = self.take(rt, &mut pass.pass, &Call::FetchUpdate);
-        match f(old) {
-            Some(new) => {
-                let words = content(new);
-                let act = AtomicAct::FetchUpdate(Some(words));
-                self.put::<Brand>(&mut pass.pass, new, &act);
-                Ok(old)
-            }
-            None => Err(self.keep(&mut pass.pass, old)),
-        }
+        self.update_by(rt, &mut pass.pass, f)
     }
 
     /// The value, to be printed. It is loaded here, and not when it is printed.
@@ -474,170 +393,353 @@ impl<T: AtomicInteger, A: Allocator> Atomic<T, A> {
 
     /// Loads under a read hold.
     #[inline(always)]
-    fn load_by<R: Wait>(&self, rt: &R, pass: &mut Pass<PlayedAtomic<T>>) -> T
+    fn load_by<R: Wait>(&self, rt: &R, pass: &mut PlayedPass<T>) -> T
         requires own { IsPassOf self.now.stage pass.old }
         requires rest { (counts_of pass.old).hold ≡ Free }
         ensures acted { HasActedAt T.arithmetic (key_of self.now.stage) (plain calls.Load) (answers.Value result) pass.old pass.new }
         ensures rest { (counts_of pass.new).hold ≡ Free }
         ensures played { HasCalled (atomic_model T.arithmetic (key_of self.now.stage)) calls.Load (answers.Value result) None (parties_of pass.old) (parties_of pass.new) }
     {
-        self.read_lock(rt, pass);
-        let low = self.read_low(pass);
-        let high = self.end_load(pass);
-        self.leave_read(pass);
+        let (seen, looked) = self.first_look(pass);
+        let locked = self.read_from(rt, looked, seen);
+        let (low, read) = self.read_low(locked);
+        let (high, acted) = self.end_load(read);
+        let last = self.leave_read(acted);
+        let _pass = last.end(&self.stage);
         T::from_words(low, high)
     }
 
-    /// Takes the lock for reading.
+    /// What `store` does.
     #[inline(always)]
-    fn read_lock<R: Wait>(&self, rt: &R, pass: &mut Pass<PlayedAtomic<T>>)
+    fn store_by<R: Wait>(&self, rt: &R, pass: &mut PlayedPass<T>, value: T)
         requires own { IsPassOf self.now.stage pass.old }
         requires rest { (counts_of pass.old).hold ≡ Free }
-        ensures on { HasGot IsReading pass.old pass.new }
-        ensures next { IsNext T.arithmetic (key_of self.now.stage) calls.Load (places.Low calls.Load) (Some kinds.Read) (all_of (parties_of pass.old)) (parties_of pass.new) }
+        ensures acted { HasActedAt T.arithmetic (key_of self.now.stage) (plain (calls.Store value)) answers.Done pass.old pass.new }
+        ensures rest { (counts_of pass.new).hold ≡ Free }
+        ensures played { HasCalled (atomic_model T.arithmetic (key_of self.now.stage)) (calls.Store value) answers.Done None (parties_of pass.old) (parties_of pass.new) }
     {
-        let mut seen = self.look(LoadBegins, pass);
+        let call = Call::Store(value);
+        let act = act_of(&call);
+        let (found, tried) = self.first_enter::<Brand>(pass, &call);
+        if found == 0 {
+            let last = self.put(tried, value, &act);
+            let _pass = last.end(&self.stage);
+            return;
+        }
+        let locked = self.write_later::<R, Brand>(rt, tried, &call);
+        let last = self.put(locked, value, &act);
+        let _pass = last.end(&self.stage);
+    }
+
+    /// What `fetch_update` does.
+    #[inline(always)]
+    fn update_by<R: Wait, F: FnMut(T) -> Option<T>>(
+        &self,
+        rt: &R,
+        pass: &mut PlayedPass<T>,
+        f: F,
+    ) -> Result<T, T>
+        requires own { IsPassOf self.now.stage pass.old }
+        requires rest { (counts_of pass.old).hold ≡ Free }
+        requires may { (value : T) → F.pre f value }
+        ensures changed { IfOk result (λ old. (new : T) × F.post f old (Some new) × HasActedAt T.arithmetic (key_of self.now.stage) (update (Some new)) (answers.OkOld old) pass.old pass.new) }
+        ensures kept { IfErr result (λ old. F.post f old None × HasActedAt T.arithmetic (key_of self.now.stage) (update None) (answers.ErrOld old) pass.old pass.new) }
+        ensures rest { (counts_of pass.new).hold ≡ Free }
+        ensures played_changed { IfOk result (λ old. HasCalled (atomic_model T.arithmetic (key_of self.now.stage)) calls.FetchUpdate (answers.OkOld old) None (parties_of pass.old) (parties_of pass.new)) }
+        ensures played_kept { IfErr result (λ old. HasCalled (atomic_model T.arithmetic (key_of self.now.stage)) calls.FetchUpdate (answers.ErrOld old) None (parties_of pass.old) (parties_of pass.new)) }
+    {
+        let locked = self.write_lock::<R, FetchUpdateCall>(rt, pass, &Call::FetchUpdate);
+        let (old, taken) = self.take::<FetchUpdateCall>(locked, &Call::FetchUpdate);
+        match taken.choose(&self.stage, old, f) {
+            Choice::Value(chosen) => {
+                let last = self.put_chosen::<Brand>(chosen);
+                let _pass = last.end(&self.stage);
+                Ok(old)
+            }
+            Choice::Nothing(chosen) => {
+                let last = self.keep(chosen);
+                let _pass = last.end(&self.stage);
+                Err(old)
+            }
+        }
+    }
+
+    /// Puts a new value in the place of the old one, as this call says, and answers the old one.
+    #[inline(always)]
+    fn fetch<R: Wait>(&self, rt: &R, pass: &mut PlayedPass<T>, call: &Call<T>) -> T
+        requires own { IsPassOf self.now.stage pass.old }
+        requires rest { (counts_of pass.old).hold ≡ Free }
+        requires writes { Writes T.arithmetic (key_of self.now.stage) call.now }
+        requires reads { Reads T.arithmetic call.now }
+        requires asks_nobody { AsksNobody call.now }
+        requires goes_on { GoesOnKnowing T.arithmetic call.now }
+        requires puts { (old : T) → Puts T.arithmetic call.now old (value_after T.arithmetic (plain call.now) old) (answers.Value old) }
+        requires tells { (old : T) → answer_to T.arithmetic (plain call.now) old ≡ answers.Value old }
+        ensures acted { HasActedAt T.arithmetic (key_of self.now.stage) (plain call.now) (answers.Value result) pass.old pass.new }
+        ensures rest { (counts_of pass.new).hold ≡ Free }
+        ensures played { HasCalled (atomic_model T.arithmetic (key_of self.now.stage)) call.now (answers.Value result) None (parties_of pass.old) (parties_of pass.new) }
+    {
+        let act = act_of(call);
+        let locked = self.write_lock::<R, Brand>(rt, pass, call);
+        let (old, taken) = self.take::<Brand>(locked, call);
+        let last = self.replace(taken, old, new_value(call, old), &act, call);
+        let _pass = last.end(&self.stage);
+        old
+    }
+
+    /// Writes `new` where the value is `current`, as this call says, and answers the old value: `Ok` where it has written.
+    #[inline(always)]
+    fn exchange<R: Wait>(
+        &self,
+        rt: &R,
+        pass: &mut PlayedPass<T>,
+        call: &Call<T>,
+        current: T,
+        new: T,
+    ) -> Result<T, T>
+        requires own { IsPassOf self.now.stage pass.old }
+        requires rest { (counts_of pass.old).hold ≡ Free }
+        requires writes { Writes T.arithmetic (key_of self.now.stage) call.now }
+        requires reads { Reads T.arithmetic call.now }
+        requires asks_nobody { AsksNobody call.now }
+        requires other { ActsAtOther T.arithmetic call.now current }
+        requires compares { (old : T) → knows T.arithmetic call.now old ≡ afters.At (compares T.arithmetic (T.arithmetic.same old current) old new) }
+        requires acts { (old : T) → outcome_of T.arithmetic call.now None old ≡ compared (T.arithmetic.same old current) old new }
+        ensures changed { IfOk result (λ old. HasActedAt T.arithmetic (key_of self.now.stage) (plain call.now) (answers.OkOld old) pass.old pass.new) }
+        ensures kept { IfErr result (λ old. HasActedAt T.arithmetic (key_of self.now.stage) (plain call.now) (answers.ErrOld old) pass.old pass.new) }
+        ensures rest { (counts_of pass.new).hold ≡ Free }
+        ensures played_changed { IfOk result (λ old. HasCalled (atomic_model T.arithmetic (key_of self.now.stage)) call.now (answers.OkOld old) None (parties_of pass.old) (parties_of pass.new)) }
+        ensures played_kept { IfErr result (λ old. HasCalled (atomic_model T.arithmetic (key_of self.now.stage)) call.now (answers.ErrOld old) None (parties_of pass.old) (parties_of pass.new)) }
+    {
+        let by = Comparison {
+            act: act_of(call),
+            current,
+        };
+        let locked = self.write_lock::<R, Brand>(rt, pass, call);
+        let (old, taken) = self.compare::<Brand>(locked, call, &by);
+        if is_same(old, current) {
+            let last = self.replace(taken, old, new, &by.act, call);
+            let _pass = last.end(&self.stage);
+            Ok(old)
+        } else {
+            let last = self.leave_write(taken);
+            let _pass = last.end(&self.stage);
+            Err(old)
+        }
+    }
+
+    /// Takes the lock for reading, in a call that has just seen this value.
+    #[inline(always)]
+    fn read_from<'p, R: Wait>(&self, rt: &R, turn: Going<'p, T>, seen: u64) -> Going<'p, T>
+        requires own { IsPassOf self.now.stage turn.pass.now }
+        requires rest { (counts_of turn.pass.now).hold ≡ Free }
+        requires at { (done : List (Slot T)) × IsNext T.arithmetic (key_of self.now.stage) calls.Load (look_at seen) None done (parties_of turn.pass.now) }
+        ensures same_borrow { result.pass.ghost_name ≡ turn.entry.pass.ghost_name }
+        ensures on { HasGot IsReading turn.entry.pass.now result.pass.now }
+        ensures next { (done : List (Slot T)) → IsNext T.arithmetic (key_of self.now.stage) calls.Load (look_at seen) None done (parties_of turn.entry.pass.now) → IsNext T.arithmetic (key_of self.now.stage) calls.Load (places.Low calls.Load) (Some kinds.Read) done (parties_of result.pass.now) }
+    {
+        let mut last = seen;
+        let mut next = turn;
         let mut tries = 0;
         for _ in rt.forever() {
-            match reader_enters(seen) {
+            match reader_enters(last) {
                 Some(to) => {
-                    let found = self.enter_read(pass, seen, to);
-                    if found == seen {
-                        return;
+                    let (found, again) = self.enter_read(next, last, to);
+                    if found == last {
+                        return again;
                     }
-                    seen = found;
+                    last = found;
+                    next = again;
                 }
                 None => {
                     tries = pause(tries);
-                    seen = self.look(GoesOn, pass);
+                    let (found, again) = self.look(next);
+                    last = found;
+                    next = again;
                 }
             }
         }
+        unreachable!()
     }
 
-    /// Takes the lock for writing, in this call.
+    /// Takes the lock for writing, in this call, which its caller picks.
     #[inline(always)]
-    fn write_lock<R: Wait>(&self, rt: &R, pass: &mut Pass<PlayedAtomic<T>>, call: &Call<T>)
+    fn write_lock<'p, R: Wait, L: Called<T>>(
+        &self,
+        rt: &R,
+        pass: &'p mut PlayedPass<T>,
+        call: &Call<T>,
+    ) -> Going<'p, T>
         requires own { IsPassOf self.now.stage pass.old }
         requires rest { (counts_of pass.old).hold ≡ Free }
-        requires writes { Writes T.arithmetic (key_of self.now.stage) call.now }
-        ensures on { HasGot IsSettled pass.old pass.new }
-        ensures next { IsNext T.arithmetic (key_of self.now.stage) call.now (inside T.arithmetic call.now) (Some kinds.Write) (all_of (parties_of pass.old)) (parties_of pass.new) }
+        requires writes { Writes T.arithmetic (key_of self.now.stage) L.call }
+        requires values { CallValues T.arithmetic L.call }
+        ensures same_borrow { result.pass.ghost_name ≡ pass.entry.ghost_name }
+        ensures on { HasGot IsSettled pass.old result.pass.now }
+        ensures next { IsNext T.arithmetic (key_of self.now.stage) L.call (inside T.arithmetic L.call) (Some kinds.Write) (all_of (parties_of pass.old)) (parties_of result.pass.now) }
     {
-        if self.enter_write::<Brand>(pass, call) == 0 {
-            return;
+        let (found, tried) = self.first_enter::<L>(pass, call);
+        if found == 0 {
+            tried
+        } else {
+            self.write_later::<R, L>(rt, tried, call)
         }
+    }
+
+    /// The same once the first exchange has failed.
+    #[inline(always)]
+    fn write_later<'p, R: Wait, L: Called<T>>(
+        &self,
+        rt: &R,
+        turn: Going<'p, T>,
+        _call: &Call<T>,
+    ) -> Going<'p, T>
+        requires own { IsPassOf self.now.stage turn.pass.now }
+        requires rest { (counts_of turn.pass.now).hold ≡ Free }
+        requires writes { Writes T.arithmetic (key_of self.now.stage) L.call }
+        requires at { (done : List (Slot T)) × IsNext T.arithmetic (key_of self.now.stage) L.call (places.Take L.call) None done (parties_of turn.pass.now) }
+        ensures same_borrow { result.pass.ghost_name ≡ turn.entry.pass.ghost_name }
+        ensures on { HasGot IsSettled turn.entry.pass.now result.pass.now }
+        ensures next { (done : List (Slot T)) → IsNext T.arithmetic (key_of self.now.stage) L.call (places.Take L.call) None done (parties_of turn.entry.pass.now) → IsNext T.arithmetic (key_of self.now.stage) L.call (inside T.arithmetic L.call) (Some kinds.Write) done (parties_of result.pass.now) }
+    {
+        let mut next = turn;
         let mut tries = 0;
         for _ in rt.forever() {
             tries = pause(tries);
-            if self.enter_write::<GoesOn>(pass, call) == 0 {
-                return;
+            let (found, again) = self.enter_write(next);
+            if found == 0 {
+                return again;
             }
+            next = again;
         }
+        unreachable!()
     }
 
-    /// Takes the lock for writing, in this call, and reads the value.
+    /// Reads the value, in this call, which its caller picks.
     #[inline(always)]
-    fn take<R: Wait>(&self, rt: &R, pass: &mut Pass<PlayedAtomic<T>>, call: &Call<T>) -> T
-        requires own { IsPassOf self.now.stage pass.old }
-        requires rest { (counts_of pass.old).hold ≡ Free }
-        requires writes { Writes T.arithmetic (key_of self.now.stage) call.now }
-        requires reads { Reads T.arithmetic call.now }
-        requires goes_on { GoesOnKnowing T.arithmetic call.now }
-        ensures taken { HasTaken T.arithmetic result pass.old pass.new }
-        ensures knows { Knows T.arithmetic (key_of self.now.stage) call.now result (all_of (parties_of pass.old)) (parties_of pass.new) }
+    fn take<'p, L: Called<T>>(&self, turn: Going<'p, T>, _call: &Call<T>) -> (T, Going<'p, T>)
+        requires own { IsPassOf self.now.stage turn.pass.now }
+        requires on { IsSettled (counts_of turn.pass.now).hold }
+        requires at { (done : List (Slot T)) × IsNext T.arithmetic (key_of self.now.stage) L.call (inside T.arithmetic L.call) (Some kinds.Write) done (parties_of turn.pass.now) }
+        requires reads { Reads T.arithmetic L.call }
+        requires goes_on { GoesOnKnowing T.arithmetic L.call }
+        ensures same_borrow { result.1.pass.ghost_name ≡ turn.entry.pass.ghost_name }
+        ensures taken { HasTaken T.arithmetic result.0 turn.entry.pass.now result.1.pass.now }
+        ensures knows { (done : List (Slot T)) → IsNext T.arithmetic (key_of self.now.stage) L.call (inside T.arithmetic L.call) (Some kinds.Write) done (parties_of turn.entry.pass.now) → Knows T.arithmetic (key_of self.now.stage) L.call result.0 done (parties_of result.1.pass.now) }
     {
-        self.write_lock(rt, pass, call);
-        let low = self.read_low(pass);
-        let high = self.read_high(pass);
-        T::from_words(low, high)
+        let (low, read) = self.read_low(turn);
+        let (high, next) = self.read_high(read);
+        (T::from_words(low, high), next)
     }
 
-    /// Takes the lock for writing, in this call, and compares the value. Where it is another than the one compared with, the call has acted.
+    /// Compares the value, in this call, which its caller picks. Where it is another than the one compared with, the call has acted.
     #[inline(always)]
-    fn compare<R: Wait>(
+    fn compare<'p, L: Called<T>>(
         &self,
-        rt: &R,
-        pass: &mut Pass<PlayedAtomic<T>>,
-        call: &Call<T>,
+        turn: Going<'p, T>,
+        _call: &Call<T>,
         by: &Comparison<T>,
-    ) -> T
-        requires own { IsPassOf self.now.stage pass.old }
-        requires rest { (counts_of pass.old).hold ≡ Free }
-        requires writes { Writes T.arithmetic (key_of self.now.stage) call.now }
-        requires reads { Reads T.arithmetic call.now }
-        requires right { (old : T) → T.arithmetic.same old by.now.current ≡ false → value_after T.arithmetic (act_in T.arithmetic by.now.act) old ≡ old }
-        requires other { ActsAtOther T.arithmetic call.now by.now.current }
-        requires acts { act_in T.arithmetic by.now.act ≡ plain call.now }
-        ensures compared { MatchBool (T.arithmetic.same result by.now.current) (HasTaken T.arithmetic result pass.old pass.new) (HasCompared T.arithmetic (key_of self.now.stage) by.now.act result pass.old pass.new) }
-        ensures knows { Knows T.arithmetic (key_of self.now.stage) call.now result (all_of (parties_of pass.old)) (parties_of pass.new) }
+    ) -> (T, Going<'p, T>)
+        requires own { IsPassOf self.now.stage turn.pass.now }
+        requires on { IsSettled (counts_of turn.pass.now).hold }
+        requires at { (done : List (Slot T)) × IsNext T.arithmetic (key_of self.now.stage) L.call (inside T.arithmetic L.call) (Some kinds.Write) done (parties_of turn.pass.now) }
+        requires reads { Reads T.arithmetic L.call }
+        requires right { (old : T) → T.arithmetic.same old by.now.current ≡ false → value_after T.arithmetic (plain L.call) old ≡ old }
+        requires other { ActsAtOther T.arithmetic L.call by.now.current }
+        requires acts { act_in T.arithmetic by.now.act ≡ plain L.call }
+        ensures same_borrow { result.1.pass.ghost_name ≡ turn.entry.pass.ghost_name }
+        ensures compared { MatchBool (T.arithmetic.same result.0 by.now.current) (HasTaken T.arithmetic result.0 turn.entry.pass.now result.1.pass.now) (HasCompared T.arithmetic (key_of self.now.stage) by.now.act result.0 turn.entry.pass.now result.1.pass.now) }
+        ensures knows { (done : List (Slot T)) → IsNext T.arithmetic (key_of self.now.stage) L.call (inside T.arithmetic L.call) (Some kinds.Write) done (parties_of turn.entry.pass.now) → Knows T.arithmetic (key_of self.now.stage) L.call result.0 done (parties_of result.1.pass.now) }
     {
-        self.write_lock(rt, pass, call);
-        let low = self.read_low(pass);
-        let high = self.compare_high(pass, by);
-        T::from_words(low, high)
+        let (low, read) = self.read_low(turn);
+        let (high, next) = self.compare_high::<Brand>(read, by);
+        (T::from_words(low, high), next)
     }
 
     /// Writes a value by this act, and leaves the lock.
     #[inline(always)]
-    fn put<W: Way<T>>(&self, pass: &mut Pass<PlayedAtomic<T>>, new: T, act: &AtomicAct)
-        requires own { IsPassOf self.now.stage pass.old }
-        requires on { IsSettled (counts_of pass.old).hold }
-        requires right { IfWriting (counts_of pass.old).hold (λ _ found. value_after T.arithmetic (act_in T.arithmetic act.now) (value_of T.arithmetic found) ≡ new) }
+    fn put<'p, W: Way<T>>(
+        &self,
+        turn: Turn<'p, PlayedPass<T>, W>,
+        new: T,
+        act: &AtomicAct,
+    ) -> Going<'p, T>
+        requires own { IsPassOf self.now.stage turn.pass.now }
+        requires on { IsSettled (counts_of turn.pass.now).hold }
+        requires right { IfWriting (counts_of turn.pass.now).hold (λ _ found. value_after T.arithmetic (act_in T.arithmetic act.now) (value_of T.arithmetic found) ≡ new) }
         requires stores { IsStoring act.now }
-        requires may { MayPut T.arithmetic (key_of self.now.stage) W.coming (act_in T.arithmetic act.now).call new (parties_of pass.old) }
-        ensures same { IsSamePass pass.old pass.new }
-        ensures acted { IfWriting (counts_of pass.old).hold (λ _ found. ActsAt T.arithmetic (key_of self.now.stage) act.now found (counted pass.old) (counted pass.new)) }
-        ensures rest { (counts_of pass.new).hold ≡ Free }
-        ensures put { HasPut T.arithmetic (key_of self.now.stage) W.coming new (parties_of pass.old) (parties_of pass.new) }
+        requires may { MayPut T.arithmetic (key_of self.now.stage) W.coming (act_in T.arithmetic act.now).call new (parties_of turn.pass.now) }
+        ensures same_borrow { result.pass.ghost_name ≡ turn.entry.pass.ghost_name }
+        ensures same { IsSamePass turn.entry.pass.now result.pass.now }
+        ensures acted { IfWriting (counts_of turn.entry.pass.now).hold (λ _ found. ActsAt T.arithmetic (key_of self.now.stage) act.now found (counted turn.entry.pass.now) (counted result.pass.now)) }
+        ensures rest { (counts_of result.pass.now).hold ≡ Free }
+        ensures put { HasPut T.arithmetic (key_of self.now.stage) W.coming new (parties_of turn.entry.pass.now) (parties_of result.pass.now) }
     {
         let (low, high) = new.to_words();
-        self.store_low::<W>(pass, low);
-        self.end_store(pass, high, act);
-        self.leave_write(pass);
+        let stored = self.store_low(turn, low);
+        let acted = self.end_store::<Brand>(stored, high, act);
+        self.leave_write(acted)
     }
 
-    /// Writes a value in place of the one that was read, by this act of this call, leaves the lock, and answers the old value.
+    /// Writes a value in place of the one that was read, by this act of this call, and leaves the lock.
     #[inline(always)]
-    fn replace(
+    fn replace<'p>(
         &self,
-        pass: &mut Pass<PlayedAtomic<T>>,
+        turn: Going<'p, T>,
         old: T,
         new: T,
         act: &AtomicAct,
         call: &Call<T>,
-    ) -> T
-        requires own { IsPassOf self.now.stage pass.old }
-        requires holding { IsHolding T.arithmetic old pass.old }
-        requires right { value_after T.arithmetic (act_in T.arithmetic act.now) old ≡ new }
-        requires knows { (done : List (Slot T)) × Knows T.arithmetic (key_of self.now.stage) call.now old done (parties_of pass.old) }
-        requires puts { Puts T.arithmetic call.now old new (answer_to T.arithmetic (act_in T.arithmetic act.now) old) }
-        requires stores { IsStoring act.now }
-        requires acts { call.now ≡ (act_in T.arithmetic act.now).call }
-        ensures old { result ≡ old }
-        ensures acted { HasActedAt T.arithmetic (key_of self.now.stage) (act_in T.arithmetic act.now) (answer_to T.arithmetic (act_in T.arithmetic act.now) old) pass.old pass.new }
-        ensures rest { (counts_of pass.new).hold ≡ Free }
-        ensures played { HasReplaced T.arithmetic (key_of self.now.stage) call.now old (answer_to T.arithmetic (act_in T.arithmetic act.now) old) (parties_of pass.old) (parties_of pass.new) }
+    ) -> Going<'p, T>
+        requires own { IsPassOf self.now.stage turn.pass.now }
+        requires holding { IsHolding T.arithmetic old turn.pass.now }
+        requires right { value_after T.arithmetic (plain call.now) old ≡ new }
+        requires knows { (done : List (Slot T)) × Knows T.arithmetic (key_of self.now.stage) call.now old done (parties_of turn.pass.now) }
+        requires puts { Puts T.arithmetic call.now old new (answer_to T.arithmetic (plain call.now) old) }
+        requires acts { act_in T.arithmetic act.now ≡ plain call.now }
+        ensures same_borrow { result.pass.ghost_name ≡ turn.entry.pass.ghost_name }
+        ensures acted { HasActedAt T.arithmetic (key_of self.now.stage) (plain call.now) (answer_to T.arithmetic (plain call.now) old) turn.entry.pass.now result.pass.now }
+        ensures rest { (counts_of result.pass.now).hold ≡ Free }
+        ensures played { HasReplaced T.arithmetic (key_of self.now.stage) call.now old (answer_to T.arithmetic (plain call.now) old) (parties_of turn.entry.pass.now) (parties_of result.pass.now) }
     {
         let _call = call;
-        self.put::<GoesOn>(pass, new, act);
-        old
+        let _old = old;
+        self.put(turn, new, act)
     }
 
-    /// Keeps the value that was read, in a `fetch_update` whose closure has chosen nothing, leaves the lock, and answers the value.
+    /// Writes the value that the closure of a `fetch_update` has chosen, which its caller picks, and leaves the lock.
     #[inline(always)]
-    fn keep(&self, pass: &mut Pass<PlayedAtomic<T>>, old: T) -> T
-        requires own { IsPassOf self.now.stage pass.old }
-        requires holding { IsHolding T.arithmetic old pass.old }
-        requires knows { (done : List (Slot T)) × Knows T.arithmetic (key_of self.now.stage) calls.FetchUpdate old done (parties_of pass.old) }
-        ensures old { result ≡ old }
-        ensures acted { HasActedAt T.arithmetic (key_of self.now.stage) (update None) (answers.ErrOld old) pass.old pass.new }
-        ensures rest { (counts_of pass.new).hold ≡ Free }
-        ensures played { HasReplaced T.arithmetic (key_of self.now.stage) calls.FetchUpdate old (answers.ErrOld old) (parties_of pass.old) (parties_of pass.new) }
+    fn put_chosen<'p, L: Chosen<T>>(&self, turn: TurnWith<'p, PlayedPass<T>, T>) -> Going<'p, T>
+        requires own { IsPassOf self.now.stage turn.pass.now }
+        requires on { IsSettled (counts_of turn.pass.now).hold }
+        requires named { L.choice ≡ Some turn.value }
+        requires knows { (old : T) × (done : List (Slot T)) × Knows T.arithmetic (key_of self.now.stage) calls.FetchUpdate old done (parties_of turn.pass.now) }
+        ensures same_borrow { result.pass.ghost_name ≡ turn.entry.pass.ghost_name }
+        ensures same { IsSamePass turn.entry.pass.now result.pass.now }
+        ensures acted { (old : T) → IsHolding T.arithmetic old turn.entry.pass.now → HasActedAt T.arithmetic (key_of self.now.stage) (update (Some turn.entry.value)) (answers.OkOld old) turn.entry.pass.now result.pass.now }
+        ensures rest { (counts_of result.pass.now).hold ≡ Free }
+        ensures played { (old : T) → HasReplaced T.arithmetic (key_of self.now.stage) calls.FetchUpdate old (answers.OkOld old) (parties_of turn.entry.pass.now) (parties_of result.pass.now) }
     {
-        self.end_unchanged(NothingChosen, pass, &AtomicAct::FetchUpdate(None));
-        self.leave_write(pass);
-        old
+        let (new, next) = turn.take::<L>();
+        let words = content(new);
+        let act = AtomicAct::FetchUpdate(Some(words));
+        self.put(next, new, &act)
+    }
+
+    /// Keeps the value, in a `fetch_update` whose closure has chosen nothing, and leaves the lock.
+    #[inline(always)]
+    fn keep<'p>(&self, turn: Turn<'p, PlayedPass<T>, Chooses<Nothing>>) -> Going<'p, T>
+        requires own { IsPassOf self.now.stage turn.pass.now }
+        requires on { IsSettled (counts_of turn.pass.now).hold }
+        requires knows { (old : T) × (done : List (Slot T)) × Knows T.arithmetic (key_of self.now.stage) calls.FetchUpdate old done (parties_of turn.pass.now) }
+        ensures same_borrow { result.pass.ghost_name ≡ turn.entry.pass.ghost_name }
+        ensures same { IsSamePass turn.entry.pass.now result.pass.now }
+        ensures acted { (old : T) → IsHolding T.arithmetic old turn.entry.pass.now → HasActedAt T.arithmetic (key_of self.now.stage) (update None) (answers.ErrOld old) turn.entry.pass.now result.pass.now }
+        ensures rest { (counts_of result.pass.now).hold ≡ Free }
+        ensures played { (old : T) → HasReplaced T.arithmetic (key_of self.now.stage) calls.FetchUpdate old (answers.ErrOld old) (parties_of turn.entry.pass.now) (parties_of result.pass.now) }
+    {
+        let acted = self.end_unchanged(turn);
+        self.leave_write(acted)
     }
 }
 

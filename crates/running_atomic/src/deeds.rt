@@ -1,10 +1,13 @@
 //! The kinds of step on the words of an atomic.
-ghost use Rattle.std.specs.Prelude.{◌≡◌};
+ghost use Rattle.std.specs.Prelude.{◌≡◌, None};
+ghost use Rattle.running_atomic.specs.declared.history.AtomicAct.{AtomicAct};
+ghost use Rattle.running_atomic.specs.declared.history.AtomicAct.TheVariants as act;
 ghost use Rattle.running_atomic.specs.AtomicSteps as steps;
 
 use crate::history::AtomicTally;
 use passes::{Deed, Rule};
 use playing::Counts;
+use std::marker::{Brand, PhantomData};
 use steps_events::atomic::internal::AtomicInteger;
 
 /// The data words are the register after the one history that all passes know, unless a write hold stands.
@@ -85,6 +88,55 @@ pub(crate) struct StoreLow;
 
 impl<T: AtomicInteger> Deed<T, AtomicTally> for StoreLow {
     ghost tells = { λ _ _ _. steps.StoresLow };
+}
+
+/// An act of the history: with `Brand` its caller picks it.
+pub(crate) trait Acts {
+    ghost act: { AtomicAct };
+}
+
+impl Acts for Brand {
+    ghost act = { act.Load };
+}
+
+/// The store of the high word by which a call makes this act.
+pub(crate) struct EndStore<L> {
+    by: PhantomData<L>,
+}
+
+impl<T: AtomicInteger, L: Acts> Deed<T, AtomicTally> for EndStore<L> {
+    ghost tells = { λ opening new _ before _ after. steps.EndsStore T.arithmetic opening L.act before new after };
+}
+
+/// The load of the high word by which a `fetch_update` acts whose closure has chosen nothing.
+pub(crate) struct EndUnchanged;
+
+impl<T: AtomicInteger> Deed<T, AtomicTally> for EndUnchanged {
+    ghost tells = { λ opening _ _ before _ after. steps.EndsUnchanged T.arithmetic opening (act.FetchUpdate None) before after };
+}
+
+/// The act of a call that compares, and the value that it compares with: with `Brand` its caller picks them.
+pub(crate) trait Compares<T> {
+    ghost use Rattle.steps_events.specs.Arithmetic.{Arithmetic};
+
+    ghost act: { AtomicAct };
+
+    ghost current: { Arithmetic T → T };
+}
+
+impl<T> Compares<T> for Brand {
+    ghost act = { act.Load };
+
+    ghost current = { λ z. z.of_words 0 0 };
+}
+
+/// The load of the high word of such a call.
+pub(crate) struct CompareHigh<L> {
+    by: PhantomData<L>,
+}
+
+impl<T: AtomicInteger, L: Compares<T>> Deed<T, AtomicTally> for CompareHigh<L> {
+    ghost tells = { λ opening _ _ before found after. steps.ComparesHigh T.arithmetic opening L.act (L.current T.arithmetic) before found after };
 }
 
 /// A load by which a pass sees all of the history.

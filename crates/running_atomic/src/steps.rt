@@ -2,29 +2,37 @@
 ghost use Rattle.std.specs.Prelude.{◌≡◌, ◌<◌, ◌-◌, ◌^◌, ◌+◌, ℕ, None};
 ghost use Rattle.tallies.specs.declared.held.Held.TheVariants.{Free};
 ghost use Rattle.passes.specs.Passes.{IsSamePass};
-ghost use Rattle.playing.specs.Plays.{Going, MayStep, Went};
+ghost use Rattle.playing.specs.Plays.{Beginning, Choosing, Going, MayStep, Went};
 ghost use Rattle.playing.specs.Passes.{parties_of, counts_of, counted};
 ghost use Rattle.playing.specs.Stages.{IsPassOf, key_of};
 ghost use Rattle.running_atomic.specs.AtomicModel.{atomic_model, atomic_names};
-ghost use Rattle.running_atomic.specs.AtomicParties.{IsAtHigh, IsAtLook, ComesAgain, IsAtPutHigh};
+ghost use Rattle.running_atomic.specs.AtomicParties.{Writes, IsAtHigh, IsAtLook, ComesAgain, IsAtPutHigh};
+ghost use Rattle.running_atomic.specs.declared.history.AtomicAct.TheVariants as act;
 ghost use Rattle.running_atomic.specs.AtomicRule.{act_in};
 ghost use Rattle.steps_events.specs.declared.event.Call.TheVariants as calls;
-ghost use Rattle.steps_atomic.specs.Register.{update};
+ghost use Rattle.steps_events.specs.Moves.{CallValues};
 ghost use Rattle.passes.specs.Views.{looked};
-ghost use Rattle.running_atomic.specs.AtomicSteps.{EntersRead, EntersWrite, Leaves, ReadsLow, ReadsHigh, EndsLoad, EndsStore, EndsUnchanged, StoresLow, Settles, IsReading, IsSettled, IsWriting, IsOn, IsRight, ChangesNothing, KeepsOthers, ComparesHigh, IsComparing, IsStoring};
+ghost use Rattle.running_atomic.specs.AtomicSteps.{EntersRead, EntersWrite, Leaves, ReadsLow, ReadsHigh, EndsLoad, EndsStore, EndsUnchanged, StoresLow, Settles, IsReading, IsSettled, IsWriting, IsOn, IsRight, KeepsOthers, ComparesHigh, IsComparing, IsStoring};
 
+use crate::begins::LoadCall;
 use crate::calls::Atomic;
 use crate::deeds::{
-    EndLoad, EnterRead, EnterWrite, Leave, Look, ReadHigh, ReadLow, Settle, StoreLow,
+    Acts, CompareHigh, Compares, EndLoad, EndStore, EndUnchanged, EnterRead, EnterWrite, Leave,
+    Look, ReadHigh, ReadLow, Settle, StoreLow,
 };
 use crate::history::AtomicAct;
 use crate::script::PlayedAtomic;
 use passes::Pass;
-use playing::{By, Entry, GoesOn, Way};
+use playing::turn::{Called, Chooses, Goes, Nothing, Turn, Way, begin_new};
 use std::alloc::Allocator;
-use std::marker::Brand;
 use steps_events::atomic::internal::AtomicInteger;
 use steps_events::event::Call;
+
+/// The pass inside.
+pub(crate) type PlayedPass<T> = Pass<PlayedAtomic<T>>;
+
+/// A call under way that has made a step.
+pub(crate) type Going<'p, T> = Turn<'p, PlayedPass<T>, Goes>;
 
 /// A call that compares: its act, and the value that it compares with.
 #[derive(Drop)]
@@ -50,189 +58,246 @@ impl<T: AtomicInteger, A: Allocator> Atomic<T, A> {
 
     /// A load of the lock's word.
     #[inline(always)]
-    pub(crate) fn look<E: Entry<T>>(&self, entry: E, pass: &mut Pass<PlayedAtomic<T>>) -> u64
-        requires own { IsPassOf self.now.stage pass.old }
-        requires may { MayStep (atomic_model T.arithmetic (key_of self.now.stage)) atomic_names E.coming 0 (λ w. intents.Load w) (parties_of pass.old) }
-        ensures same { IsSamePass pass.old pass.new }
-        ensures went { Went (atomic_model T.arithmetic (key_of self.now.stage)) E.coming (parties_of pass.old) result (parties_of pass.new) }
-        ensures saw { counted pass.new ≡ looked (counted pass.old) result }
+    pub(crate) fn look<'p, W: Way<T>>(
+        &self,
+        turn: Turn<'p, PlayedPass<T>, W>,
+    ) -> (u64, Going<'p, T>)
+        requires own { IsPassOf self.now.stage turn.pass.now }
+        requires may { MayStep (atomic_model T.arithmetic (key_of self.now.stage)) atomic_names W.coming 0 (λ w. intents.Load w) (parties_of turn.pass.now) }
+        ensures same_borrow { result.1.pass.ghost_name ≡ turn.entry.pass.ghost_name }
+        ensures same { IsSamePass turn.entry.pass.now result.1.pass.now }
+        ensures went { Went (atomic_model T.arithmetic (key_of self.now.stage)) W.coming (parties_of turn.entry.pass.now) result.0 (parties_of result.1.pass.now) }
+        ensures saw { counted result.1.pass.now ≡ looked (counted turn.entry.pass.now) result.0 }
     {
-        self.stage.load::<_, Look>(entry, pass, STATE)
+        turn.load_by::<T, A, Look>(&self.stage, STATE)
+    }
+
+    /// The load with which a `load` begins.
+    #[inline(always)]
+    pub(crate) fn first_look<'p>(&self, pass: &'p mut PlayedPass<T>) -> (u64, Going<'p, T>)
+        requires own { IsPassOf self.now.stage pass.old }
+        ensures same_borrow { result.1.pass.ghost_name ≡ pass.entry.ghost_name }
+        ensures same { IsSamePass pass.old result.1.pass.now }
+        ensures went { Went (atomic_model T.arithmetic (key_of self.now.stage)) (Beginning calls.Load) (parties_of pass.old) result.0 (parties_of result.1.pass.now) }
+        ensures saw { counted result.1.pass.now ≡ looked (counted pass.old) result.0 }
+    {
+        let begun = begin_new::<LoadCall, PlayedPass<T>>(pass);
+        self.look(begun)
     }
 
     /// An exchange of the lock's word for one more.
     #[inline(always)]
-    pub(crate) fn enter_read(&self, pass: &mut Pass<PlayedAtomic<T>>, from: u64, to: u64) -> u64
-        requires own { IsPassOf self.now.stage pass.old }
-        requires free { (counts_of pass.old).hold ≡ Free }
+    pub(crate) fn enter_read<'p>(
+        &self,
+        turn: Going<'p, T>,
+        from: u64,
+        to: u64,
+    ) -> (u64, Going<'p, T>)
+        requires own { IsPassOf self.now.stage turn.pass.now }
+        requires free { (counts_of turn.pass.now).hold ≡ Free }
         requires room { from < 2 ^ 64 - 2 }
         requires next { to ≡ from + 1 }
-        requires may { MayStep (atomic_model T.arithmetic (key_of self.now.stage)) atomic_names Going 0 (λ w. intents.Exchange w from to) (parties_of pass.old) }
-        ensures same { IsSamePass pass.old pass.new }
-        ensures went { Went (atomic_model T.arithmetic (key_of self.now.stage)) Going (parties_of pass.old) result (parties_of pass.new) }
-        ensures tried { EntersRead from (counted pass.old) result (counted pass.new) }
+        requires may { MayStep (atomic_model T.arithmetic (key_of self.now.stage)) atomic_names Going 0 (λ w. intents.Exchange w from to) (parties_of turn.pass.now) }
+        ensures same_borrow { result.1.pass.ghost_name ≡ turn.entry.pass.ghost_name }
+        ensures same { IsSamePass turn.entry.pass.now result.1.pass.now }
+        ensures went { Went (atomic_model T.arithmetic (key_of self.now.stage)) Going (parties_of turn.entry.pass.now) result.0 (parties_of result.1.pass.now) }
+        ensures tried { EntersRead from (counted turn.entry.pass.now) result.0 (counted result.1.pass.now) }
     {
-        self.stage
-            .exchange::<_, EnterRead>(GoesOn, pass, STATE, from, to)
+        turn.exchange_by::<T, A, EnterRead>(&self.stage, STATE, from, to)
     }
 
-    /// An exchange of the lock's word, from 0, for the writer's. How the pass comes to it may speak of its call; its caller picks it.
+    /// An exchange of the lock's word, from 0, for the writer's.
     #[inline(always)]
-    pub(crate) fn enter_write<W: Way<T>>(
+    pub(crate) fn enter_write<'p, W: Way<T>>(
         &self,
-        pass: &mut Pass<PlayedAtomic<T>>,
+        turn: Turn<'p, PlayedPass<T>, W>,
+    ) -> (u64, Going<'p, T>)
+        requires own { IsPassOf self.now.stage turn.pass.now }
+        requires free { (counts_of turn.pass.now).hold ≡ Free }
+        requires may { MayStep (atomic_model T.arithmetic (key_of self.now.stage)) atomic_names W.coming 0 (λ w. intents.Exchange w 0 (2 ^ 64 - 1)) (parties_of turn.pass.now) }
+        ensures same_borrow { result.1.pass.ghost_name ≡ turn.entry.pass.ghost_name }
+        ensures same { IsSamePass turn.entry.pass.now result.1.pass.now }
+        ensures went { Went (atomic_model T.arithmetic (key_of self.now.stage)) W.coming (parties_of turn.entry.pass.now) result.0 (parties_of result.1.pass.now) }
+        ensures tried { EntersWrite (counted turn.entry.pass.now) result.0 (counted result.1.pass.now) }
+    {
+        turn.exchange_by::<T, A, EnterWrite>(&self.stage, STATE, 0, WRITTEN)
+    }
+
+    /// The one with which another call begins, which its caller picks.
+    #[inline(always)]
+    pub(crate) fn first_enter<'p, L: Called<T>>(
+        &self,
+        pass: &'p mut PlayedPass<T>,
         _call: &Call<T>,
-    ) -> u64
+    ) -> (u64, Going<'p, T>)
         requires own { IsPassOf self.now.stage pass.old }
         requires free { (counts_of pass.old).hold ≡ Free }
-        requires may { MayStep (atomic_model T.arithmetic (key_of self.now.stage)) atomic_names W.coming 0 (λ w. intents.Exchange w 0 (2 ^ 64 - 1)) (parties_of pass.old) }
-        ensures same { IsSamePass pass.old pass.new }
-        ensures went { Went (atomic_model T.arithmetic (key_of self.now.stage)) W.coming (parties_of pass.old) result (parties_of pass.new) }
-        ensures tried { EntersWrite (counted pass.old) result (counted pass.new) }
+        requires writes { Writes T.arithmetic (key_of self.now.stage) L.call }
+        requires values { CallValues T.arithmetic L.call }
+        ensures same_borrow { result.1.pass.ghost_name ≡ pass.entry.ghost_name }
+        ensures same { IsSamePass pass.old result.1.pass.now }
+        ensures went { Went (atomic_model T.arithmetic (key_of self.now.stage)) (Beginning L.call) (parties_of pass.old) result.0 (parties_of result.1.pass.now) }
+        ensures tried { EntersWrite (counted pass.old) result.0 (counted result.1.pass.now) }
     {
-        self.stage
-            .exchange::<_, EnterWrite>(By::<W>::new(), pass, STATE, 0, WRITTEN)
+        let begun = begin_new::<L, PlayedPass<T>>(pass);
+        self.enter_write(begun)
     }
 
     /// The end of a read hold.
     #[inline(always)]
-    pub(crate) fn leave_read(&self, pass: &mut Pass<PlayedAtomic<T>>) -> u64
-        requires own { IsPassOf self.now.stage pass.old }
-        requires on { IsReading (counts_of pass.old).hold }
-        requires may { MayStep (atomic_model T.arithmetic (key_of self.now.stage)) atomic_names Going 0 (λ w. intents.Subtract w 1) (parties_of pass.old) }
-        ensures same { IsSamePass pass.old pass.new }
-        ensures went { Went (atomic_model T.arithmetic (key_of self.now.stage)) Going (parties_of pass.old) result (parties_of pass.new) }
-        ensures left { Leaves (counted pass.old) (counted pass.new) }
+    pub(crate) fn leave_read<'p>(&self, turn: Going<'p, T>) -> Going<'p, T>
+        requires own { IsPassOf self.now.stage turn.pass.now }
+        requires on { IsReading (counts_of turn.pass.now).hold }
+        requires may { MayStep (atomic_model T.arithmetic (key_of self.now.stage)) atomic_names Going 0 (λ w. intents.Subtract w 1) (parties_of turn.pass.now) }
+        ensures same_borrow { result.pass.ghost_name ≡ turn.entry.pass.ghost_name }
+        ensures same { IsSamePass turn.entry.pass.now result.pass.now }
+        ensures went { (found : ℕ) × Went (atomic_model T.arithmetic (key_of self.now.stage)) Going (parties_of turn.entry.pass.now) found (parties_of result.pass.now) }
+        ensures left { Leaves (counted turn.entry.pass.now) (counted result.pass.now) }
     {
-        self.stage.subtract::<_, Leave>(GoesOn, pass, STATE, 1)
+        let (_, next) = turn.subtract_by::<T, A, Leave>(&self.stage, STATE, 1);
+        next
     }
 
     /// The end of a write hold.
     #[inline(always)]
-    pub(crate) fn leave_write(&self, pass: &mut Pass<PlayedAtomic<T>>)
-        requires own { IsPassOf self.now.stage pass.old }
-        requires on { IsSettled (counts_of pass.old).hold }
-        requires may { MayStep (atomic_model T.arithmetic (key_of self.now.stage)) atomic_names Going 0 (λ w. intents.Store w 0) (parties_of pass.old) }
-        ensures same { IsSamePass pass.old pass.new }
-        ensures went { Went (atomic_model T.arithmetic (key_of self.now.stage)) Going (parties_of pass.old) 0 (parties_of pass.new) }
-        ensures left { Leaves (counted pass.old) (counted pass.new) }
+    pub(crate) fn leave_write<'p>(&self, turn: Going<'p, T>) -> Going<'p, T>
+        requires own { IsPassOf self.now.stage turn.pass.now }
+        requires on { IsSettled (counts_of turn.pass.now).hold }
+        requires may { MayStep (atomic_model T.arithmetic (key_of self.now.stage)) atomic_names Going 0 (λ w. intents.Store w 0) (parties_of turn.pass.now) }
+        ensures same_borrow { result.pass.ghost_name ≡ turn.entry.pass.ghost_name }
+        ensures same { IsSamePass turn.entry.pass.now result.pass.now }
+        ensures went { Went (atomic_model T.arithmetic (key_of self.now.stage)) Going (parties_of turn.entry.pass.now) 0 (parties_of result.pass.now) }
+        ensures left { Leaves (counted turn.entry.pass.now) (counted result.pass.now) }
     {
-        self.stage.store::<_, Leave>(GoesOn, pass, STATE, 0);
+        turn.store_by::<T, A, Leave>(&self.stage, STATE, 0)
     }
 
     /// A load of the low word.
     #[inline(always)]
-    pub(crate) fn read_low(&self, pass: &mut Pass<PlayedAtomic<T>>) -> u64
-        requires own { IsPassOf self.now.stage pass.old }
-        requires on { IsOn (counts_of pass.old).hold }
-        requires may { MayStep (atomic_model T.arithmetic (key_of self.now.stage)) atomic_names Going 1 (λ w. intents.Load w) (parties_of pass.old) }
-        ensures same { IsSamePass pass.old pass.new }
-        ensures went { Went (atomic_model T.arithmetic (key_of self.now.stage)) Going (parties_of pass.old) result (parties_of pass.new) }
-        ensures read { ReadsLow (counted pass.old) result (counted pass.new) }
+    pub(crate) fn read_low<'p>(&self, turn: Going<'p, T>) -> (u64, Going<'p, T>)
+        requires own { IsPassOf self.now.stage turn.pass.now }
+        requires on { IsOn (counts_of turn.pass.now).hold }
+        requires may { MayStep (atomic_model T.arithmetic (key_of self.now.stage)) atomic_names Going 1 (λ w. intents.Load w) (parties_of turn.pass.now) }
+        ensures same_borrow { result.1.pass.ghost_name ≡ turn.entry.pass.ghost_name }
+        ensures same { IsSamePass turn.entry.pass.now result.1.pass.now }
+        ensures went { Went (atomic_model T.arithmetic (key_of self.now.stage)) Going (parties_of turn.entry.pass.now) result.0 (parties_of result.1.pass.now) }
+        ensures read { ReadsLow (counted turn.entry.pass.now) result.0 (counted result.1.pass.now) }
     {
-        self.stage.load::<_, ReadLow>(GoesOn, pass, LOW)
+        turn.load_by::<T, A, ReadLow>(&self.stage, LOW)
     }
 
     /// A load of the high word, after which the call goes on.
     #[inline(always)]
-    pub(crate) fn read_high(&self, pass: &mut Pass<PlayedAtomic<T>>) -> u64
-        requires own { IsPassOf self.now.stage pass.old }
-        requires on { IsOn (counts_of pass.old).hold }
-        requires may { MayStep (atomic_model T.arithmetic (key_of self.now.stage)) atomic_names Going 2 (λ w. intents.Load w) (parties_of pass.old) }
-        requires goes_on { IsAtLook T.arithmetic (key_of self.now.stage) (parties_of pass.old) }
-        ensures same { IsSamePass pass.old pass.new }
-        ensures went { Went (atomic_model T.arithmetic (key_of self.now.stage)) Going (parties_of pass.old) result (parties_of pass.new) }
-        ensures read { ReadsHigh (counted pass.old) result (counted pass.new) }
+    pub(crate) fn read_high<'p>(&self, turn: Going<'p, T>) -> (u64, Going<'p, T>)
+        requires own { IsPassOf self.now.stage turn.pass.now }
+        requires on { IsOn (counts_of turn.pass.now).hold }
+        requires may { MayStep (atomic_model T.arithmetic (key_of self.now.stage)) atomic_names Going 2 (λ w. intents.Load w) (parties_of turn.pass.now) }
+        requires goes_on { IsAtLook T.arithmetic (key_of self.now.stage) (parties_of turn.pass.now) }
+        ensures same_borrow { result.1.pass.ghost_name ≡ turn.entry.pass.ghost_name }
+        ensures same { IsSamePass turn.entry.pass.now result.1.pass.now }
+        ensures went { Went (atomic_model T.arithmetic (key_of self.now.stage)) Going (parties_of turn.entry.pass.now) result.0 (parties_of result.1.pass.now) }
+        ensures read { ReadsHigh (counted turn.entry.pass.now) result.0 (counted result.1.pass.now) }
     {
-        self.stage.load::<_, ReadHigh>(GoesOn, pass, HIGH)
+        turn.load_by::<T, A, ReadHigh>(&self.stage, HIGH)
     }
 
     /// The load of the high word by which a `load` acts.
     #[inline(always)]
-    pub(crate) fn end_load(&self, pass: &mut Pass<PlayedAtomic<T>>) -> u64
-        requires own { IsPassOf self.now.stage pass.old }
-        requires on { IsReading (counts_of pass.old).hold }
-        requires may { MayStep (atomic_model T.arithmetic (key_of self.now.stage)) atomic_names Going 2 (λ w. intents.Load w) (parties_of pass.old) }
-        requires loads { (low : ℕ) × IsAtHigh T.arithmetic (key_of self.now.stage) calls.Load low (parties_of pass.old) }
-        ensures same { IsSamePass pass.old pass.new }
-        ensures went { Went (atomic_model T.arithmetic (key_of self.now.stage)) Going (parties_of pass.old) result (parties_of pass.new) }
-        ensures ended { EndsLoad T.arithmetic (key_of self.now.stage) (counted pass.old) result (counted pass.new) }
+    pub(crate) fn end_load<'p>(&self, turn: Going<'p, T>) -> (u64, Going<'p, T>)
+        requires own { IsPassOf self.now.stage turn.pass.now }
+        requires on { IsReading (counts_of turn.pass.now).hold }
+        requires may { MayStep (atomic_model T.arithmetic (key_of self.now.stage)) atomic_names Going 2 (λ w. intents.Load w) (parties_of turn.pass.now) }
+        requires loads { (low : ℕ) × IsAtHigh T.arithmetic (key_of self.now.stage) calls.Load low (parties_of turn.pass.now) }
+        ensures same_borrow { result.1.pass.ghost_name ≡ turn.entry.pass.ghost_name }
+        ensures same { IsSamePass turn.entry.pass.now result.1.pass.now }
+        ensures went { Went (atomic_model T.arithmetic (key_of self.now.stage)) Going (parties_of turn.entry.pass.now) result.0 (parties_of result.1.pass.now) }
+        ensures ended { EndsLoad T.arithmetic (key_of self.now.stage) (counted turn.entry.pass.now) result.0 (counted result.1.pass.now) }
     {
-        self.stage.load::<_, EndLoad>(GoesOn, pass, HIGH)
+        turn.load_by::<T, A, EndLoad>(&self.stage, HIGH)
     }
 
     /// The store of the low word.
     #[inline(always)]
-    pub(crate) fn store_low<W: Way<T>>(&self, pass: &mut Pass<PlayedAtomic<T>>, new: u64)
-        requires own { IsPassOf self.now.stage pass.old }
-        requires on { IsWriting (counts_of pass.old).hold }
-        requires may { MayStep (atomic_model T.arithmetic (key_of self.now.stage)) atomic_names W.coming 1 (λ w. intents.Store w new) (parties_of pass.old) }
-        ensures same { IsSamePass pass.old pass.new }
-        ensures went { Went (atomic_model T.arithmetic (key_of self.now.stage)) W.coming (parties_of pass.old) new (parties_of pass.new) }
-        ensures stored { StoresLow (counted pass.old) new (counted pass.new) }
-    {
-        self.stage
-            .store::<_, StoreLow>(By::<W>::new(), pass, LOW, new);
-    }
-
-    /// The store of the high word, by which a call acts that stores.
-    #[inline(always)]
-    pub(crate) fn end_store(&self, pass: &mut Pass<PlayedAtomic<T>>, new: u64, act: &AtomicAct)
-        requires own { IsPassOf self.now.stage pass.old }
-        requires on { IsWriting (counts_of pass.old).hold }
-        requires right { IsRight T.arithmetic act.now new (counts_of pass.old).hold }
-        requires may { MayStep (atomic_model T.arithmetic (key_of self.now.stage)) atomic_names Going 2 (λ w. intents.Store w new) (parties_of pass.old) }
-        requires stores { IsStoring act.now }
-        requires puts { IsAtPutHigh T.arithmetic (key_of self.now.stage) (act_in T.arithmetic act.now).call new (parties_of pass.old) }
-        ensures same { IsSamePass pass.old pass.new }
-        ensures went { Went (atomic_model T.arithmetic (key_of self.now.stage)) Going (parties_of pass.old) new (parties_of pass.new) }
-        ensures ended { EndsStore T.arithmetic (key_of self.now.stage) act.now (counted pass.old) new (counted pass.new) }
-    {
-        self.stage
-            .store_of::<_, Brand, AtomicAct>(GoesOn, pass, HIGH, new, act);
-    }
-
-    /// The load of the high word by which a call acts that took the lock for writing and stores nothing.
-    #[inline(always)]
-    pub(crate) fn end_unchanged<E: Entry<T>>(
+    pub(crate) fn store_low<'p, W: Way<T>>(
         &self,
-        entry: E,
-        pass: &mut Pass<PlayedAtomic<T>>,
-        act: &AtomicAct,
-    ) -> u64
-        requires own { IsPassOf self.now.stage pass.old }
-        requires on { IsSettled (counts_of pass.old).hold }
-        requires right { ChangesNothing T.arithmetic act.now (counts_of pass.old).hold }
-        requires may { MayStep (atomic_model T.arithmetic (key_of self.now.stage)) atomic_names E.coming 2 (λ w. intents.Load w) (parties_of pass.old) }
-        requires again { ComesAgain T.arithmetic (key_of self.now.stage) E.coming (parties_of pass.old) }
-        requires none { act_in T.arithmetic act.now ≡ update None }
-        ensures same { IsSamePass pass.old pass.new }
-        ensures went { Went (atomic_model T.arithmetic (key_of self.now.stage)) E.coming (parties_of pass.old) result (parties_of pass.new) }
-        ensures ended { EndsUnchanged T.arithmetic (key_of self.now.stage) act.now (counted pass.old) (counted pass.new) }
+        turn: Turn<'p, PlayedPass<T>, W>,
+        new: u64,
+    ) -> Going<'p, T>
+        requires own { IsPassOf self.now.stage turn.pass.now }
+        requires on { IsWriting (counts_of turn.pass.now).hold }
+        requires may { MayStep (atomic_model T.arithmetic (key_of self.now.stage)) atomic_names W.coming 1 (λ w. intents.Store w new) (parties_of turn.pass.now) }
+        ensures same_borrow { result.pass.ghost_name ≡ turn.entry.pass.ghost_name }
+        ensures same { IsSamePass turn.entry.pass.now result.pass.now }
+        ensures went { Went (atomic_model T.arithmetic (key_of self.now.stage)) W.coming (parties_of turn.entry.pass.now) new (parties_of result.pass.now) }
+        ensures stored { StoresLow (counted turn.entry.pass.now) new (counted result.pass.now) }
     {
-        self.stage
-            .load_of::<_, Brand, AtomicAct>(entry, pass, HIGH, act)
+        turn.store_by::<T, A, StoreLow>(&self.stage, LOW, new)
+    }
+
+    /// The store of the high word, by which a call acts that stores: this act, which its caller picks.
+    #[inline(always)]
+    pub(crate) fn end_store<'p, L: Acts>(
+        &self,
+        turn: Going<'p, T>,
+        new: u64,
+        _act: &AtomicAct,
+    ) -> Going<'p, T>
+        requires own { IsPassOf self.now.stage turn.pass.now }
+        requires on { IsWriting (counts_of turn.pass.now).hold }
+        requires right { IsRight T.arithmetic L.act new (counts_of turn.pass.now).hold }
+        requires may { MayStep (atomic_model T.arithmetic (key_of self.now.stage)) atomic_names Going 2 (λ w. intents.Store w new) (parties_of turn.pass.now) }
+        requires stores { IsStoring L.act }
+        requires puts { IsAtPutHigh T.arithmetic (key_of self.now.stage) (act_in T.arithmetic L.act).call new (parties_of turn.pass.now) }
+        ensures same_borrow { result.pass.ghost_name ≡ turn.entry.pass.ghost_name }
+        ensures same { IsSamePass turn.entry.pass.now result.pass.now }
+        ensures went { Went (atomic_model T.arithmetic (key_of self.now.stage)) Going (parties_of turn.entry.pass.now) new (parties_of result.pass.now) }
+        ensures ended { EndsStore T.arithmetic (key_of self.now.stage) L.act (counted turn.entry.pass.now) new (counted result.pass.now) }
+    {
+        turn.store_by::<T, A, EndStore<L>>(&self.stage, HIGH, new)
+    }
+
+    /// The load of the high word by which a `fetch_update` acts whose closure has chosen nothing.
+    #[inline(always)]
+    pub(crate) fn end_unchanged<'p>(
+        &self,
+        turn: Turn<'p, PlayedPass<T>, Chooses<Nothing>>,
+    ) -> Going<'p, T>
+        requires own { IsPassOf self.now.stage turn.pass.now }
+        requires on { IsSettled (counts_of turn.pass.now).hold }
+        requires may { MayStep (atomic_model T.arithmetic (key_of self.now.stage)) atomic_names (Choosing None) 2 (λ w. intents.Load w) (parties_of turn.pass.now) }
+        requires again { ComesAgain T.arithmetic (key_of self.now.stage) (Choosing None) (parties_of turn.pass.now) }
+        ensures same_borrow { result.pass.ghost_name ≡ turn.entry.pass.ghost_name }
+        ensures same { IsSamePass turn.entry.pass.now result.pass.now }
+        ensures went { (found : ℕ) × Went (atomic_model T.arithmetic (key_of self.now.stage)) (Choosing None) (parties_of turn.entry.pass.now) found (parties_of result.pass.now) }
+        ensures ended { EndsUnchanged T.arithmetic (key_of self.now.stage) (act.FetchUpdate None) (counted turn.entry.pass.now) (counted result.pass.now) }
+    {
+        let (_, next) = turn.load_by::<T, A, EndUnchanged>(&self.stage, HIGH);
+        next
     }
 
     /// The load of the high word of a call that compares. Where the value is another than the one compared with, the call acts by it.
     #[inline(always)]
-    pub(crate) fn compare_high(&self, pass: &mut Pass<PlayedAtomic<T>>, by: &Comparison<T>) -> u64
-        requires own { IsPassOf self.now.stage pass.old }
-        requires on { IsSettled (counts_of pass.old).hold }
-        requires right { KeepsOthers T.arithmetic by.now.act by.now.current (counts_of pass.old).hold }
-        requires may { MayStep (atomic_model T.arithmetic (key_of self.now.stage)) atomic_names Going 2 (λ w. intents.Load w) (parties_of pass.old) }
-        requires compares { IsComparing T.arithmetic (key_of self.now.stage) by.now.act by.now.current (counts_of pass.old).hold (parties_of pass.old) }
-        ensures same { IsSamePass pass.old pass.new }
-        ensures went { Went (atomic_model T.arithmetic (key_of self.now.stage)) Going (parties_of pass.old) result (parties_of pass.new) }
-        ensures compared { ComparesHigh T.arithmetic (key_of self.now.stage) by.now.act by.now.current (counted pass.old) result (counted pass.new) }
+    pub(crate) fn compare_high<'p, L: Compares<T>>(
+        &self,
+        turn: Going<'p, T>,
+        _by: &Comparison<T>,
+    ) -> (u64, Going<'p, T>)
+        requires own { IsPassOf self.now.stage turn.pass.now }
+        requires on { IsSettled (counts_of turn.pass.now).hold }
+        requires right { KeepsOthers T.arithmetic L.act (L.current T.arithmetic) (counts_of turn.pass.now).hold }
+        requires may { MayStep (atomic_model T.arithmetic (key_of self.now.stage)) atomic_names Going 2 (λ w. intents.Load w) (parties_of turn.pass.now) }
+        requires compares { IsComparing T.arithmetic (key_of self.now.stage) L.act (L.current T.arithmetic) (counts_of turn.pass.now).hold (parties_of turn.pass.now) }
+        ensures same_borrow { result.1.pass.ghost_name ≡ turn.entry.pass.ghost_name }
+        ensures same { IsSamePass turn.entry.pass.now result.1.pass.now }
+        ensures went { Went (atomic_model T.arithmetic (key_of self.now.stage)) Going (parties_of turn.entry.pass.now) result.0 (parties_of result.1.pass.now) }
+        ensures compared { ComparesHigh T.arithmetic (key_of self.now.stage) L.act (L.current T.arithmetic) (counted turn.entry.pass.now) result.0 (counted result.1.pass.now) }
     {
-        self.stage
-            .load_of::<_, Brand, Comparison<T>>(GoesOn, pass, HIGH, by)
+        turn.load_by::<T, A, CompareHigh<L>>(&self.stage, HIGH)
     }
 
     /// A load by which a pass sees all of the history.
     #[inline(always)]
-    pub(crate) fn settle(&self, pass: &mut Pass<PlayedAtomic<T>>)
+    pub(crate) fn settle(&self, pass: &mut PlayedPass<T>)
         requires own { IsPassOf self.now.stage pass.old }
         ensures same { IsSamePass pass.old pass.new }
         ensures stayed { parties_of pass.new ≡ parties_of pass.old }

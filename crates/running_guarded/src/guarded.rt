@@ -3,20 +3,18 @@ ghost use Rattle.std.specs.Prelude.{◌≡◌, ℕ, ◌<◌, ◌≤◌, ◌+◌,
 ghost use Rattle.passes.specs.Parts.{IsWhole};
 ghost use Rattle.passes.specs.Sights.{seen_instead};
 ghost use Rattle.passes.specs.Views.{first_view};
-ghost use Rattle.passes.specs.Answers.{MayAnswer, MayAnswerAbort, HasWoken};
+ghost use Rattle.passes.specs.Answers.{MayAnswerAbort, HasWoken};
 ghost use Rattle.steps_events.specs.declared.event.Word.TheVariants as words;
 ghost use Rattle.steps_events.specs.declared.event.Call.TheVariants as calls;
 ghost use Rattle.steps_events.specs.declared.event.Answer.TheVariants as answers;
 ghost use Rattle.steps_events.specs.declared.hold.HoldKind.TheVariants as kinds;
 ghost use Rattle.steps_events.specs.declared.row.Intent.TheVariants as intents;
 ghost use Rattle.steps_events.specs.declared.WaitAction.TheVariants as actions;
-ghost use Rattle.steps_mutex.specs.declared.MutexPlace.{MutexPlace};
 ghost use Rattle.steps_mutex.specs.declared.MutexPlace.TheVariants as places;
 ghost use Rattle.tallies.specs.MutexScript.{mutex_model};
-ghost use Rattle.playing.specs.Answers.{action_of};
 ghost use Rattle.playing.specs.Slots.{Slot};
-ghost use Rattle.playing.specs.Plays.{MayStep};
-ghost use Rattle.playing.specs.Tries.{spun, IsRefused, IsStanding, IsGranted, HasGivenUp as HasEndedRefused, OnceRefused, OnceStanding, StandsToWait, IsToWake};
+ghost use Rattle.playing.specs.Plays.{Beginning, MayStep};
+ghost use Rattle.playing.specs.Tries.{spun, IsRefused, IsStanding, IsGranted, HasGivenUp as HasEndedRefused, OnceRefused, OnceStanding};
 ghost use Rattle.running_mutex.specs.MutexParties.{HasMutex};
 ghost use Rattle.running_mutex.specs.MutexShown.{IsLocked};
 ghost use Rattle.running_spin_lock.specs.ValueRule.{none_held};
@@ -30,10 +28,11 @@ use crate::rule::GuardedRule;
 use crate::word::GuardedWord;
 use atomic_table::{Play, Refused, Seat, Table};
 use passes::{View, WaitResult};
-use playing::{Answered, Entry, GoesOn, Sealed, ask_seat, wake_seat};
+use playing::Sealed;
+use playing::seat::{SeatAnswered, SeatTurn, begin_held, begin_new};
+use playing::turn::{Called, Goes, Way};
 use std::alloc::{AllocError, Allocator, Global};
 use std::hint::spin_loop;
-use std::marker::PhantomData;
 use std::sync::Wait;
 use std::thread;
 use steps_events::{SPIN_REPETITIONS, WaitAction};
@@ -47,46 +46,39 @@ pub struct Guarded<T, A: Allocator = Global> {
     ghost one_slot: { table.shared.table_id.slots ≡ 1 },
 }
 
-/// An exchange of 0 for 1, to which a pass comes by `E`.
-struct Exchange<E> {
-    by: PhantomData<E>,
+/// What an exchange of 0 for 1 tells of its seat.
+struct Exchange;
+
+impl<T> Play<Option<T>, View<PlayedMutex>> for Exchange {
+    ghost then = { λ _ me found after. Tried (λ s. seen_instead s 0 1) me found after };
 }
 
-impl<T, E: Entry<u64>> Play<Option<T>, View<PlayedMutex>> for Exchange<E> {
-    ghost then = { λ _ me found after. Tried mutex_model (λ s. seen_instead s 0 1) E.coming me found after };
-}
-
-/// A store of 0.
+/// What a store of 0 tells of its seat.
 struct Release;
 
 impl<T> Play<Option<T>, View<PlayedMutex>> for Release {
-    ghost then = { λ _ me _ after. Stored mutex_model me after };
+    ghost then = { λ _ me _ after. Stored me after };
 }
 
-/// A `TryLock` begins.
-#[derive(Drop)]
-struct TryLockBegins;
+/// A `TryLock`.
+struct TryLockCall;
 
-impl Entry<u64> for TryLockBegins {
-    ghost use Rattle.playing.specs.Plays.{Beginning};
-
-    ghost coming = { Beginning calls.TryLock };
-
-    #[inline(always)]
-    fn spend(self) {}
+impl Called<u64> for TryLockCall {
+    ghost call = { calls.TryLock };
 }
 
-/// A `Lock` begins.
-#[derive(Drop)]
-struct LockBegins;
+/// A `Lock`.
+struct LockCall;
 
-impl Entry<u64> for LockBegins {
-    ghost use Rattle.playing.specs.Plays.{Beginning};
+impl Called<u64> for LockCall {
+    ghost call = { calls.Lock };
+}
 
-    ghost coming = { Beginning calls.Lock };
+/// An `Unlock`.
+struct UnlockCall;
 
-    #[inline(always)]
-    fn spend(self) {}
+impl Called<u64> for UnlockCall {
+    ghost call = { calls.Unlock };
 }
 
 /// The word where it is locked, and where it is free.
@@ -100,89 +92,101 @@ impl<T, A: Allocator> Guarded<T, A> {
 
     /// One exchange of 0 for 1, and whether it was done. Then the value is out with the seat.
     #[inline(always)]
-    fn exchange<E: Entry<u64>>(
+    fn exchange<W: Way<u64>>(
         &self,
-        entry: E,
-        seat: &mut Seat<Option<T>, View<PlayedMutex>>,
-    ) -> bool
-        requires own { seat.old.table_id ≡ id_of self.now }
-        requires no_slot { seat.old.me.1 ≡ [] }
-        requires alive { 0 < seat.old.me.0.part.share }
-        requires may { MayStep mutex_model (words.State ∷ []) E.coming 0 (λ w. intents.Exchange w 0 1) seat.old.me.0.tally.parties }
-        ensures same { (seat.new.table_id ≡ seat.old.table_id) × (seat.new.id ≡ seat.old.id) }
-        ensures locked { MatchBool result (Locks seat.old.me.0 seat.new.me.0) (SeesLocked seat.old.me.0 seat.new.me.0) }
-        ensures slot { MatchBool result (HasValue seat.new.me.1) (seat.new.me.1 ≡ []) }
-        ensures tried { Tries E.coming result seat.old.me.0 seat.new.me.0 }
-        ensures exact { IsWhole seat.old.me.0.part → seat.old.me.0.tally.counts.holds ≡ 0 → result ≡ true }
+        turn: SeatTurn<Option<T>, PlayedMutex, W>,
+    ) -> (bool, SeatTurn<Option<T>, PlayedMutex, Goes>)
+        requires own { turn.seat.table_id ≡ id_of self.now }
+        requires no_slot { turn.seat.me.1 ≡ [] }
+        requires alive { 0 < turn.seat.me.0.part.share }
+        requires may { MayStep mutex_model (words.State ∷ []) W.coming 0 (λ w. intents.Exchange w 0 1) turn.seat.me.0.tally.parties }
+        ensures same { (result.1.seat.table_id ≡ turn.seat.table_id) × (result.1.seat.id ≡ turn.seat.id) }
+        ensures locked { MatchBool result.0 (Locks turn.seat.me.0 result.1.seat.me.0) (SeesLocked turn.seat.me.0 result.1.seat.me.0) }
+        ensures slot { MatchBool result.0 (HasValue result.1.seat.me.1) (result.1.seat.me.1 ≡ []) }
+        ensures tried { Tries W.coming result.0 turn.seat.me.0 result.1.seat.me.0 }
+        ensures exact { IsWhole turn.seat.me.0.part → turn.seat.me.0.tally.counts.holds ≡ 0 → result.0 ≡ true }
     {
-        entry.spend();
-        let shared = &self.table.shared;
-        shared.compare_exchange::<Exchange<E>>(seat, 0, FREE, LOCKED) == FREE
+        let (found, next) = turn.exchange::<_, Exchange>(&self.table.shared, 0, FREE, LOCKED);
+        (found == FREE, next)
+    }
+
+    /// The first exchange of a call, which begins with it.
+    #[inline(always)]
+    fn first<L: Called<u64>>(
+        &self,
+        seat: Seat<Option<T>, View<PlayedMutex>>,
+    ) -> (bool, SeatTurn<Option<T>, PlayedMutex, Goes>)
+        requires own { seat.table_id ≡ id_of self.now }
+        requires no_slot { seat.me.1 ≡ [] }
+        requires alive { 0 < seat.me.0.part.share }
+        requires may { MayStep mutex_model (words.State ∷ []) (Beginning L.call) 0 (λ w. intents.Exchange w 0 1) seat.me.0.tally.parties }
+        ensures same { (result.1.seat.table_id ≡ seat.table_id) × (result.1.seat.id ≡ seat.id) }
+        ensures locked { MatchBool result.0 (Locks seat.me.0 result.1.seat.me.0) (SeesLocked seat.me.0 result.1.seat.me.0) }
+        ensures slot { MatchBool result.0 (HasValue result.1.seat.me.1) (result.1.seat.me.1 ≡ []) }
+        ensures tried { Tries (Beginning L.call) result.0 seat.me.0 result.1.seat.me.0 }
+        ensures exact { IsWhole seat.me.0.part → seat.me.0.tally.counts.holds ≡ 0 → result.0 ≡ true }
+    {
+        self.exchange(begin_new::<L, Option<T>, PlayedMutex>(seat))
     }
 
     /// Further exchanges, as many as a call makes by itself, until one is done.
-    fn spin(&self, seat: &mut Seat<Option<T>, View<PlayedMutex>>) -> bool
-        requires own { seat.old.table_id ≡ id_of self.now }
-        requires no_slot { seat.old.me.1 ≡ [] }
-        requires alive { 0 < seat.old.me.0.part.share }
-        requires seen { IsLocked seat.old.me.0.sights.last }
-        requires at { (done : List (Slot ℕ)) × IsRefused mutex_model calls.Lock places.Lock (spun 0) 1 done seat.old.me.0.tally.parties }
-        ensures same { (seat.new.table_id ≡ seat.old.table_id) × (seat.new.id ≡ seat.old.id) }
-        ensures entered { MatchBool result (Enters seat.old.me.0 seat.new.me.0) (SeesLockedOften 10000 seat.old.me.0 seat.new.me.0) }
-        ensures slot { MatchBool result (HasValue seat.new.me.1) (seat.new.me.1 ≡ []) }
-        ensures over { OnceRefused mutex_model calls.Lock places.Lock 1 seat.old.me.0.tally.parties (λ done. MatchBool result (IsGranted mutex_model calls.Lock places.Lock (Some kinds.Write) done seat.new.me.0.tally.parties) (IsStanding mutex_model calls.Lock places.Lock 1 done seat.new.me.0.tally.parties)) }
+    fn spin(
+        &self,
+        turn: SeatTurn<Option<T>, PlayedMutex, Goes>,
+    ) -> (bool, SeatTurn<Option<T>, PlayedMutex, Goes>)
+        requires own { turn.seat.table_id ≡ id_of self.now }
+        requires no_slot { turn.seat.me.1 ≡ [] }
+        requires alive { 0 < turn.seat.me.0.part.share }
+        requires seen { IsLocked turn.seat.me.0.sights.last }
+        requires at { (done : List (Slot ℕ)) × IsRefused mutex_model calls.Lock places.Lock (spun 0) 1 done turn.seat.me.0.tally.parties }
+        ensures same { (result.1.seat.table_id ≡ turn.seat.table_id) × (result.1.seat.id ≡ turn.seat.id) }
+        ensures entered { MatchBool result.0 (Enters turn.seat.me.0 result.1.seat.me.0) (SeesLockedOften 10000 turn.seat.me.0 result.1.seat.me.0) }
+        ensures slot { MatchBool result.0 (HasValue result.1.seat.me.1) (result.1.seat.me.1 ≡ []) }
+        ensures over { OnceRefused mutex_model calls.Lock places.Lock 1 turn.seat.me.0.tally.parties (λ done. MatchBool result.0 (IsGranted mutex_model calls.Lock places.Lock (Some kinds.Write) done result.1.seat.me.0.tally.parties) (IsStanding mutex_model calls.Lock places.Lock 1 done result.1.seat.me.0.tally.parties)) }
     {
+        let mut next = turn;
         for _ in 0..SPIN_REPETITIONS {
             spin_loop();
-            if self.exchange(GoesOn, seat) {
-                return true;
+            let (free, again) = self.exchange(next);
+            if free {
+                return (true, again);
             }
+            next = again;
         }
-        false
+        (false, next)
     }
 
-    /// Calls the wait closure at which the call stands. It is handed the word, and told 1.
-    #[inline(always)]
-    fn ask<W: Fn(&GuardedWord<'_, T>, &u64) -> WaitAction>(
-        &self,
-        seat: &Seat<Option<T>, View<PlayedMutex>>,
-        wait: &W,
-    ) -> Answered
-        requires own { seat.now.table_id ≡ id_of self.now }
-        requires stands { StandsToWait mutex_model (words.State ∷ []) (λ (_ : MutexPlace). words.State) 0 1 seat.now.me.0.tally.parties }
-        requires may { W.IsAlwaysCallable wait.now }
-        ensures answered { MayAnswer W.Fn wait.now IsLocked (action_of result) }
-    {
-        ask_seat(&(), seat, &self.word(), LOCKED, wait)
-    }
-
-    /// The wait closure before each further exchange, until one is done, or fails after the closure answered `Abort`.
+    /// The wait closure before each further exchange, until one is done, or fails after the closure answered `Abort`. It is handed the
+    /// word, and told 1.
     fn ask_and_try<R: Wait, W: Fn(&GuardedWord<'_, T>, &u64) -> WaitAction>(
         &self,
-        seat: &mut Seat<Option<T>, View<PlayedMutex>>,
+        turn: SeatTurn<Option<T>, PlayedMutex, Goes>,
         rt: &R,
         wait: &W,
-    ) -> bool
-        requires own { seat.old.table_id ≡ id_of self.now }
-        requires no_slot { seat.old.me.1 ≡ [] }
-        requires alive { 0 < seat.old.me.0.part.share }
+    ) -> (bool, SeatTurn<Option<T>, PlayedMutex, Goes>)
+        requires own { turn.seat.table_id ≡ id_of self.now }
+        requires no_slot { turn.seat.me.1 ≡ [] }
+        requires alive { 0 < turn.seat.me.0.part.share }
         requires may { W.IsAlwaysCallable wait.now }
-        requires seen { IsLocked seat.old.me.0.sights.last }
-        requires at { (done : List (Slot ℕ)) × IsStanding mutex_model calls.Lock places.Lock 1 done seat.old.me.0.tally.parties }
-        ensures same { (seat.new.table_id ≡ seat.old.table_id) × (seat.new.id ≡ seat.old.id) }
-        ensures entered { MatchBool result (Enters seat.old.me.0 seat.new.me.0) (GivesUp 0 W.Fn wait.now seat.old.me.0 seat.new.me.0) }
-        ensures slot { MatchBool result (HasValue seat.new.me.1) (seat.new.me.1 ≡ []) }
-        ensures aborted { result ≡ false → MayAnswerAbort W.Fn wait.now IsLocked }
-        ensures over { OnceStanding mutex_model calls.Lock places.Lock 1 seat.old.me.0.tally.parties (λ done. MatchBool result (IsGranted mutex_model calls.Lock places.Lock (Some kinds.Write) done seat.new.me.0.tally.parties) (HasEndedRefused mutex_model calls.Lock places.Lock done seat.new.me.0.tally.parties)) }
+        requires seen { IsLocked turn.seat.me.0.sights.last }
+        requires at { (done : List (Slot ℕ)) × IsStanding mutex_model calls.Lock places.Lock 1 done turn.seat.me.0.tally.parties }
+        ensures same { (result.1.seat.table_id ≡ turn.seat.table_id) × (result.1.seat.id ≡ turn.seat.id) }
+        ensures entered { MatchBool result.0 (Enters turn.seat.me.0 result.1.seat.me.0) (GivesUp 0 W.Fn wait.now turn.seat.me.0 result.1.seat.me.0) }
+        ensures slot { MatchBool result.0 (HasValue result.1.seat.me.1) (result.1.seat.me.1 ≡ []) }
+        ensures aborted { result.0 ≡ false → MayAnswerAbort W.Fn wait.now IsLocked }
+        ensures over { OnceStanding mutex_model calls.Lock places.Lock 1 turn.seat.me.0.tally.parties (λ done. MatchBool result.0 (IsGranted mutex_model calls.Lock places.Lock (Some kinds.Write) done result.1.seat.me.0.tally.parties) (HasEndedRefused mutex_model calls.Lock places.Lock done result.1.seat.me.0.tally.parties)) }
     {
+        let mut next = turn;
         for _ in rt.forever() {
-            match self.ask(seat, wait) {
-                Answered::Continue(continued) => {
-                    if self.exchange(continued, seat) {
-                        return true;
+            match next.ask(&self.word(), LOCKED, wait) {
+                SeatAnswered::Continue(continued) => {
+                    let (free, again) = self.exchange(continued);
+                    if free {
+                        return (true, again);
                     }
+                    next = again;
                 }
-                Answered::Abort(aborted) => return self.exchange(aborted, seat),
+                SeatAnswered::Abort(aborted) => return self.exchange(aborted),
             }
         }
         unreachable!()
@@ -192,45 +196,52 @@ impl<T, A: Allocator> Guarded<T, A> {
     #[inline(always)]
     fn enter<R: Wait, W: Fn(&GuardedWord<'_, T>, &u64) -> WaitAction>(
         &self,
-        seat: &mut Seat<Option<T>, View<PlayedMutex>>,
+        seat: Seat<Option<T>, View<PlayedMutex>>,
         rt: &R,
         wait: &W,
-    ) -> bool
-        requires own { seat.old.table_id ≡ id_of self.now }
-        requires no_slot { seat.old.me.1 ≡ [] }
-        requires alive { 0 < seat.old.me.0.part.share }
+    ) -> (bool, Seat<Option<T>, View<PlayedMutex>>)
+        requires own { seat.table_id ≡ id_of self.now }
+        requires no_slot { seat.me.1 ≡ [] }
+        requires alive { 0 < seat.me.0.part.share }
         requires may { W.IsAlwaysCallable wait.now }
-        ensures same { (seat.new.table_id ≡ seat.old.table_id) × (seat.new.id ≡ seat.old.id) }
-        ensures entered { MatchBool result (Enters seat.old.me.0 seat.new.me.0) (GivesUp 10001 W.Fn wait.now seat.old.me.0 seat.new.me.0) }
-        ensures slot { MatchBool result (HasValue seat.new.me.1) (seat.new.me.1 ≡ []) }
-        ensures played { MatchBool result (Plays calls.Lock answers.Success (Some kinds.Write) seat.old.me.0 seat.new.me.0) (Plays calls.Lock answers.Interrupted None seat.old.me.0 seat.new.me.0) }
-        ensures has { result ≡ true → HasMutex seat.new.me.0.tally.parties }
-        ensures exact { IsWhole seat.old.me.0.part → seat.old.me.0.tally.counts.holds ≡ 0 → result ≡ true }
-        ensures aborted { result ≡ false → MayAnswerAbort W.Fn wait.now IsLocked }
+        ensures same { (result.1.table_id ≡ seat.table_id) × (result.1.id ≡ seat.id) }
+        ensures entered { MatchBool result.0 (Enters seat.me.0 result.1.me.0) (GivesUp 10001 W.Fn wait.now seat.me.0 result.1.me.0) }
+        ensures slot { MatchBool result.0 (HasValue result.1.me.1) (result.1.me.1 ≡ []) }
+        ensures played { MatchBool result.0 (Plays calls.Lock answers.Success (Some kinds.Write) seat.me.0 result.1.me.0) (Plays calls.Lock answers.Interrupted None seat.me.0 result.1.me.0) }
+        ensures has { result.0 ≡ true → HasMutex result.1.me.0.tally.parties }
+        ensures exact { IsWhole seat.me.0.part → seat.me.0.tally.counts.holds ≡ 0 → result.0 ≡ true }
+        ensures aborted { result.0 ≡ false → MayAnswerAbort W.Fn wait.now IsLocked }
     {
-        if self.exchange(LockBegins, seat) {
-            return true;
+        let (free, turn) = self.first::<LockCall>(seat);
+        if free {
+            return (true, turn.end());
         }
-        if self.spin(seat) {
-            return true;
+        let (soon, spun) = self.spin(turn);
+        if soon {
+            return (true, spun.end());
         }
-        self.ask_and_try(seat, rt, wait)
+        let (granted, last) = self.ask_and_try(spun, rt, wait);
+        (granted, last.end())
     }
 
     /// What `try_lock` does, and whether the value is out with the seat.
     #[inline(always)]
-    fn try_enter(&self, seat: &mut Seat<Option<T>, View<PlayedMutex>>) -> bool
-        requires own { seat.old.table_id ≡ id_of self.now }
-        requires no_slot { seat.old.me.1 ≡ [] }
-        requires alive { 0 < seat.old.me.0.part.share }
-        ensures same { (seat.new.table_id ≡ seat.old.table_id) × (seat.new.id ≡ seat.old.id) }
-        ensures locked { MatchBool result (Locks seat.old.me.0 seat.new.me.0) (SeesLocked seat.old.me.0 seat.new.me.0) }
-        ensures slot { MatchBool result (HasValue seat.new.me.1) (seat.new.me.1 ≡ []) }
-        ensures played { MatchBool result (Plays calls.TryLock answers.Success (Some kinds.Write) seat.old.me.0 seat.new.me.0) (Plays calls.TryLock answers.Interrupted None seat.old.me.0 seat.new.me.0) }
-        ensures has { result ≡ true → HasMutex seat.new.me.0.tally.parties }
-        ensures exact { IsWhole seat.old.me.0.part → seat.old.me.0.tally.counts.holds ≡ 0 → result ≡ true }
+    fn try_enter(
+        &self,
+        seat: Seat<Option<T>, View<PlayedMutex>>,
+    ) -> (bool, Seat<Option<T>, View<PlayedMutex>>)
+        requires own { seat.table_id ≡ id_of self.now }
+        requires no_slot { seat.me.1 ≡ [] }
+        requires alive { 0 < seat.me.0.part.share }
+        ensures same { (result.1.table_id ≡ seat.table_id) × (result.1.id ≡ seat.id) }
+        ensures locked { MatchBool result.0 (Locks seat.me.0 result.1.me.0) (SeesLocked seat.me.0 result.1.me.0) }
+        ensures slot { MatchBool result.0 (HasValue result.1.me.1) (result.1.me.1 ≡ []) }
+        ensures played { MatchBool result.0 (Plays calls.TryLock answers.Success (Some kinds.Write) seat.me.0 result.1.me.0) (Plays calls.TryLock answers.Interrupted None seat.me.0 result.1.me.0) }
+        ensures has { result.0 ≡ true → HasMutex result.1.me.0.tally.parties }
+        ensures exact { IsWhole seat.me.0.part → seat.me.0.tally.counts.holds ≡ 0 → result.0 ≡ true }
     {
-        self.exchange(TryLockBegins, seat)
+        let (free, turn) = self.first::<TryLockCall>(seat);
+        (free, turn.end())
     }
 
     /// The value, out of the slot that the exchange took.
@@ -250,80 +261,74 @@ impl<T, A: Allocator> Guarded<T, A> {
     #[inline(always)]
     fn leave<W: Fn(&GuardedWord<'_, T>)>(
         &self,
-        seat: &mut Seat<Option<T>, View<PlayedMutex>>,
+        seat: Seat<Option<T>, View<PlayedMutex>>,
         value: T,
         wake_one: &W,
-    )
-        requires own { seat.old.table_id ≡ id_of self.now }
-        requires on { seat.old.me.0.tally.counts.holds ≡ 1 }
-        requires has { HasMutex seat.old.me.0.tally.parties }
-        requires alive { 0 < seat.old.me.0.part.share }
-        requires vacant { has_vacant_slot seat.old.me.1 ≡ true }
+    ) -> Seat<Option<T>, View<PlayedMutex>>
+        requires own { seat.table_id ≡ id_of self.now }
+        requires on { seat.me.0.tally.counts.holds ≡ 1 }
+        requires has { HasMutex seat.me.0.tally.parties }
+        requires alive { 0 < seat.me.0.part.share }
+        requires vacant { has_vacant_slot seat.me.1 ≡ true }
         requires may { W.IsAlwaysCallable wake_one.now }
-        ensures same { (seat.new.table_id ≡ seat.old.table_id) × (seat.new.id ≡ seat.old.id) }
-        ensures off { Lets seat.old.me.0 seat.new.me.0 }
-        ensures played { PlaysUnlock seat.old.me.0 seat.new.me.0 }
-        ensures no_slot { seat.new.me.1 ≡ [] }
+        ensures same { (result.table_id ≡ seat.table_id) × (result.id ≡ seat.id) }
+        ensures off { Lets seat.me.0 result.me.0 }
+        ensures played { PlaysUnlock seat.me.0 result.me.0 }
+        ensures no_slot { result.me.1 ≡ [] }
         ensures woke { HasWoken W.Fn wake_one.now }
     {
-        self.release(seat, value);
-        self.wake(seat, wake_one);
-    }
-
-    /// Calls the wake closure that the call is to call next. It is handed the word.
-    #[inline(always)]
-    fn wake<W: Fn(&GuardedWord<'_, T>)>(
-        &self,
-        seat: &Seat<Option<T>, View<PlayedMutex>>,
-        wake_one: &W,
-    )
-        requires own { seat.now.table_id ≡ id_of self.now }
-        requires wakes { IsToWake mutex_model (words.State ∷ []) (λ (_ : MutexPlace). words.State) 0 seat.now.me.0.tally.parties }
-        requires may { W.IsAlwaysCallable wake_one.now }
-        ensures woke { HasWoken W.Fn wake_one.now }
-    {
-        wake_seat(&(), seat, &self.word(), wake_one);
+        let turn = self.release(seat, value);
+        let woken = turn.wake(&self.word(), wake_one);
+        woken.end_aside()
     }
 
     /// Puts the value back into its slot, and stores 0.
     #[inline(always)]
-    fn release(&self, seat: &mut Seat<Option<T>, View<PlayedMutex>>, value: T)
-        requires own { seat.old.table_id ≡ id_of self.now }
-        requires on { seat.old.me.0.tally.counts.holds ≡ 1 }
-        requires has { HasMutex seat.old.me.0.tally.parties }
-        requires alive { 0 < seat.old.me.0.part.share }
-        requires vacant { has_vacant_slot seat.old.me.1 ≡ true }
-        ensures same { (seat.new.table_id ≡ seat.old.table_id) × (seat.new.id ≡ seat.old.id) }
-        ensures off { Lets seat.old.me.0 seat.new.me.0 }
-        ensures played { PlaysUnlock seat.old.me.0 seat.new.me.0 }
-        ensures no_slot { seat.new.me.1 ≡ [] }
+    fn release(
+        &self,
+        seat: Seat<Option<T>, View<PlayedMutex>>,
+        value: T,
+    ) -> SeatTurn<Option<T>, PlayedMutex, Goes>
+        requires own { seat.table_id ≡ id_of self.now }
+        requires on { seat.me.0.tally.counts.holds ≡ 1 }
+        requires has { HasMutex seat.me.0.tally.parties }
+        requires alive { 0 < seat.me.0.part.share }
+        requires vacant { has_vacant_slot seat.me.1 ≡ true }
+        ensures same { (result.seat.table_id ≡ seat.table_id) × (result.seat.id ≡ seat.id) }
+        ensures off { Lets seat.me.0 result.seat.me.0 }
+        ensures played { PlaysUnlock seat.me.0 result.seat.me.0 }
+        ensures no_slot { result.seat.me.1 ≡ [] }
     {
+        let mut seat = seat;
         let shared = &self.table.shared;
-        match shared.exchange(seat, 0, Some(value)) {
+        match shared.exchange(&mut seat, 0, Some(value)) {
             None => {}
             Some(_) => unreachable!(),
         }
-        shared.store::<Release>(seat, 0, FREE);
+        let begun = begin_held::<UnlockCall, Option<T>, PlayedMutex>(seat);
+        begun.store::<_, Release>(shared, 0, FREE)
     }
 
     /// Locks the value, yielding until it is there, and takes it out of its slot.
     pub(crate) fn enter_soon<R: Wait>(
         &self,
-        seat: &mut Seat<Option<T>, View<PlayedMutex>>,
+        seat: Seat<Option<T>, View<PlayedMutex>>,
         rt: &R,
-    ) -> T
-        requires own { seat.old.table_id ≡ id_of self.now }
-        requires no_slot { seat.old.me.1 ≡ [] }
-        requires alive { 0 < seat.old.me.0.part.share }
-        ensures same { (seat.new.table_id ≡ seat.old.table_id) × (seat.new.id ≡ seat.old.id) }
-        ensures entered { Enters seat.old.me.0 seat.new.me.0 }
-        ensures has { HasMutex seat.new.me.0.tally.parties }
-        ensures vacant { has_vacant_slot seat.new.me.1 ≡ true }
+    ) -> (Seat<Option<T>, View<PlayedMutex>>, T)
+        requires own { seat.table_id ≡ id_of self.now }
+        requires no_slot { seat.me.1 ≡ [] }
+        requires alive { 0 < seat.me.0.part.share }
+        ensures same { (result.0.table_id ≡ seat.table_id) × (result.0.id ≡ seat.id) }
+        ensures entered { Enters seat.me.0 result.0.me.0 }
+        ensures has { HasMutex result.0.me.0.tally.parties }
+        ensures vacant { has_vacant_slot result.0.me.1 ≡ true }
     {
-        if !self.enter(seat, rt, &|_, _| go_on()) {
+        let (granted, mut seat) = self.enter(seat, rt, &|_, _| go_on());
+        if !granted {
             unreachable!()
         }
-        self.take(seat)
+        let value = self.take(&mut seat);
+        (seat, value)
     }
 
     /// What `unlock` does, by a seat, and the pass of it.
@@ -343,9 +348,7 @@ impl<T, A: Allocator> Guarded<T, A> {
         ensures off { Lets seat.me.0 (view result) }
         ensures woke { HasWoken W.Fn wake_one.now }
     {
-        let mut seat = seat;
-        self.leave(&mut seat, value, wake_one);
-        GuardedPass::seated(seat)
+        GuardedPass::seated(self.leave(seat, value, wake_one))
     }
 
     /// The word, as closures see it.
@@ -382,8 +385,8 @@ impl<T, A: Allocator> Guarded<T, A> {
         ensures exact { IsAlone pass.old → IsSuccess result }
         ensures aborted { IfInterrupted result (MayAnswerAbort W.Fn wait IsLocked) }
     {
-        let mut seat = pass.rise();
-        if this.enter(&mut seat, rt, &wait) {
+        let (granted, mut seat) = this.enter(pass.rise(), rt, &wait);
+        if granted {
             let value = this.take(&mut seat);
             WaitResult::Success(Guard {
                 of: this,
@@ -407,8 +410,8 @@ impl<T, A: Allocator> Guarded<T, A> {
         ensures played { IfSuccess result (λ guard. Plays calls.TryLock answers.Success (Some kinds.Write) (view pass.old) (view_with guard)) }
         ensures exact { IsAlone pass.old → IsSuccess result }
     {
-        let mut seat = pass.rise();
-        if this.try_enter(&mut seat) {
+        let (free, mut seat) = this.try_enter(pass.rise());
+        if free {
             let value = this.take(&mut seat);
             WaitResult::Success(Guard {
                 of: this,
@@ -437,11 +440,10 @@ impl<T, A: Allocator> Guarded<T, A> {
         let Guard {
             of,
             pass,
-            mut seat,
+            seat,
             value,
         } = guard;
-        of.leave(&mut seat, value, &wake_one);
-        *pass = GuardedPass::seated(seat);
+        *pass = GuardedPass::seated(of.leave(seat, value, &wake_one));
         pass
     }
 
@@ -467,15 +469,14 @@ impl<T, A: Allocator> Guarded<T, A> {
         ensures aborted { IfInterrupted result (MayAnswerAbort W.Fn wait IsLocked) }
         ensures woke { IfSuccess result (λ _. HasWoken K.Fn wake_one) }
     {
-        let mut seat = pass.rise();
-        if !self.enter(&mut seat, rt, &wait) {
+        let (granted, mut seat) = self.enter(pass.rise(), rt, &wait);
+        if !granted {
             *pass = GuardedPass::seated(seat);
             return WaitResult::Interrupted;
         }
         let mut value = self.take(&mut seat);
         let given = act(&mut value);
-        self.leave(&mut seat, value, &wake_one);
-        *pass = GuardedPass::seated(seat);
+        *pass = GuardedPass::seated(self.leave(seat, value, &wake_one));
         WaitResult::Success(given)
     }
 

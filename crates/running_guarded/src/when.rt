@@ -147,8 +147,7 @@ impl<T: Drop, A: Allocator> Guarded<T, A> {
         ensures granted { grants_of pass.new ≡ grants_of pass.old + 1 }
         ensures woke { HasWoken K.Fn wake_one.now }
     {
-        let mut seat = pass.rise();
-        let mut value = self.enter_soon(&mut seat, rt);
+        let (seat, mut value) = self.enter_soon(pass.rise(), rt);
         match act(&mut value) {
             Some(given) => {
                 *pass = self.sit(seat, value, wake_one);
@@ -233,8 +232,7 @@ impl<T: Drop, A: Allocator> Guarded<T, A> {
         ensures granted { grants_of pass.new ≡ grants_of pass.old + 1 }
         ensures woke { HasWoken K.Fn wake_one.now }
     {
-        let mut seat = pass.rise();
-        let mut value = self.enter_soon(&mut seat, rt);
+        let (seat, mut value) = self.enter_soon(pass.rise(), rt);
         let given = act(&mut value);
         *pass = self.sit(seat, value, wake_one);
         given

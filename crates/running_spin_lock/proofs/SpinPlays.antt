@@ -25,7 +25,9 @@ use Rattle.running_spin_lock.specs.SpinLawful.{spin_model, spin_lawful}
 use Rattle.playing.specs.Slots.{Slot, Parties, all_of}
 use Rattle.playing.specs.Plays.{Coming, Going, Beginning, Continuing, ComesBy, IsHolding, Led, HasCalled, MayStep, IsStepAt, Went}
 use Rattle.playing.specs.Sums.{grants_by}
+use Rattle.playing.specs.Turns.{IsOver}
 use Rattle.playing.proofs.Holding.{holding_told, holding_is}
+use Rattle.playing.proofs.Over.{is_over}
 use Rattle.playing.proofs.Steps.{next_step}
 use Rattle.running_spin_lock.specs.SpinParties.{IsWaiting, IsSpinning, IsGranted, HasLock, Unlocks}
 
@@ -130,6 +132,9 @@ may_unlock p has = record {
 
 pub unlocks : (p q : Parties ℕ) → Went spin_model (Continuing calls.Unlock) p 0 q → Unlocks p q
 unlocks p q went = λ done holding. went calls.Unlock places.Release (Some kinds.Write) done (unlock_begins done p holding)
+
+pub unlock_is_over : (p q : Parties ℕ) → HasLock p → Unlocks p q → IsOver spin_model q
+unlock_is_over p q has unlocked = is_over spin_model calls.Unlock answers.Done None p.resting q (unlocked p.resting (holding_told spin_model kinds.Write p has))
 
 -- in a run only a locking call swaps, and it takes the lock by a swap that found 0
 pub swap_grants : (call : Call ℕ) (place : SpinPlace) (hold : Option HoldKind) (past : List (Event ℕ)) (e : Event ℕ) (name : Word) (found : ℕ) → IsStepAt spin_model call place hold found past e → words.State ≡ name →

@@ -1,6 +1,6 @@
 -- Each step of a lock that guards a value keeps its rule, whatever model its passes play.
-use Rattle.std.proofs.Common.{◌≡◌, ◌≢◌, ℕ, ◌+◌, ◌==◌, ◌<◌, ◌≤◌, eqb, cond, List, [], ◌∷◌, get_or, set, sym, refl, ap, ◌∙◌, subst, arith, true, Option, Some, None, length-set, get_or-set_same, true-eqb}
-use Rattle.std.proofs.lemmas.Bool.{and_parts, false≢true}
+use Rattle.std.proofs.Common.{◌≡◌, ◌≢◌, ℕ, zero, suc, MatchBool, ◌+◌, ◌==◌, ◌<◌, ◌≤◌, eqb, cond, List, [], ◌∷◌, get_or, set, sym, refl, ap, ◌∙◌, subst, arith, true, Option, Some, None, length-set, get_or-set_same, true-eqb}
+use Rattle.std.proofs.lemmas.Bool.{and_parts, false≢true, ne_eqb}
 use mathlib.Core.Logic.{dite}
 use mathlib.Core.Option as maybe
 use native.Mathlib.Decide.{ℕ_discrete}
@@ -31,7 +31,7 @@ use Rattle.steps_events.specs.Runs.{IsPast}
 use Rattle.playing.specs.Models.{Model}
 use Rattle.playing.specs.declared.played.Played.{Played}
 use Rattle.playing.specs.Words.{effect}
-use Rattle.playing.specs.Plays.{Coming, Continuing, IsStepAt, MayStep}
+use Rattle.playing.specs.Plays.{Coming, Continuing, IsStepAt, MayStep, Went}
 use Rattle.playing.specs.Passes.{played, played_add_up, IsOfARun}
 use Rattle.playing.specs.Sums.{grants_by, next_grants}
 use Rattle.playing.proofs.Opening as opening_runs
@@ -48,6 +48,11 @@ abbrev pub GrantsAtZero : {P : Type 0} → Model ℕ P → (Word → Intent ℕ)
 GrantsAtZero {P} m intent =
     (call : Call ℕ) (place : P) (hold : Option HoldKind) (past : List (Event ℕ)) (e : Event ℕ) (name : Word) (found : ℕ) → IsStepAt m call place hold found past e → words.State ≡ name →
     e.act ≡ carried_out (intent name) (λ _. found) → grants_by m.table kinds.Write e.act (call_of e.party past) ≡ cond (found == 0) 1 0
+
+-- a try found the lock free, or not
+pub zero_or_not : (n : ℕ) → MatchBool (n == 0) (n ≡ 0) (n ≢ 0)
+zero_or_not zero = refl
+zero_or_not (suc n) = let some : suc n ≢ 0 = λ same. absurd (omega (arith, same)) in rw (ne_eqb (suc n) 0 some) some
 
 module _ {M Q : Type 0} where
   pub held_add_up : IsTally {T = Played M Q ℕ Holds} none_held both_held core_held
@@ -78,7 +83,7 @@ module _ {M Q : Type 0} where
     -- A try makes 1 of 0, and leaves a 1.
     pub tries : ((n : ℕ) (past : List (Event ℕ)) → IsPast m.arithmetic m.table n past → m.law past) → (slots id : ℕ) (see : Sights → Sights) (coming : Coming ℕ) (intent : Word → Intent ℕ) (f : ℕ → ℕ)
         (me : Me (Option T) (View (Played M Q ℕ Holds))) → ((w : Word) (n : ℕ) → effect (intent w) n ≡ f n) → f 0 ≡ 1 → ((n : ℕ) → n ≢ 0 → n ≤ 1 → f n ≡ n) → me.1 ≡ [] → 0 < me.0.part.share
-        → MayStep m (words.State ∷ []) coming 0 intent me.0.tally.parties → GrantsAtZero m intent → Allows IsKept slots id me 0 f (Tried m see coming me)
+        → MayStep m (words.State ∷ []) coming 0 intent me.0.tally.parties → GrantsAtZero m intent → Allows IsKept slots id me 0 f (λ found after. Went m coming me.0.tally.parties found after.0.tally.parties × Tried see me found after)
     tries lawful slots id see coming intent f me leaves grants stays none alive may granting s r wide at fits =
         let v : View (Played M Q ℕ Holds) = me.0 in let more : Played M Q ℕ Holds = the_others s.views id in let is = apart s id v r at in
         let word = is.agrees.held.word in let one = is.agrees.held.one in let long = is.agrees.held.one_word in
@@ -104,12 +109,14 @@ module _ {M Q : Type 0} where
             };
             follows = next_grants m.table kinds.Write a.past a.latest v.tally.counts.grants (v.tally.counts.grants + 1) more.counts.grants (omega (arith, at_zero x _ step free)) a.says;
           }),
-          record {
-            went = a.went;
-            free = λ _. ((omega (arith, word, free), refl), (b, ap (λ l. (0, Some b) ∷ l) none));
-            taken = λ miss. absurd (miss free);
-            alone = λ _ _. free;
-          },
+          (
+            a.went,
+            record {
+              free = λ _. ((omega (arith, word, free), refl), (b, ap (λ l. (0, Some b) ∷ l) none));
+              taken = λ miss. absurd (miss free);
+              alone = λ _ _. free;
+            },
+          ),
         ))
         (λ held.
         let is_x : y ≡ x = stays x held (omega (arith, word, one)) in
@@ -126,19 +133,21 @@ module _ {M Q : Type 0} where
             };
             follows = next_grants m.table kinds.Write a.past a.latest v.tally.counts.grants v.tally.counts.grants more.counts.grants (omega (arith, beside_zero x _ step held)) a.says;
           }),
-          record {
-            went = a.went;
-            free = λ hit. absurd (held hit);
-            taken = λ _. (refl, refl);
-            alone = λ whole off. let none_else = ap (λ (t : Played M Q ℕ Holds). t.counts.holds) (alone none_held both_held core_held held_add_up s.views id v at whole r.shared) in
-                absurd (held (omega (arith, word, off, none_else)));
-          },
+          (
+            a.went,
+            record {
+              free = λ hit. absurd (held hit);
+              taken = λ _. (refl, refl);
+              alone = λ whole off. let none_else = ap (λ (t : Played M Q ℕ Holds). t.counts.holds) (alone none_held both_held core_held held_add_up s.views id v at whole r.shared) in
+                  absurd (held (omega (arith, word, off, none_else)));
+            },
+          ),
         ))
 
     -- A store of 0 by who has the value puts it home.
     pub stores : ((n : ℕ) (past : List (Event ℕ)) → IsPast m.arithmetic m.table n past → m.law past) → (slots id : ℕ) (me : Me (Option T) (View (Played M Q ℕ Holds))) (b : T) → me.1 ≡ (0, Some b) ∷ []
         → me.0.tally.counts.holds ≡ 1 → 0 < me.0.part.share → MayStep m (words.State ∷ []) (Continuing calls.Unlock) 0 (λ w. intents.Store w 0) me.0.tally.parties
-        → Allows IsKept slots id me 0 (λ _. 0) (λ _. Stored m me)
+        → Allows IsKept slots id me 0 (λ _. 0) (λ _ after. Went m (Continuing calls.Unlock) me.0.tally.parties 0 after.0.tally.parties × Stored me after)
     stores lawful slots id me b carries on alive may s r wide at fits =
         let v : View (Played M Q ℕ Holds) = me.0 in let more : Played M Q ℕ Holds = the_others s.views id in let is = apart s id v r at in
         let word = is.agrees.held.word in let one = is.agrees.held.one in let long = is.agrees.held.one_word in
@@ -160,7 +169,7 @@ module _ {M Q : Type 0} where
             };
             follows = next_grants m.table kinds.Write a.past a.latest v.tally.counts.grants v.tally.counts.grants more.counts.grants (omega (arith, none)) a.says;
           }),
-          record { went = a.went; off = (on, refl); gave = ap rest carries },
+          (a.went, record { off = (on, refl); gave = ap rest carries }),
         )
 
     pub opens : ((n : ℕ) (past : List (Event ℕ)) → IsPast m.arithmetic m.table n past → m.law past) → 0 ≡ m.table.opening words.State → (x : T) (slots : List (Option T)) → slots ≡ Some x ∷ []

@@ -3,7 +3,6 @@
 use Rattle.std.specs.Prelude.{◌≡◌, ◌≢◌, ℕ, ◌+◌, List, [], ◌∷◌, Bool, true, false, ◌==◌, ◌&&◌, Option, Some, None, MatchBool}
 use Rattle.atomic_table.specs.Table.{Me}
 use Rattle.steps_events.specs.declared.event.Call.{Call}
-use Rattle.steps_events.specs.declared.event.Call.TheVariants as calls
 use Rattle.steps_events.specs.declared.event.Answer.{Answer}
 use Rattle.steps_events.specs.declared.hold.HoldKind.{HoldKind}
 use Rattle.passes.specs.declared.part.Sights.{Sights}
@@ -13,7 +12,7 @@ use Rattle.passes.specs.Sights.{HasOnlyRead, HasWritten}
 use Rattle.passes.specs.Views.{view_of, wrote}
 use Rattle.playing.specs.Models.{Model}
 use Rattle.playing.specs.declared.played.Played.{Played}
-use Rattle.playing.specs.Plays.{Coming, Continuing, HasCalled, Went}
+use Rattle.playing.specs.Plays.{Coming, HasCalled, Went}
 use Rattle.playing.specs.Passes.{counted_in}
 use Rattle.tallies.specs.declared.mutex.Holds.{Holds}
 use Rattle.tallies.specs.MutexRule.{holds}
@@ -83,25 +82,25 @@ module _ {M Q : Type 0} where
     pub part : w.part ≡ v.part
     pub saw : HasOnlyRead v.sights w.sights
 
-  -- The steps of a table, which keeps a law.
-  module _ {P : Type 0} (m : Model ℕ P) where
-    -- a try that the table has, to which the pass came so, found the lock free, or not
-    abbrev pub Tries : Coming ℕ → Bool → View (Played M Q ℕ Holds) → View (Played M Q ℕ Holds) → Type 0
-    Tries coming free v w = (found : ℕ) × MatchBool free (found ≡ 0) (found ≢ 0) × Went m coming v.tally.parties found w.tally.parties
-
+  -- What a step on the word tells of the seat that made it, beside where it led the call.
+  module _ {T : Type 0} where
     -- A try takes the slot with the value where it found 0; else this is seen of it. Where no other pass is left, only the pass's own hold
     -- can be on.
-    pub record Tried {T : Type 0} (see : Sights → Sights) (coming : Coming ℕ) (me : Me (Option T) (View (Played M Q ℕ Holds))) (found : ℕ) (after : Me (Option T) (View (Played M Q ℕ Holds))) : Type 0 where
-      pub went : Went m coming me.0.tally.parties found after.0.tally.parties
+    pub record Tried (see : Sights → Sights) (me : Me (Option T) (View (Played M Q ℕ Holds))) (found : ℕ) (after : Me (Option T) (View (Played M Q ℕ Holds))) : Type 0 where
       pub free : found ≡ 0 → Locks me.0 after.0 × HasValue after.1
       pub taken : found ≢ 0 → Sees see me.0 after.0 × (after.1 ≡ me.1)
       pub alone : IsWhole me.0.part → me.0.tally.counts.holds ≡ 0 → found ≡ 0
 
     -- a store of 0 by the seat that has the value gives its slot back
-    pub record Stored {T : Type 0} (me after : Me (Option T) (View (Played M Q ℕ Holds))) : Type 0 where
-      pub went : Went m (Continuing calls.Unlock) me.0.tally.parties 0 after.0.tally.parties
+    pub record Stored (me after : Me (Option T) (View (Played M Q ℕ Holds))) : Type 0 where
       pub off : Lets me.0 after.0
       pub gave : after.1 ≡ []
+
+  -- The steps of a table, which keeps a law.
+  module _ {P : Type 0} (m : Model ℕ P) where
+    -- a try that the table has, to which the pass came so, found the lock free, or not
+    abbrev pub Tries : Coming ℕ → Bool → View (Played M Q ℕ Holds) → View (Played M Q ℕ Holds) → Type 0
+    Tries coming free v w = (found : ℕ) × MatchBool free (found ≡ 0) (found ≢ 0) × Went m coming v.tally.parties found w.tally.parties
 
     -- There is a run of the model, which keeps its law, in which a party of the pass has just been answered so by this call. It is the one
     -- call that the pass has made since, as a party that is new; and it has this hold now.

@@ -67,10 +67,9 @@ impl<T, A: Allocator> Drop for SpinLockGuard<'_, T, A> {
         let SpinLockGuard {
             lock,
             pass,
-            mut seat,
+            seat,
             value,
         } = self;
-        lock.leave(&mut seat, value);
-        *pass = SpinPass::seated(seat);
+        *pass = SpinPass::seated(lock.leave(seat, value));
     }
 }

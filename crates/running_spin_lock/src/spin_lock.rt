@@ -1,7 +1,6 @@
 //! The lock itself.
 ghost use Rattle.std.specs.Prelude.{◌≡◌, ℕ, ◌<◌, List, [], ◌∷◌, IfOk, IfErr, IfSome, IsSome, Some, None, is_ok, true, false, MatchBool};
 ghost use Rattle.steps_events.specs.declared.event.Word.TheVariants as words;
-ghost use Rattle.steps_events.specs.declared.event.Call.{Call};
 ghost use Rattle.steps_events.specs.declared.event.Call.TheVariants as calls;
 ghost use Rattle.steps_events.specs.declared.event.Answer.TheVariants as answers;
 ghost use Rattle.steps_events.specs.declared.hold.HoldKind.TheVariants as kinds;
@@ -25,10 +24,10 @@ use crate::rule::ValueRule;
 use crate::script::{PlayedSpin, SpinScript};
 use atomic_table::{Play, Refused, Seat, Table};
 use passes::View;
-use playing::{Entry, GoesOn};
+use playing::seat::{SeatTurn, begin_held, begin_new};
+use playing::turn::{Called, Goes, Way};
 use std::alloc::{AllocError, Allocator, Global};
 use std::hint::spin_loop;
-use std::marker::PhantomData;
 use std::sync::Wait;
 use steps_spin::SpinPlace;
 
@@ -40,74 +39,63 @@ pub struct SpinLock<T, A: Allocator = Global> {
     ghost one_slot: { table.shared.table_id.slots ≡ 1 },
 }
 
-/// A swap of 1, to which a pass comes by `E`.
-struct Swap<E> {
-    by: PhantomData<E>,
+/// What a swap of 1 tells of its seat.
+struct Swap;
+
+impl<T> Play<Option<T>, View<PlayedSpin>> for Swap {
+    ghost then = { λ _ me found after. Tried (λ s. seen s 1) me found after };
 }
 
-impl<T, E: Entry<u64>> Play<Option<T>, View<PlayedSpin>> for Swap<E> {
-    ghost then = { λ _ me found after. Tried spin_model (λ s. seen s 1) E.coming me found after };
-}
-
-/// A store of 0.
+/// What a store of 0 tells of its seat.
 struct Release;
 
 impl<T> Play<Option<T>, View<PlayedSpin>> for Release {
-    ghost then = { λ _ me _ after. Stored spin_model me after };
+    ghost then = { λ _ me _ after. Stored me after };
 }
 
-/// A `TryLock` begins.
-#[derive(Drop)]
-struct TryLockBegins;
+/// A `TryLock`.
+struct TryLockCall;
 
-impl Entry<u64> for TryLockBegins {
-    ghost coming = { Beginning calls.TryLock };
+impl Called<u64> for TryLockCall {
+    ghost call = { calls.TryLock };
+}
 
-    #[inline(always)]
-    fn spend(self) {}
+/// An `Unlock`.
+struct UnlockCall;
+
+impl Called<u64> for UnlockCall {
+    ghost call = { calls.Unlock };
 }
 
 /// A call that swaps until it has the lock.
-trait Waiting {
-    ghost call: { Call ℕ };
-
-    ghost waits: { IsWaiting call };
+trait Waiting: Called<u64> {
+    ghost waits: { IsWaiting Self.Called.call };
 }
 
-/// `Lock`.
-struct Lock;
+/// A `Lock`.
+struct LockCall;
 
-impl Waiting for Lock {
-    ghost use Rattle.std.proofs.Common.{refl, inl};
-
+impl Called<u64> for LockCall {
     ghost call = { calls.Lock };
+}
+
+impl Waiting for LockCall {
+    ghost use Rattle.std.proofs.Common.{refl, inl};
 
     ghost waits = { inl refl };
 }
 
-/// `BlockingLock`.
-struct BlockingLock;
+/// A `BlockingLock`.
+struct BlockingLockCall;
 
-impl Waiting for BlockingLock {
+impl Called<u64> for BlockingLockCall {
+    ghost call = { calls.BlockingLock };
+}
+
+impl Waiting for BlockingLockCall {
     ghost use Rattle.std.proofs.Common.{refl, inr};
 
-    ghost call = { calls.BlockingLock };
-
     ghost waits = { inr refl };
-}
-
-/// Such a call begins.
-struct Begins<C> {
-    of: PhantomData<C>,
-}
-
-impl<C: Waiting> Entry<u64> for Begins<C> {
-    ghost coming = { Beginning C.call };
-
-    #[inline(always)]
-    fn spend(self) {
-        let Begins { of: _ } = self;
-    }
 }
 
 /// The word of a locked spin lock, and of a free one.
@@ -130,8 +118,8 @@ impl<T, A: Allocator> SpinLock<T, A> {
         ensures played { IfSome result (λ guard. HasPlayed calls.TryLock answers.Success (Some kinds.Write) (view pass.old) (view_with guard)) }
         ensures exact { IsAlone pass.old → IsSome result }
     {
-        let mut seat = pass.rise();
-        if this.try_enter(&mut seat) {
+        let (free, mut seat) = this.try_enter(pass.rise());
+        if free {
             let value = this.take(&mut seat);
             Some(SpinLockGuard {
                 lock: this,
@@ -158,7 +146,7 @@ impl<T, A: Allocator> SpinLock<T, A> {
         ensures played { HasPlayed calls.BlockingLock answers.Success (Some kinds.Write) (view pass.old) (view_with result) }
         ensures exact { IsAlone pass.old → HasLocked pass.old result }
     {
-        SpinLock::wait_for::<BlockingLock, R>(pass, this, rt)
+        SpinLock::wait_for::<BlockingLockCall, R>(pass, this, rt)
     }
 
     /// What `blocking_lock` does. Always `Ok`, since nothing panics.
@@ -175,7 +163,7 @@ impl<T, A: Allocator> SpinLock<T, A> {
         ensures played { IfOk result (λ guard. HasPlayed calls.Lock answers.Success (Some kinds.Write) (view pass.old) (view_with guard)) }
         ensures exact { IsAlone pass.old → IfOk result (HasLocked pass.old) }
     {
-        Ok(SpinLock::wait_for::<Lock, R>(pass, this, rt))
+        Ok(SpinLock::wait_for::<LockCall, R>(pass, this, rt))
     }
 
     /// The guard of a call that swaps until it has the lock.
@@ -191,8 +179,7 @@ impl<T, A: Allocator> SpinLock<T, A> {
         ensures played { HasPlayed C.call answers.Success (Some kinds.Write) (view pass.old) (view_with result) }
         ensures exact { IsAlone pass.old → HasLocked pass.old result }
     {
-        let mut seat = pass.rise();
-        this.enter::<C, R>(rt, &mut seat);
+        let mut seat = this.enter::<C, R>(rt, pass.rise());
         let value = this.take(&mut seat);
         SpinLockGuard {
             lock: this,
@@ -204,74 +191,111 @@ impl<T, A: Allocator> SpinLock<T, A> {
 
     /// A swap of 1, and whether it found 0. Then the value is out with the seat.
     #[inline(always)]
-    fn swap<E: Entry<u64>>(&self, entry: E, seat: &mut Seat<Option<T>, View<PlayedSpin>>) -> bool
-        requires own { seat.old.table_id ≡ id_of self.now }
-        requires no_slot { seat.old.me.1 ≡ [] }
-        requires alive { 0 < seat.old.me.0.part.share }
-        requires may { MayStep spin_model (words.State ∷ []) E.coming 0 (λ w. intents.Swap w 1) seat.old.me.0.tally.parties }
-        ensures same { (seat.new.table_id ≡ seat.old.table_id) × (seat.new.id ≡ seat.old.id) }
-        ensures locked { MatchBool result (Locks seat.old.me.0 seat.new.me.0) (SeesLocked seat.old.me.0 seat.new.me.0) }
-        ensures slot { MatchBool result (HasValue seat.new.me.1) (seat.new.me.1 ≡ []) }
-        ensures tried { Tries spin_model E.coming result seat.old.me.0 seat.new.me.0 }
-        ensures exact { IsWhole seat.old.me.0.part → seat.old.me.0.tally.counts.holds ≡ 0 → result ≡ true }
+    fn swap<W: Way<u64>>(
+        &self,
+        turn: SeatTurn<Option<T>, PlayedSpin, W>,
+    ) -> (bool, SeatTurn<Option<T>, PlayedSpin, Goes>)
+        requires own { turn.seat.table_id ≡ id_of self.now }
+        requires no_slot { turn.seat.me.1 ≡ [] }
+        requires alive { 0 < turn.seat.me.0.part.share }
+        requires may { MayStep spin_model (words.State ∷ []) W.coming 0 (λ w. intents.Swap w 1) turn.seat.me.0.tally.parties }
+        ensures same { (result.1.seat.table_id ≡ turn.seat.table_id) × (result.1.seat.id ≡ turn.seat.id) }
+        ensures locked { MatchBool result.0 (Locks turn.seat.me.0 result.1.seat.me.0) (SeesLocked turn.seat.me.0 result.1.seat.me.0) }
+        ensures slot { MatchBool result.0 (HasValue result.1.seat.me.1) (result.1.seat.me.1 ≡ []) }
+        ensures tried { Tries spin_model W.coming result.0 turn.seat.me.0 result.1.seat.me.0 }
+        ensures exact { IsWhole turn.seat.me.0.part → turn.seat.me.0.tally.counts.holds ≡ 0 → result.0 ≡ true }
     {
-        entry.spend();
-        let shared = &self.table.shared;
-        shared.swap::<Swap<E>>(seat, 0, LOCKED) == FREE
+        let (found, next) = turn.swap::<_, Swap>(&self.table.shared, 0, LOCKED);
+        (found == FREE, next)
+    }
+
+    /// The first swap of a call, which begins with it.
+    #[inline(always)]
+    fn first<L: Called<u64>>(
+        &self,
+        seat: Seat<Option<T>, View<PlayedSpin>>,
+    ) -> (bool, SeatTurn<Option<T>, PlayedSpin, Goes>)
+        requires own { seat.table_id ≡ id_of self.now }
+        requires no_slot { seat.me.1 ≡ [] }
+        requires alive { 0 < seat.me.0.part.share }
+        requires may { MayStep spin_model (words.State ∷ []) (Beginning L.call) 0 (λ w. intents.Swap w 1) seat.me.0.tally.parties }
+        ensures same { (result.1.seat.table_id ≡ seat.table_id) × (result.1.seat.id ≡ seat.id) }
+        ensures locked { MatchBool result.0 (Locks seat.me.0 result.1.seat.me.0) (SeesLocked seat.me.0 result.1.seat.me.0) }
+        ensures slot { MatchBool result.0 (HasValue result.1.seat.me.1) (result.1.seat.me.1 ≡ []) }
+        ensures tried { Tries spin_model (Beginning L.call) result.0 seat.me.0 result.1.seat.me.0 }
+        ensures exact { IsWhole seat.me.0.part → seat.me.0.tally.counts.holds ≡ 0 → result.0 ≡ true }
+    {
+        self.swap(begin_new::<L, Option<T>, PlayedSpin>(seat))
     }
 
     /// What `try_lock` does, and whether the value is out with the seat.
     #[inline(always)]
-    fn try_enter(&self, seat: &mut Seat<Option<T>, View<PlayedSpin>>) -> bool
-        requires own { seat.old.table_id ≡ id_of self.now }
-        requires no_slot { seat.old.me.1 ≡ [] }
-        requires alive { 0 < seat.old.me.0.part.share }
-        ensures same { (seat.new.table_id ≡ seat.old.table_id) × (seat.new.id ≡ seat.old.id) }
-        ensures locked { MatchBool result (Locks seat.old.me.0 seat.new.me.0) (SeesLocked seat.old.me.0 seat.new.me.0) }
-        ensures slot { MatchBool result (HasValue seat.new.me.1) (seat.new.me.1 ≡ []) }
-        ensures played { MatchBool result (HasPlayed calls.TryLock answers.Success (Some kinds.Write) seat.old.me.0 seat.new.me.0) (HasPlayed calls.TryLock answers.Interrupted None seat.old.me.0 seat.new.me.0) }
-        ensures has { result ≡ true → HasLock seat.new.me.0.tally.parties }
-        ensures exact { IsWhole seat.old.me.0.part → seat.old.me.0.tally.counts.holds ≡ 0 → result ≡ true }
+    fn try_enter(
+        &self,
+        seat: Seat<Option<T>, View<PlayedSpin>>,
+    ) -> (bool, Seat<Option<T>, View<PlayedSpin>>)
+        requires own { seat.table_id ≡ id_of self.now }
+        requires no_slot { seat.me.1 ≡ [] }
+        requires alive { 0 < seat.me.0.part.share }
+        ensures same { (result.1.table_id ≡ seat.table_id) × (result.1.id ≡ seat.id) }
+        ensures locked { MatchBool result.0 (Locks seat.me.0 result.1.me.0) (SeesLocked seat.me.0 result.1.me.0) }
+        ensures slot { MatchBool result.0 (HasValue result.1.me.1) (result.1.me.1 ≡ []) }
+        ensures played { MatchBool result.0 (HasPlayed calls.TryLock answers.Success (Some kinds.Write) seat.me.0 result.1.me.0) (HasPlayed calls.TryLock answers.Interrupted None seat.me.0 result.1.me.0) }
+        ensures has { result.0 ≡ true → HasLock result.1.me.0.tally.parties }
+        ensures exact { IsWhole seat.me.0.part → seat.me.0.tally.counts.holds ≡ 0 → result.0 ≡ true }
     {
-        self.swap(TryLockBegins, seat)
+        let (free, turn) = self.first::<TryLockCall>(seat);
+        (free, turn.end())
     }
 
     /// What a waiting call does, after which the value is out with the seat.
     #[inline(always)]
-    fn enter<C: Waiting, R: Wait>(&self, rt: &R, seat: &mut Seat<Option<T>, View<PlayedSpin>>)
-        requires own { seat.old.table_id ≡ id_of self.now }
-        requires no_slot { seat.old.me.1 ≡ [] }
-        requires alive { 0 < seat.old.me.0.part.share }
-        ensures same { (seat.new.table_id ≡ seat.old.table_id) × (seat.new.id ≡ seat.old.id) }
-        ensures entered { Enters seat.old.me.0 seat.new.me.0 }
-        ensures took { HasValue seat.new.me.1 }
-        ensures played { HasPlayed C.call answers.Success (Some kinds.Write) seat.old.me.0 seat.new.me.0 }
-        ensures has { HasLock seat.new.me.0.tally.parties }
-        ensures exact { IsWhole seat.old.me.0.part → seat.old.me.0.tally.counts.holds ≡ 0 → Locks seat.old.me.0 seat.new.me.0 }
+    fn enter<C: Waiting, R: Wait>(
+        &self,
+        rt: &R,
+        seat: Seat<Option<T>, View<PlayedSpin>>,
+    ) -> Seat<Option<T>, View<PlayedSpin>>
+        requires own { seat.table_id ≡ id_of self.now }
+        requires no_slot { seat.me.1 ≡ [] }
+        requires alive { 0 < seat.me.0.part.share }
+        ensures same { (result.table_id ≡ seat.table_id) × (result.id ≡ seat.id) }
+        ensures entered { Enters seat.me.0 result.me.0 }
+        ensures took { HasValue result.me.1 }
+        ensures played { HasPlayed C.call answers.Success (Some kinds.Write) seat.me.0 result.me.0 }
+        ensures has { HasLock result.me.0.tally.parties }
+        ensures exact { IsWhole seat.me.0.part → seat.me.0.tally.counts.holds ≡ 0 → Locks seat.me.0 result.me.0 }
     {
-        let begins: Begins<C> = Begins { of: PhantomData };
-        if self.swap(begins, seat) {
-            return;
+        let (free, turn) = self.first::<C>(seat);
+        if free {
+            return turn.end();
         }
-        self.spin::<C, R>(rt, seat);
+        let granted = self.spin::<C, R>(rt, turn);
+        granted.end()
     }
 
     /// Swaps 1 in again until that finds 0.
-    fn spin<C: Waiting, R: Wait>(&self, rt: &R, seat: &mut Seat<Option<T>, View<PlayedSpin>>)
-        requires own { seat.old.table_id ≡ id_of self.now }
-        requires no_slot { seat.old.me.1 ≡ [] }
-        requires alive { 0 < seat.old.me.0.part.share }
-        requires at { (done : List (Slot ℕ)) × IsSpinning C.call done seat.old.me.0.tally.parties }
-        ensures same { (seat.new.table_id ≡ seat.old.table_id) × (seat.new.id ≡ seat.old.id) }
-        ensures entered { Enters seat.old.me.0 seat.new.me.0 }
-        ensures took { HasValue seat.new.me.1 }
-        ensures over { (done : List (Slot ℕ)) → IsSpinning C.call done seat.old.me.0.tally.parties → IsGranted C.call done seat.new.me.0.tally.parties }
+    fn spin<C: Waiting, R: Wait>(
+        &self,
+        rt: &R,
+        turn: SeatTurn<Option<T>, PlayedSpin, Goes>,
+    ) -> SeatTurn<Option<T>, PlayedSpin, Goes>
+        requires own { turn.seat.table_id ≡ id_of self.now }
+        requires no_slot { turn.seat.me.1 ≡ [] }
+        requires alive { 0 < turn.seat.me.0.part.share }
+        requires at { (done : List (Slot ℕ)) × IsSpinning C.call done turn.seat.me.0.tally.parties }
+        ensures same { (result.seat.table_id ≡ turn.seat.table_id) × (result.seat.id ≡ turn.seat.id) }
+        ensures entered { Enters turn.seat.me.0 result.seat.me.0 }
+        ensures took { HasValue result.seat.me.1 }
+        ensures over { (done : List (Slot ℕ)) → IsSpinning C.call done turn.seat.me.0.tally.parties → IsGranted C.call done result.seat.me.0.tally.parties }
     {
+        let mut next = turn;
         for _ in rt.forever() {
             spin_loop();
-            if self.swap(GoesOn, seat) {
-                return;
+            let (free, again) = self.swap(next);
+            if free {
+                return again;
             }
+            next = again;
         }
         unreachable!()
     }
@@ -291,23 +315,30 @@ impl<T, A: Allocator> SpinLock<T, A> {
 
     /// Puts the value back into its slot, and stores 0.
     #[inline(always)]
-    pub(crate) fn leave(&self, seat: &mut Seat<Option<T>, View<PlayedSpin>>, value: T)
-        requires own { seat.old.table_id ≡ id_of self.now }
-        requires on { seat.old.me.0.tally.counts.holds ≡ 1 }
-        requires has { HasLock seat.old.me.0.tally.parties }
-        requires alive { 0 < seat.old.me.0.part.share }
-        requires vacant { has_vacant_slot seat.old.me.1 ≡ true }
-        ensures same { (seat.new.table_id ≡ seat.old.table_id) × (seat.new.id ≡ seat.old.id) }
-        ensures off { Lets seat.old.me.0 seat.new.me.0 }
-        ensures played { HasPlayedUnlock seat.old.me.0 seat.new.me.0 }
-        ensures no_slot { seat.new.me.1 ≡ [] }
+    pub(crate) fn leave(
+        &self,
+        seat: Seat<Option<T>, View<PlayedSpin>>,
+        value: T,
+    ) -> Seat<Option<T>, View<PlayedSpin>>
+        requires own { seat.table_id ≡ id_of self.now }
+        requires on { seat.me.0.tally.counts.holds ≡ 1 }
+        requires has { HasLock seat.me.0.tally.parties }
+        requires alive { 0 < seat.me.0.part.share }
+        requires vacant { has_vacant_slot seat.me.1 ≡ true }
+        ensures same { (result.table_id ≡ seat.table_id) × (result.id ≡ seat.id) }
+        ensures off { Lets seat.me.0 result.me.0 }
+        ensures played { HasPlayedUnlock seat.me.0 result.me.0 }
+        ensures no_slot { result.me.1 ≡ [] }
     {
+        let mut seat = seat;
         let shared = &self.table.shared;
-        match shared.exchange(seat, 0, Some(value)) {
+        match shared.exchange(&mut seat, 0, Some(value)) {
             None => {}
             Some(_) => unreachable!(),
         }
-        shared.store::<Release>(seat, 0, FREE);
+        let begun = begin_held::<UnlockCall, Option<T>, PlayedSpin>(seat);
+        let turn = begun.store::<_, Release>(shared, 0, FREE);
+        turn.end()
     }
 }
 

@@ -6,7 +6,7 @@ mod progress;
 use progress::Progress;
 use std::env;
 use std::process::ExitCode;
-use sync_explore::run::run;
+use sync_client::run::run;
 
 fn main(rt: HostRuntime) -> ExitCode {
     let shows = match env::args(&rt) {

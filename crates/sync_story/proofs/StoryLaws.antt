@@ -1,5 +1,5 @@
 -- A story has the first rows of a text's trace, and the last line of its output.
-use Rattle.std.proofs.Common.{◌≡◌, ℕ, ◌+◌, ◌-◌, ◌<◌, ◌≤◌, min, Result, List, [], ◌∷◌, ◌++◌, length, get_or, map, take, Option, Some, None, Ok, Err, refl, sym, ap, subst, ◌∙◌, arith}
+use Rattle.std.proofs.Common.{◌≡◌, ℕ, zero, suc, ◌+◌, ◌-◌, ◌<◌, ◌≤◌, min, Result, List, [], ◌∷◌, ◌++◌, length, get_or, map, take, Option, Some, None, Ok, Err, refl, sym, ap, subst, ◌∙◌, arith}
 use Rattle.std.proofs.lemmas.List.{take_more, map-append, length-take, length-take-le, length-append}
 use Rattle.std.proofs.lemmas.Simd.{map-map}
 use Rattle.std.specs.List.{take-map}
@@ -20,9 +20,9 @@ use Rattle.sync_play.specs.WalkOutput.{events_in, output_unless}
 use Rattle.sync_play.specs.Walk.{nothing, opened, rest_walk}
 use Rattle.sync_play.proofs.PlayLaws.{text_walk}
 use Rattle.sync_trace.specs.declared.rows.Row.{Row}
-use Rattle.sync_trace.specs.Rows.{Entry, entry_of, entries}
-use Rattle.sync_trace.specs.Trace.{HasAdded, HasPlayed, RowsAndFault, rows_of}
-use Rattle.sync_trace.proofs.TraceLaws.{rows_read}
+use Rattle.sync_trace.specs.Rows.{Entry, entry_of, entries, trimmed}
+use Rattle.sync_trace.specs.Trace.{HasAdded, HasPlayed, rows_with, rows_of}
+use Rattle.sync_trace.proofs.TraceLaws.{rows_opened}
 use Rattle.sync_story.specs.declared.story.Step.{Step}
 use Rattle.sync_story.specs.Story.{Shown, shown_of, shown_at, kept, number_at_end, left_out, HasOutput}
 use Rattle.sync_story.specs.Title.{title_words}
@@ -74,6 +74,28 @@ module _ {T : Type 0} where
   leaves_out rows kept all some cut e f =
       rw (e, f, keeps rows kept cut) refl
 
+  -- What is kept of rows, and how many are left out, is the same once they are trimmed.
+
+  pub take_trimmed : (n : ℕ) (rows : List (Entry T)) → take n rows ≡ take n (trimmed n rows)
+  take_trimmed n [] = refl
+  take_trimmed zero (row ∷ rows) = refl
+  take_trimmed (suc n) (row ∷ rows) = ap (λ (l : List (Entry T)). row ∷ l) (take_trimmed n rows)
+
+  end_behind : (n : ℕ) (row next : Entry T) (rows : List (Entry T)) → number_at_end (row ∷ trimmed n (next ∷ rows)) ≡ number_at_end (trimmed n (next ∷ rows))
+  end_behind zero row next [] = refl
+  end_behind zero row next (r ∷ rows) = end_behind zero row r rows
+  end_behind (suc n) row next rows = refl
+
+  end_trimmed : (n : ℕ) (rows : List (Entry T)) → number_at_end rows ≡ number_at_end (trimmed n rows)
+  end_trimmed n [] = refl
+  end_trimmed zero (row ∷ []) = refl
+  end_trimmed zero (row ∷ next ∷ rows) = end_trimmed zero (next ∷ rows)
+  end_trimmed (suc n) (row ∷ []) = refl
+  end_trimmed (suc n) (row ∷ next ∷ rows) = end_trimmed n (next ∷ rows) ∙ sym (end_behind n row next rows)
+
+  pub left_out_trimmed : (rows : List (Entry T)) → left_out rows ≡ left_out (trimmed 2000 rows)
+  left_out_trimmed rows = rw (sym (end_trimmed 2000 rows), sym (take_trimmed 2000 rows)) refl
+
   -- The titles of steps that are drawn as these rows are.
   pub titles_told : (steps : List (Step T)) (rows : List (Entry T)) → map shown_of steps ≡ map shown_at rows → map (λ (s : Step T). string_bytes s.title) steps ≡ map title_words rows
   titles_told steps rows e =
@@ -83,14 +105,14 @@ module _ {T : Type 0} (z : Arithmetic T) (numerals : Numerals T) where
   -- What was told of a text.
 
   pub stops : (lines : List (List ℕ)) (header : Header T) (rest : Rest T) (old new : List (Row T)) (fault : FaultyLine) → opened numerals (lines) ≡ Ok (header, lines_of rest.lines.now) → rest.line ≡ 1 → rest.left ≡ nothing →
-      (told : Option FaultyLine) → told ≡ Some fault → HasAdded z numerals header [] (rest_walk z numerals header.object header.parties [] rest) old new told → typed_output z numerals lines ≡ Err fault
+      (told : Option FaultyLine) → told ≡ Some fault → HasAdded z numerals (Some 2000) header [] (rest_walk z numerals header.object header.parties [] rest) old new told → typed_output z numerals lines ≡ Err fault
   stops lines header rest old new fault is line left told some added =
       let bytes = printed numerals (events_in (rest_walk z numerals header.object header.parties [] rest).steps) ++ last_line z numerals header.object (after (events_in (rest_walk z numerals header.object header.parties [] rest).steps) []) in
       text_walk z numerals lines header rest is line left ∙ ap (λ (f : Option FaultyLine). output_unless f bytes) (sym added.1 ∙ some)
 
   -- the last line of the output
   pub ends_output : (lines : List (List ℕ)) (header : Header T) (rest : Rest T) (old new : List (Row T)) (machine : Configuration T) (last : List ℕ) → opened numerals (lines) ≡ Ok (header, lines_of rest.lines.now) → rest.line ≡ 1 → rest.left ≡ nothing →
-      (told : Option FaultyLine) → told ≡ None → HasAdded z numerals header [] (rest_walk z numerals header.object header.parties [] rest) old new told → HasPlayed z header [] (rest_walk z numerals header.object header.parties [] rest) machine told →
+      (told : Option FaultyLine) → told ≡ None → HasAdded z numerals (Some 2000) header [] (rest_walk z numerals header.object header.parties [] rest) old new told → HasPlayed z header [] (rest_walk z numerals header.object header.parties [] rest) machine told →
       ((o : Object T) (parties : ℕ) (past : List (Event T)) → StandsAt z o parties past machine → last ≡ last_line z numerals o past) → (front : List ℕ) × (typed_output z numerals lines ≡ Ok (front ++ last))
   ends_output lines header rest old new machine last is line left told absent added plays prints =
       let walk = rest_walk z numerals header.object header.parties [] rest in
@@ -102,15 +124,23 @@ module _ {T : Type 0} (z : Arithmetic T) (numerals : Numerals T) where
             ∙ ap (λ (l : List ℕ). Ok (front ++ l)) (sym line_is),
       )
 
-  -- the rows that were read are the text's
-  pub rows_are : (lines : List (List ℕ)) (header : Header T) (rest : Rest T) (none rows all : List (Row T)) → opened numerals (lines) ≡ Ok (header, lines_of rest.lines.now) → rest.line ≡ 1 → rest.left ≡ nothing → none ≡ [] →
-      (told : Option FaultyLine) → HasAdded z numerals header [] (rest_walk z numerals header.object header.parties [] rest) none rows told → all ≡ rows → entries all ≡ (rows_of z numerals lines).rows
+  -- the rows that were read are the text's, as far as they are kept
+  rows_are : (lines : List (List ℕ)) (header : Header T) (rest : Rest T) (none rows all : List (Row T)) → opened numerals (lines) ≡ Ok (header, lines_of rest.lines.now) → rest.line ≡ 1 → rest.left ≡ nothing → none ≡ [] →
+      (told : Option FaultyLine) → HasAdded z numerals (Some 2000) header [] (rest_walk z numerals header.object header.parties [] rest) none rows told → all ≡ rows → trimmed 2000 (entries all) ≡ trimmed 2000 (rows_of z numerals lines).rows
   rows_are lines header rest none rows all is line left empty told added same =
-      ap entries same ∙ ap (λ (r : RowsAndFault T). r.rows) (rows_read z numerals lines header rest none rows told is line left empty added)
+      let opens = rows_opened z numerals lines header rest is line left in
+      ap (λ (l : List (Row T)). trimmed 2000 (entries l)) same ∙ added.0 ∙ ap (λ (l : List (Row T)). trimmed 2000 (rows_with z numerals header [] (rest_walk z numerals header.object header.parties [] rest).steps (entries l))) empty ∙ ap (trimmed 2000) opens
+
+  pub leaves : (lines : List (List ℕ)) (header : Header T) (rest : Rest T) (none rows all : List (Row T)) → opened numerals (lines) ≡ Ok (header, lines_of rest.lines.now) → rest.line ≡ 1 → rest.left ≡ nothing → none ≡ [] →
+      (told : Option FaultyLine) → HasAdded z numerals (Some 2000) header [] (rest_walk z numerals header.object header.parties [] rest) none rows told → all ≡ rows → left_out (entries all) ≡ left_out (rows_of z numerals lines).rows
+  leaves lines header rest none rows all is line left empty told added same =
+      left_out_trimmed (entries all) ∙ ap left_out (rows_are lines header rest none rows all is line left empty told added same) ∙ sym (left_out_trimmed (rows_of z numerals lines).rows)
 
   -- the steps that are drawn
   pub tells : (lines : List (List ℕ)) (header : Header T) (rest : Rest T) (none rows all : List (Row T)) (steps : List (Step T)) → opened numerals (lines) ≡ Ok (header, lines_of rest.lines.now) → rest.line ≡ 1 → rest.left ≡ nothing → none ≡ [] →
-      (told : Option FaultyLine) → HasAdded z numerals header [] (rest_walk z numerals header.object header.parties [] rest) none rows told → all ≡ rows → map shown_of steps ≡ map shown_at (kept (entries all)) →
+      (told : Option FaultyLine) → HasAdded z numerals (Some 2000) header [] (rest_walk z numerals header.object header.parties [] rest) none rows told → all ≡ rows → map shown_of steps ≡ map shown_at (kept (entries all)) →
       map shown_of steps ≡ map shown_at (kept (rows_of z numerals lines).rows)
   tells lines header rest none rows all steps is line left empty told added same shown =
-      shown ∙ ap (λ (l : List (Entry T)). map shown_at (kept l)) (rows_are lines header rest none rows all is line left empty told added same)
+      let kept_same : kept (entries all) ≡ kept (rows_of z numerals lines).rows =
+      take_trimmed 2000 (entries all) ∙ ap kept (rows_are lines header rest none rows all is line left empty told added same) ∙ sym (take_trimmed 2000 (rows_of z numerals lines).rows) in
+      shown ∙ ap (map shown_at) kept_same

@@ -1,6 +1,7 @@
 -- Rows, one more at a time.
-use Rattle.std.proofs.Common.{◌≡◌, ℕ, zero, suc, ◌+◌, ◌-◌, ◌^◌, ◌<◌, min, Bool, true, false, refl, sym, ◌∙◌, ap, List, [], ◌∷◌, ◌++◌, length, take, get_or, append_assoc, arith}
-use Rattle.std.proofs.lemmas.List.{take_more, map-append, append-nil}
+use Rattle.std.proofs.Common.{◌≡◌, ℕ, zero, suc, ◌+◌, ◌-◌, ◌^◌, ◌<◌, ◌≤◌, min, Bool, true, false, refl, sym, ◌∙◌, ap, subst, List, [], ◌∷◌, ◌++◌, length, take, get_or, append_assoc, Option, Some, None, arith}
+use Rattle.std.proofs.lemmas.List.{take_more, map-append, append-nil, length-map}
+use Rattle.std.specs.List.{take-map}
 use Rattle.std.proofs.lemmas.List.Concat.{flat_map-append}
 use Rattle.std.proofs.lemmas.Slice.Eq.{bytes_eq-Decides}
 use Rattle.std.specs.Str.{bytes_eq}
@@ -8,7 +9,7 @@ use Rattle.sync_trace.specs.declared.rows.Row.{Row}
 use Rattle.sync_trace.specs.declared.table.Line.{Line}
 use Rattle.sync_trace.specs.declared.table.Widths.{Widths}
 use Rattle.sync_trace.specs.Cells.{Texts, texts_of}
-use Rattle.sync_trace.specs.Rows.{Entry, entry_of, entries, read_same, number_after, alone, longer, joined, added, added_often}
+use Rattle.sync_trace.specs.Rows.{Entry, entry_of, entries, read_same, number_after, alone, longer, joined, added, added_often, folded, trimmed, trimmed_to}
 use Rattle.sync_trace.specs.Table.{cell, columns_of, head, line_text, widened, widened_by, widths_of, row_line, row_lines, table}
 
 -- a text is itself
@@ -92,6 +93,63 @@ module _ {T : Type 0} where
       entries_end new then_last row is ∙ ap (λ (front : List (Entry T)). front ++ entry_of row ∷ []) (entries_end then_last mid last between)
       ∙ ap (λ (x : Entry T). (entries mid ++ entry_of last ∷ []) ++ x ∷ []) made
       ∙ sym (ap (added_often (suc n) cells) (entries_end old mid last was) ∙ often_apart n cells (entries mid) (entry_of last) (sym same))
+
+  -- Rows that are trimmed.
+
+  trimmed_short : (n : ℕ) (rows : List (Entry T)) → length rows ≤ n → trimmed n rows ≡ rows
+  trimmed_short n [] fits = refl
+  trimmed_short zero (row ∷ rows) fits = absurd (omega (arith, fits))
+  trimmed_short (suc n) (row ∷ rows) fits = ap (λ (l : List (Entry T)). row ∷ l) (trimmed_short n rows (omega (arith, fits)))
+
+  trimmed_end : (n : ℕ) (rows : List (Entry T)) (row : Entry T) → n ≤ length rows → trimmed n (rows ++ row ∷ []) ≡ take n rows ++ row ∷ []
+  trimmed_end zero [] row fits = refl
+  trimmed_end zero (r ∷ []) row fits = refl
+  trimmed_end zero (r ∷ next ∷ rows) row fits = trimmed_end zero (next ∷ rows) row (omega arith)
+  trimmed_end (suc n) [] row fits = absurd (omega (arith, fits))
+  trimmed_end (suc n) (r ∷ rows) row fits = ap (λ (l : List (Entry T)). r ∷ l) (trimmed_end n rows row (omega (arith, fits)))
+
+  joined_behind : (b : Bool) (cells : Texts T) (row last : Entry T) → trimmed 0 (row ∷ joined b last cells) ≡ trimmed 0 (joined b last cells)
+  joined_behind true cells row last = refl
+  joined_behind false cells row last = refl
+
+  added_behind : (cells : Texts T) (row : Entry T) (rows : List (Entry T)) → trimmed 0 (row ∷ added cells rows) ≡ trimmed 0 (added cells rows)
+  added_behind cells row [] = refl
+  added_behind cells row (last ∷ []) = joined_behind (read_same last.cells cells) cells row last
+  added_behind cells row (r ∷ next ∷ rows) = refl
+
+  added_after : (n : ℕ) (cells : Texts T) (row next : Entry T) (rows : List (Entry T)) → added cells (row ∷ trimmed n (next ∷ rows)) ≡ row ∷ added cells (trimmed n (next ∷ rows))
+  added_after zero cells row next [] = refl
+  added_after zero cells row next (r ∷ rows) = added_after zero cells row r rows
+  added_after (suc n) cells row next rows = refl
+
+  trimmed_added : (n : ℕ) (cells : Texts T) (rows : List (Entry T)) → trimmed n (added cells (trimmed n rows)) ≡ trimmed n (added cells rows)
+  trimmed_added n cells [] = refl
+  trimmed_added zero cells (row ∷ []) = refl
+  trimmed_added zero cells (row ∷ next ∷ rows) = trimmed_added zero cells (next ∷ rows) ∙ sym (added_behind cells row (next ∷ rows))
+  trimmed_added (suc n) cells (row ∷ []) = refl
+  trimmed_added (suc n) cells (row ∷ next ∷ rows) =
+      ap (trimmed (suc n)) (added_after n cells row next rows) ∙ ap (λ (l : List (Entry T)). row ∷ l) (trimmed_added n cells (next ∷ rows))
+
+  trimmed_again : (n : ℕ) (rows : List (Entry T)) → trimmed n (trimmed n rows) ≡ trimmed n rows
+  trimmed_again n [] = refl
+  trimmed_again zero (row ∷ []) = refl
+  trimmed_again zero (row ∷ next ∷ rows) = trimmed_again zero (next ∷ rows)
+  trimmed_again (suc n) (row ∷ rows) = ap (λ (l : List (Entry T)). row ∷ l) (trimmed_again n rows)
+
+  -- steps that are added to trimmed rows come to the same, once that is trimmed
+  pub trimmed_folded : (most : Option ℕ) (steps : List (Texts T)) (rows : List (Entry T)) → trimmed_to most (folded steps (trimmed_to most rows)) ≡ trimmed_to most (folded steps rows)
+  trimmed_folded None steps rows = refl
+  trimmed_folded (Some n) [] rows = trimmed_again n rows
+  trimmed_folded (Some n) (cells ∷ steps) rows =
+      sym (trimmed_folded (Some n) steps (added cells (trimmed n rows))) ∙ ap (λ (l : List (Entry T)). trimmed n (folded steps l)) (trimmed_added n cells rows) ∙ trimmed_folded (Some n) steps (added cells rows)
+
+  pub trims_short : (n : ℕ) (rows : List (Row T)) → length rows ≤ n → entries rows ≡ trimmed n (entries rows)
+  trims_short n rows fits = sym (trimmed_short n (entries rows) (subst (λ (k : ℕ). k ≤ n) (sym (length-map rows entry_of)) fits))
+
+  pub trims : (n : ℕ) (old mid cut new : List (Row T)) (last : Row T) → n ≤ length mid → old ≡ mid ++ last ∷ [] → cut ≡ take n mid → new ≡ cut ++ last ∷ [] → entries new ≡ trimmed n (entries old)
+  trims n old mid cut new last fits was short is =
+      entries_end new cut last is ∙ ap (λ (l : List (Row T)). entries l ++ entry_of last ∷ []) short ∙ ap (λ (l : List (Entry T)). l ++ entry_of last ∷ []) (sym (take-map entry_of n mid))
+      ∙ sym (ap (trimmed n) (entries_end old mid last was) ∙ trimmed_end n (entries mid) (entry_of last) (subst (λ (k : ℕ). n ≤ k) (sym (length-map mid entry_of)) fits))
 
   -- One more row of a list.
 

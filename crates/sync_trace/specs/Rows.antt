@@ -1,5 +1,5 @@
 -- The rows of a trace: steps that read the same, one right after the other, are folded into one.
-use Rattle.std.specs.Prelude.{ℕ, zero, suc, ◌+◌, ◌-◌, ◌^◌, min, Bool, true, false, ◌&&◌, List, [], ◌∷◌, map}
+use Rattle.std.specs.Prelude.{ℕ, zero, suc, ◌+◌, ◌-◌, ◌^◌, min, Bool, true, false, ◌&&◌, List, [], ◌∷◌, map, Option, Some, None}
 use Rattle.std.specs.Str.{bytes_eq}
 use Rattle.sync_trace.specs.declared.rows.Row.{Row}
 use Rattle.sync_trace.specs.Cells.{Texts, texts_of}
@@ -52,3 +52,15 @@ added_often (suc times) cells rows = added_often times cells (added cells rows)
 abbrev pub folded : {T : Type 0} → List (Texts T) → List (Entry T) → List (Entry T)
 folded [] rows = rows
 folded (cells ∷ steps) rows = folded steps (added cells rows)
+
+-- the first rows, so many, and the last
+abbrev pub trimmed : {T : Type 0} → ℕ → List (Entry T) → List (Entry T)
+trimmed n [] = []
+trimmed zero (row ∷ []) = row ∷ []
+trimmed zero (row ∷ next ∷ rows) = trimmed zero (next ∷ rows)
+trimmed (suc n) (row ∷ rows) = row ∷ trimmed n rows
+
+-- all rows, where it is not said how many
+abbrev pub trimmed_to : {T : Type 0} → Option ℕ → List (Entry T) → List (Entry T)
+trimmed_to None rows = rows
+trimmed_to (Some most) rows = trimmed most rows

@@ -16,7 +16,7 @@ use Rattle.sync_trace.specs.declared.rows.Row.{Row}
 use Rattle.sync_trace.specs.declared.trace.Rows.{Rows}
 use Rattle.sync_trace.specs.declared.trace.Trace.{Trace}
 use Rattle.sync_trace.specs.Cells.{Texts, cells_at}
-use Rattle.sync_trace.specs.Rows.{Entry, entries, folded}
+use Rattle.sync_trace.specs.Rows.{Entry, entries, folded, trimmed_to}
 use Rattle.sync_trace.specs.Table.{table}
 
 -- the rows of a text, and its fault
@@ -47,9 +47,9 @@ module _ {T : Type 0} (z : Arithmetic T) (numerals : Numerals T) where
   abbrev pub rows_with : Header T → List (Event T) → List (Step T) → List (Entry T) → List (Entry T)
   rows_with header past steps rows = folded (cells_along header past steps) rows
 
-  -- the rows of a walk were added, and its fault is told
-  abbrev pub HasAdded : Header T → List (Event T) → Walk T → List (Row T) → List (Row T) → Option FaultyLine → Type 0
-  HasAdded header past walk old new fault = (entries new ≡ rows_with header past walk.steps (entries old)) × (fault ≡ walk.fault)
+  -- the rows of a walk were added, as far as they are kept, and its fault is told
+  abbrev pub HasAdded : Option ℕ → Header T → List (Event T) → Walk T → List (Row T) → List (Row T) → Option FaultyLine → Type 0
+  HasAdded most header past walk old new fault = (trimmed_to most (entries new) ≡ trimmed_to most (rows_with header past walk.steps (entries old))) × (fault ≡ walk.fault)
 
   abbrev pub rows_of_walk : Header T → Walk T → RowsAndFault T
   rows_of_walk header walk = record { rows = rows_with header [] walk.steps []; fault = walk.fault }

@@ -67,3 +67,19 @@ pub fn add<T: Copy>(rows: &mut Vec<Row<T>>, cells: Cells<T>, times: u64) -> Resu
     }
     Ok(())
 }
+
+/// Lets go of the rows between the first ones, as many as are told, and the last. Where it is not told how many, all stay.
+pub fn trim<T: Copy>(rows: &mut Vec<Row<T>>, most: Option<usize>) -> Result<(), AllocError>
+    ensures { OnOk result (meaning.entries rows.new.items ≡ meaning.trimmed_to most (meaning.entries rows.old.items)) }
+{
+    let Some(most) = most else { return Ok(()) };
+    if rows.len() <= most {
+        return Ok(());
+    }
+    let Some(last) = rows.pop() else {
+        return Ok(());
+    };
+    rows.truncate(most);
+    rows.push(last)?;
+    Ok(())
+}

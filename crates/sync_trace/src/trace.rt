@@ -7,7 +7,7 @@ ghost use Rattle.sync_play.specs.Walk.{rest_walk};
 ghost use Rattle.sync_trace.specs.Trace as meaning;
 
 use crate::cells::cells_of;
-use crate::rows::{Row, add};
+use crate::rows::{Row, add, trim};
 use crate::table::table;
 use std::alloc::{AllocError, Global};
 use sync_lines::by_value_type;
@@ -31,17 +31,19 @@ pub struct Trace {
     pub fault: Option<FaultyLine>,
 }
 
-/// Adds the rows of the steps that are left of a text, and tells the line with a fault that ends them early, if there is one.
+/// Adds the rows of the steps that are left of a text, and tells the line with a fault that ends them early, if there is one. Where it is told
+/// how many first rows are to be kept, none is kept between these and the last.
 pub fn add_steps<T: TextInteger>(
     alloc: Global,
     header: Header<T>,
     machine: &mut Machine<T>,
     rest: &mut Rest<'_, T>,
+    most: Option<usize>,
     rows: &mut Vec<Row<T>>,
 ) -> Result<Option<FaultyLine>, AllocError>
     requires countable { rest.old.line + length rest.old.lines.now < 2 ^ 64 }
     ensures added { (past : List (AnEvent T)) → StandsAt T.arithmetic header.object header.parties past machine.old →
-        IfOk result (meaning.HasAdded T.arithmetic T.numerals header past (rest_walk T.arithmetic T.numerals header.object header.parties past rest.old) rows.old.items rows.new.items) }
+        IfOk result (meaning.HasAdded T.arithmetic T.numerals most header past (rest_walk T.arithmetic T.numerals header.object header.parties past rest.old) rows.old.items rows.new.items) }
     ensures stands { (past : List (AnEvent T)) → StandsAt T.arithmetic header.object header.parties past machine.old →
         IfOk result (meaning.HasPlayed T.arithmetic header past (rest_walk T.arithmetic T.numerals header.object header.parties past rest.old) machine.new) }
 {
@@ -50,6 +52,7 @@ pub fn add_steps<T: TextInteger>(
             Ok(Some(stride)) => {
                 let cells = cells_of(alloc, header, machine, stride.step)?;
                 add(rows, cells, stride.times)?;
+                trim(rows, most)?;
             }
             Ok(None) => return Ok(None),
             Err(fault) => return Ok(Some(fault)),
@@ -72,7 +75,7 @@ fn rows_of<T: TextInteger>(alloc: Global, text: &[u8]) -> Result<Rows<T>, AllocE
         }
     };
     let mut machine = Machine::new(alloc, header.object, header.parties)?;
-    let fault = add_steps(alloc, header, &mut machine, &mut rest, &mut rows)?;
+    let fault = add_steps(alloc, header, &mut machine, &mut rest, None, &mut rows)?;
     Ok(Rows { rows, fault })
 }
 

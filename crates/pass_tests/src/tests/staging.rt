@@ -1,10 +1,9 @@
 //! Each step once, by a counter that plays a model of one step a call, and counts nothing beside. And a call that ends a closure between
 //! two steps.
-ghost use Rattle.std.specs.Prelude.{◌≡◌, ℕ, None};
+ghost use Rattle.std.specs.Prelude.{◌≡◌, None};
 ghost use Rattle.steps_events.specs.declared.event.Call.TheVariants as calls;
 ghost use Rattle.steps_events.specs.declared.event.Answer.TheVariants as answers;
 ghost use Rattle.passes.specs.Passes.{IsSamePass};
-ghost use Rattle.playing.specs.Slots.{Parties};
 ghost use Rattle.playing.specs.Passes.{parties_of};
 ghost use Rattle.playing.specs.Stages.{IsPassOf, count_of};
 ghost use Rattle.playing.specs.Plays.{HasCalled};
@@ -13,7 +12,8 @@ ghost use Rattle.pass_tests.specs.Staging.{counter_model};
 
 use passes::{Deed, Pass, Rule, Tally};
 use playing::turn::{Called, begin_new};
-use playing::{AddEntry, AfterAside, Counts, CountsByActs, Entry, Played, Script, Stage};
+use playing::{Counts, CountsByActs, Played, Script, Stage};
+use std::alloc::Global;
 use std::marker::{Model, PhantomData};
 use std::test::Fail;
 use steps_events::row::Intent;
@@ -93,78 +93,9 @@ impl Deed<(), Nothing> for Untold {
     ghost tells = { λ _ _ _ _ _ _. Unit {0} };
 }
 
-#[derive(Drop)]
-struct Looks;
-
-impl Entry<u64> for Looks {
-    ghost use Rattle.steps_events.specs.declared.event.Call.TheVariants as calls;
-    ghost use Rattle.playing.specs.Plays.{Beginning};
-
-    ghost coming = { Beginning calls.Value };
-
-    fn spend(self) {}
-}
-
-struct Adds;
-
-impl AddEntry<u64> for Adds {
-    ghost use Rattle.steps_events.specs.declared.event.Call.TheVariants as calls;
-    ghost use Rattle.playing.specs.Plays.{Beginning};
-
-    ghost coming = { λ more. Beginning (calls.Post more) };
-}
-
-#[derive(Drop)]
-struct Subtracts;
-
-impl Entry<u64> for Subtracts {
-    ghost use Rattle.steps_events.specs.declared.event.Call.TheVariants as calls;
-    ghost use Rattle.playing.specs.Plays.{Beginning};
-
-    ghost coming = { Beginning calls.TryWait };
-
-    fn spend(self) {}
-}
-
-#[derive(Drop)]
-struct Clears;
-
-impl Entry<u64> for Clears {
-    ghost use Rattle.steps_events.specs.declared.event.Call.TheVariants as calls;
-    ghost use Rattle.playing.specs.Plays.{Beginning};
-
-    ghost coming = { Beginning calls.NotifyAll };
-
-    fn spend(self) {}
-}
-
-#[derive(Drop)]
-struct Tries;
-
-impl Entry<u64> for Tries {
-    ghost use Rattle.steps_events.specs.declared.event.Call.TheVariants as calls;
-    ghost use Rattle.playing.specs.Plays.{Beginning};
-
-    ghost coming = { Beginning calls.TryLock };
-
-    fn spend(self) {}
-}
-
 type Counter = Stage<(), CounterScript, Intent<u64>, u64, Nothing>;
 
 type CounterPass = Pass<Played<CounterScript, Intent<u64>, u64, Nothing>>;
-
-/// Adds 7 to the counter, takes 1 away again, and looks.
-fn count(counter: &Counter, pass: &mut CounterPass) -> u64
-    requires own { IsPassOf counter.now pass.old }
-    requires one_word { count_of counter.now ≡ 1 }
-    ensures same { IsSamePass pass.old pass.new }
-    ensures looked { (before : Parties ℕ) × HasCalled counter_model calls.Value (answers.Number result) None before (parties_of pass.new) }
-{
-    counter.add::<Adds, Untold>(pass, 0, 7);
-    counter.subtract::<Subtracts, Untold>(Subtracts, pass, 0, 1);
-    counter.load::<Looks, Untold>(Looks, pass, 0)
-}
 
 /// A `Value`.
 struct Looking;
@@ -270,14 +201,64 @@ fn turn_to_exchange(counter: &Counter, pass: &mut CounterPass) -> u64
     found
 }
 
-/// Stores 0, and puts 1 where it finds 0.
-fn clear_and_try(counter: &Counter, pass: &mut CounterPass) -> u64
+/// A call of one step, a load with a deed.
+fn deed_to_load(counter: &Counter, pass: &mut CounterPass) -> u64
+    requires own { IsPassOf counter.now pass.old }
+    requires one_word { count_of counter.now ≡ 1 }
+    ensures same { IsSamePass pass.old pass.new }
+    ensures looked { HasCalled counter_model calls.Value (answers.Number result) None (parties_of pass.old) (parties_of pass.new) }
+{
+    let begun = begin_new::<Looking, CounterPass>(pass);
+    let (found, made) = begun.load_by::<(), Global, Untold>(counter, 0);
+    let _pass = made.end(counter);
+    found
+}
+
+/// A call of one step, an add with a deed.
+fn deed_to_add(counter: &Counter, pass: &mut CounterPass) -> u64
     requires own { IsPassOf counter.now pass.old }
     requires one_word { count_of counter.now ≡ 1 }
     ensures same { IsSamePass pass.old pass.new }
 {
-    counter.store::<Clears, Untold>(Clears, pass, 0, 0);
-    counter.exchange::<Tries, Untold>(Tries, pass, 0, 0, 1)
+    let begun = begin_new::<AddingSeven, CounterPass>(pass);
+    let (found, made) = begun.add_by::<(), Global, Untold>(counter, 0, 7);
+    let _pass = made.end(counter);
+    found
+}
+
+/// A call of one step, a subtract with a deed.
+fn deed_to_subtract(counter: &Counter, pass: &mut CounterPass) -> u64
+    requires own { IsPassOf counter.now pass.old }
+    requires one_word { count_of counter.now ≡ 1 }
+    ensures same { IsSamePass pass.old pass.new }
+{
+    let begun = begin_new::<TakingOne, CounterPass>(pass);
+    let (found, made) = begun.subtract_by::<(), Global, Untold>(counter, 0, 1);
+    let _pass = made.end(counter);
+    found
+}
+
+/// A call of one step, a store with a deed.
+fn deed_to_store(counter: &Counter, pass: &mut CounterPass)
+    requires own { IsPassOf counter.now pass.old }
+    requires one_word { count_of counter.now ≡ 1 }
+    ensures same { IsSamePass pass.old pass.new }
+{
+    let begun = begin_new::<Clearing, CounterPass>(pass);
+    let made = begun.store_by::<(), Global, Untold>(counter, 0, 0);
+    let _pass = made.end(counter);
+}
+
+/// A call of one step, an exchange with a deed.
+fn deed_to_exchange(counter: &Counter, pass: &mut CounterPass) -> u64
+    requires own { IsPassOf counter.now pass.old }
+    requires one_word { count_of counter.now ≡ 1 }
+    ensures same { IsSamePass pass.old pass.new }
+{
+    let begun = begin_new::<Trying, CounterPass>(pass);
+    let (found, made) = begun.exchange_by::<(), Global, Untold>(counter, 0, 0, 1);
+    let _pass = made.end(counter);
+    found
 }
 
 /// A load that is no step: what the word is, while the pass has made nothing more.
@@ -293,9 +274,12 @@ fn peek(counter: &Counter, pass: &mut CounterPass) -> u64
 #[test]
 fn a_counter_plays_its_model(rt: HostRuntime) -> Result<(), Fail> {
     let (counter, mut pass) = Stage::new(rt.alloc(), &[0], &())?;
-    assert_eq!(rt; count(&counter, &mut pass), 6);
+    assert_eq!(rt; deed_to_add(&counter, &mut pass), 0);
+    assert_eq!(rt; deed_to_subtract(&counter, &mut pass), 7);
+    assert_eq!(rt; deed_to_load(&counter, &mut pass), 6);
     assert_eq!(rt; peek(&counter, &mut pass), 6);
-    assert_eq!(rt; clear_and_try(&counter, &mut pass), 0);
+    deed_to_store(&counter, &mut pass);
+    assert_eq!(rt; deed_to_exchange(&counter, &mut pass), 0);
     assert_eq!(rt; peek(&counter, &mut pass), 1);
     assert_eq!(rt; counter.close(pass, 0), 1);
     Ok(())
@@ -333,16 +317,13 @@ impl Script<(), Intent<u64>, u64> for EndingScript {
     ghost handed = { λ _. words.State };
 }
 
-#[derive(Drop)]
-struct Calls;
+/// A `CallOnce`.
+struct Calling;
 
-impl Entry<u64> for Calls {
+impl Called<u64> for Calling {
     ghost use Rattle.steps_events.specs.declared.event.Call.TheVariants as calls;
-    ghost use Rattle.playing.specs.Plays.{Beginning};
 
-    ghost coming = { Beginning calls.CallOnce };
-
-    fn spend(self) {}
+    ghost call = { calls.CallOnce };
 }
 
 type Ending = Stage<(), EndingScript, Intent<u64>, u64, Nothing>;
@@ -357,15 +338,17 @@ fn run_and_store(ending: &Ending, pass: &mut EndingPass) -> u64
     ensures gave { result ≡ 5 }
     ensures played { HasCalled ending_model calls.CallOnce answers.Done None (parties_of pass.old) (parties_of pass.new) }
 {
-    ending.load_of::<Calls, Untold, ()>(Calls, pass, 0, &());
-    let (given, ended) = ending.run(
-        pass,
+    let begun = begin_new::<Calling, EndingPass>(pass);
+    let (_, looked) = begun.load_by::<(), Global, Untold>(ending, 0);
+    let (given, ended) = looked.run(
+        ending,
         &mut (),
         |_: &mut ()| -> u64
             ensures { result ≡ 5 }
         { 5 },
     );
-    ending.store_of::<AfterAside, Untold, ()>(ended, pass, 0, 7, &());
+    let stored = ended.store_by::<(), Global, Untold>(ending, 0, 7);
+    let _pass = stored.end(ending);
     given
 }
 

@@ -3,28 +3,28 @@ use Rattle.running_atomic.proofs.AtomicPlays.{may_put_low, puts_low, may_put_hig
 use Rattle.running_atomic.proofs.OverCalls.{right_at_high, settles_again, has_put_by}
 use Rattle.running_atomic.proofs.calls.Atomic.put.Goals as goal
 
-pub store_low-requires-clause-may : goal.store_low-requires-clause-may
-store_low-requires-clause-may g c κs within = may_put_low _ _ _ _ _ _ _ c.to_words-low.ensures.low c.requires.may
+pub store_low-stored-requires-clause-may : goal.store_low-stored-requires-clause-may
+store_low-stored-requires-clause-may g c κs within = may_put_low _ _ _ _ _ _ _ c.to_words-low.ensures.low c.requires.may
 
-pub end_store-requires-clause-may : goal.end_store-requires-clause-may
-end_store-requires-clause-may g c κs within = may_put_high _ _ _ _ _ _ _ _ c.to_words-low.ensures.high c.requires.may (puts_low _ _ _ _ _ _ _ c.to_words-low.ensures.low c.store_low.ensures.went)
+pub end_store-acted-requires-clause-may : goal.end_store-acted-requires-clause-may
+end_store-acted-requires-clause-may g c κs within = may_put_high _ _ _ _ _ _ _ _ c.to_words-low.ensures.high c.requires.may (puts_low _ _ _ _ _ _ _ c.to_words-low.ensures.low c.store_low-stored.ensures.went)
 
-pub end_store-requires-clause-puts : goal.end_store-requires-clause-puts
-end_store-requires-clause-puts g c κs within = at_put_high _ _ _ _ _ _ _ _ c.to_words-low.ensures.high c.requires.may (puts_low _ _ _ _ _ _ _ c.to_words-low.ensures.low c.store_low.ensures.went)
+pub end_store-acted-requires-clause-puts : goal.end_store-acted-requires-clause-puts
+end_store-acted-requires-clause-puts g c κs within = at_put_high _ _ _ _ _ _ _ _ c.to_words-low.ensures.high c.requires.may (puts_low _ _ _ _ _ _ _ c.to_words-low.ensures.low c.store_low-stored.ensures.went)
 
 pub leave_write-requires-clause-may : goal.leave_write-requires-clause-may
 leave_write-requires-clause-may g c κs within = let may = c.requires.may in
-    may_leave _ _ _ may.0 may.1 _ (puts_high _ _ _ _ _ _ _ _ (puts_low _ _ _ _ _ _ _ c.to_words-low.ensures.low c.store_low.ensures.went) c.end_store.ensures.went _ may.0 may.1 may.2)
+    may_leave _ _ _ may.0 may.1 _ (puts_high _ _ _ _ _ _ _ _ (puts_low _ _ _ _ _ _ _ c.to_words-low.ensures.low c.store_low-stored.ensures.went) c.end_store-acted.ensures.went _ may.0 may.1 may.2)
 
 pub returns-clause-put : goal.returns-clause-put
-returns-clause-put g c = has_put _ _ _ _ _ _ _ (puts_high _ _ _ _ _ _ _ _ (puts_low _ _ _ _ _ _ _ c.to_words-low.ensures.low c.store_low.ensures.went) c.end_store.ensures.went) c.leave_write.ensures.went
+returns-clause-put g c = has_put _ _ _ _ _ _ _ (puts_high _ _ _ _ _ _ _ _ (puts_low _ _ _ _ _ _ _ c.to_words-low.ensures.low c.store_low-stored.ensures.went) c.end_store-acted.ensures.went) c.leave_write.ensures.went
 
-pub end_store-requires-clause-right : goal.end_store-requires-clause-right
-end_store-requires-clause-right g c κs within = let words = c.to_words-low.ensures in let z = g.T.AtomicInteger.arithmetic in
-    right_at_high z c.args.act.now _ _ c.args.new c.args.pass.now c.store_low.new.pass c.requires.on c.requires.right ((λ i. z.of_words (words.low i) (words.high i)) ∙ words.value) c.store_low.ensures.stored
+pub end_store-acted-requires-clause-right : goal.end_store-acted-requires-clause-right
+end_store-acted-requires-clause-right g c κs within = let words = c.to_words-low.ensures in let z = g.T.AtomicInteger.arithmetic in
+    right_at_high z c.args.act.now _ _ c.args.new c.args.turn.pass.now c.store_low-stored.result.pass.now c.requires.on c.requires.right ((λ i. z.of_words (words.low i) (words.high i)) ∙ words.value) c.store_low-stored.ensures.stored
 
 pub leave_write-requires-clause-on : goal.leave_write-requires-clause-on
-leave_write-requires-clause-on g c κs within = settles_again _ _ _ _ _ c.args.pass.now c.store_low.new.pass c.end_store.new.pass c.requires.on c.store_low.ensures.stored c.end_store.ensures.ended
+leave_write-requires-clause-on g c κs within = settles_again _ _ _ _ _ c.args.turn.pass.now c.store_low-stored.result.pass.now c.end_store-acted.result.pass.now c.requires.on c.store_low-stored.ensures.stored c.end_store-acted.ensures.ended
 
 pub returns-clause-acted : goal.returns-clause-acted
-returns-clause-acted g c = has_put_by _ _ _ _ _ c.args.pass.now c.store_low.new.pass c.end_store.new.pass c.leave_write.new.pass c.requires.on c.store_low.ensures.stored c.end_store.ensures.ended c.leave_write.ensures.left
+returns-clause-acted g c = has_put_by _ _ _ _ _ c.args.turn.pass.now c.store_low-stored.result.pass.now c.end_store-acted.result.pass.now c.leave_write.result.pass.now c.requires.on c.store_low-stored.ensures.stored c.end_store-acted.ensures.ended c.leave_write.ensures.left

@@ -4,8 +4,8 @@ use Rattle.playing.specs.Stages.{key_of}
 use Rattle.running_atomic.proofs.HistoryFollows.{store_low_follows}
 use Rattle.running_atomic.proofs.calls.Atomic.store_low.Goals as goal
 
-pub store-requires-clause-update : goal.store-requires-clause-update
-store-requires-clause-update g c = stores_low _ _ _ _ c.requires.on
+pub store_by-requires-clause-update : goal.store_by-requires-clause-update
+store_by-requires-clause-update g c = stores_low _ _ _ _ c.requires.on
 
-pub store-requires-clause-follow : goal.store-requires-clause-follow
-store-requires-clause-follow g c = store_low_follows g.T.AtomicInteger.arithmetic (key_of c.args.self.now.stage) g.W.Way.coming c.args.new (parties_of c.args.pass.now) (counted c.args.pass.now) c.requires.on
+pub store_by-requires-clause-follow : goal.store_by-requires-clause-follow
+store_by-requires-clause-follow g c = store_low_follows g.T.AtomicInteger.arithmetic (key_of c.args.self.now.stage) g.W.Way.coming c.args.new (parties_of c.args.turn.pass.now) (counted c.args.turn.pass.now) c.requires.on

@@ -1,33 +1,23 @@
-use Rattle.running_atomic.proofs.AtomicPlays.{may_take_first, may_take_again, takes_first, misses_first, takes_again, misses_again}
-use Rattle.running_atomic.proofs.OverCalls.{not_writing, still_on, got_writing, got_later}
+use Rattle.playing.specs.Slots.{all_of}
+use Rattle.playing.specs.Passes.{parties_of}
+use Rattle.running_atomic.proofs.AtomicPlays.{takes_first, misses_first}
+use Rattle.running_atomic.proofs.OverCalls.{not_writing, got_writing, got_later, rests_still}
 use Rattle.running_atomic.proofs.calls.Atomic.write_lock.Goals as goal
 
-pub enter_write-requires-clause-may : goal.enter_write-requires-clause-may
-enter_write-requires-clause-may g c κs within = may_take_first _ _ _ _ c.requires.writes
+pub returns-then-found-eq0-clause-on : goal.returns-then-found-eq0-clause-on
+returns-then-found-eq0-clause-on g c = got_writing c.args.pass.now c.first_enter-found.result.1.pass.now _ c.if-found-eq0.true c.first_enter-found.ensures.same c.first_enter-found.ensures.tried
 
-pub returns-then-enter_write-eq0-clause-next : goal.returns-then-enter_write-eq0-clause-next
-returns-then-enter_write-eq0-clause-next g c = takes_first _ _ _ _ _ _ c.requires.writes c.if-enter_write-eq0.true c.enter_write.ensures.went
+pub returns-then-found-eq0-clause-next : goal.returns-then-found-eq0-clause-next
+returns-then-found-eq0-clause-next g c = takes_first _ _ _ _ _ _ c.requires.writes c.requires.values c.if-found-eq0.true c.first_enter-found.ensures.went
 
-pub loop-init : goal.loop-init
-loop-init g c = record {
-  still = not_writing c.args.pass.now c.enter_write.new.pass _ c.if-enter_write-eq0.false c.enter_write.ensures.same c.enter_write.ensures.tried;
-  next = misses_first _ _ _ _ _ _ c.requires.writes c.if-enter_write-eq0.false c.enter_write.ensures.went;
-}
+pub write_later-requires-clause-rest : goal.write_later-requires-clause-rest
+write_later-requires-clause-rest g c κs within = rests_still c.args.pass.now c.first_enter-found.result.1.pass.now (not_writing c.args.pass.now c.first_enter-found.result.1.pass.now _ c.if-found-eq0.false c.first_enter-found.ensures.same c.first_enter-found.ensures.tried) c.requires.rest
 
-pub enter_write-requires-in-loop-clause-may : goal.enter_write-requires-in-loop-clause-may
-enter_write-requires-in-loop-clause-may g c κs within = may_take_again _ _ _ _ _ c.loop.invariant.next
+pub write_later-requires-clause-at : goal.write_later-requires-clause-at
+write_later-requires-clause-at g c κs within = (all_of (parties_of c.args.pass.now), misses_first _ _ _ _ _ _ c.requires.writes c.requires.values c.if-found-eq0.false c.first_enter-found.ensures.went)
 
-pub returns-then-enter_write-eq0-2-clause-next : goal.returns-then-enter_write-eq0-2-clause-next
-returns-then-enter_write-eq0-2-clause-next g c = takes_again _ _ _ _ _ _ _ c.requires.writes c.if-enter_write-eq0-2.true c.loop.invariant.next c.enter_write-in-loop.ensures.went
+pub returns-else-found-eq0-clause-on : goal.returns-else-found-eq0-clause-on
+returns-else-found-eq0-clause-on g c = got_later _ c.args.pass.now c.first_enter-found.result.1.pass.now c.write_later.result.pass.now (not_writing c.args.pass.now c.first_enter-found.result.1.pass.now _ c.if-found-eq0.false c.first_enter-found.ensures.same c.first_enter-found.ensures.tried) c.write_later.ensures.on
 
-pub loop-preserved : goal.loop-preserved
-loop-preserved g c = record {
-  still = still_on c.args.pass.now c.loop.pass c.enter_write-in-loop.new.pass c.loop.invariant.still (not_writing c.loop.pass c.enter_write-in-loop.new.pass _ c.if-enter_write-eq0-2.false c.enter_write-in-loop.ensures.same c.enter_write-in-loop.ensures.tried);
-  next = misses_again _ _ _ _ _ _ _ c.if-enter_write-eq0-2.false c.loop.invariant.next c.enter_write-in-loop.ensures.went;
-}
-
-pub returns-then-enter_write-eq0-clause-on : goal.returns-then-enter_write-eq0-clause-on
-returns-then-enter_write-eq0-clause-on g c = got_writing c.args.pass.now c.enter_write.new.pass _ c.if-enter_write-eq0.true c.enter_write.ensures.same c.enter_write.ensures.tried
-
-pub returns-then-enter_write-eq0-2-clause-on : goal.returns-then-enter_write-eq0-2-clause-on
-returns-then-enter_write-eq0-2-clause-on g c = got_later _ c.args.pass.now c.loop.pass c.enter_write-in-loop.new.pass c.loop.invariant.still (got_writing c.loop.pass c.enter_write-in-loop.new.pass _ c.if-enter_write-eq0-2.true c.enter_write-in-loop.ensures.same c.enter_write-in-loop.ensures.tried)
+pub returns-else-found-eq0-clause-next : goal.returns-else-found-eq0-clause-next
+returns-else-found-eq0-clause-next g c = c.write_later.ensures.next _ (misses_first _ _ _ _ _ _ c.requires.writes c.requires.values c.if-found-eq0.false c.first_enter-found.ensures.went)

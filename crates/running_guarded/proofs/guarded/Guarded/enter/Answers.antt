@@ -1,36 +1,64 @@
-use Rattle.std.proofs.Common.{true, false, refl}
-use Rattle.std.proofs.lemmas.Bool.{MatchBool-at_true}
+use Rattle.std.proofs.Common.{MatchBool, Some, None, refl, sym, subst}
+use Rattle.std.proofs.lemmas.Bool.{MatchBool-at_true, MatchBool-at_false}
+use Rattle.steps_events.specs.declared.event.Call.TheVariants as calls
+use Rattle.steps_events.specs.declared.event.Answer.TheVariants as answers
+use Rattle.steps_events.specs.declared.hold.HoldKind.TheVariants as kinds
+use Rattle.tallies.specs.MutexScript.{mutex_model}
 use Rattle.playing.specs.Slots.{all_of}
+use Rattle.playing.proofs.Over.{is_over, either_is_over}
+use Rattle.running_mutex.specs.MutexParties.{HasMutex}
+use Rattle.running_guarded.specs.GuardedSteps.{Plays}
 use Rattle.running_guarded.proofs.GuardedSights.{may_begin, led_first, has_now}
 use Rattle.running_guarded.proofs.guarded.Guarded.enter.Goals as goal
 
-pub exchange-requires-clause-may : goal.exchange-requires-clause-may
-exchange-requires-clause-may g c = may_begin c.args.seat.now.me.0
+pub first-free-requires-clause-may : goal.first-free-requires-clause-may
+first-free-requires-clause-may g c = may_begin c.args.seat.me.0
 
-pub returns-then-exchange-clause-played : goal.returns-then-exchange-clause-played
-returns-then-exchange-clause-played g c = led_first true c.args.seat.now.me.0 c.exchange.new.seat.me.0 c.if-exchange.ensures.tried
+pub end-requires : goal.end-requires
+end-requires g c = record { over = is_over mutex_model calls.Lock _ _ _ _ (MatchBool-at_true _ _ c.if-free.true (led_first _ c.args.seat.me.0 c.first-free.result.1.seat.me.0 c.first-free.ensures.tried)) }
 
-pub returns-then-exchange-clause-has : goal.returns-then-exchange-clause-has
-returns-then-exchange-clause-has g c = λ _. has_now (all_of c.args.seat.now.me.0.tally.parties) c.args.seat.now.me.0 c.exchange.new.seat.me.0 refl (led_first true c.args.seat.now.me.0 c.exchange.new.seat.me.0 c.if-exchange.ensures.tried)
+pub returns-then-free-clause-played : goal.returns-then-free-clause-played
+returns-then-free-clause-played g c = subst (λ s. Plays calls.Lock answers.Success (Some kinds.Write) c.args.seat.me.0 s.me.0) (sym c.end.ensures.still)
+    (MatchBool-at_true _ _ c.if-free.true (led_first _ c.args.seat.me.0 c.first-free.result.1.seat.me.0 c.first-free.ensures.tried))
 
-pub spin-requires-clause-at : goal.spin-requires-clause-at
-spin-requires-clause-at g c = (all_of c.args.seat.now.me.0.tally.parties, led_first false c.args.seat.now.me.0 c.exchange.new.seat.me.0 c.if-exchange.ensures.tried)
+pub returns-then-free-clause-has : goal.returns-then-free-clause-has
+returns-then-free-clause-has g c = λ _. subst (λ s. HasMutex s.me.0.tally.parties) (sym c.end.ensures.still)
+    (has_now (all_of c.args.seat.me.0.tally.parties) c.args.seat.me.0 c.first-free.result.1.seat.me.0 refl (MatchBool-at_true _ _ c.if-free.true (led_first _ c.args.seat.me.0 c.first-free.result.1.seat.me.0 c.first-free.ensures.tried)))
 
-pub returns-then-spin-clause-played : goal.returns-then-spin-clause-played
-returns-then-spin-clause-played g c = c.if-spin.ensures.over (all_of c.args.seat.now.me.0.tally.parties) (led_first false c.args.seat.now.me.0 c.exchange.new.seat.me.0 c.if-exchange.ensures.tried)
+pub spin-soon-requires-clause-at : goal.spin-soon-requires-clause-at
+spin-soon-requires-clause-at g c = (all_of c.args.seat.me.0.tally.parties, MatchBool-at_false _ _ c.if-free.false (led_first _ c.args.seat.me.0 c.first-free.result.1.seat.me.0 c.first-free.ensures.tried))
 
-pub returns-then-spin-clause-has : goal.returns-then-spin-clause-has
-returns-then-spin-clause-has g c = λ _. has_now (all_of c.args.seat.now.me.0.tally.parties) c.args.seat.now.me.0 c.spin.new.seat.me.0 refl
-    (c.if-spin.ensures.over (all_of c.args.seat.now.me.0.tally.parties) (led_first false c.args.seat.now.me.0 c.exchange.new.seat.me.0 c.if-exchange.ensures.tried))
+pub end-requires-then-soon : goal.end-requires-then-soon
+end-requires-then-soon g c = let refused = MatchBool-at_false _ _ c.if-free.false (led_first _ c.args.seat.me.0 c.first-free.result.1.seat.me.0 c.first-free.ensures.tried) in
+    record { over = is_over mutex_model calls.Lock _ _ _ _ (MatchBool-at_true _ _ c.if-soon.true (c.spin-soon.ensures.over (all_of c.args.seat.me.0.tally.parties) refused)) }
 
-pub ask_and_try-requires-clause-at : goal.ask_and_try-requires-clause-at
-ask_and_try-requires-clause-at g c = (all_of c.args.seat.now.me.0.tally.parties, c.if-spin.ensures.over (all_of c.args.seat.now.me.0.tally.parties) (led_first false c.args.seat.now.me.0 c.exchange.new.seat.me.0 c.if-exchange.ensures.tried))
+pub returns-then-soon-clause-played : goal.returns-then-soon-clause-played
+returns-then-soon-clause-played g c = let refused = MatchBool-at_false _ _ c.if-free.false (led_first _ c.args.seat.me.0 c.first-free.result.1.seat.me.0 c.first-free.ensures.tried) in
+    subst (λ s. Plays calls.Lock answers.Success (Some kinds.Write) c.args.seat.me.0 s.me.0) (sym c.end-then-soon.ensures.still)
+    (MatchBool-at_true _ _ c.if-soon.true (c.spin-soon.ensures.over (all_of c.args.seat.me.0.tally.parties) refused))
+
+pub returns-then-soon-clause-has : goal.returns-then-soon-clause-has
+returns-then-soon-clause-has g c = λ _. let refused = MatchBool-at_false _ _ c.if-free.false (led_first _ c.args.seat.me.0 c.first-free.result.1.seat.me.0 c.first-free.ensures.tried) in
+    subst (λ s. HasMutex s.me.0.tally.parties) (sym c.end-then-soon.ensures.still)
+    (has_now (all_of c.args.seat.me.0.tally.parties) c.args.seat.me.0 c.spin-soon.result.1.seat.me.0 refl (MatchBool-at_true _ _ c.if-soon.true (c.spin-soon.ensures.over (all_of c.args.seat.me.0.tally.parties) refused)))
+
+pub ask_and_try-granted-requires-clause-at : goal.ask_and_try-granted-requires-clause-at
+ask_and_try-granted-requires-clause-at g c = let refused = MatchBool-at_false _ _ c.if-free.false (led_first _ c.args.seat.me.0 c.first-free.result.1.seat.me.0 c.first-free.ensures.tried) in
+    (all_of c.args.seat.me.0.tally.parties, MatchBool-at_false _ _ c.if-soon.false (c.spin-soon.ensures.over (all_of c.args.seat.me.0.tally.parties) refused))
+
+pub end-requires-2 : goal.end-requires-2
+end-requires-2 g c = let refused = MatchBool-at_false _ _ c.if-free.false (led_first _ c.args.seat.me.0 c.first-free.result.1.seat.me.0 c.first-free.ensures.tried) in
+    let stood = MatchBool-at_false _ _ c.if-soon.false (c.spin-soon.ensures.over (all_of c.args.seat.me.0.tally.parties) refused) in
+    record { over = either_is_over mutex_model c.ask_and_try-granted.result.0 calls.Lock _ _ _ (c.ask_and_try-granted.ensures.over (all_of c.args.seat.me.0.tally.parties) stood) }
 
 pub returns-clause-played : goal.returns-clause-played
-returns-clause-played g c = c.ask_and_try.ensures.over (all_of c.args.seat.now.me.0.tally.parties)
-    (c.if-spin.ensures.over (all_of c.args.seat.now.me.0.tally.parties) (led_first false c.args.seat.now.me.0 c.exchange.new.seat.me.0 c.if-exchange.ensures.tried))
+returns-clause-played g c = let refused = MatchBool-at_false _ _ c.if-free.false (led_first _ c.args.seat.me.0 c.first-free.result.1.seat.me.0 c.first-free.ensures.tried) in
+    let stood = MatchBool-at_false _ _ c.if-soon.false (c.spin-soon.ensures.over (all_of c.args.seat.me.0.tally.parties) refused) in
+    subst (λ s. MatchBool c.ask_and_try-granted.result.0 (Plays calls.Lock answers.Success (Some kinds.Write) c.args.seat.me.0 s.me.0) (Plays calls.Lock answers.Interrupted None c.args.seat.me.0 s.me.0)) (sym c.end-2.ensures.still)
+    (c.ask_and_try-granted.ensures.over (all_of c.args.seat.me.0.tally.parties) stood)
 
 pub returns-clause-has : goal.returns-clause-has
-returns-clause-has g c = λ done. has_now (all_of c.args.seat.now.me.0.tally.parties) c.args.seat.now.me.0 c.ask_and_try.new.seat.me.0 refl
-    (MatchBool-at_true _ _ done (c.ask_and_try.ensures.over (all_of c.args.seat.now.me.0.tally.parties)
-    (c.if-spin.ensures.over (all_of c.args.seat.now.me.0.tally.parties) (led_first false c.args.seat.now.me.0 c.exchange.new.seat.me.0 c.if-exchange.ensures.tried))))
+returns-clause-has g c = λ granted. let refused = MatchBool-at_false _ _ c.if-free.false (led_first _ c.args.seat.me.0 c.first-free.result.1.seat.me.0 c.first-free.ensures.tried) in
+    let stood = MatchBool-at_false _ _ c.if-soon.false (c.spin-soon.ensures.over (all_of c.args.seat.me.0.tally.parties) refused) in
+    subst (λ s. HasMutex s.me.0.tally.parties) (sym c.end-2.ensures.still)
+    (has_now (all_of c.args.seat.me.0.tally.parties) c.args.seat.me.0 c.ask_and_try-granted.result.1.seat.me.0 refl (MatchBool-at_true _ _ granted (c.ask_and_try-granted.ensures.over (all_of c.args.seat.me.0.tally.parties) stood)))

@@ -1,15 +1,15 @@
-use Rattle.std.proofs.Common.{rules, refl, ◌≡◌, ◌==◌}
+use Rattle.std.proofs.Common.{refl, ◌≡◌, ◌==◌}
 use Rattle.atomic_table.proofs.Lists.{exchanged}
 use Rattle.playing.proofs.Updates.{either_is}
 use Rattle.tallies.specs.MutexScript.{mutex_model, mutex_lawful}
 use Rattle.running_mutex.proofs.MutexKeeps.{exchange_grants}
-use Rattle.running_spin_lock.proofs.ValueKeeps.{tries}
+use Rattle.running_spin_lock.proofs.ValueKeeps.{tries, zero_or_not}
 use Rattle.running_guarded.proofs.guarded.Guarded.exchange.Goals as goal
 
-pub compare_exchange-requires : goal.compare_exchange-requires
-compare_exchange-requires g c = (
-  c.requires.own,
-  search rules,
-  tries mutex_model mutex_lawful _ _ _ _ _ _ _ (λ w n. either_is (n == 0) 1 n) refl (λ n some one. exchanged n 0 1 (λ m. m ≡ n) (λ hit. absurd (some hit)) (λ _. refl)) c.requires.no_slot c.requires.alive
-      c.requires.may (λ call place hold past e name found. exchange_grants call place hold past e name 1 found),
-)
+pub exchange-found-requires-clause-update : goal.exchange-found-requires-clause-update
+exchange-found-requires-clause-update g c =
+    tries mutex_model mutex_lawful _ _ _ _ _ _ _ (λ w n. either_is (n == 0) 1 n) refl (λ n some one. exchanged n 0 1 (λ m. m ≡ n) (λ hit. absurd (some hit)) (λ _. refl)) c.requires.no_slot c.requires.alive
+    c.requires.may (λ call place hold past e name found. exchange_grants call place hold past e name 1 found)
+
+pub returns-clause-tried : goal.returns-clause-tried
+returns-clause-tried g c = (c.exchange-found.result.0, zero_or_not _, c.exchange-found.ensures.went)

@@ -1,6 +1,16 @@
-use Rattle.std.proofs.Common.{refl}
-use Rattle.running_mutex.proofs.MutexPlays.{is_to_wake}
+use Rattle.std.proofs.Common.{refl, sym, subst}
+use Rattle.running_mutex.proofs.MutexPlays.{is_to_wake, unlock_is_over}
+use Rattle.running_guarded.specs.GuardedSteps.{PlaysUnlock}
 use Rattle.running_guarded.proofs.guarded.Guarded.leave.Goals as goal
 
-pub wake-requires-clause-wakes : goal.wake-requires-clause-wakes
-wake-requires-clause-wakes g c = is_to_wake 0 c.args.seat.now.me.0.tally.parties c.release.new.seat.me.0.tally.parties refl c.requires.has c.release.ensures.played
+pub wake-woken-requires-clause-wakes : goal.wake-woken-requires-clause-wakes
+wake-woken-requires-clause-wakes g c = is_to_wake 0 c.args.seat.me.0.tally.parties c.release-turn.result.seat.me.0.tally.parties refl c.requires.has c.release-turn.ensures.played
+
+pub end_aside-requires : goal.end_aside-requires
+end_aside-requires g c = record { over = unlock_is_over _ _ c.requires.has (subst (λ s. PlaysUnlock c.args.seat.me.0 s.me.0) (sym c.wake-woken.ensures.still) c.release-turn.ensures.played) }
+
+pub returns-clause-played : goal.returns-clause-played
+returns-clause-played g c = subst (λ s. PlaysUnlock c.args.seat.me.0 s.me.0) (sym c.end_aside.ensures.still) (subst (λ s. PlaysUnlock c.args.seat.me.0 s.me.0) (sym c.wake-woken.ensures.still) c.release-turn.ensures.played)
+
+pub returns-clause-woke : goal.returns-clause-woke
+returns-clause-woke g c = record { word = _; says = c.wake-woken.ensures.woke }

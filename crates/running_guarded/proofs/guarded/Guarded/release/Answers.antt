@@ -1,18 +1,20 @@
-use Rattle.std.proofs.Common.{rules, ap, subst}
+use Rattle.std.proofs.Common.{◌<◌, sym, ap, subst, ◌∙◌}
 use Rattle.tallies.specs.MutexScript.{mutex_model, mutex_lawful}
-use Rattle.running_mutex.specs.MutexParties.{Unlocks}
+use Rattle.running_mutex.specs.MutexParties.{HasMutex, Unlocks}
 use Rattle.running_mutex.proofs.MutexPlays.{may_unlock, unlocks}
 use Rattle.running_spin_lock.proofs.ValueKeeps.{stores, filled}
 use Rattle.running_guarded.specs.GuardedRule.{MutexView}
 use Rattle.running_guarded.proofs.guarded.Guarded.release.Goals as goal
 
-pub store-requires : goal.store-requires
-store-requires g c = (
-  search rules,
-  search rules,
-  stores mutex_model mutex_lawful _ _ _ c.args.value (filled c.args.seat.now.me.1 _ c.args.value c.requires.vacant (ap (λ me. me.1) c.exchange.ensures.3)) (search rules) (search rules)
-      (may_unlock _ (search rules)),
-)
+pub store-requires-clause-may : goal.store-requires-clause-may
+store-requires-clause-may g c = let same = ap (λ s. s.me.0) c.begin_held-begun.ensures.still ∙ ap (λ me. me.0) c.exchange.ensures.3 in may_unlock _ (subst (λ (v : MutexView). HasMutex v.tally.parties) (sym same) c.requires.has)
+
+pub store-requires-clause-update : goal.store-requires-clause-update
+store-requires-clause-update g c =
+    let me = ap (λ s. s.me) c.begin_held-begun.ensures.still ∙ c.exchange.ensures.3 in let same = ap (λ m. m.0) me in
+    stores mutex_model mutex_lawful _ _ _ c.args.value (filled c.args.seat.me.1 _ c.args.value c.requires.vacant (ap (λ m. m.1) me)) (ap (λ (v : MutexView). v.tally.counts.holds) same ∙ c.requires.on)
+    (subst (λ (v : MutexView). 0 < v.part.share) (sym same) c.requires.alive) (may_unlock _ (subst (λ (v : MutexView). HasMutex v.tally.parties) (sym same) c.requires.has))
 
 pub returns-clause-played : goal.returns-clause-played
-returns-clause-played g c = subst (λ (v : MutexView). Unlocks v.tally.parties c.store.new.seat.me.0.tally.parties) (ap (λ me. me.0) c.exchange.ensures.3) (unlocks _ _ c.store.ensures.2.went)
+returns-clause-played g c = let same = ap (λ s. s.me.0) c.begin_held-begun.ensures.still ∙ ap (λ me. me.0) c.exchange.ensures.3 in
+    subst (λ (v : MutexView). Unlocks v.tally.parties c.store.result.seat.me.0.tally.parties) same (unlocks _ _ c.store.ensures.went)

@@ -8,8 +8,8 @@ use Rattle.running_guarded.proofs.guarded.Guarded.spin.Given as goal
 
 abbrev pub invariant-loop : goal.invariant-loop
 invariant-loop g l = record {
-  same : (l.seat.table_id ≡ l.fn.seat.table_id) × (l.seat.id ≡ l.fn.seat.id);
-  no_slot : l.seat.me.1 ≡ [];
-  saw : SeesLockedOften l.counter l.fn.seat.me.0 l.seat.me.0;
-  at : OnceRefused mutex_model calls.Lock places.Lock 1 l.fn.seat.me.0.tally.parties (λ done. IsRefused mutex_model calls.Lock places.Lock (spun l.counter) 1 done l.seat.me.0.tally.parties);
+  same : (l.next.seat.table_id ≡ l.fn.turn.seat.table_id) × (l.next.seat.id ≡ l.fn.turn.seat.id);
+  no_slot : l.next.seat.me.1 ≡ [];
+  saw : SeesLockedOften l.counter l.fn.turn.seat.me.0 l.next.seat.me.0;
+  at : OnceRefused mutex_model calls.Lock places.Lock 1 l.fn.turn.seat.me.0.tally.parties (λ done. IsRefused mutex_model calls.Lock places.Lock (spun l.counter) 1 done l.next.seat.me.0.tally.parties);
 }

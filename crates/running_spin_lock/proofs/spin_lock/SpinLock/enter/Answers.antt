@@ -1,23 +1,40 @@
-use Rattle.std.proofs.Common.{true, false}
+use Rattle.std.proofs.Common.{Some, sym, subst}
+use Rattle.std.proofs.lemmas.Bool.{MatchBool-at_true, MatchBool-at_false}
+use Rattle.steps_events.specs.declared.event.Answer.TheVariants as answers
+use Rattle.steps_events.specs.declared.hold.HoldKind.TheVariants as kinds
 use Rattle.playing.specs.Slots.{all_of}
+use Rattle.playing.proofs.Over.{is_over}
+use Rattle.running_spin_lock.specs.SpinLawful.{spin_model}
+use Rattle.running_spin_lock.specs.SpinParties.{HasLock}
+use Rattle.running_spin_lock.specs.SpinSteps.{HasPlayed}
 use Rattle.running_spin_lock.proofs.SpinPlays.{may_begin, first_goes, granted_has}
 use Rattle.running_spin_lock.proofs.spin_lock.SpinLock.enter.Goals as goal
 
-pub swap-requires-clause-may : goal.swap-requires-clause-may
-swap-requires-clause-may g c = may_begin g.C.Waiting.call _ g.C.Waiting.waits
+pub first-free-requires-clause-may : goal.first-free-requires-clause-may
+first-free-requires-clause-may g c = may_begin g.C.Called.call _ g.met.C.Waiting.waits
 
-pub returns-then-swap-clause-played : goal.returns-then-swap-clause-played
-returns-then-swap-clause-played g c = first_goes true g.C.Waiting.call _ _ g.C.Waiting.waits c.if-swap.ensures.tried
+pub end-requires : goal.end-requires
+end-requires g c = record { over = is_over spin_model g.C.Called.call _ _ _ _ (MatchBool-at_true _ _ c.if-free.true (first_goes _ g.C.Called.call _ _ g.met.C.Waiting.waits c.first-free.ensures.tried)) }
 
-pub returns-then-swap-clause-has : goal.returns-then-swap-clause-has
-returns-then-swap-clause-has g c = granted_has g.C.Waiting.call (all_of c.args.seat.now.me.0.tally.parties) _ (first_goes true g.C.Waiting.call _ _ g.C.Waiting.waits c.if-swap.ensures.tried)
+pub returns-then-free-clause-played : goal.returns-then-free-clause-played
+returns-then-free-clause-played g c = subst (λ q. HasPlayed g.C.Called.call answers.Success (Some kinds.Write) c.args.seat.me.0 q.me.0) (sym c.end.ensures.still)
+    (MatchBool-at_true _ _ c.if-free.true (first_goes _ g.C.Called.call _ _ g.met.C.Waiting.waits c.first-free.ensures.tried))
 
-pub spin-requires-clause-at : goal.spin-requires-clause-at
-spin-requires-clause-at g c = (all_of c.args.seat.now.me.0.tally.parties, first_goes false g.C.Waiting.call _ _ g.C.Waiting.waits c.if-swap.ensures.tried)
+pub returns-then-free-clause-has : goal.returns-then-free-clause-has
+returns-then-free-clause-has g c = subst (λ q. HasLock q.me.0.tally.parties) (sym c.end.ensures.still)
+    (granted_has g.C.Called.call (all_of c.args.seat.me.0.tally.parties) _ (MatchBool-at_true _ _ c.if-free.true (first_goes _ g.C.Called.call _ _ g.met.C.Waiting.waits c.first-free.ensures.tried)))
+
+pub spin-granted-requires-clause-at : goal.spin-granted-requires-clause-at
+spin-granted-requires-clause-at g c = (all_of c.args.seat.me.0.tally.parties, MatchBool-at_false _ _ c.if-free.false (first_goes _ g.C.Called.call _ _ g.met.C.Waiting.waits c.first-free.ensures.tried))
+
+pub end-requires-2 : goal.end-requires-2
+end-requires-2 g c = record { over = is_over spin_model g.C.Called.call _ _ _ _ (c.spin-granted.ensures.over (all_of c.args.seat.me.0.tally.parties) (MatchBool-at_false _ _ c.if-free.false (first_goes _ g.C.Called.call _ _ g.met.C.Waiting.waits c.first-free.ensures.tried))) }
 
 pub returns-clause-played : goal.returns-clause-played
-returns-clause-played g c = c.spin.ensures.over (all_of c.args.seat.now.me.0.tally.parties) (first_goes false g.C.Waiting.call _ _ g.C.Waiting.waits c.if-swap.ensures.tried)
+returns-clause-played g c = subst (λ q. HasPlayed g.C.Called.call answers.Success (Some kinds.Write) c.args.seat.me.0 q.me.0) (sym c.end-2.ensures.still)
+    (c.spin-granted.ensures.over (all_of c.args.seat.me.0.tally.parties) (MatchBool-at_false _ _ c.if-free.false (first_goes _ g.C.Called.call _ _ g.met.C.Waiting.waits c.first-free.ensures.tried)))
 
 pub returns-clause-has : goal.returns-clause-has
-returns-clause-has g c = granted_has g.C.Waiting.call (all_of c.args.seat.now.me.0.tally.parties) _
-    (c.spin.ensures.over (all_of c.args.seat.now.me.0.tally.parties) (first_goes false g.C.Waiting.call _ _ g.C.Waiting.waits c.if-swap.ensures.tried))
+returns-clause-has g c = subst (λ q. HasLock q.me.0.tally.parties) (sym c.end-2.ensures.still)
+    (granted_has g.C.Called.call (all_of c.args.seat.me.0.tally.parties) _
+    (c.spin-granted.ensures.over (all_of c.args.seat.me.0.tally.parties) (MatchBool-at_false _ _ c.if-free.false (first_goes _ g.C.Called.call _ _ g.met.C.Waiting.waits c.first-free.ensures.tried))))

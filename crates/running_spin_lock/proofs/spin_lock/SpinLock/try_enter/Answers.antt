@@ -1,14 +1,24 @@
+use Rattle.std.proofs.Common.{MatchBool, Some, None, sym, subst}
 use Rattle.std.proofs.lemmas.Bool.{MatchBool-at_true}
 use Rattle.steps_events.specs.declared.event.Call.TheVariants as calls
+use Rattle.steps_events.specs.declared.event.Answer.TheVariants as answers
+use Rattle.steps_events.specs.declared.hold.HoldKind.TheVariants as kinds
 use Rattle.playing.specs.Slots.{all_of}
+use Rattle.playing.proofs.Over.{either_is_over}
+use Rattle.running_spin_lock.specs.SpinLawful.{spin_model}
+use Rattle.running_spin_lock.specs.SpinParties.{HasLock}
+use Rattle.running_spin_lock.specs.SpinSteps.{HasPlayed}
 use Rattle.running_spin_lock.proofs.SpinPlays.{may_try_lock, try_ends, granted_has}
 use Rattle.running_spin_lock.proofs.spin_lock.SpinLock.try_enter.Goals as goal
 
-pub swap-requires-clause-may : goal.swap-requires-clause-may
-swap-requires-clause-may g c = may_try_lock _
+pub first-free-requires-clause-may : goal.first-free-requires-clause-may
+first-free-requires-clause-may g c = may_try_lock _
+
+pub end-requires : goal.end-requires
+end-requires g c = let t = c.first-free.ensures.tried in record { over = either_is_over spin_model c.first-free.result.0 calls.TryLock _ _ _ (try_ends _ t.0 _ _ t.1 t.2) }
 
 pub returns-clause-played : goal.returns-clause-played
-returns-clause-played g c = let t = c.swap.ensures.tried in try_ends _ t.0 _ _ t.1 t.2
+returns-clause-played g c = let t = c.first-free.ensures.tried in subst (λ q. MatchBool c.first-free.result.0 (HasPlayed calls.TryLock answers.Success (Some kinds.Write) c.args.seat.me.0 q.me.0) (HasPlayed calls.TryLock answers.Interrupted None c.args.seat.me.0 q.me.0)) (sym c.end.ensures.still) (try_ends _ t.0 _ _ t.1 t.2)
 
 pub returns-clause-has : goal.returns-clause-has
-returns-clause-has g c = λ done. let t = c.swap.ensures.tried in granted_has calls.TryLock (all_of c.args.seat.now.me.0.tally.parties) _ (MatchBool-at_true _ _ done (try_ends _ t.0 _ _ t.1 t.2))
+returns-clause-has g c = λ done. let t = c.first-free.ensures.tried in subst (λ q. HasLock q.me.0.tally.parties) (sym c.end.ensures.still) (granted_has calls.TryLock (all_of c.args.seat.me.0.tally.parties) _ (MatchBool-at_true _ _ done (try_ends _ t.0 _ _ t.1 t.2)))

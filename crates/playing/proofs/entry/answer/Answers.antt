@@ -1,5 +1,0 @@
-use Rattle.std.proofs.Common.{refl}
-use Rattle.playing.proofs.entry.answer.Goals as goal
-
-pub returns : goal.returns
-returns g c = record { answered = record { word = _; seen = _; named = refl; says = record { met = c.wait.ensures } } }

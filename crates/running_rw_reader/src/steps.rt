@@ -1,0 +1,140 @@
+//! Each atomic step of a reader-preferring lock.
+ghost use Rattle.std.specs.Prelude.{◌≡◌, ◌-◌, ◌^◌};
+
+use crate::deeds::{ComeToRead, ComeToWrite, LeaveReading, LeaveWriting, Look};
+use crate::{RwLockReaderPreference, RwReaderPass};
+use playing::Sealed;
+use playing::turn::{Continues, Goes, Turn, Way};
+use running_rw_hold::UnlockCall;
+use std::alloc::Allocator;
+use steps_rw_reader::writer_enters;
+use tallies::WaitWord;
+
+impl<A: Allocator> RwLockReaderPreference<A> {
+    ghost use Rattle.std.specs.Prelude.{ℕ, true, ◌+◌, ◌<◌, ◌≢◌, [], ◌∷◌};
+    ghost use Rattle.playing.specs.Passes.{parties_of, counts_of as tally_of};
+    ghost use Rattle.steps_events.specs.declared.event.Word.TheVariants as words;
+    ghost use Rattle.steps_events.specs.declared.hold.HoldKind.TheVariants as kinds;
+    ghost use Rattle.steps_events.specs.declared.row.Intent.TheVariants as intents;
+    ghost use Rattle.tallies.specs.RwReaderScript.{rw_reader_model};
+    ghost use Rattle.passes.specs.Parts.{IsWhole};
+    ghost use Rattle.passes.specs.Passes.{part_of};
+    ghost use Rattle.playing.specs.Plays.{Going, MayStep, Went};
+    ghost use Rattle.playing.specs.Counts.{HasSeen, HasMissed, HasDone};
+    ghost use Rattle.playing.specs.Stages.{id_of};
+    ghost use Rattle.tallies.specs.Shown.{object_shown, index_shown};
+    ghost use Rattle.running_rw_reader.specs.RwReaderParties.{has_hold, Unlocks};
+    ghost use Rattle.running_rw_reader.specs.RwReaderSteps.{read, written, word_of};
+    ghost use Rattle.running_rw_reader.specs.RwReaderShown.{IsRwReaderPass, reads_of, writes_of, HasLeftReading, HasLeftWriting};
+
+    /// A load.
+    #[inline(always)]
+    pub(crate) fn look<'p, W: Way<u64>>(
+        &self,
+        turn: Turn<'p, RwReaderPass, W>,
+    ) -> (u64, Turn<'p, RwReaderPass, Goes>)
+        requires own { IsRwReaderPass self.now turn.pass.now }
+        requires may { MayStep rw_reader_model (words.State ∷ []) W.coming 0 (λ w. intents.Load w) (parties_of turn.pass.now) }
+        ensures same_borrow { result.1.pass.ghost_name ≡ turn.entry.pass.ghost_name }
+        ensures saw { HasSeen result.0 turn.entry.pass.now result.1.pass.now }
+        ensures went { Went rw_reader_model W.coming (parties_of turn.entry.pass.now) result.0 (parties_of result.1.pass.now) }
+        ensures exact { IsWhole (part_of turn.entry.pass.now) → result.0 ≡ word_of (tally_of turn.entry.pass.now) }
+    {
+        turn.load_by::<(), A, Look>(&self.stage, 0)
+    }
+
+    /// An exchange of the value seen for one more, and the value that it found.
+    #[inline(always)]
+    pub(crate) fn come_to_read<'p>(
+        &self,
+        turn: Turn<'p, RwReaderPass, Goes>,
+        seen: u64,
+        more: u64,
+    ) -> (u64, Turn<'p, RwReaderPass, Goes>)
+        requires own { IsRwReaderPass self.now turn.pass.now }
+        requires room { seen < 2 ^ 64 - 2 }
+        requires more { more ≡ seen + 1 }
+        requires may { MayStep rw_reader_model (words.State ∷ []) Going 0 (λ w. intents.Exchange w seen more) (parties_of turn.pass.now) }
+        ensures same_borrow { result.1.pass.ghost_name ≡ turn.entry.pass.ghost_name }
+        ensures done { result.0 ≡ seen → HasDone read turn.entry.pass.now result.1.pass.now }
+        ensures reads { result.0 ≡ seen → reads_of result.1.pass.now ≡ reads_of turn.entry.pass.now + 1 }
+        ensures writes { result.0 ≡ seen → (writes_of turn.entry.pass.now ≡ 0) × (writes_of result.1.pass.now ≡ 0) }
+        ensures failed { result.0 ≢ seen → HasMissed seen result.0 turn.entry.pass.now result.1.pass.now }
+        ensures went { Went rw_reader_model Going (parties_of turn.entry.pass.now) result.0 (parties_of result.1.pass.now) }
+        ensures exact { IsWhole (part_of turn.entry.pass.now) → result.0 ≡ word_of (tally_of turn.entry.pass.now) }
+    {
+        turn.exchange_by::<(), A, ComeToRead>(&self.stage, 0, seen, more)
+    }
+
+    /// A subtraction of 1, by a pass that has a read hold.
+    #[inline(always)]
+    pub(crate) fn leave_reading<'p>(
+        &self,
+        turn: Turn<'p, RwReaderPass, Continues<UnlockCall>>,
+    ) -> Turn<'p, RwReaderPass, Goes>
+        requires own { IsRwReaderPass self.now turn.pass.now }
+        requires on { 0 < reads_of turn.pass.now }
+        requires has { has_hold kinds.Read (parties_of turn.pass.now) ≡ true }
+        ensures same_borrow { result.pass.ghost_name ≡ turn.entry.pass.ghost_name }
+        ensures released { HasLeftReading turn.entry.pass.now result.pass.now }
+        ensures played { Unlocks kinds.Read (parties_of turn.entry.pass.now) (parties_of result.pass.now) }
+    {
+        let (_, next) = turn.subtract_by::<(), A, LeaveReading>(&self.stage, 0, 1);
+        next
+    }
+
+    /// An exchange of 0 for 2^64 - 1, and the value that it found.
+    #[inline(always)]
+    pub(crate) fn come_to_write<'p, W: Way<u64>>(
+        &self,
+        turn: Turn<'p, RwReaderPass, W>,
+    ) -> (u64, Turn<'p, RwReaderPass, Goes>)
+        requires own { IsRwReaderPass self.now turn.pass.now }
+        requires may { (put : ℕ) → put ≡ 2 ^ 64 - 1 → MayStep rw_reader_model (words.State ∷ []) W.coming 0 (λ w. intents.Exchange w 0 put) (parties_of turn.pass.now) }
+        ensures same_borrow { result.1.pass.ghost_name ≡ turn.entry.pass.ghost_name }
+        ensures done { result.0 ≡ 0 → HasDone (λ _. written) turn.entry.pass.now result.1.pass.now }
+        ensures off { result.0 ≡ 0 → (reads_of turn.entry.pass.now ≡ 0) × (writes_of turn.entry.pass.now ≡ 0) }
+        ensures on { result.0 ≡ 0 → (reads_of result.1.pass.now ≡ 0) × (writes_of result.1.pass.now ≡ 1) }
+        ensures failed { result.0 ≢ 0 → HasMissed 0 result.0 turn.entry.pass.now result.1.pass.now }
+        ensures went { Went rw_reader_model W.coming (parties_of turn.entry.pass.now) result.0 (parties_of result.1.pass.now) }
+        ensures exact { IsWhole (part_of turn.entry.pass.now) → result.0 ≡ word_of (tally_of turn.entry.pass.now) }
+    {
+        turn.exchange_by::<(), A, ComeToWrite>(&self.stage, 0, 0, write_locked())
+    }
+
+    /// A store of 0, by the pass that has the write hold.
+    #[inline(always)]
+    pub(crate) fn leave_writing<'p>(
+        &self,
+        turn: Turn<'p, RwReaderPass, Continues<UnlockCall>>,
+    ) -> Turn<'p, RwReaderPass, Goes>
+        requires own { IsRwReaderPass self.now turn.pass.now }
+        requires on { writes_of turn.pass.now ≡ 1 }
+        requires has { has_hold kinds.Write (parties_of turn.pass.now) ≡ true }
+        ensures same_borrow { result.pass.ghost_name ≡ turn.entry.pass.ghost_name }
+        ensures released { HasLeftWriting turn.entry.pass.now result.pass.now }
+        ensures played { Unlocks kinds.Write (parties_of turn.entry.pass.now) (parties_of result.pass.now) }
+    {
+        turn.store_by::<(), A, LeaveWriting>(&self.stage, 0, 0)
+    }
+
+    /// The lock's word, as closures see it.
+    #[inline(always)]
+    pub(crate) fn word(&self) -> Sealed<WaitWord<'_>>
+        ensures object { object_shown result.shown ≡ id_of self.now.stage }
+        ensures index { index_shown result.shown ≡ 0 }
+    {
+        self.stage.shown(0)
+    }
+}
+
+/// The word of a lock with a write hold.
+#[inline(always)]
+fn write_locked() -> u64
+    ensures { result ≡ 2 ^ 64 - 1 }
+{
+    match writer_enters(0) {
+        Some(word) => word,
+        None => unreachable!(),
+    }
+}
