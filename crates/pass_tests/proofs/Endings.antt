@@ -8,14 +8,6 @@ use Rattle.playing.specs.Slots.{Slot, Parties, all_of}
 use Rattle.playing.specs.Plays.{Beginning, Aside, ComesBy, IsAt, MayStep}
 use Rattle.playing.specs.Tries.{IsToEnd}
 use Rattle.pass_tests.specs.Ending.{ending_model}
-use Rattle.steps_events.specs.declared.row.Intent.{Intent}
-use Rattle.passes.specs.declared.pass.Pass.{Pass}
-use Rattle.playing.specs.declared.played.Played.{Played}
-use Rattle.pass_tests.specs.declared.tests.staging.EndingScript.{EndingScript}
-use Rattle.pass_tests.specs.declared.tests.staging.Nothing.{Nothing}
-
-abbrev pub EndingPass : Type 0
-EndingPass = Pass (Played EndingScript (Intent ℕ) ℕ Nothing)
 
 pub call_begins : (p : Parties ℕ) → ComesBy ending_model (Beginning calls.CallOnce) calls.CallOnce (intents.Load words.State) None (all_of p) p
 call_begins p = (refl, record { may = record { begins = refl; free = refl; values = tt }; new = refl; others = refl })

@@ -13,13 +13,6 @@ use Rattle.playing.specs.Slots.{Parties, all_of}
 use Rattle.playing.specs.Words.{IsStepOn}
 use Rattle.playing.specs.Plays.{Beginning, ComesBy, MayStep}
 use Rattle.pass_tests.specs.Staging.{counter_begins, counter_table, counter_model}
-use Rattle.passes.specs.declared.pass.Pass.{Pass}
-use Rattle.playing.specs.declared.played.Played.{Played}
-use Rattle.pass_tests.specs.declared.tests.staging.CounterScript.{CounterScript}
-use Rattle.pass_tests.specs.declared.tests.staging.Nothing.{Nothing}
-
-abbrev pub CounterPass : Type 0
-CounterPass = Pass (Played CounterScript (Intent ℕ) ℕ Nothing)
 
 pub begins : (call : Call ℕ) (place : Intent ℕ) (p : Parties ℕ) → counter_begins call ≡ Some place → hold_fault counter_table call None ≡ None → CallValues u64_arithmetic call →
     ComesBy counter_model (Beginning call) call place None (all_of p) p
