@@ -22,10 +22,10 @@ DEPENDS = re.compile(r"declarations? that depends? on `")
 # What says nothing of a contract: a proof misses a name that the edit took away. The kit's gate takes an edit for refused that has no other reason;
 # here it fails.
 NAME_GONE = re.compile(r"has no field|has no `|is not in scope|: module `[^`]*`$")
-# What says less than a search that tried every way. Where the edit has a control beside it, a harmless change at the same place (NAME.control),
-# that has to be proved: then the search gives up on the wrong body, and not on any that is changed there. One without is told, and counts.
+# What says less than a search that tried every way. So the edit has a control beside it, a harmless change at the same place (NAME.control), that
+# has to be proved: then the search gives up on the wrong body, and not on any that is changed there. One without shows nothing.
 GAVE_UP = re.compile(r"gave up at one of its limits|went on past its bounds|stopped at its own limit")
-AT_A_LIMIT = "refused at a limit"
+AT_A_LIMIT = "SHOWS NOTHING without a control"
 # What a call requires that the edit may have brought in.
 REQUIRED = re.compile(r"it is not proved that what `(\w+)` requires holds at this call")
 

@@ -45,7 +45,7 @@ SWEPT = {
 }
 
 # Programs that nobody calls, and tests.
-APART = re.compile(r".*_tests|.*_main|sync_bench|bench_.*|storm|two_threads|spin_counter|four_meet|patient_writer|shared_cache|.*_pool|closures")
+APART = re.compile(r".*_tests|.*_main|sync_bench|bench_.*|storm|two_threads|spin_counter|four_meet|patient_writer|shared_cache|shared_sum|.*_pool|closures")
 
 FUNCTION = re.compile(r"^ *pub fn (\w+)", re.M)
 OWNER = re.compile(r"^impl\b(?:<.*>)? (?:[\w:]+(?:<.*>)? for )?(\w+)", re.M)

@@ -179,7 +179,17 @@ play_unproved() {
             printf '%s\n' "$line" >&2 || true
         fi
     done
+    if ((BASH_REMATCH[1] == 2)); then
+        name_adviser
+    fi
     exit "${BASH_REMATCH[1]}"
+}
+
+# Of a text with a fault: who says more, where a person reads.
+name_adviser() {
+    if [[ -n ${advises-} && -t 2 ]]; then
+        echo "./sync-trace < FILE says what would be right" >&2
+    fi
 }
 
 # Runs the program where standard error is a terminal, and says there what would be right of a text with a fault.
@@ -192,7 +202,7 @@ play_for_a_person() {
     if ((status == 2)) && [[ -x $advises ]]; then
         { "$advises" <"$text" 2>&1 >/dev/null || true; } | tail -n +2 >&2
     elif ((status == 2)); then
-        echo "./sync-trace < FILE says what would be right" >&2
+        name_adviser
     fi
     exit "$status"
 }

@@ -11,7 +11,7 @@ A case is a text and what is printed: behind `=>`, or below, indented by four bl
 
 Beside `=>`, lines are parted by ` / `. In quotes stand the bytes themselves: "spin 1\\r\\n". `for N from 2 to 64 ({N} lock / {N} run)` repeats lines, and
 in its braces stands any sum. A fault, as `line 1: bad number`, is written to standard error with all that comes after it, and the status is then 2;
-else 0, or what the last line says: `status 4`.
+else 0, or what the last line says: `status 4`. Where of `sync-explore` nothing comes after it, what the program advises is not looked at.
 
 Prints each case that comes out otherwise, and then how many there are. The status is 0 where none does. A table without a case is wrong.
 """
@@ -81,6 +81,8 @@ def main():
             sys.exit(f"no case, since nothing is printed: {text}")
         wanted = wanted_of(printed)
         found = played(program, written(text))
+        if program == "sync-explore" and wanted[2].count(b"\n") == 1:
+            found = (*found[:2], b"".join(found[2].splitlines(keepends=True)[:1]))
         if found != wanted:
             wrong += 1
             print(f"{text}: {found} and not {wanted}")

@@ -264,11 +264,10 @@ class Tries:
             groups += batches.judge_controls(group, check(group)[0] == 0)
             checks += 1
         REFUSALS.update({f"{crate.name}/{name.removesuffix('.edit')}": why for name, why in batches.refusals.items() if why})
-        shown = {name: it for name, it in batches.told.items() if it[0] != "refused"}
-        wrong = [name for name, it in shown.items() if it[0] != edits.AT_A_LIMIT]
+        wrong = {name: it for name, it in batches.told.items() if it[0] != "refused"}
         refused, left = len(batches.told) - len(wrong), len(crate.edits) - len(batches.told)
         line = f"{refused} of its {len(crate.edits)} edits are refused, in {checks} checks" + (f"; {left} were not tried" if left else "")
-        return Told(refused, len(wrong), line, "\n".join(f"{name}: {kind}: {why[:300]}" for name, (kind, why) in shown.items()))
+        return Told(refused, len(wrong), line, "\n".join(f"{name}: {kind}: {why[:300]}" for name, (kind, why) in wrong.items()))
 
 
 def put(folder, texts):

@@ -20,11 +20,11 @@ def variables_of(question):
 
 
 def call_in(item):
-    """The call of an item, behind its test; None where it changes a variable."""
-    words = item.split()
-    if words and words[0] in ("if", "while"):
+    """The call of an item, behind its tests and parentheses; None where it changes a variable."""
+    words = [word for word in item.split() if word not in ("(", ")")]
+    while words and words[0] in ("if", "while"):
         words = words[4:]
-    return None if words and words[0] in ("set", "add", "sub") else " ".join(words)
+    return None if not words or words[0] in ("set", "add", "sub") else " ".join(words)
 
 
 def calls_of(question):
@@ -233,7 +233,8 @@ def holds(term, question, text, entries, output):
     if term == "ends":
         return have_ended(question, text, entries, output)
     first, _, what = term.partition(" ")
-    if first in variables_of(question):
+    # What variables hold, and what parties are about to do to them, no text tells.
+    if first == "race" or first in variables_of(question):
         return True
     if term == "stuck":
         begun = [entry.split()[0] for entry in entries if tuple(entry.split(" ", 1)) in calls_of(question)]

@@ -1,6 +1,6 @@
 # The tool that proves and tries edits, on a crate of three functions and one test: what is no bug, what cannot be read, and what is refused for a name
 # alone, fails it and says so, beside wrong bodies in the same check; so do a test that fails and a crate that is not proved. Of three edits on which a
-# search gave up, over a checker that only pretends, the one fails whose control is refused like it.
+# search gave up, over a checker that only pretends, two fail: one has no control, and that of the other is refused like it.
 test_batches() {
     local top=$room/batches crate=$room/batches/crates/sizes
     mkdir -p -- "$top/tools" "$crate/src" "$crate/proofs/no" "$crate/must-fail"
@@ -88,7 +88,7 @@ crate.edits = ["no_is_yes.edit", "same_is_three.edit", "yes_is_no.edit"]
 told = prove.Tries(1e12)(Lane(), crate, 1)
 print(told.line, told.why)
 PY
-    if [[ $(<"$room/out") == "2 of its 3 edits are refused, in "*"no_is_yes.edit: refused at a limit: "*"same_is_three.edit: SHOWS NOTHING: "*"its control is refused too" ]]; then
+    if [[ $(<"$room/out") == "1 of its 3 edits are refused, in "*"no_is_yes.edit: SHOWS NOTHING without a control: "*"same_is_three.edit: SHOWS NOTHING: "*"its control is refused too" ]]; then
         succeed
     else
         fail "an edit at a limit" "it said: $(<"$room/out") $(tail -n 3 -- "$room/err")"

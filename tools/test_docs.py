@@ -23,12 +23,35 @@ def blocks(page):
     return re.findall(r"(?:(?<=\n)|\A)(?: {4}.*\n)+", TEXTS[page])
 
 
+def indented(text):
+    return "".join(f"    {line}\n" for line in text.splitlines())
+
+
 def quoted(page, stem, endings=("txt", "out", "err")):
-    """Whether the page has the example's text and what is printed of it, each as a block of its own."""
+    """Whether the page has the example's text and what is printed of it, each as a block of its own: a fault with what is advised of it."""
     for ending in endings:
         text = read(f"{stem}.{ending}")
-        if text and "".join(f"    {line}\n" for line in text.splitlines()) not in blocks(page):
+        if ending == "err" and page == "docs/EXPLORE.md":
+            text += read(f"{stem}.advice")
+        if text and indented(text) not in blocks(page):
             return f"{page} does not have {stem}.{ending} as it is"
+
+
+def asked(stem):
+    """Whether the explorer's page shows the question with its answer, as they are, or has a row of it, with links to both."""
+    page, name = "docs/EXPLORE.md", os.path.basename(stem)
+    rows = [row for row in TEXTS[page].splitlines() if row.startswith(f"| [{name}](../{stem}.txt): [answer](../{stem}.out) |")]
+    if len(rows) > 1:
+        return f"{page} has {len(rows)} rows of it"
+    if not rows:
+        return quoted(page, stem)
+
+
+def strange(page, known):
+    """A block of a page that is none of these texts, and no call of a program."""
+    for block in blocks(page):
+        if block not in known and not block.startswith("    ./"):
+            return f"no example has the block that begins with {block.splitlines()[0].strip()!r}"
 
 
 def listed(stem):
@@ -116,7 +139,9 @@ for text in sorted(glob.glob("examples/*.txt")):
         report(stem, quoted("docs/TRACE.md", stem, ("txt", "trace")))
 
 for text in sorted(glob.glob("examples/explore/*.txt")):
-    report(text, quoted("docs/EXPLORE.md", text.removesuffix(".txt")))
+    report(text, asked(text.removesuffix(".txt")))
+shown = [read(file) + read(file.replace(".err", ".advice")) * file.endswith(".err") for file in glob.glob("examples/explore/*.*")]
+report("docs/EXPLORE.md", strange("docs/EXPLORE.md", [indented(text) for text in shown]))
 
 HEADS = ["Use it", "Its steps", "What is promised", "What is not promised"]
 for page in glob.glob("docs/objects/*.md"):

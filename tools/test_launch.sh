@@ -140,6 +140,7 @@ interpreter: ended status=endless
 checked: ended status=endless
 run=no-answer proved=no
 sync-play: that gave no answer within its limits (a minute, 1 MiB of output): build the program first, by ./sync-play --build"
+    at_a_terminal "a fault that is told unproved" "$says line 6: waiting ./sync-trace < FILE says what would be right" $'1 success\nline 6: waiting\n2'
     if [[ -e $out ]]; then
         fail "a text that is played unproved" "it left $out"
     fi
@@ -190,13 +191,13 @@ advises_a_person() {
     cp -p -- "$room/played" "$out/$crate"
 }
 
-# What the launcher says on a terminal, in one line, and its status: at_a_terminal LABEL WORDS.
+# What the launcher says on a terminal, in one line, and its status: at_a_terminal LABEL WORDS [TEXT].
 at_a_terminal() {
     attempt python3 -c 'import os, subprocess, sys
 shown, stderr = os.openpty()
-status = subprocess.run(sys.argv[1], input=b"latch 1\n", stderr=stderr).returncode
+status = subprocess.run(sys.argv[1], input=sys.argv[2].encode(), stdout=subprocess.DEVNULL, stderr=stderr).returncode
 print(*os.read(shown, 4096).decode().split())
-sys.exit(status)' "$top/sync-play"
+sys.exit(status)' "$top/sync-play" "${3-latch 1}"$'\n'
     judge_line "$1" 2 "$2" ""
 }
 

@@ -5,7 +5,7 @@ use crate::guarded::Number;
 use crate::mutexes::{AtSleepers, Locked, OnTheWord, StdLocked, Yielding};
 use crate::queues::{Jobs, Messages};
 use crate::race::contend;
-use crate::rwlocks::{Room, StdRoom};
+use crate::rwlocks::{Room, SharedNumber, StdRoom};
 use std::alloc::Global;
 use std::io;
 use std::sync::Wait;
@@ -22,12 +22,13 @@ pub enum Line {
     Guarded,
     StdRwLock,
     RwWriter,
+    RwValue,
     Channel,
     JobQueue,
 }
 
 /// Every line, in the order of the table.
-pub const LINES: [Line; 9] = [
+pub const LINES: [Line; 10] = [
     Line::StdMutex,
     Line::MutexYielding,
     Line::MutexOnTheWord,
@@ -35,6 +36,7 @@ pub const LINES: [Line; 9] = [
     Line::Guarded,
     Line::StdRwLock,
     Line::RwWriter,
+    Line::RwValue,
     Line::Channel,
     Line::JobQueue,
 ];
@@ -56,6 +58,7 @@ impl Line {
             Line::Guarded => "guarded value, at sleepers",
             Line::StdRwLock => "std rwlock, nine reads to a write",
             Line::RwWriter => "writer-preferring lock, at sleepers, nine reads to a write",
+            Line::RwValue => "value that many read, at sleepers, nine reads to a write",
             Line::Channel => "crossbeam_channel, send and receive",
             Line::JobQueue => "job_queue, put and take",
         }
@@ -84,6 +87,7 @@ impl Line {
             Line::Guarded => contend::<Number, _, R>(rt, alloc, threads, steps, most),
             Line::StdRwLock => contend::<StdRoom, _, R>(rt, alloc, threads, steps, most),
             Line::RwWriter => contend::<Room, _, R>(rt, alloc, threads, steps, most),
+            Line::RwValue => contend::<SharedNumber, _, R>(rt, alloc, threads, steps, most),
             Line::Channel => contend::<Messages, _, R>(rt, alloc, threads, steps, most),
             Line::JobQueue => contend::<Jobs, _, R>(rt, alloc, threads, steps, most),
         }

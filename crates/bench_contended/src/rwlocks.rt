@@ -1,10 +1,13 @@
-//! Locks of readers and writers, of nine reads to a write: the writer-preferring one, at which one sleeps; and the kit's.
+//! Locks of readers and writers, of nine reads to a write: the writer-preferring one and the value under it, at which one sleeps; and the
+//! kit's.
 ghost use Rattle.running_rw_writer.specs.RwWriterShown.{IsRwWriterPass, HasStayed};
+ghost use Rattle.running_rw_value.specs.RwValueShown.{IsRwValuePass};
 
 use crate::race::Contended;
 use crate::work::Work;
 use iceoryx2_pal_concurrency_sync::strategy::rwlock::{RwLockWriterPreference, RwWriterPass};
 use iceoryx2_pal_concurrency_sync::{Sleepers, WaitResult, WaitWord};
+use running_rw_value::RwLock as RwValue;
 use std::alloc::{AllocError, Global};
 use std::sync::{RwLock, Wait};
 
@@ -107,6 +110,89 @@ fn read<R: Wait>(
                 |_: &WaitWord| readers.wake_all(),
             );
         }
+        WaitResult::Interrupted => unreachable!(),
+    }
+}
+
+/// A number that many read, and where its readers sleep and its writers.
+#[derive(Drop)]
+pub struct SharedNumber {
+    number: RwValue<u64>,
+    readers: Sleepers,
+    writers: Sleepers,
+}
+
+impl Contended<RwWriterPass> for SharedNumber {
+    ghost owns = { λ number p. IsRwValuePass number.number p };
+
+    fn make(alloc: Global) -> Result<(Self, RwWriterPass), AllocError> {
+        let readers = Sleepers::new();
+        let writers = Sleepers::new();
+        match RwValue::new(alloc, 0u64) {
+            Ok((number, pass)) => Ok((
+                SharedNumber {
+                    number,
+                    readers,
+                    writers,
+                },
+                pass,
+            )),
+            Err((error, _)) => Err(error),
+        }
+    }
+
+    fn part(&self, pass: RwWriterPass) -> (RwWriterPass, RwWriterPass) {
+        let Ok(parts) = pass.split(self.number.front()) else {
+            unreachable!()
+        };
+        parts
+    }
+
+    #[inline(always)]
+    fn operate<R: Wait>(&self, rt: &R, pass: &mut RwWriterPass, work: &mut Work) {
+        if is_to_write(work) {
+            write_number(rt, self, pass, work);
+        } else {
+            read_number(rt, self, pass, work);
+        }
+        work.go();
+    }
+}
+
+#[inline(always)]
+fn write_number<R: Wait>(rt: &R, number: &SharedNumber, pass: &mut RwWriterPass, work: &mut Work)
+    requires own { IsRwValuePass number.now.number pass.old }
+    ensures stayed { HasStayed pass.old pass.new }
+{
+    match number.number.with_write(
+        rt,
+        pass,
+        |word: &WaitWord, seen: &u64| number.writers.sleep(rt, word, *seen),
+        |_: &WaitWord| number.writers.wake_one(),
+        |_: &WaitWord| number.readers.wake_all(),
+        |value| {
+            work.go();
+            *value = value.wrapping_add(1);
+        },
+    ) {
+        WaitResult::Success(()) => {}
+        WaitResult::Interrupted => unreachable!(),
+    }
+}
+
+#[inline(always)]
+fn read_number<R: Wait>(rt: &R, number: &SharedNumber, pass: &mut RwWriterPass, work: &mut Work)
+    requires own { IsRwValuePass number.now.number pass.old }
+    ensures stayed { HasStayed pass.old pass.new }
+{
+    match number.number.with_read(
+        rt,
+        pass,
+        |word: &WaitWord, seen: &u64| number.readers.sleep(rt, word, *seen),
+        |_: &WaitWord| number.writers.wake_one(),
+        |_| work.go(),
+    ) {
+        WaitResult::Success(()) => {}
         WaitResult::Interrupted => unreachable!(),
     }
 }

@@ -35,7 +35,7 @@ fn figures_of_a_race(rt: HostRuntime) {
 }
 
 /// What the row of each line prints.
-const ROWS: [&str; 9] = [
+const ROWS: [&str; 10] = [
     "std mutex\t8\t100\t5000000\t200\t97",
     "mutex, yielding\t8\t100\t5000000\t200\t97",
     "mutex, on the word\t8\t100\t5000000\t200\t97",
@@ -43,6 +43,7 @@ const ROWS: [&str; 9] = [
     "guarded value, at sleepers\t8\t100\t5000000\t200\t97",
     "std rwlock, nine reads to a write\t8\t100\t5000000\t200\t97",
     "writer-preferring lock, at sleepers, nine reads to a write\t8\t100\t5000000\t200\t97",
+    "value that many read, at sleepers, nine reads to a write\t8\t100\t5000000\t200\t97",
     "crossbeam_channel, send and receive\t8\t100\t5000000\t200\t97",
     "job_queue, put and take\t8\t100\t5000000\t200\t97",
 ];

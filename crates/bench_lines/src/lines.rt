@@ -13,6 +13,7 @@ mod mutex;
 mod once;
 mod queue;
 mod rwreader;
+mod rwvalue;
 mod rwwriter;
 mod semaphore;
 mod spin_lock;
@@ -41,6 +42,8 @@ pub enum Line {
     BareLoadExchangeStoreAdd,
     RwWriterReadUnlock,
     RwWriterWriteUnlock,
+    RwValueReadUnlock,
+    RwValueWriteUnlock,
     SemaphoreTryWaitPost,
     SemaphoreValue,
     BareLoadExchange,
@@ -71,7 +74,7 @@ pub enum Line {
 }
 
 /// Every line, in the order of the table.
-pub const LINES: [Line; 41] = [
+pub const LINES: [Line; 43] = [
     Line::BareExchangeStore,
     Line::StdMutexLockUnlock,
     Line::MutexLockUnlock,
@@ -86,6 +89,8 @@ pub const LINES: [Line; 41] = [
     Line::BareLoadExchangeStoreAdd,
     Line::RwWriterReadUnlock,
     Line::RwWriterWriteUnlock,
+    Line::RwValueReadUnlock,
+    Line::RwValueWriteUnlock,
     Line::SemaphoreTryWaitPost,
     Line::SemaphoreValue,
     Line::BareLoadExchange,
@@ -137,6 +142,8 @@ impl Line {
             Line::BareLoadExchangeStoreAdd => "bare load exchange store add",
             Line::RwWriterReadUnlock => "rwlock writer read unlock",
             Line::RwWriterWriteUnlock => "rwlock writer write unlock",
+            Line::RwValueReadUnlock => "rwvalue read unlock",
+            Line::RwValueWriteUnlock => "rwvalue write unlock",
             Line::SemaphoreTryWaitPost => "semaphore try_wait post",
             Line::SemaphoreValue => "semaphore value",
             Line::BareLoadExchange => "bare load exchange",
@@ -187,6 +194,8 @@ impl Line {
             Line::BareLoadExchangeStoreAdd => Ok(yardsticks::bare_load_exchange_store_add()),
             Line::RwWriterReadUnlock => rwwriter::read_unlock(rt, alloc),
             Line::RwWriterWriteUnlock => rwwriter::write_unlock(rt, alloc),
+            Line::RwValueReadUnlock => rwvalue::read_unlock(rt, alloc),
+            Line::RwValueWriteUnlock => rwvalue::write_unlock(rt, alloc),
             Line::SemaphoreTryWaitPost => semaphore::try_wait_post(rt, alloc),
             Line::SemaphoreValue => semaphore::value(alloc),
             Line::BareLoadExchange => Ok(yardsticks::bare_load_exchange()),

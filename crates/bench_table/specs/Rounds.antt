@@ -3,7 +3,6 @@ use Rattle.std.specs.Prelude.{◌≡◌, ℕ, ◌≤◌, List, Result, OkIff, If
 use Rattle.std.specs.Str.{IsTrimAscii}
 use Rattle.std.specs.Str.Parse.{IsNumeral, digits_value, without_leading_plus}
 use Rattle.bench_table.specs.declared.fault.BenchFault.{BenchFault}
-use Rattle.bench_table.specs.declared.fault.BenchFault.TheVariants as faults
 use Rattle.bench_table.specs.declared.rounds.TheConstants.{MOST_ROUNDS}
 
 -- the number that a word of decimal digits says
@@ -21,4 +20,4 @@ pub record IsAskedBy (text : List ℕ) (asked : Result ℕ BenchFault) : Type 0 
   pub word : List ℕ
   pub trimmed : IsTrimAscii text word
   pub number : OkIff asked (IsAllowed word) (number_of word)
-  pub fault : IfErr asked (λ e. e ≡ faults.Rounds)
+  pub fault : IfErr asked (λ e. e ≡ BenchFault.Rounds)

@@ -3,7 +3,6 @@ use Rattle.std.specs.Prelude.{◌≡◌, ℕ, zero, suc, List, ◌++◌, Option,
 use Rattle.std.specs.List.{All}
 use Rattle.std.specs.Io.KnownBytes.{Appends, Consumes, IsAtEnd}
 use Rattle.bench_table.specs.declared.fault.BenchFault.{BenchFault}
-use Rattle.bench_table.specs.declared.fault.BenchFault.TheVariants as faults
 use Rattle.bench_table.specs.declared.measure.Column.{Column}
 use Rattle.bench_table.specs.Rounds.{IsAskedBy}
 use Rattle.bench_table.specs.Columns.{shapes, lines_at, IsInOrder}
@@ -40,15 +39,15 @@ pub record HasBenched (left left' written written' : Option (List ℕ)) : Type 0
 pub record HasNoRounds (left left' : Option (List ℕ)) : Type 0 where
   pub text : List ℕ
   pub read : HasRead left left' text
-  pub asked : IsAskedBy text (Err faults.Rounds)
+  pub asked : IsAskedBy text (Err BenchFault.Rounds)
 
 -- a fault of the input is told only where the input has it
 abbrev pub TellsFault : BenchFault → Option (List ℕ) → Option (List ℕ) → Type 0
-TellsFault faults.Rounds left left' = HasNoRounds left left'
+TellsFault BenchFault.Rounds left left' = HasNoRounds left left'
 TellsFault other left left' = Unit {0}
 
 -- reading ends early for these alone
 abbrev pub EndsReading : BenchFault → Type 0
-EndsReading faults.Read = Unit {0}
-EndsReading faults.Memory = Unit {0}
+EndsReading BenchFault.Read = Unit {0}
+EndsReading BenchFault.Memory = Unit {0}
 EndsReading other = ⊥

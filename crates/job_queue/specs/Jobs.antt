@@ -1,9 +1,7 @@
 -- What a queue is, as contracts see it, and what each call answers and leaves.
 use Rattle.std.specs.Prelude.{◌≡◌, ℕ, ◌+◌, ◌-◌, ◌^◌, nat_lt, List, [], ◌∷◌, ◌++◌, length, Option, Some, None, Bool, true, false, if◌then◌else◌}
 use Rattle.job_queue.specs.declared.answer.PutFault.{PutFault}
-use Rattle.job_queue.specs.declared.answer.PutFault.TheVariants as faults
 use Rattle.job_queue.specs.declared.answer.Taken.{Taken}
-use Rattle.job_queue.specs.declared.answer.Taken.TheVariants as takes
 
 -- the jobs in it with their tickets, the oldest first; how many there may be; the tickets of the next that is put, and of the next
 -- that is taken; whether it is closed
@@ -22,10 +20,10 @@ module _ {T : Type 0} where
   -- why this job is not put, if it is not
   abbrev pub refusal : Jobs T → T → Option (PutFault T)
   refusal s job =
-      if s.closed then Some (faults.Closed job)
+      if s.closed then Some (PutFault.Closed job)
       else if nat_lt (length s.items) s.capacity
-      then (if nat_lt (s.put + 1) (2 ^ 64) then None else Some (faults.TicketsOut job))
-      else Some (faults.Full job)
+      then (if nat_lt (s.put + 1) (2 ^ 64) then None else Some (PutFault.TicketsOut job))
+      else Some (PutFault.Full job)
 
   -- this job stands at its end, with the next ticket
   abbrev pub with_job : Jobs T → T → Jobs T
@@ -33,8 +31,8 @@ module _ {T : Type 0} where
 
   -- what a take answers, by whether the queue is closed and the jobs in it
   abbrev pub first_of : Bool → List (ℕ × T) → Taken T
-  first_of closed [] = if closed then takes.Closed else takes.Empty
-  first_of closed (job ∷ jobs) = takes.Job job.0 job.1
+  first_of closed [] = if closed then Taken.Closed else Taken.Empty
+  first_of closed (job ∷ jobs) = Taken.Job job.0 job.1
 
   -- and what it leaves
   abbrev pub rest_of : Jobs T → List (ℕ × T) → Jobs T

@@ -10,7 +10,7 @@ use Rattle.running_mutex.specs.MutexShown as mutexes
 use Rattle.running_mutex.specs.CondShown as conds
 use Rattle.running_spin_lock.specs.SpinShown as spins
 use Rattle.running_spin_lock.specs.SpinSteps.{HasPlayedBoth}
-use Rattle.steps_events.specs.declared.event.Call.TheVariants as calls
+use Rattle.steps_events.specs.declared.event.Call.{Call}
 use Rattle.running_mutex.specs.declared.condition_variable.CondPass.{CondPass}
 use Rattle.running_spin_lock.specs.declared.pass.SpinPass.{SpinPass}
 use Rattle.passes.specs.Passes as passes
@@ -44,7 +44,7 @@ pub record HasGoneInOnce (p q : QueuePass) : Type 0 where
   pub state : spins.HasLockedOnce (state_in p) (state_in q)
   -- by one `Lock` of the mutex and one `BlockingLock` of the state's lock, each with its `Unlock`, and no other call
   pub locked : mutexes.HasPlayedBoth (mutex_in p) (mutex_in q)
-  pub spun : HasPlayedBoth calls.BlockingLock (spins.view (state_in p)) (spins.view (state_in q))
+  pub spun : HasPlayedBoth Call.BlockingLock (spins.view (state_in p)) (spins.view (state_in q))
 
 -- so, each at least once
 pub record HasGoneIn (p q : QueuePass) : Type 0 where

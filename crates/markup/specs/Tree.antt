@@ -4,9 +4,7 @@ use Rattle.std.specs.List.{flat_map}
 use Rattle.std.specs.Char.{encode_utf8}
 use Rattle.std.specs.Str.{encode_utf8_all}
 use Rattle.markup.specs.declared.name.Tag.{Tag}
-use Rattle.markup.specs.declared.name.Tag.TheVariants as tags
 use Rattle.markup.specs.declared.name.Key.{Key}
-use Rattle.markup.specs.declared.name.Key.TheVariants as keys
 
 -- Characters.
 
@@ -28,44 +26,44 @@ shown char =
 -- Elements.
 
 abbrev pub tag_words : Tag → List ℕ
-tag_words tags.Svg = codes "svg"
-tag_words tags.Title = codes "title"
-tag_words tags.Style = codes "style"
-tag_words tags.Defs = codes "defs"
-tag_words tags.Pattern = codes "pattern"
-tag_words tags.Marker = codes "marker"
-tag_words tags.Rect = codes "rect"
-tag_words tags.Line = codes "line"
-tag_words tags.Circle = codes "circle"
-tag_words tags.Path = codes "path"
-tag_words tags.Text = codes "text"
+tag_words Tag.Svg = codes "svg"
+tag_words Tag.Title = codes "title"
+tag_words Tag.Style = codes "style"
+tag_words Tag.Defs = codes "defs"
+tag_words Tag.Pattern = codes "pattern"
+tag_words Tag.Marker = codes "marker"
+tag_words Tag.Rect = codes "rect"
+tag_words Tag.Line = codes "line"
+tag_words Tag.Circle = codes "circle"
+tag_words Tag.Path = codes "path"
+tag_words Tag.Text = codes "text"
 
 abbrev pub key_words : Key → List ℕ
-key_words keys.Namespace = codes "xmlns"
-key_words keys.ViewBox = codes "viewBox"
-key_words keys.Width = codes "width"
-key_words keys.Height = codes "height"
-key_words keys.Role = codes "role"
-key_words keys.Id = codes "id"
-key_words keys.Class = codes "class"
-key_words keys.X = codes "x"
-key_words keys.Y = codes "y"
-key_words keys.X1 = codes "x1"
-key_words keys.Y1 = codes "y1"
-key_words keys.X2 = codes "x2"
-key_words keys.Y2 = codes "y2"
-key_words keys.CenterX = codes "cx"
-key_words keys.CenterY = codes "cy"
-key_words keys.Radius = codes "r"
-key_words keys.Rounding = codes "rx"
-key_words keys.Outline = codes "d"
-key_words keys.Units = codes "patternUnits"
-key_words keys.Transform = codes "patternTransform"
-key_words keys.RefX = codes "refX"
-key_words keys.RefY = codes "refY"
-key_words keys.MarkerWidth = codes "markerWidth"
-key_words keys.MarkerHeight = codes "markerHeight"
-key_words keys.Orient = codes "orient"
+key_words Key.Namespace = codes "xmlns"
+key_words Key.ViewBox = codes "viewBox"
+key_words Key.Width = codes "width"
+key_words Key.Height = codes "height"
+key_words Key.Role = codes "role"
+key_words Key.Id = codes "id"
+key_words Key.Class = codes "class"
+key_words Key.X = codes "x"
+key_words Key.Y = codes "y"
+key_words Key.X1 = codes "x1"
+key_words Key.Y1 = codes "y1"
+key_words Key.X2 = codes "x2"
+key_words Key.Y2 = codes "y2"
+key_words Key.CenterX = codes "cx"
+key_words Key.CenterY = codes "cy"
+key_words Key.Radius = codes "r"
+key_words Key.Rounding = codes "rx"
+key_words Key.Outline = codes "d"
+key_words Key.Units = codes "patternUnits"
+key_words Key.Transform = codes "patternTransform"
+key_words Key.RefX = codes "refX"
+key_words Key.RefY = codes "refY"
+key_words Key.MarkerWidth = codes "markerWidth"
+key_words Key.MarkerHeight = codes "markerHeight"
+key_words Key.Orient = codes "orient"
 
 -- an attribute, and the characters of its value
 pub record Attribute : Type 0 where

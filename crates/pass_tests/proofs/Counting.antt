@@ -1,7 +1,6 @@
 -- Each step of the tests' counter keeps its rule.
-use Rattle.std.proofs.Common.{◌≡◌, ℕ, ◌+◌, ◌-◌, ◌%◌, ◌^◌, ◌<◌, ◌≤◌, List, get_or, set, refl, ap, ◌∙◌, arith, length-set, get_or-set_same}
-use Rattle.passes.specs.declared.view.View.{View}
-use Rattle.passes.specs.Views.{looked, wrote, Updates}
+use Rattle.pass_tests.specs.Names.{View, looked, wrote, Updates}
+use Rattle.pass_tests.proofs.Names.{◌≡◌, ℕ, ◌+◌, ◌-◌, ◌%◌, ◌^◌, ◌<◌, ◌≤◌, List, get_or, set, refl, ap, ◌∙◌, arith, length-set, get_or-set_same}
 use Rattle.pass_tests.specs.Counting.{IsCount, CounterAgrees, Looked, AddedTo, TookFrom}
 use Rattle.passes.proofs.Updates.{by_look}
 

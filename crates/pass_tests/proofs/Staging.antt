@@ -1,32 +1,24 @@
 -- The steps of the tests' counter are those of its table.
-use Rattle.std.proofs.Common.{◌≡◌, ℕ, refl, List, [], ◌∷◌, Some, None}
+use Rattle.pass_tests.specs.Names.{Word, Call, Intent, u64_arithmetic, View, Updates, Parties, all_of, Beginning, ComesBy, MayStep}
+use Rattle.pass_tests.proofs.Names.{◌≡◌, ℕ, refl, List, [], ◌∷◌, Some, None}
 use mathlib.Core.Option as maybe
-use Rattle.steps_events.specs.declared.event.Word.{Word}
-use Rattle.steps_events.specs.declared.event.Word.TheVariants as words
-use Rattle.steps_events.specs.declared.event.Call.{Call}
-use Rattle.steps_events.specs.declared.row.Intent.{Intent}
-use Rattle.steps_events.specs.Integers.{u64_arithmetic}
 use Rattle.steps_events.specs.Moves.{hold_fault, CallValues}
-use Rattle.passes.specs.declared.view.View.{View}
-use Rattle.passes.specs.Views.{Updates}
-use Rattle.playing.specs.Slots.{Parties, all_of}
 use Rattle.playing.specs.Words.{IsStepOn}
-use Rattle.playing.specs.Plays.{Beginning, ComesBy, MayStep}
 use Rattle.pass_tests.specs.Staging.{counter_begins, counter_table, counter_model}
 
 pub begins : (call : Call ℕ) (place : Intent ℕ) (p : Parties ℕ) → counter_begins call ≡ Some place → hold_fault counter_table call None ≡ None → CallValues u64_arithmetic call →
     ComesBy counter_model (Beginning call) call place None (all_of p) p
 begins call place p is free values = (refl, record { may = record { begins = is; free = free; values = values }; new = refl; others = refl })
 
-pub may : (call : Call ℕ) (intent : Word → Intent ℕ) (p : Parties ℕ) → counter_begins call ≡ Some (intent words.State) → hold_fault counter_table call None ≡ None → CallValues u64_arithmetic call →
-    IsStepOn words.State (intent words.State) → MayStep counter_model (words.State ∷ []) (Beginning call) 0 intent p
+pub may : (call : Call ℕ) (intent : Word → Intent ℕ) (p : Parties ℕ) → counter_begins call ≡ Some (intent Word.State) → hold_fault counter_table call None ≡ None → CallValues u64_arithmetic call →
+    IsStepOn Word.State (intent Word.State) → MayStep counter_model (Word.State ∷ []) (Beginning call) 0 intent p
 may call intent p is free values on = record {
   call = call;
-  place = intent words.State;
+  place = intent Word.State;
   hold = None;
   done = all_of p;
-  comes = begins call (intent words.State) p is free values;
-  name = words.State;
+  comes = begins call (intent Word.State) p is free values;
+  name = Word.State;
   named = refl;
   intends = refl;
   on = on;

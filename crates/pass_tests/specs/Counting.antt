@@ -1,11 +1,8 @@
 -- The counter of the tests: its word is what all passes have added, less what they took away again.
 use Rattle.std.proofs.Common.{◌≡◌, ℕ, ◌+◌, ◌%◌, ◌^◌, List, length, arith}
-use Rattle.std.specs.Prelude.{slice_index}
+use Rattle.pass_tests.specs.Names.{slice_index, View, IsTally, looked, wrote}
 use mathlib.Core.Option as maybe
-use Rattle.passes.specs.declared.view.View.{View}
 use Rattle.passes.specs.Parts.{IsWhole}
-use Rattle.passes.specs.Tallies.{IsTally}
-use Rattle.passes.specs.Views.{looked, wrote}
 
 pub counts_add_up : IsTally 0 (λ a b. a + b) (λ (_ : ℕ). 0)
 counts_add_up = record { unit = λ a. omega arith; swap = λ a b. omega arith; group = λ a b c. omega arith; copy = λ a. omega arith }

@@ -1,25 +1,14 @@
 -- The model of the tests: a word of which each call makes one step. Its places are what the steps are to do.
-use Rattle.std.specs.Prelude.{ℕ, false, unwrap_or, List, Option, Some, None}
-use Rattle.steps_events.specs.declared.event.Word.TheVariants as words
-use Rattle.steps_events.specs.declared.event.Call.{Call}
-use Rattle.steps_events.specs.declared.event.Call.TheVariants as calls
-use Rattle.steps_events.specs.declared.event.Answer.TheVariants as answers
+use Rattle.pass_tests.specs.Names.{ℕ, false, unwrap_or, List, Option, Some, None, Word, Call, Answer, Intent, After, u64_arithmetic, Table, Model, IsTally}
 use Rattle.steps_events.specs.declared.event.Event.{Event}
-use Rattle.steps_events.specs.declared.row.Intent.{Intent}
-use Rattle.steps_events.specs.declared.row.Intent.TheVariants as intents
-use Rattle.steps_events.specs.declared.row.After.TheVariants as afters
-use Rattle.steps_events.specs.Integers.{u64_arithmetic}
-use Rattle.steps_events.specs.Tables.{Table}
-use Rattle.playing.specs.Models.{Model}
 use Rattle.std.proofs.Common.{refl}
-use Rattle.passes.specs.Tallies.{IsTally}
 
 abbrev pub counter_begins : Call ℕ → Option (Intent ℕ)
-counter_begins calls.Value = Some (intents.Load words.State)
-counter_begins (calls.Post n) = Some (intents.Add words.State n)
-counter_begins calls.TryWait = Some (intents.Subtract words.State 1)
-counter_begins calls.NotifyAll = Some (intents.Store words.State 0)
-counter_begins calls.TryLock = Some (intents.Exchange words.State 0 1)
+counter_begins Call.Value = Some (Intent.Load Word.State)
+counter_begins (Call.Post n) = Some (Intent.Add Word.State n)
+counter_begins Call.TryWait = Some (Intent.Subtract Word.State 1)
+counter_begins Call.NotifyAll = Some (Intent.Store Word.State 0)
+counter_begins Call.TryLock = Some (Intent.Exchange Word.State 0 1)
 counter_begins other = None
 
 -- each call answers what its step told
@@ -31,7 +20,7 @@ counter_table =
       needs_hold = λ call. false;
       grant = λ call from to. None;
       intent = λ place hold. place;
-      after = λ place told. afters.Ends (answers.Number (unwrap_or told 0));
+      after = λ place told. After.Ends (Answer.Number (unwrap_or told 0));
       answered = λ place action. place;
       chosen = λ place choice. place;
     }

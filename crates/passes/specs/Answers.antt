@@ -4,7 +4,6 @@ use Rattle.std.specs.Borrow.{Fml, GName, RattleType, MutBor, Bor, follows_so}
 use Rattle.std.specs.Fn.{Shared, FnReturns, FnReturnsAt}
 use mathlib.Core.Option as maybe
 use Rattle.steps_events.specs.declared.WaitAction.{WaitAction}
-use Rattle.steps_events.specs.declared.WaitAction.TheVariants as actions
 use Rattle.passes.specs.declared.pass.Pass.{Pass}
 use Rattle.passes.specs.Passes.{sights_of}
 use Rattle.passes.specs.declared.wait.WaitResult.{WaitResult}
@@ -45,10 +44,10 @@ pub record MayAnswer {F W : Type 0} (g : Shared F (Bor W × (Bor ℕ × Unit {0}
   pub says : FnReturns g wait (word, (seen, tt)) action
 
 abbrev pub MayAnswerAbort : {F W : Type 0} → Shared F (Bor W × (Bor ℕ × Unit {0})) WaitAction → F → (ℕ → Type 0) → Type 0
-MayAnswerAbort g wait P = MayAnswer g wait P actions.Abort
+MayAnswerAbort g wait P = MayAnswer g wait P WaitAction.Abort
 
 abbrev pub MayAnswerContinue : {F W : Type 0} → Shared F (Bor W × (Bor ℕ × Unit {0})) WaitAction → F → (ℕ → Type 0) → Type 0
-MayAnswerContinue g wait P = MayAnswer g wait P actions.Continue
+MayAnswerContinue g wait P = MayAnswer g wait P WaitAction.Continue
 
 -- A call that gave up looked so often by itself, and then once more at least; a second time only where the wait closure may answer
 -- Continue. So where it never does, the looks are counted exactly.

@@ -1,14 +1,6 @@
 -- What becomes of what a pass counts over several tries.
-use Rattle.std.proofs.Common.{◌≡◌, ℕ, ◌+◌, ◌≤◌, Bool, true, false, MatchBool, refl, ap, ◌∙◌, sym, subst, arith}
-use Rattle.std.specs.Borrow.{Bor}
-use Rattle.std.specs.Fn.{Shared}
-use Rattle.steps_events.specs.declared.WaitAction.{WaitAction}
-use Rattle.passes.specs.declared.part.Part.{Part}
-use Rattle.passes.specs.declared.pass.Pass.{Pass}
-use Rattle.passes.specs.declared.view.View.{View}
-use Rattle.passes.specs.Passes.{part_of, sights_of}
-use Rattle.passes.specs.Answers.{HasAsked}
-use Rattle.passes.proofs.Attempts.{read_twice, read_and_written}
+use Rattle.playing.specs.Names.{Bor, Shared, WaitAction, Part, Pass, View, part_of, sights_of, HasAsked}
+use Rattle.playing.proofs.Names.{◌≡◌, ℕ, ◌+◌, ◌≤◌, Bool, true, false, MatchBool, refl, ap, ◌∙◌, sym, subst, arith, read_twice, read_and_written}
 use Rattle.playing.specs.declared.played.Played.{Played}
 use Rattle.playing.specs.Passes.{counts_of}
 use Rattle.playing.specs.Counts.{HasSeen, HasMissed, HasOnlySeen, HasMoved, WasRefused, WasRefusedAt}

@@ -1,10 +1,6 @@
 -- The test whether a pass has a hold tells it.
-use Rattle.std.proofs.Common.{◌≡◌, ℕ, zero, suc, refl, ap, ◌∙◌, Bool, true, false, List, [], ◌∷◌, Option, Some, None}
-use Rattle.std.specs.Prelude.{◌&&◌, is_none}
-use Rattle.steps_events.specs.declared.event.Event.{Event}
-use Rattle.steps_events.specs.declared.hold.HoldKind.{HoldKind}
-use Rattle.steps_events.specs.declared.hold.HoldKind.TheVariants as kinds
-use Rattle.steps_events.specs.Past.{call_of, hold_of}
+use Rattle.playing.specs.Names.{◌&&◌, is_none, Event, HoldKind, call_of, hold_of}
+use Rattle.playing.proofs.Names.{◌≡◌, ℕ, zero, suc, refl, ap, ◌∙◌, Bool, true, false, List, [], ◌∷◌, Option, Some, None}
 use Rattle.playing.specs.Models.{Model}
 use Rattle.playing.specs.Slots.{Slot, Free, Mine, Torn, only, Parties}
 use Rattle.playing.specs.Plays.{IsHolding}
@@ -42,16 +38,16 @@ none_is None is = refl
 none_is (Some x) is = absurd cc
 
 kind_is : (kind : HoldKind) (hold : Option HoldKind) → is_kind kind hold ≡ true → hold ≡ Some kind
-kind_is kinds.Read None is = absurd cc
-kind_is kinds.Write None is = absurd cc
-kind_is kinds.Read (Some kinds.Read) is = refl
-kind_is kinds.Read (Some kinds.Write) is = absurd cc
-kind_is kinds.Write (Some kinds.Read) is = absurd cc
-kind_is kinds.Write (Some kinds.Write) is = refl
+kind_is HoldKind.Read None is = absurd cc
+kind_is HoldKind.Write None is = absurd cc
+kind_is HoldKind.Read (Some HoldKind.Read) is = refl
+kind_is HoldKind.Read (Some HoldKind.Write) is = absurd cc
+kind_is HoldKind.Write (Some HoldKind.Read) is = absurd cc
+kind_is HoldKind.Write (Some HoldKind.Write) is = refl
 
 is_kind_of : (kind : HoldKind) → is_kind kind (Some kind) ≡ true
-is_kind_of kinds.Read = refl
-is_kind_of kinds.Write = refl
+is_kind_of HoldKind.Read = refl
+is_kind_of HoldKind.Write = refl
 
 module _ {V P : Type 0} (m : Model V P) where
   pub holding_told : (kind : HoldKind) (p : Parties V) → is_holding m.table kind p ≡ true → IsHolding m kind p.resting p

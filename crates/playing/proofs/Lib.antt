@@ -1,3 +1,4 @@
+pub mod Names
 pub mod Own
 pub mod Next
 pub mod Words

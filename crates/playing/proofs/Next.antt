@@ -1,26 +1,10 @@
 -- The next event of a run, by its input.
-use Rattle.std.proofs.Common.{◌≡◌, ℕ, ◌≤◌, refl, ap, Bool, true, false, cond, List, [], ◌∷◌, Option, Some, None, arith}
-use Rattle.std.specs.Prelude.{nat_lt}
-use Rattle.std.proofs.lemmas.Bool.Decides.{nat_tests}
-use Rattle.steps_events.specs.declared.event.Call.{Call}
-use Rattle.steps_events.specs.declared.event.Act.TheVariants as acts
-use Rattle.steps_events.specs.declared.event.Event.{Event}
-use Rattle.steps_events.specs.declared.event.Then.TheVariants as thens
-use Rattle.steps_events.specs.declared.event.Input.{Input}
-use Rattle.steps_events.specs.declared.event.Input.TheVariants as inputs
-use Rattle.steps_events.specs.declared.event.StepFault.{StepFault}
-use Rattle.steps_events.specs.declared.event.StepFault.TheVariants as faults
-use Rattle.steps_events.specs.declared.WaitAction.{WaitAction}
-use Rattle.steps_events.specs.Arithmetic.{Arithmetic}
-use Rattle.steps_events.specs.Tables.{Table}
-use Rattle.steps_events.specs.Past.{PendingCall, call_of, hold_of, word_in, latest_outcome, event}
-use Rattle.steps_events.specs.Moves.{CallValues, stage_of, step_at, step_of, fault_at, begin_fault, go_fault, answer_fault, choose_fault, InputValues, IsNext}
-use Rattle.steps_events.specs.Runs.{IsPast}
-use Rattle.steps_events.proofs.Steps.{carried_is_step}
+use Rattle.playing.specs.Names.{nat_lt, Call, Act, Event, Then, Input, StepFault, WaitAction, Arithmetic, Table, PendingCall, call_of, hold_of, word_in, latest_outcome, event, CallValues, stage_of, step_at, step_of, fault_at, begin_fault, go_fault, answer_fault, choose_fault, InputValues, IsNext, IsPast}
+use Rattle.playing.proofs.Names.{◌≡◌, ℕ, ◌≤◌, refl, ap, Bool, true, false, cond, List, [], ◌∷◌, Option, Some, None, arith, nat_tests, carried_is_step}
 
 -- More parties may be there.
 
-more_parties_fault : (b d : Bool) (fault : Option StepFault) → (b ≡ true → d ≡ true) → cond b fault (Some faults.NoParty) ≡ None → cond d fault (Some faults.NoParty) ≡ None
+more_parties_fault : (b d : Bool) (fault : Option StepFault) → (b ≡ true → d ≡ true) → cond b fault (Some StepFault.NoParty) ≡ None → cond d fault (Some StepFault.NoParty) ≡ None
 more_parties_fault true true fault so is = is
 more_parties_fault true false fault so is = let no : false ≡ true = so refl in absurd cc
 more_parties_fault false d fault so is = absurd cc
@@ -46,7 +30,7 @@ module _ {T P : Type 0} (z : Arithmetic T) (t : Table T P) where
 
   pub begins_next :
       (n : ℕ) (past : List (Event T)) (q : ℕ) (call : Call T) → nat_lt q n ≡ true → call_of q past ≡ None → begin_fault t None (hold_of t q past) call ≡ None → CallValues z call →
-      IsNext z t n past q (inputs.Begin call) (event q (acts.Begun call) thens.GoesOn)
+      IsNext z t n past q (Input.Begin call) (event q (Act.Begun call) Then.GoesOn)
   begins_next n past q call there idle free values = record {
     allowed = rw (there, idle) free;
     values = values;
@@ -57,7 +41,7 @@ module _ {T P : Type 0} (z : Arithmetic T) (t : Table T P) where
 
   pub answers_next :
       (n : ℕ) (past : List (Event T)) (q : ℕ) (c : PendingCall T) (action : WaitAction) → nat_lt q n ≡ true → call_of q past ≡ Some c → answer_fault (latest_outcome c.own) ≡ None →
-      IsNext z t n past q (inputs.Answer action) (event q (acts.Answered action) thens.GoesOn)
+      IsNext z t n past q (Input.Answer action) (event q (Act.Answered action) Then.GoesOn)
   answers_next n past q c action there called waits = record {
     allowed = rw (there, called) waits;
     values = tt;
@@ -67,8 +51,8 @@ module _ {T P : Type 0} (z : Arithmetic T) (t : Table T P) where
   }
 
   pub chooses_next :
-      (n : ℕ) (past : List (Event T)) (q : ℕ) (c : PendingCall T) (choice : Option T) → nat_lt q n ≡ true → call_of q past ≡ Some c → choose_fault (latest_outcome c.own) ≡ None → InputValues z (inputs.Choose choice) →
-      IsNext z t n past q (inputs.Choose choice) (event q (acts.Chosen choice) thens.GoesOn)
+      (n : ℕ) (past : List (Event T)) (q : ℕ) (c : PendingCall T) (choice : Option T) → nat_lt q n ≡ true → call_of q past ≡ Some c → choose_fault (latest_outcome c.own) ≡ None → InputValues z (Input.Choose choice) →
+      IsNext z t n past q (Input.Choose choice) (event q (Act.Chosen choice) Then.GoesOn)
   chooses_next n past q c choice there called chooses values = record {
     allowed = rw (there, called) chooses;
     values = values;
@@ -79,7 +63,7 @@ module _ {T P : Type 0} (z : Arithmetic T) (t : Table T P) where
 
   pub goes_next :
       (n : ℕ) (past : List (Event T)) (q : ℕ) (c : PendingCall T) (place : P) → nat_lt q n ≡ true → call_of q past ≡ Some c → stage_of t c ≡ Some place → go_fault (latest_outcome c.own) ≡ None →
-      IsNext z t n past q inputs.Go (event q (step_at t place (hold_of t q past) (word_in t past)).act (step_at t place (hold_of t q past) (word_in t past)).outcome)
+      IsNext z t n past q Input.Go (event q (step_at t place (hold_of t q past) (word_in t past)).act (step_at t place (hold_of t q past) (word_in t past)).outcome)
   goes_next n past q c place there called stage free = record {
     allowed = rw (there, called) free;
     values = tt;

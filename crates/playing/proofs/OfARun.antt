@@ -1,8 +1,6 @@
 -- Whenever the rule holds, all passes are the parties of a run that says what they count.
-use Rattle.std.specs.Prelude.{ℕ, List}
+use Rattle.playing.specs.Names.{ℕ, List, Word, Event}
 use mathlib.Core.Option as maybe
-use Rattle.steps_events.specs.declared.event.Word.{Word}
-use Rattle.steps_events.specs.declared.event.Event.{Event}
 use Rattle.playing.specs.Models.{Model}
 use Rattle.playing.specs.declared.played.Played.{Played}
 use Rattle.playing.specs.Passes.{PlaysAndCounts, IsOfARun}

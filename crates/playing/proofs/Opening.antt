@@ -1,9 +1,7 @@
 -- The words stand at a run in which nobody has made anything.
-use Rattle.std.proofs.Common.{ℕ, refl, List, []}
+use Rattle.playing.specs.Names.{Word, Event, IsPast}
+use Rattle.playing.proofs.Names.{ℕ, refl, List, []}
 use mathlib.Core.Option as maybe
-use Rattle.steps_events.specs.declared.event.Word.{Word}
-use Rattle.steps_events.specs.declared.event.Event.{Event}
-use Rattle.steps_events.specs.Runs.{IsPast}
 use Rattle.playing.specs.Models.{Model}
 use Rattle.playing.specs.Slots.{no_parties}
 use Rattle.playing.specs.Words.{AllHold}

@@ -1,18 +1,6 @@
 -- The events of one party tell its call and its hold.
-use Rattle.std.proofs.Common.{◌≡◌, ◌≢◌, ℕ, ◌<◌, ◌≤◌, ◌==◌, refl, sym, ap, ◌∙◌, subst, Bool, true, false, cond, List, [], ◌∷◌, Option, Some, None, ◌⊎◌, inl, inr, arith}
-use Rattle.std.specs.Prelude.{nat_lt}
-use Rattle.std.proofs.lemmas.Bool.Decides.{nat_tests, eqb_tells}
-use Rattle.steps_events.specs.declared.event.Act.{Act}
-use Rattle.steps_events.specs.declared.event.Event.{Event}
-use Rattle.steps_events.specs.declared.event.Then.{Then}
-use Rattle.steps_events.specs.declared.event.StepFault.{StepFault}
-use Rattle.steps_events.specs.declared.event.StepFault.TheVariants as faults
-use Rattle.steps_events.specs.declared.hold.HoldKind.{HoldKind}
-use Rattle.steps_events.specs.Past.{PendingCall, call_of, call_after, hold_of, hold_after, event}
-use Rattle.steps_events.specs.Moves.{fault_at}
-use Rattle.steps_events.specs.Runs.{IsPast}
-use Rattle.steps_events.proofs.Holds.{eqb_other, hold_of_same, hold_of_other}
-use Rattle.steps_events.specs.Tables.{Table}
+use Rattle.playing.specs.Names.{nat_lt, Act, Event, Then, StepFault, HoldKind, PendingCall, call_of, call_after, hold_of, hold_after, event, fault_at, IsPast, Table}
+use Rattle.playing.proofs.Names.{◌≡◌, ◌≢◌, ℕ, ◌<◌, ◌≤◌, ◌==◌, refl, sym, ap, ◌∙◌, subst, Bool, true, false, cond, List, [], ◌∷◌, Option, Some, None, ◌⊎◌, inl, inr, arith, nat_tests, eqb_tells, eqb_other, hold_of_same, hold_of_other}
 use Rattle.playing.specs.Models.{Model}
 use Rattle.playing.specs.Plays.{events_of}
 
@@ -47,10 +35,10 @@ module _ {V P : Type 0} (t : Table V P) where
 module _ {V P : Type 0} (m : Model V P) where
   -- a party that is not there has made nothing
 
-  below : (party n : ℕ) (fault : Option StepFault) → cond (nat_lt party n) fault (Some faults.NoParty) ≡ None → party < n
+  below : (party n : ℕ) (fault : Option StepFault) → cond (nat_lt party n) fault (Some StepFault.NoParty) ≡ None → party < n
   below party n fault is = by_test (nat_lt party n) refl is
     where
-      by_test : (b : Bool) → nat_lt party n ≡ b → cond b fault (Some faults.NoParty) ≡ None → party < n
+      by_test : (b : Bool) → nat_lt party n ≡ b → cond b fault (Some StepFault.NoParty) ≡ None → party < n
       by_test true test is = grind (arith, nat_tests)
       by_test false test is = absurd cc
 

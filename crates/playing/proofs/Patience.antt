@@ -1,13 +1,6 @@
 -- How a call that is refused goes on.
-use Rattle.std.proofs.Common.{◌≡◌, ℕ, ◌+◌, ◌<◌, Bool, true, false, cond, refl, sym, subst, List, None, arith}
-use Rattle.std.specs.Prelude.{nat_lt}
-use Rattle.std.proofs.lemmas.Bool.Decides.{nat_tests}
-use Rattle.steps_events.specs.declared.WaitAction.{WaitAction}
-use Rattle.steps_events.specs.declared.event.Call.{Call}
-use Rattle.steps_events.specs.declared.event.Then.TheVariants as thens
-use Rattle.steps_events.specs.declared.patience.Patience.{Patience}
-use Rattle.steps_events.specs.declared.row.After.TheVariants as afters
-use Rattle.steps_events.specs.Rows.{within, answered}
+use Rattle.playing.specs.Names.{nat_lt, WaitAction, Call, Then, Patience, After, within, answered}
+use Rattle.playing.proofs.Names.{◌≡◌, ℕ, ◌+◌, ◌<◌, Bool, true, false, cond, refl, sym, subst, List, None, arith, nat_tests}
 use Rattle.playing.specs.Models.{Model}
 use Rattle.playing.specs.Slots.{Slot, Parties}
 use Rattle.playing.specs.Plays.{Answered, IsAt, Leads, ComesBy}
@@ -17,11 +10,11 @@ module _ {V P : Type 0} (m : Model V P) (call : Call V) (place : Patience → P)
   -- it spins while it has spins left
 
   on_at : (n seen : ℕ) (b : Bool) (done : List (Slot V)) (p : Parties V) → n < 10000 → nat_lt n 10000 ≡ b →
-      Leads m call (within place (cond b (afters.At (spun (n + 1))) (afters.Waits (spun n) seen))) None done p → IsAt m call (place (spun (n + 1))) thens.GoesOn None done p
+      Leads m call (within place (cond b (After.At (spun (n + 1))) (After.Waits (spun n) seen))) None done p → IsAt m call (place (spun (n + 1))) Then.GoesOn None done p
   on_at n seen true done p below test at = at
   on_at n seen false done p below test at = absurd (grind (arith, nat_tests))
 
-  pub spins_on : (n seen : ℕ) (done : List (Slot V)) (p : Parties V) → n < 10000 → IsRefused m call place (spun n) seen done p → IsAt m call (place (spun (n + 1))) thens.GoesOn None done p
+  pub spins_on : (n seen : ℕ) (done : List (Slot V)) (p : Parties V) → n < 10000 → IsRefused m call place (spun n) seen done p → IsAt m call (place (spun (n + 1))) Then.GoesOn None done p
   spins_on n seen done p below at = on_at n seen (nat_lt n 10000) done p below refl at
 
   -- then it stands

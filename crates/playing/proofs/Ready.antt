@@ -1,31 +1,8 @@
 -- A pass that is ready for a step, whatever the others are, and where the step leads it.
-use Rattle.std.proofs.Common.{◌≡◌, ◌≢◌, ℕ, zero, ◌+◌, refl, sym, ap, subst, ◌∙◌, true, cond, List, [], ◌∷◌, Option, Some, None, ◌⊎◌, inl, inr, length, set, get_or, arith}
-use Rattle.std.specs.Prelude.{nat_lt}
-use Rattle.std.proofs.lemmas.Bool.Decides.{nat_tests}
+use Rattle.playing.specs.Names.{nat_lt, WaitAction, Word, Call, Answer, Act, Event, Then, Input, HoldKind, Intent, After, carried_out, value_told, outcome_of, place_after, PendingCall, word_after, call_of, call_after, call_going_on, hold_of, hold_after, hold_taken, hold_or, is_release, word_in, latest_outcome, event, stage_of, next_stage, begin_fault, IsNext, IsPast}
+use Rattle.playing.proofs.Names.{◌≡◌, ◌≢◌, ℕ, zero, ◌+◌, refl, sym, ap, subst, ◌∙◌, true, cond, List, [], ◌∷◌, Option, Some, None, ◌⊎◌, inl, inr, length, set, get_or, arith, nat_tests, eqb_same, call_of_same, hold_of_same, carried_goes_on, carried_stage}
 use mathlib.Core.Logic.{dite}
 use native.Mathlib.Decide.{ℕ_discrete}
-use Rattle.steps_events.specs.declared.WaitAction.{WaitAction}
-use Rattle.steps_events.specs.declared.event.Word.{Word}
-use Rattle.steps_events.specs.declared.event.Word.TheVariants as words
-use Rattle.steps_events.specs.declared.event.Call.{Call}
-use Rattle.steps_events.specs.declared.event.Answer.{Answer}
-use Rattle.steps_events.specs.declared.event.Act.{Act}
-use Rattle.steps_events.specs.declared.event.Act.TheVariants as acts
-use Rattle.steps_events.specs.declared.event.Event.{Event}
-use Rattle.steps_events.specs.declared.event.Then.{Then}
-use Rattle.steps_events.specs.declared.event.Then.TheVariants as thens
-use Rattle.steps_events.specs.declared.event.Input.TheVariants as inputs
-use Rattle.steps_events.specs.declared.hold.HoldKind.{HoldKind}
-use Rattle.steps_events.specs.declared.row.Intent.{Intent}
-use Rattle.steps_events.specs.declared.row.Intent.TheVariants as intents
-use Rattle.steps_events.specs.declared.row.After.{After}
-use Rattle.steps_events.specs.declared.row.After.TheVariants as afters
-use Rattle.steps_events.specs.Rows.{carried_out, value_told, outcome_of, place_after}
-use Rattle.steps_events.specs.Past.{PendingCall, word_after, call_of, call_after, call_going_on, hold_of, hold_after, hold_taken, hold_or, is_release, word_in, latest_outcome, event}
-use Rattle.steps_events.specs.Moves.{stage_of, next_stage, begin_fault, IsNext}
-use Rattle.steps_events.specs.Runs.{IsPast}
-use Rattle.steps_events.proofs.Holds.{eqb_same, call_of_same, hold_of_same}
-use Rattle.steps_events.proofs.Steps.{carried_goes_on, carried_stage}
 use Rattle.playing.specs.Models.{Model}
 use Rattle.playing.specs.Slots.{Slot, Free, Mine, Torn, both, all, slot_at, only, Parties, parties, all_of, both_parties}
 use Rattle.playing.specs.SlotLaws.{free_adds, group_all, all_of_both, slot_of_all, slot_of_only, slot_of_other, slot_past_end}
@@ -108,7 +85,7 @@ module _ {V P : Type 0} (m : Model V P) (names : List Word) where
     pub under_way : call_of party past ≡ Some pending
     pub called : pending.call ≡ call
     pub stage : stage_of m.table pending ≡ Some place
-    pub left : latest_outcome pending.own ≡ thens.GoesOn
+    pub left : latest_outcome pending.own ≡ Then.GoesOn
     pub has : hold_of m.table party past ≡ hold
     pub apart : Others others past party
 
@@ -125,7 +102,7 @@ module _ {V P : Type 0} (m : Model V P) (names : List Word) where
 
   -- the party acts
   ready_at : (found : List ℕ) (p rest : Parties V) (call : Call V) (place : P) (hold : Option HoldKind) (done : List (Slot V)) →
-      IsPlayed m names found (both_parties p rest) → IsAt m call place thens.GoesOn hold done p → Ready found (all done (all_of rest)) call place hold
+      IsPlayed m names found (both_parties p rest) → IsAt m call place Then.GoesOn hold done p → Ready found (all done (all_of rest)) call place hold
   ready_at found p rest call place hold done r at =
       let q : ℕ = at.party in
       let here = parted (all done (all_of rest)) r.past q at.own (moved r.past _ _ (with_acting p rest done (only q (Mine at.own)) at.acting at.resting) r.each) in
@@ -150,22 +127,22 @@ module _ {V P : Type 0} (m : Model V P) (names : List Word) where
       IsPast m.arithmetic m.table parties past → AllHold names found (word_in m.table past) → nat_lt q parties ≡ true → call_of q past ≡ None → hold_of m.table q past ≡ hold → Others others past q →
       MayBegin m call place hold → Ready found others call place hold
   begin_of found others parties past q call place hold run words there idle has apart may =
-      let act : Act V = acts.Begun call in
+      let act : Act V = Act.Begun call in
       let free : begin_fault m.table None (hold_of m.table q past) call ≡ None = rw (has, may.begins) may.free in
       record {
         parties = parties;
-        past = event q act thens.GoesOn ∷ past;
-        run = ((inputs.Begin call, begins_next m.arithmetic m.table parties past q call there idle free may.values), run);
-        words = same_hold names found (word_in m.table past) (word_in m.table (event q act thens.GoesOn ∷ past)) words (λ n. refl);
+        past = event q act Then.GoesOn ∷ past;
+        run = ((Input.Begin call, begins_next m.arithmetic m.table parties past q call there idle free may.values), run);
+        words = same_hold names found (word_in m.table past) (word_in m.table (event q act Then.GoesOn ∷ past)) words (λ n. refl);
         party = q;
         there = there;
         pending = fresh_call call;
-        under_way = call_of_same q act thens.GoesOn past;
+        under_way = call_of_same q act Then.GoesOn past;
         called = refl;
         stage = may.begins;
         left = refl;
-        has = hold_of_same m.table q act thens.GoesOn past ∙ has;
-        apart = others_on others past q act thens.GoesOn apart;
+        has = hold_of_same m.table q act Then.GoesOn past ∙ has;
+        apart = others_on others past q act Then.GoesOn apart;
       }
 
   -- as a party that has made nothing
@@ -197,7 +174,7 @@ module _ {V P : Type 0} (m : Model V P) (names : List Word) where
   ready_answered : (found : List ℕ) (p rest : Parties V) (action : WaitAction) (call : Call V) (place : P) (hold : Option HoldKind) (done : List (Slot V)) →
       IsPlayed m names found (both_parties p rest) → GoesOnAfter m action call place hold done p → Ready found (all done (all_of rest)) call place hold
   ready_answered found p rest action call place hold done r g =
-      let act : Act V = acts.Answered action in
+      let act : Act V = Act.Answered action in
       let at = g.at in
       let q : ℕ = at.party in
       let c : PendingCall V = at.pending in
@@ -208,25 +185,25 @@ module _ {V P : Type 0} (m : Model V P) (names : List Word) where
       let more = run_of_more m.arithmetic m.table r.parties (q + r.parties + 1) r.past (omega arith) r.run in
       record {
         parties = q + r.parties + 1;
-        past = event q act thens.GoesOn ∷ r.past;
-        run = ((inputs.Answer action, answers_next m.arithmetic m.table (q + r.parties + 1) r.past q c action there under_way (rw at.left refl)), more);
-        words = same_hold names found (word_in m.table r.past) (word_in m.table (event q act thens.GoesOn ∷ r.past)) r.hold (λ n. refl);
+        past = event q act Then.GoesOn ∷ r.past;
+        run = ((Input.Answer action, answers_next m.arithmetic m.table (q + r.parties + 1) r.past q c action there under_way (rw at.left refl)), more);
+        words = same_hold names found (word_in m.table r.past) (word_in m.table (event q act Then.GoesOn ∷ r.past)) r.hold (λ n. refl);
         party = q;
         there = there;
-        pending = record { call = c.call; own = event q act thens.GoesOn ∷ c.own };
-        under_way = call_of_same q act thens.GoesOn r.past ∙ ap (call_going_on act (event q act thens.GoesOn)) under_way;
+        pending = record { call = c.call; own = event q act Then.GoesOn ∷ c.own };
+        under_way = call_of_same q act Then.GoesOn r.past ∙ ap (call_going_on act (event q act Then.GoesOn)) under_way;
         called = at.called;
         stage = ap (next_stage m.table act) at.stage ∙ ap (λ (s : P). Some s) (sym g.answered);
         left = refl;
-        has = hold_of_same m.table q act thens.GoesOn r.past ∙ sym (own_hold m.table q r.past) ∙ ap (hold_of m.table q) here.1 ∙ at.has;
-        apart = others_on others r.past q act thens.GoesOn here.0;
+        has = hold_of_same m.table q act Then.GoesOn r.past ∙ sym (own_hold m.table q r.past) ∙ ap (hold_of m.table q) here.1 ∙ at.has;
+        apart = others_on others r.past q act Then.GoesOn here.0;
       }
 
   -- the choice closure has chosen
   ready_chooses : (found : List ℕ) (p rest : Parties V) (choice : Option V) (call : Call V) (place : P) (hold : Option HoldKind) (done : List (Slot V)) →
       IsPlayed m names found (both_parties p rest) → GoesOnChoosing m choice call place hold done p → Ready found (all done (all_of rest)) call place hold
   ready_chooses found p rest choice call place hold done r g =
-      let act : Act V = acts.Chosen choice in
+      let act : Act V = Act.Chosen choice in
       let at = g.at in
       let q : ℕ = at.party in
       let c : PendingCall V = at.pending in
@@ -237,45 +214,45 @@ module _ {V P : Type 0} (m : Model V P) (names : List Word) where
       let more = run_of_more m.arithmetic m.table r.parties (q + r.parties + 1) r.past (omega arith) r.run in
       record {
         parties = q + r.parties + 1;
-        past = event q act thens.GoesOn ∷ r.past;
-        run = ((inputs.Choose choice, chooses_next m.arithmetic m.table (q + r.parties + 1) r.past q c choice there under_way (rw at.left refl) g.values), more);
-        words = same_hold names found (word_in m.table r.past) (word_in m.table (event q act thens.GoesOn ∷ r.past)) r.hold (λ n. refl);
+        past = event q act Then.GoesOn ∷ r.past;
+        run = ((Input.Choose choice, chooses_next m.arithmetic m.table (q + r.parties + 1) r.past q c choice there under_way (rw at.left refl) g.values), more);
+        words = same_hold names found (word_in m.table r.past) (word_in m.table (event q act Then.GoesOn ∷ r.past)) r.hold (λ n. refl);
         party = q;
         there = there;
-        pending = record { call = c.call; own = event q act thens.GoesOn ∷ c.own };
-        under_way = call_of_same q act thens.GoesOn r.past ∙ ap (call_going_on act (event q act thens.GoesOn)) under_way;
+        pending = record { call = c.call; own = event q act Then.GoesOn ∷ c.own };
+        under_way = call_of_same q act Then.GoesOn r.past ∙ ap (call_going_on act (event q act Then.GoesOn)) under_way;
         called = at.called;
         stage = ap (next_stage m.table act) at.stage ∙ ap (λ (s : P). Some s) (sym g.chosen);
         left = refl;
-        has = hold_of_same m.table q act thens.GoesOn r.past ∙ sym (own_hold m.table q r.past) ∙ ap (hold_of m.table q) here.1 ∙ at.has;
-        apart = others_on others r.past q act thens.GoesOn here.0;
+        has = hold_of_same m.table q act Then.GoesOn r.past ∙ sym (own_hold m.table q r.past) ∙ ap (hold_of m.table q) here.1 ∙ at.has;
+        apart = others_on others r.past q act Then.GoesOn here.0;
       }
 
   -- its call has made a step on no word
   step_aside : (found : List ℕ) (others : List (Slot V)) (call : Call V) (from place : P) (hold : Option HoldKind) → Ready found others call from hold → IsAside (m.table.intent from hold) →
-      m.table.after from None ≡ afters.At place → Ready found others call place hold
+      m.table.after from None ≡ After.At place → Ready found others call place hold
   step_aside found others call from place hold r aside leads =
       let q : ℕ = r.party in
       let act : Act V = carried_out (m.table.intent from hold) (word_in m.table r.past) in
-      let e : Event V = event q act thens.GoesOn in
-      let led : m.table.after from (value_told act) ≡ afters.At place = ap (m.table.after from) (aside_tells_nothing (m.table.intent from hold) (word_in m.table r.past) aside) ∙ leads in
-      let here : IsNext m.arithmetic m.table r.parties r.past q inputs.Go (event q act (outcome_of (m.table.after from (value_told act)))) =
-      subst (λ (k : Option HoldKind). IsNext m.arithmetic m.table r.parties r.past q inputs.Go (event q (carried_out (m.table.intent from k) (word_in m.table r.past)) (outcome_of (m.table.after from (value_told (carried_out (m.table.intent from k) (word_in m.table r.past))))))) r.has
+      let e : Event V = event q act Then.GoesOn in
+      let led : m.table.after from (value_told act) ≡ After.At place = ap (m.table.after from) (aside_tells_nothing (m.table.intent from hold) (word_in m.table r.past) aside) ∙ leads in
+      let here : IsNext m.arithmetic m.table r.parties r.past q Input.Go (event q act (outcome_of (m.table.after from (value_told act)))) =
+      subst (λ (k : Option HoldKind). IsNext m.arithmetic m.table r.parties r.past q Input.Go (event q (carried_out (m.table.intent from k) (word_in m.table r.past)) (outcome_of (m.table.after from (value_told (carried_out (m.table.intent from k) (word_in m.table r.past))))))) r.has
       (goes_next m.arithmetic m.table r.parties r.past q r.pending from r.there r.under_way r.stage (rw r.left refl)) in
       record {
         parties = r.parties;
         past = e ∷ r.past;
-        run = ((inputs.Go, subst (λ (o : Then V). IsNext m.arithmetic m.table r.parties r.past q inputs.Go (event q act o)) (ap outcome_of led) here), r.run);
+        run = ((Input.Go, subst (λ (o : Then V). IsNext m.arithmetic m.table r.parties r.past q Input.Go (event q act o)) (ap outcome_of led) here), r.run);
         words = same_hold names found (word_in m.table r.past) (word_in m.table (e ∷ r.past)) r.words (λ n. aside_leaves_words n (m.table.intent from hold) (word_in m.table r.past) (word_in m.table r.past n) aside);
         party = q;
         there = r.there;
         pending = record { call = r.pending.call; own = e ∷ r.pending.own };
-        under_way = call_of_same q act thens.GoesOn r.past ∙ ap (call_going_on act e) r.under_way ∙ carried_goes_on (m.table.intent from hold) (word_in m.table r.past) e r.pending;
+        under_way = call_of_same q act Then.GoesOn r.past ∙ ap (call_going_on act e) r.under_way ∙ carried_goes_on (m.table.intent from hold) (word_in m.table r.past) e r.pending;
         called = r.called;
         stage = ap (next_stage m.table act) r.stage ∙ carried_stage m.table from (m.table.intent from hold) (word_in m.table r.past) ∙ ap place_after led;
         left = refl;
-        has = hold_of_same m.table q act thens.GoesOn r.past ∙ aside_leaves_holds m.table (m.table.intent from hold) (word_in m.table r.past) (call_of q r.past) (hold_of m.table q r.past) aside ∙ r.has;
-        apart = others_on others r.past q act thens.GoesOn r.apart;
+        has = hold_of_same m.table q act Then.GoesOn r.past ∙ aside_leaves_holds m.table (m.table.intent from hold) (word_in m.table r.past) (call_of q r.past) (hold_of m.table q r.past) aside ∙ r.has;
+        apart = others_on others r.past q act Then.GoesOn r.apart;
       }
 
   pub ready : (coming : Coming V) (found : List ℕ) (p rest : Parties V) (call : Call V) (place : P) (hold : Option HoldKind) (done : List (Slot V)) →
@@ -291,15 +268,15 @@ module _ {V P : Type 0} (m : Model V P) (names : List Word) where
   -- What acts on no word leave as it is, is right before the step as it was.
 
   is_on_no_word : (intent : Intent V) (memory : Word → ℕ) → IsAside intent → IsOnNoWord (carried_out intent memory)
-  is_on_no_word (intents.Load v) memory aside = absurd aside
-  is_on_no_word (intents.Store v put) memory aside = absurd aside
-  is_on_no_word (intents.Swap v put) memory aside = absurd aside
-  is_on_no_word (intents.Add v more) memory aside = absurd aside
-  is_on_no_word (intents.Subtract v less) memory aside = absurd aside
-  is_on_no_word (intents.Exchange v from to) memory aside = absurd aside
-  is_on_no_word (intents.Wake who) memory aside = tt
-  is_on_no_word intents.End memory aside = tt
-  is_on_no_word (intents.ReadCell value) memory aside = tt
+  is_on_no_word (Intent.Load v) memory aside = absurd aside
+  is_on_no_word (Intent.Store v put) memory aside = absurd aside
+  is_on_no_word (Intent.Swap v put) memory aside = absurd aside
+  is_on_no_word (Intent.Add v more) memory aside = absurd aside
+  is_on_no_word (Intent.Subtract v less) memory aside = absurd aside
+  is_on_no_word (Intent.Exchange v from to) memory aside = absurd aside
+  is_on_no_word (Intent.Wake who) memory aside = tt
+  is_on_no_word Intent.End memory aside = tt
+  is_on_no_word (Intent.ReadCell value) memory aside = tt
 
   pub still : (Says : List (Event V) → Type 0) → ((past : List (Event V)) (e : Event V) → IsOnNoWord e.act → Says past → Says (e ∷ past)) →
       (coming : Coming V) (found : List ℕ) (p rest : Parties V) (call : Call V) (place : P) (hold : Option HoldKind) (done : List (Slot V)) →
@@ -321,8 +298,8 @@ module _ {V P : Type 0} (m : Model V P) (names : List Word) where
   acted : (p : Parties V) (done acting : List (Slot V)) → p.acting ≡ acting → p.resting ≡ done → all_of p ≡ all acting done
   acted p done acting first second = λ i. all (first i) (second i)
 
-  own_again : (q : ℕ) (act : Act V) (past : List (Event V)) (own : List (Event V)) → events_of q past ≡ own → events_of q (event q act thens.GoesOn ∷ past) ≡ event q act thens.GoesOn ∷ own
-  own_again q act past own is = rw (eqb_same q) (ap (λ (o : List (Event V)). event q act thens.GoesOn ∷ o) is)
+  own_again : (q : ℕ) (act : Act V) (past : List (Event V)) (own : List (Event V)) → events_of q past ≡ own → events_of q (event q act Then.GoesOn ∷ past) ≡ event q act Then.GoesOn ∷ own
+  own_again q act past own is = rw (eqb_same q) (ap (λ (o : List (Event V)). event q act Then.GoesOn ∷ o) is)
 
   pub came : (coming : Coming V) (found : List ℕ) (p rest : Parties V) (call : Call V) (place : P) (hold : Option HoldKind) (done : List (Slot V)) →
       (r : IsPlayed m names found (both_parties p rest)) (comes : ComesBy m coming call place hold done p) →
@@ -333,31 +310,31 @@ module _ {V P : Type 0} (m : Model V P) (names : List Word) where
       record { own = comes.own; was = inr (acted p done _ comes.acting comes.resting); since = inl here.1 }
   came (Beginning begun) found p rest call place hold done r comes =
       let q : ℕ = r.parties + length (all done (all_of rest)) in
-      record { own = []; was = inl (comes.1.others, refl); since = inr (event q (acts.Begun call) thens.GoesOn, tt, own_again q (acts.Begun call) r.past [] (absent m r.parties q r.past (omega arith) r.run)) }
+      record { own = []; was = inl (comes.1.others, refl); since = inr (event q (Act.Begun call) Then.GoesOn, tt, own_again q (Act.Begun call) r.past [] (absent m r.parties q r.past (omega arith) r.run)) }
   came (Continuing begun) found p rest call place hold done r comes =
       let h = comes.1.holding in
       let here = parted (all done (all_of rest)) r.past h.party h.own (moved r.past _ _ (with_acting p rest done (only h.party (Mine h.own)) h.acting h.resting) r.each) in
-      record { own = h.own; was = inr (acted p done _ h.acting h.resting); since = inr (event h.party (acts.Begun call) thens.GoesOn, tt, own_again h.party (acts.Begun call) r.past h.own here.1) }
+      record { own = h.own; was = inr (acted p done _ h.acting h.resting); since = inr (event h.party (Act.Begun call) Then.GoesOn, tt, own_again h.party (Act.Begun call) r.past h.own here.1) }
   came (Answered action) found p rest call place hold done r comes =
       let at = comes.at in
       let here = parted (all done (all_of rest)) r.past at.party at.own (moved r.past _ _ (with_acting p rest done (only at.party (Mine at.own)) at.acting at.resting) r.each) in
-      record { own = at.own; was = inr (acted p done _ at.acting at.resting); since = inr (event at.party (acts.Answered action) thens.GoesOn, tt, own_again at.party (acts.Answered action) r.past at.own here.1) }
+      record { own = at.own; was = inr (acted p done _ at.acting at.resting); since = inr (event at.party (Act.Answered action) Then.GoesOn, tt, own_again at.party (Act.Answered action) r.past at.own here.1) }
   came (Choosing choice) found p rest call place hold done r comes =
       let at = comes.at in
       let here = parted (all done (all_of rest)) r.past at.party at.own (moved r.past _ _ (with_acting p rest done (only at.party (Mine at.own)) at.acting at.resting) r.each) in
-      record { own = at.own; was = inr (acted p done _ at.acting at.resting); since = inr (event at.party (acts.Chosen choice) thens.GoesOn, tt, own_again at.party (acts.Chosen choice) r.past at.own here.1) }
+      record { own = at.own; was = inr (acted p done _ at.acting at.resting); since = inr (event at.party (Act.Chosen choice) Then.GoesOn, tt, own_again at.party (Act.Chosen choice) r.past at.own here.1) }
   came Aside found p rest call place hold done r comes =
       let at = comes.at in
       let here = parted (all done (all_of rest)) r.past at.party at.own (moved r.past _ _ (with_acting p rest done (only at.party (Mine at.own)) at.acting at.resting) r.each) in
       let act : Act V = carried_out (m.table.intent comes.from hold) (word_in m.table r.past) in
-      record { own = at.own; was = inr (acted p done _ at.acting at.resting); since = inr (event at.party act thens.GoesOn, is_on_no_word (m.table.intent comes.from hold) (word_in m.table r.past) comes.aside, own_again at.party act r.past at.own here.1) }
+      record { own = at.own; was = inr (acted p done _ at.acting at.resting); since = inr (event at.party act Then.GoesOn, is_on_no_word (m.table.intent comes.from hold) (word_in m.table r.past) comes.aside, own_again at.party act r.past at.own here.1) }
 
   -- The step is made.
 
   -- the hold that an act takes depends on the call alone
   taken_by_call : (act : Act V) (c : PendingCall V) → hold_taken m.table act (Some c) ≡ hold_taken m.table act (Some (fresh_call c.call))
-  taken_by_call (acts.Exchange words.State from to found true) c = refl
-  taken_by_call (acts.Swap words.State zero put) c = refl
+  taken_by_call (Act.Exchange Word.State from to found true) c = refl
+  taken_by_call (Act.Swap Word.State zero put) c = refl
   taken_by_call act c = refl
 
   then_by_call : (act : Act V) (c : PendingCall V) (hold : Option HoldKind) → hold_after m.table act (Some c) hold ≡ hold_after m.table act (Some (fresh_call c.call)) hold
@@ -418,8 +395,8 @@ module _ {V P : Type 0} (m : Model V P) (names : List Word) where
       run : IsPast m.arithmetic m.table r.parties new
       run = (
         (
-          inputs.Go,
-          subst (λ (a : Act V). IsNext m.arithmetic m.table r.parties r.past q inputs.Go (event q a (outcome_of (m.table.after place (value_told a))))) act_is
+          Input.Go,
+          subst (λ (a : Act V). IsNext m.arithmetic m.table r.parties r.past q Input.Go (event q a (outcome_of (m.table.after place (value_told a))))) act_is
               (goes_next m.arithmetic m.table r.parties r.past q r.pending place r.there r.under_way r.stage (rw r.left refl)),
         ),
         r.run,
@@ -473,7 +450,7 @@ module _ {V P : Type 0} (m : Model V P) (names : List Word) where
             has = hold_now;
           })
 
-      answered : (answer : Answer V) → m.table.after place (value_told act) ≡ afters.Ends answer → WasAnswered m call answer q own
+      answered : (answer : Answer V) → m.table.after place (value_told act) ≡ After.Ends answer → WasAnswered m call answer q own
       answered answer is = record {
         parties = r.parties;
         past = r.past;
@@ -488,7 +465,7 @@ module _ {V P : Type 0} (m : Model V P) (names : List Word) where
         answered = ap outcome_of is;
       }
 
-      ended : (answer : Answer V) → m.table.after place (value_told act) ≡ afters.Ends answer → (h : Option HoldKind) → hold_of m.table q own ≡ h →
+      ended : (answer : Answer V) → m.table.after place (value_told act) ≡ After.Ends answer → (h : Option HoldKind) → hold_of m.table q own ≡ h →
           Stepped found done rest i y r.past e (HasEnded m call answer h done)
       ended answer is None none = resting (HasEnded m call answer None done) (record { party = q; own = own; all_is = refl; answered = answered answer is; rests = refl })
       ended answer is (Some kind) has = acting (HasEnded m call answer (Some kind) done) (record {
@@ -507,7 +484,7 @@ module _ {V P : Type 0} (m : Model V P) (names : List Word) where
       })
 
       by_after : (a : After V P) → m.table.after place (value_told (act_at m place hold x)) ≡ a → Stepped found done rest i y r.past e (Leads m call a (hold_then m call place hold x) done)
-      by_after (afters.At next) is = on_from (afters.At next) next is refl (λ k. refl)
-      by_after (afters.Waits next told) is = on_from (afters.Waits next told) next is refl (λ k. refl)
-      by_after (afters.Chooses next old) is = on_from (afters.Chooses next old) next is refl (λ k. refl)
-      by_after (afters.Ends answer) is = ended answer is (hold_then m call place hold x) hold_now
+      by_after (After.At next) is = on_from (After.At next) next is refl (λ k. refl)
+      by_after (After.Waits next told) is = on_from (After.Waits next told) next is refl (λ k. refl)
+      by_after (After.Chooses next old) is = on_from (After.Chooses next old) next is refl (λ k. refl)
+      by_after (After.Ends answer) is = ended answer is (hold_then m call place hold x) hold_now

@@ -1,14 +1,6 @@
 -- A pass stands at one place of one call.
-use Rattle.std.proofs.Common.{◌≡◌, ℕ, zero, suc, refl, sym, ap, ◌∙◌, List, Option, Some, None}
-use Rattle.steps_events.specs.declared.event.Call.{Call}
-use Rattle.steps_events.specs.declared.event.Event.{Event}
-use Rattle.steps_events.specs.declared.event.Then.{Then}
-use Rattle.steps_events.specs.declared.event.Then.TheVariants as thens
-use Rattle.steps_events.specs.declared.hold.HoldKind.{HoldKind}
-use Rattle.steps_events.specs.Rows.{place_after}
-use Rattle.steps_events.specs.Past.{PendingCall, call_of, hold_of}
-use Rattle.steps_events.specs.Moves.{stage_of}
-use Rattle.steps_events.proofs.Holds.{some_same}
+use Rattle.playing.specs.Names.{Call, Event, Then, HoldKind, place_after, PendingCall, call_of, hold_of, stage_of}
+use Rattle.playing.proofs.Names.{◌≡◌, ℕ, zero, suc, refl, sym, ap, ◌∙◌, List, Option, Some, None, some_same}
 use Rattle.playing.specs.Models.{Model}
 use Rattle.playing.specs.Slots.{Slot, Mine, only, Parties}
 use Rattle.playing.specs.Plays.{Coming, Going, Beginning, Continuing, Answered, Choosing, Aside, IsAt, IsHolding, ComesBy}
@@ -52,7 +44,7 @@ module _ {V P : Type 0} (m : Model V P) where
 
   pub same_coming : (coming : Coming V) (call other : Call V) (place there : P) (hold kept : Option HoldKind) (done rest : List (Slot V)) (p : Parties V) →
       ComesBy m coming call place hold done p → ComesBy m coming other there kept rest p → Same call other place there hold kept done rest
-  same_coming Going call other place there hold kept done rest p a b = same_at call other place there thens.GoesOn thens.GoesOn hold kept done rest p a b
+  same_coming Going call other place there hold kept done rest p a b = same_at call other place there Then.GoesOn Then.GoesOn hold kept done rest p a b
   same_coming (Beginning begun) call other place there hold kept done rest p a b =
       let same = same_beginning begun call other place there a.0 b.0 a.1.may.begins b.1.may.begins in
       record { same_call = same.0; same_place = same.1; same_hold = a.1.new ∙ sym b.1.new; same_done = sym a.1.others ∙ b.1.others }
@@ -61,7 +53,7 @@ module _ {V P : Type 0} (m : Model V P) where
       let holding = same_holding a.1.kind b.1.kind done rest p a.1.holding b.1.holding in
       record { same_call = same.0; same_place = same.1; same_hold = a.1.kept ∙ holding.0 ∙ sym b.1.kept; same_done = holding.1 }
   same_coming (Answered action) call other place there hold kept done rest p a b =
-      let same = same_at call other a.stood b.stood (thens.Waits a.told) (thens.Waits b.told) hold kept done rest p a.at b.at in
+      let same = same_at call other a.stood b.stood (Then.Waits a.told) (Then.Waits b.told) hold kept done rest p a.at b.at in
       record {
         same_call = same.same_call;
         same_place = a.answered ∙ ap (λ (s : P). m.table.answered s action) same.same_place ∙ sym b.answered;
@@ -69,7 +61,7 @@ module _ {V P : Type 0} (m : Model V P) where
         same_done = same.same_done;
       }
   same_coming (Choosing choice) call other place there hold kept done rest p a b =
-      let same = same_at call other a.stood b.stood (thens.Chooses a.old) (thens.Chooses b.old) hold kept done rest p a.at b.at in
+      let same = same_at call other a.stood b.stood (Then.Chooses a.old) (Then.Chooses b.old) hold kept done rest p a.at b.at in
       record {
         same_call = same.same_call;
         same_place = a.chosen ∙ ap (λ (s : P). m.table.chosen s choice) same.same_place ∙ sym b.chosen;
@@ -77,7 +69,7 @@ module _ {V P : Type 0} (m : Model V P) where
         same_done = same.same_done;
       }
   same_coming Aside call other place there hold kept done rest p a b =
-      let same = same_at call other a.from b.from thens.GoesOn thens.GoesOn hold kept done rest p a.at b.at in
+      let same = same_at call other a.from b.from Then.GoesOn Then.GoesOn hold kept done rest p a.at b.at in
       record {
         same_call = same.same_call;
         same_place = some_same place there (ap place_after (sym a.leads ∙ ap (λ (s : P). m.table.after s None) same.same_place ∙ b.leads));

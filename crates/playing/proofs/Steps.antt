@@ -1,12 +1,6 @@
 -- What the law of an object's steps says of one step, by its act and the call under way whose act it is.
-use Rattle.std.specs.Prelude.{◌≡◌, List, ◌∷◌, Option, Some, true, MatchBool, MatchOption}
-use Rattle.std.proofs.Common.{subst}
-use Rattle.steps_events.specs.declared.event.Call.{Call}
-use Rattle.steps_events.specs.declared.event.Act.{Act}
-use Rattle.steps_events.specs.declared.event.Then.{Then}
-use Rattle.steps_events.specs.declared.event.Event.{Event}
-use Rattle.steps_events.specs.Past.{PendingCall, call_of}
-use Rattle.steps_events.specs.Moves.{is_step}
+use Rattle.playing.specs.Names.{◌≡◌, List, ◌∷◌, Option, Some, true, MatchBool, MatchOption, Call, Act, Then, Event, PendingCall, call_of, is_step}
+use Rattle.playing.proofs.Names.{subst}
 use Rattle.steps_events.specs.NextStep.{StepsAs}
 
 pub next_step : {V : Type 0} (Next : Call V → List (Event V) → Act V → Then V → Type 0) (past : List (Event V)) (e : Event V) (c : PendingCall V) (act : Act V) → e.act ≡ act → is_step act ≡ true → call_of e.party past ≡ Some c →

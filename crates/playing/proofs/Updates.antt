@@ -1,20 +1,8 @@
 -- A step that the table has may be made.
-use Rattle.std.proofs.Common.{◌≡◌, ℕ, zero, suc, refl, sym, ap, subst, ◌∙◌, Bool, true, false, cond, List, [], ◌∷◌, Option, Some, set, get_or}
+use Rattle.playing.specs.Names.{Word, Call, Event, HoldKind, Intent, Act, carried_out, value_told, hold_after, word_in, IsPast, View, Sights, IsTally, Updates, view_of}
+use Rattle.playing.proofs.Names.{◌≡◌, ℕ, zero, suc, refl, sym, ap, subst, ◌∙◌, Bool, true, false, cond, List, [], ◌∷◌, Option, Some, set, get_or, eqb_same}
 use mathlib.Core.Option as maybe
 use prog.Atomic.{either}
-use Rattle.steps_events.specs.declared.event.Word.{Word}
-use Rattle.steps_events.specs.declared.event.Call.{Call}
-use Rattle.steps_events.specs.declared.event.Event.{Event}
-use Rattle.steps_events.specs.declared.hold.HoldKind.{HoldKind}
-use Rattle.steps_events.specs.declared.row.Intent.{Intent}
-use Rattle.steps_events.specs.declared.event.Act.{Act}
-use Rattle.steps_events.specs.Rows.{carried_out, value_told}
-use Rattle.steps_events.specs.Past.{hold_after, word_in}
-use Rattle.steps_events.specs.Runs.{IsPast}
-use Rattle.passes.specs.declared.view.View.{View}
-use Rattle.passes.specs.declared.part.Sights.{Sights}
-use Rattle.passes.specs.Tallies.{IsTally}
-use Rattle.passes.specs.Views.{Updates, view_of}
 use Rattle.playing.specs.Models.{Model}
 use Rattle.playing.specs.declared.played.Played.{Played}
 use Rattle.playing.specs.Slots.{Slot, Free, Mine, Torn, both, all, slot_at, only, all_of, Parties, no_parties, both_parties}
@@ -25,7 +13,6 @@ use Rattle.playing.specs.Passes.{played, none_played, both_played, counted_in, P
 use Rattle.playing.proofs.Words.{hold_at, carried_here}
 use Rattle.playing.proofs.Same.{same_coming}
 use Rattle.playing.proofs.Ready.{AllMatch, ready, still, came, step_event, steps}
-use Rattle.steps_events.proofs.Holds.{eqb_same}
 use Rattle.playing.proofs.Own.{own_call}
 
 free_first : {V : Type 0} (s r : Slot V) → both s r ≡ Free → s ≡ Free

@@ -1,21 +1,15 @@
 -- The words of an object under a step.
-use Rattle.std.proofs.Common.{◌≡◌, ℕ, zero, suc, ◌==◌, refl, sym, ap, subst, ◌∙◌, Bool, true, false, cond, List, [], ◌∷◌, set, get_or}
-use Rattle.std.specs.Prelude.{◌&&◌}
-use Rattle.steps_events.specs.declared.event.Word.{Word}
-use Rattle.steps_events.specs.declared.event.Word.TheVariants as words
-use Rattle.steps_events.specs.declared.row.Intent.{Intent}
-use Rattle.steps_events.specs.declared.row.Intent.TheVariants as intents
-use Rattle.steps_events.specs.Rows.{carried_out}
-use Rattle.steps_events.specs.Past.{same_word, word_after}
+use Rattle.playing.specs.Names.{◌&&◌, Word, Intent, carried_out, same_word, word_after}
+use Rattle.playing.proofs.Names.{◌≡◌, ℕ, zero, suc, ◌==◌, refl, sym, ap, subst, ◌∙◌, Bool, true, false, cond, List, [], ◌∷◌, set, get_or}
 use Rattle.playing.specs.Words.{AllHold, IsApart, AreApart, IsNamed, IsStepOn, effect}
 
 same_self : (w : Word) → same_word w w ≡ true
-same_self words.State = refl
-same_self words.Counter = refl
-same_self words.Waiters = refl
-same_self words.Value = refl
-same_self words.Low = refl
-same_self words.High = refl
+same_self Word.State = refl
+same_self Word.Counter = refl
+same_self Word.Waiters = refl
+same_self Word.Value = refl
+same_self Word.Low = refl
+same_self Word.High = refl
 
 pub hold_at : (names : List Word) (found : List ℕ) (i : ℕ) (w : Word) (memory : Word → ℕ) → AllHold names found memory → IsNamed names i w → get_or found i 0 ≡ memory w
 hold_at [] found i w memory hold named = absurd named
@@ -59,34 +53,34 @@ exchange_effect true from to x = refl
 exchange_effect false from to x = refl
 
 pub effect_here : {V : Type 0} (w : Word) (intent : Intent V) (memory : Word → ℕ) → IsStepOn w intent → word_after w (carried_out intent memory) (memory w) ≡ effect intent (memory w)
-effect_here w (intents.Load v) memory on = refl
-effect_here w (intents.Store v put) memory on = rw (on, same_self w) refl
-effect_here w (intents.Swap v put) memory on = rw (on, same_self w) refl
-effect_here w (intents.Add v more) memory on = rw (on, same_self w) refl
-effect_here w (intents.Subtract v less) memory on = rw (on, same_self w) refl
-effect_here w (intents.Exchange v from to) memory on = rw (on, same_self w) (exchange_effect (memory w == from) from to (memory w))
-effect_here w (intents.Wake wake) memory on = absurd on
-effect_here w intents.End memory on = absurd on
-effect_here w (intents.ReadCell value) memory on = absurd on
+effect_here w (Intent.Load v) memory on = refl
+effect_here w (Intent.Store v put) memory on = rw (on, same_self w) refl
+effect_here w (Intent.Swap v put) memory on = rw (on, same_self w) refl
+effect_here w (Intent.Add v more) memory on = rw (on, same_self w) refl
+effect_here w (Intent.Subtract v less) memory on = rw (on, same_self w) refl
+effect_here w (Intent.Exchange v from to) memory on = rw (on, same_self w) (exchange_effect (memory w == from) from to (memory w))
+effect_here w (Intent.Wake wake) memory on = absurd on
+effect_here w Intent.End memory on = absurd on
+effect_here w (Intent.ReadCell value) memory on = absurd on
 
 pub effect_there : {V : Type 0} (w n : Word) (intent : Intent V) (memory : Word → ℕ) (value : ℕ) → IsStepOn w intent → same_word w n ≡ false → word_after n (carried_out intent memory) value ≡ value
-effect_there w n (intents.Load v) memory value on apart = refl
-effect_there w n (intents.Store v put) memory value on apart = rw (on, apart) refl
-effect_there w n (intents.Swap v put) memory value on apart = rw (on, apart) refl
-effect_there w n (intents.Add v more) memory value on apart = rw (on, apart) refl
-effect_there w n (intents.Subtract v less) memory value on apart = rw (on, apart) refl
-effect_there w n (intents.Exchange v from to) memory value on apart = rw (on, apart) refl
-effect_there w n (intents.Wake wake) memory value on apart = absurd on
-effect_there w n intents.End memory value on apart = absurd on
-effect_there w n (intents.ReadCell cell) memory value on apart = absurd on
+effect_there w n (Intent.Load v) memory value on apart = refl
+effect_there w n (Intent.Store v put) memory value on apart = rw (on, apart) refl
+effect_there w n (Intent.Swap v put) memory value on apart = rw (on, apart) refl
+effect_there w n (Intent.Add v more) memory value on apart = rw (on, apart) refl
+effect_there w n (Intent.Subtract v less) memory value on apart = rw (on, apart) refl
+effect_there w n (Intent.Exchange v from to) memory value on apart = rw (on, apart) refl
+effect_there w n (Intent.Wake wake) memory value on apart = absurd on
+effect_there w n Intent.End memory value on apart = absurd on
+effect_there w n (Intent.ReadCell cell) memory value on apart = absurd on
 
 pub carried_here : {V : Type 0} (w : Word) (intent : Intent V) (memory : Word → ℕ) → IsStepOn w intent → carried_out intent memory ≡ carried_out intent (λ _. memory w)
-carried_here w (intents.Load v) memory on = rw on refl
-carried_here w (intents.Store v put) memory on = refl
-carried_here w (intents.Swap v put) memory on = rw on refl
-carried_here w (intents.Add v more) memory on = rw on refl
-carried_here w (intents.Subtract v less) memory on = rw on refl
-carried_here w (intents.Exchange v from to) memory on = rw on refl
-carried_here w (intents.Wake wake) memory on = absurd on
-carried_here w intents.End memory on = absurd on
-carried_here w (intents.ReadCell value) memory on = absurd on
+carried_here w (Intent.Load v) memory on = rw on refl
+carried_here w (Intent.Store v put) memory on = refl
+carried_here w (Intent.Swap v put) memory on = rw on refl
+carried_here w (Intent.Add v more) memory on = rw on refl
+carried_here w (Intent.Subtract v less) memory on = rw on refl
+carried_here w (Intent.Exchange v from to) memory on = rw on refl
+carried_here w (Intent.Wake wake) memory on = absurd on
+carried_here w Intent.End memory on = absurd on
+carried_here w (Intent.ReadCell value) memory on = absurd on

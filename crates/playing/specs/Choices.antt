@@ -1,24 +1,19 @@
 -- What a choice closure has chosen for a call under way.
-use Rattle.std.specs.Prelude.{List, Option, Some, None}
-use Rattle.std.specs.Borrow.{MutBor}
-use Rattle.steps_events.specs.declared.event.Call.{Call}
-use Rattle.steps_events.specs.declared.event.Then.TheVariants as thens
-use Rattle.steps_events.specs.declared.hold.HoldKind.{HoldKind}
+use Rattle.playing.specs.Names.{List, Option, Some, None, MutBor, Call, Then, HoldKind}
 use Rattle.playing.specs.declared.choosing.Choice.{Choice}
-use Rattle.playing.specs.declared.choosing.Choice.TheVariants as choices
 use Rattle.playing.specs.Models.{Model}
 use Rattle.playing.specs.Slots.{Slot, Parties}
 use Rattle.playing.specs.Plays.{IsAt}
 
 module _ {T V : Type 0} where
   abbrev pub choice_in : Choice T V → Option V
-  choice_in (choices.Value turn) = Some turn.value
-  choice_in (choices.Nothing turn) = None
+  choice_in (Choice.Value turn) = Some turn.value
+  choice_in (Choice.Nothing turn) = None
 
   -- the pass of the call
   abbrev pub pass_choosing : Choice T V → MutBor T
-  pass_choosing (choices.Value turn) = turn.pass
-  pass_choosing (choices.Nothing turn) = turn.pass
+  pass_choosing (Choice.Value turn) = turn.pass
+  pass_choosing (Choice.Nothing turn) = turn.pass
 
 -- a call of the pass stands at its choice closure, which is to be told this
 pub record StandsToChoose {V P : Type 0} (m : Model V P) (told : V) (p : Parties V) : Type 0 where
@@ -26,4 +21,4 @@ pub record StandsToChoose {V P : Type 0} (m : Model V P) (told : V) (p : Parties
   pub place : P
   pub hold : Option HoldKind
   pub done : List (Slot V)
-  pub at : IsAt m call place (thens.Chooses told) hold done p
+  pub at : IsAt m call place (Then.Chooses told) hold done p

@@ -1,14 +1,5 @@
 -- What a call changes in what a pass of an object that plays a model counts and saw; what it changes in its parties is said apart.
-use Rattle.std.specs.Prelude.{◌≡◌, ℕ}
-use Rattle.std.specs.Borrow.{Bor}
-use Rattle.std.specs.Fn.{Shared}
-use Rattle.steps_events.specs.declared.WaitAction.{WaitAction}
-use Rattle.passes.specs.declared.part.Part.{Part}
-use Rattle.passes.specs.declared.pass.Pass.{Pass}
-use Rattle.passes.specs.Sights.{HasLooked, HasOnlyRead, HasWritten}
-use Rattle.passes.specs.Views.{looked, missed, wrote}
-use Rattle.passes.specs.Passes.{part_of, sights_of, IsSamePass}
-use Rattle.passes.specs.Answers.{HasAsked}
+use Rattle.playing.specs.Names.{◌≡◌, ℕ, Bor, Shared, WaitAction, Part, Pass, HasLooked, HasOnlyRead, HasWritten, looked, missed, wrote, part_of, sights_of, IsSamePass, HasAsked}
 use Rattle.playing.specs.declared.played.Played.{Played}
 use Rattle.playing.specs.Passes.{counts_of, counted}
 

@@ -1,10 +1,5 @@
 -- Whether the acting party of a pass has a hold, as a test.
-use Rattle.std.specs.Prelude.{ℕ, zero, suc, Bool, true, false, ◌&&◌, is_none, List, [], ◌∷◌, Option, Some}
-use Rattle.steps_events.specs.declared.event.Event.{Event}
-use Rattle.steps_events.specs.declared.hold.HoldKind.{HoldKind}
-use Rattle.steps_events.specs.declared.hold.HoldKind.TheVariants as kinds
-use Rattle.steps_events.specs.Tables.{Table}
-use Rattle.steps_events.specs.Past.{call_of, hold_of}
+use Rattle.playing.specs.Names.{ℕ, zero, suc, Bool, true, false, ◌&&◌, is_none, List, [], ◌∷◌, Option, Some, Event, HoldKind, Table, call_of, hold_of}
 use Rattle.playing.specs.Slots.{Slot, Free, Mine, Torn, Parties}
 
 -- these are the slots of one party, which is its owner's
@@ -29,8 +24,8 @@ own_in (Mine own ∷ ss) = own
 own_in (Torn ∷ ss) = []
 
 abbrev pub is_kind : HoldKind → Option HoldKind → Bool
-is_kind kinds.Read (Some kinds.Read) = true
-is_kind kinds.Write (Some kinds.Write) = true
+is_kind HoldKind.Read (Some HoldKind.Read) = true
+is_kind HoldKind.Write (Some HoldKind.Write) = true
 is_kind kind hold = false
 
 -- the acting party has this hold, and no call under way

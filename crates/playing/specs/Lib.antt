@@ -1,3 +1,4 @@
+pub mod Names
 pub mod Models
 pub mod Slots
 pub mod SlotLaws

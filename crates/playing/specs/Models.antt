@@ -1,8 +1,5 @@
 -- A model, and what is known of every run of it.
-use Rattle.std.specs.Prelude.{List}
-use Rattle.steps_events.specs.declared.event.Event.{Event}
-use Rattle.steps_events.specs.Arithmetic.{Arithmetic}
-use Rattle.steps_events.specs.Tables.{Table}
+use Rattle.playing.specs.Names.{List, Event, Arithmetic, Table}
 
 -- The steps of an object over values of V: P is the type of the places of its calls.
 pub record Model (V P : Type 0) : Type 1 where

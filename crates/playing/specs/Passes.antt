@@ -1,27 +1,12 @@
 -- What a pass of an object that plays a model is there, and what it counts beside.
-use Rattle.std.specs.Prelude.{◌≡◌, ℕ, List, ◌∷◌, Option}
+use Rattle.playing.specs.Names.{◌≡◌, ℕ, List, ◌∷◌, Option, Pass, View, IsTally, view_of, view, tally_of, Word, Call, Event, HoldKind, Intent, carried_out, word_in, IsPast, Act, Sights}
 use mathlib.Core.Option as maybe
-use Rattle.passes.specs.declared.pass.Pass.{Pass}
-use Rattle.passes.specs.declared.view.View.{View}
-use Rattle.passes.specs.Tallies.{IsTally}
-use Rattle.passes.specs.Views.{view_of}
-use Rattle.passes.specs.Passes.{view, tally_of}
 use Rattle.playing.specs.Models.{Model}
 use Rattle.playing.specs.declared.played.Played.{Played}
 use Rattle.playing.specs.Slots.{Slot, slot_at, all_of, Parties, no_parties, both_parties}
 use Rattle.playing.specs.SlotLaws.{parties_add_up}
-use Rattle.steps_events.specs.declared.event.Word.{Word}
-use Rattle.steps_events.specs.declared.event.Call.{Call}
-use Rattle.steps_events.specs.declared.event.Event.{Event}
-use Rattle.steps_events.specs.declared.hold.HoldKind.{HoldKind}
 use Rattle.passes.specs.Parts.{IsWhole}
-use Rattle.steps_events.specs.declared.row.Intent.{Intent}
-use Rattle.steps_events.specs.Rows.{carried_out}
-use Rattle.steps_events.specs.Past.{word_in}
-use Rattle.steps_events.specs.Runs.{IsPast}
 use Rattle.playing.specs.Words.{AllHold, IsNamed, IsOnNoWord}
-use Rattle.steps_events.specs.declared.event.Act.{Act}
-use Rattle.passes.specs.declared.part.Sights.{Sights}
 use Rattle.playing.specs.Plays.{events_of, Matches, IsPlayed, Coming, ComesBy, IsStepAt, act_at, Went, WentBy, WentBeside, WentAlone}
 
 -- the act of the step that found this makes this of what the pass saw and counts, and nothing else does

@@ -1,22 +1,5 @@
 -- The rule of an object that plays a model: its words are those of some run of the model, in which the passes are parties.
-use Rattle.std.specs.Prelude.{◌≡◌, ◌⊎◌, ℕ, ◌==◌, if◌then◌else◌, List, [], ◌∷◌, Option, Some, None}
-use Rattle.steps_events.specs.declared.WaitAction.{WaitAction}
-use Rattle.steps_events.specs.declared.event.Word.{Word}
-use Rattle.steps_events.specs.declared.event.Call.{Call}
-use Rattle.steps_events.specs.declared.event.Act.{Act}
-use Rattle.steps_events.specs.declared.event.Answer.{Answer}
-use Rattle.steps_events.specs.declared.event.Then.{Then}
-use Rattle.steps_events.specs.declared.event.Then.TheVariants as thens
-use Rattle.steps_events.specs.declared.event.Event.{Event}
-use Rattle.steps_events.specs.declared.event.Input.TheVariants as inputs
-use Rattle.steps_events.specs.declared.hold.HoldKind.{HoldKind}
-use Rattle.steps_events.specs.declared.row.Intent.{Intent}
-use Rattle.steps_events.specs.declared.row.After.{After}
-use Rattle.steps_events.specs.declared.row.After.TheVariants as afters
-use Rattle.steps_events.specs.Rows.{carried_out, value_told}
-use Rattle.steps_events.specs.Past.{PendingCall, call_of, hold_of, hold_after, word_in, latest_outcome}
-use Rattle.steps_events.specs.Moves.{stage_of, hold_fault, CallValues, InputValues}
-use Rattle.steps_events.specs.Runs.{IsPast}
+use Rattle.playing.specs.Names.{◌≡◌, ◌⊎◌, ℕ, ◌==◌, if◌then◌else◌, List, [], ◌∷◌, Option, Some, None, WaitAction, Word, Call, Act, Answer, Then, Event, Input, HoldKind, Intent, After, carried_out, value_told, PendingCall, call_of, hold_of, hold_after, word_in, latest_outcome, stage_of, hold_fault, CallValues, InputValues, IsPast}
 use Rattle.playing.specs.Models.{Model}
 use Rattle.playing.specs.Slots.{Slot, Free, Mine, Torn, all, slot_at, only, Parties, all_of, both_parties}
 use Rattle.playing.specs.Words.{AllHold, IsNamed, IsStepOn, IsAside, IsOnNoWord}
@@ -114,7 +97,7 @@ module _ {V P : Type 0} (m : Model V P) where
     pub pending : PendingCall V
     pub under_way : call_of party past ≡ Some pending
     pub called : pending.call ≡ call
-    pub answered : latest.then ≡ thens.Answers answer
+    pub answered : latest.then ≡ Then.Answers answer
 
   -- what is left of a party whose call is over: its hold, with which it acts, or nothing to be done
   abbrev pub Rests : Option HoldKind → List (Slot V) → Parties V → Type 0
@@ -155,26 +138,26 @@ module _ {V P : Type 0} (m : Model V P) where
   pub record GoesOnAfter (action : WaitAction) (call : Call V) (place : P) (hold : Option HoldKind) (done : List (Slot V)) (p : Parties V) : Type 0 where
     pub stood : P
     pub told : ℕ
-    pub at : IsAt call stood (thens.Waits told) hold done p
+    pub at : IsAt call stood (Then.Waits told) hold done p
     pub answered : place ≡ m.table.answered stood action
 
   pub record GoesOnChoosing (choice : Option V) (call : Call V) (place : P) (hold : Option HoldKind) (done : List (Slot V)) (p : Parties V) : Type 0 where
     pub stood : P
     pub old : V
-    pub at : IsAt call stood (thens.Chooses old) hold done p
+    pub at : IsAt call stood (Then.Chooses old) hold done p
     pub chosen : place ≡ m.table.chosen stood choice
-    pub values : InputValues m.arithmetic (inputs.Choose choice)
+    pub values : InputValues m.arithmetic (Input.Choose choice)
 
   -- from where the step on no word is made
   pub record GoesOnAside (call : Call V) (place : P) (hold : Option HoldKind) (done : List (Slot V)) (p : Parties V) : Type 0 where
     pub from : P
-    pub at : IsAt call from thens.GoesOn hold done p
+    pub at : IsAt call from Then.GoesOn hold done p
     pub aside : IsAside (m.table.intent from hold)
-    pub leads : m.table.after from None ≡ afters.At place
+    pub leads : m.table.after from None ≡ After.At place
 
   -- by this way the pass comes to a step of this call at this place
   abbrev pub ComesBy : Coming V → Call V → P → Option HoldKind → List (Slot V) → Parties V → Type 0
-  ComesBy Going call place hold done p = IsAt call place thens.GoesOn hold done p
+  ComesBy Going call place hold done p = IsAt call place Then.GoesOn hold done p
   ComesBy (Beginning begun) call place hold done p = (begun ≡ call) × Begins call place hold done p
   ComesBy (Continuing begun) call place hold done p = (begun ≡ call) × BeginsHolding call place hold done p
   ComesBy (Answered action) call place hold done p = GoesOnAfter action call place hold done p
@@ -191,10 +174,10 @@ module _ {V P : Type 0} (m : Model V P) where
 
   -- what the pass is after a step that leads there
   abbrev pub Leads : Call V → After V P → Option HoldKind → List (Slot V) → Parties V → Type 0
-  Leads call (afters.At place) hold done p = IsAt call place thens.GoesOn hold done p
-  Leads call (afters.Waits place told) hold done p = IsAt call place (thens.Waits told) hold done p
-  Leads call (afters.Chooses place old) hold done p = IsAt call place (thens.Chooses old) hold done p
-  Leads call (afters.Ends answer) hold done p = HasEnded call answer hold done p
+  Leads call (After.At place) hold done p = IsAt call place Then.GoesOn hold done p
+  Leads call (After.Waits place told) hold done p = IsAt call place (Then.Waits told) hold done p
+  Leads call (After.Chooses place old) hold done p = IsAt call place (Then.Chooses old) hold done p
+  Leads call (After.Ends answer) hold done p = HasEnded call answer hold done p
 
   -- the step at a place, which found this, has led it on
   abbrev pub Led : Call V → P → Option HoldKind → ℕ → List (Slot V) → Parties V → Type 0

@@ -1,6 +1,6 @@
 -- The parties of passes add up.
 use Rattle.std.proofs.Common.{◌≡◌, ◌≢◌, ℕ, zero, suc, ◌≤◌, refl, sym, ap, ◌∙◌, List, [], ◌∷◌, length, arith}
-use Rattle.passes.specs.Tallies.{IsTally}
+use Rattle.playing.specs.Names.{IsTally}
 use Rattle.playing.specs.Slots.{Slot, Free, Mine, Torn, both, all, slot_at, only, Parties, parties, no_parties, all_of, both_parties}
 
 pub free_adds : {V : Type 0} (s : Slot V) → both s Free ≡ s

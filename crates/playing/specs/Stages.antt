@@ -1,7 +1,6 @@
 -- What contracts see of the words of an object that plays a model.
-use Rattle.std.specs.Prelude.{ℕ}
+use Rattle.playing.specs.Names.{ℕ, Pass}
 use Rattle.atomic_table.specs.Seated.{TableId}
-use Rattle.passes.specs.declared.pass.Pass.{Pass}
 use Rattle.passes.specs.declared.origin.Origin.{Origin}
 use Rattle.passes.specs.declared.words.Word.{Word}
 use Rattle.passes.specs.Objects as of_words

@@ -1,13 +1,6 @@
 -- Counts that are a sum over the acts of a run.
-use Rattle.std.specs.Prelude.{◌≡◌, ℕ, ◌+◌, if◌then◌else◌, List, [], ◌∷◌, Option, None}
+use Rattle.playing.specs.Names.{◌≡◌, ℕ, ◌+◌, if◌then◌else◌, List, [], ◌∷◌, Option, None, Act, Event, HoldKind, PendingCall, call_of, hold_taken, Table, IsTally}
 use Rattle.std.proofs.Common.{ap, sym, ◌∙◌, refl, arith}
-use Rattle.steps_events.specs.declared.event.Act.{Act}
-use Rattle.steps_events.specs.declared.event.Event.{Event}
-use Rattle.steps_events.specs.declared.hold.HoldKind.{HoldKind}
-use Rattle.steps_events.specs.declared.hold.HoldKind.TheVariants as kinds
-use Rattle.steps_events.specs.Past.{PendingCall, call_of, hold_taken}
-use Rattle.steps_events.specs.Tables.{Table}
-use Rattle.passes.specs.Tallies.{IsTally}
 use Rattle.playing.specs.Holding.{is_kind}
 use Rattle.playing.specs.Words.{IsOnNoWord, on_no_word}
 use Rattle.playing.specs.Passes.{StaysOnNoWord}
@@ -38,8 +31,8 @@ numbers_add_up = record { unit = λ n. omega arith; swap = λ n m. omega arith; 
 
 -- what takes no hold grants none
 pub no_kind : (kind : HoldKind) → ◌≡◌ {A = ℕ} (if is_kind kind None then 1 else 0) 0
-no_kind kinds.Read = refl
-no_kind kinds.Write = refl
+no_kind HoldKind.Read = refl
+no_kind HoldKind.Write = refl
 
 module _ {V P : Type 0} (t : Table V P) (kind : HoldKind) where
   -- whether an act of a call takes a hold of this kind, as a number

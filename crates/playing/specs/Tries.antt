@@ -1,16 +1,5 @@
 -- A call that tries again until it is granted or gives up.
-use Rattle.std.specs.Prelude.{◌≡◌, ℕ, true, List, Option, None}
-use Rattle.std.specs.Borrow.{Bor}
-use Rattle.std.specs.Fn.{Shared, FnReturns}
-use Rattle.steps_events.specs.declared.event.Word.{Word}
-use Rattle.steps_events.specs.declared.event.Wake.{Wake}
-use Rattle.steps_events.specs.declared.event.Call.{Call}
-use Rattle.steps_events.specs.declared.event.Answer.TheVariants as answers
-use Rattle.steps_events.specs.declared.event.Then.TheVariants as thens
-use Rattle.steps_events.specs.declared.hold.HoldKind.{HoldKind}
-use Rattle.steps_events.specs.declared.patience.Patience.{Patience}
-use Rattle.steps_events.specs.declared.row.Intent.TheVariants as intents
-use Rattle.steps_events.specs.Rows.{within, refused}
+use Rattle.playing.specs.Names.{◌≡◌, ℕ, true, List, Option, None, Bor, Shared, FnReturns, Word, Wake, Call, Answer, Then, HoldKind, Patience, Intent, within, refused}
 use Rattle.playing.specs.Models.{Model}
 use Rattle.playing.specs.Slots.{Slot, Parties}
 use Rattle.playing.specs.Words.{IsNamed}
@@ -37,15 +26,15 @@ module _ {V P : Type 0} (m : Model V P) (call : Call V) (place : Patience → P)
 
   -- it stands at its wait closure, to be told this
   abbrev pub IsStanding : ℕ → List (Slot V) → Parties V → Type 0
-  IsStanding told done p = IsAt m call (place (spun 10000)) (thens.Waits told) None done p
+  IsStanding told done p = IsAt m call (place (spun 10000)) (Then.Waits told) None done p
 
   -- it was granted, and has taken this hold
   abbrev pub IsGranted : Option HoldKind → List (Slot V) → Parties V → Type 0
-  IsGranted kind done p = HasEnded m call answers.Success kind done p
+  IsGranted kind done p = HasEnded m call Answer.Success kind done p
 
   -- it gave up
   abbrev pub HasGivenUp : List (Slot V) → Parties V → Type 0
-  HasGivenUp done p = HasEnded m call answers.Interrupted None done p
+  HasGivenUp done p = HasEnded m call Answer.Interrupted None done p
 
   -- what follows from where a first try was refused, by a word that held this
   abbrev pub OnceRefused : ℕ → Parties V → (List (Slot V) → Type 0) → Type 0
@@ -70,8 +59,8 @@ pub record IsToEnd {V P : Type 0} (m : Model V P) (p : Parties V) : Type 0 where
   pub place : P
   pub hold : Option HoldKind
   pub done : List (Slot V)
-  pub at : IsAt m call place thens.GoesOn hold done p
-  pub ends : m.table.intent place hold ≡ intents.End
+  pub at : IsAt m call place Then.GoesOn hold done p
+  pub ends : m.table.intent place hold ≡ Intent.End
 
 module _ {V P : Type 0} (m : Model V P) (names : List Word) (handed : P → Word) where
   -- a call of the pass stands at its wait closure, which is to be told this, and handed the word at this index
@@ -80,7 +69,7 @@ module _ {V P : Type 0} (m : Model V P) (names : List Word) (handed : P → Word
     pub place : P
     pub hold : Option HoldKind
     pub done : List (Slot V)
-    pub at : IsAt m call place (thens.Waits told) hold done p
+    pub at : IsAt m call place (Then.Waits told) hold done p
     pub word : IsNamed names index (handed place)
 
   -- the next that a call of the pass does is to call its wake closure, of the word at this index
@@ -89,7 +78,7 @@ module _ {V P : Type 0} (m : Model V P) (names : List Word) (handed : P → Word
     pub place : P
     pub hold : Option HoldKind
     pub done : List (Slot V)
-    pub at : IsAt m call place thens.GoesOn hold done p
+    pub at : IsAt m call place Then.GoesOn hold done p
     pub who : Wake
-    pub wakes : m.table.intent place hold ≡ intents.Wake who
+    pub wakes : m.table.intent place hold ≡ Intent.Wake who
     pub word : IsNamed names index (handed place)

@@ -1,10 +1,7 @@
 -- The end of an atomic, with the whole pass.
-use Rattle.std.proofs.Common.{◌≡◌, ℕ, sym, subst}
+use Rattle.running_atomic.specs.Names.{tally_of, Arithmetic, counts_of, counted, Free}
+use Rattle.running_atomic.proofs.Names.{◌≡◌, ℕ, sym, subst}
 use Rattle.passes.specs.Objects.{HaveClosed}
-use Rattle.passes.specs.Passes.{tally_of}
-use Rattle.steps_events.specs.Arithmetic.{Arithmetic}
-use Rattle.playing.specs.Passes.{counts_of, counted}
-use Rattle.tallies.specs.declared.held.Held.TheVariants.{Free}
 use Rattle.running_atomic.specs.declared.pass.AtomicPass.{AtomicPass}
 use Rattle.running_atomic.specs.AtomicParties.{StandsAtRun}
 use Rattle.running_atomic.specs.AtomicShown.{pass_in, parties_in, history_of}

@@ -1,23 +1,13 @@
 -- Each step of an atomic keeps its rule.
-use Rattle.std.proofs.Common.{◌≡◌, ℕ, ◌+◌, ◌-◌, ◌%◌, ◌^◌, ◌<◌, ◌==◌, Bool, true, false, List, [], ◌∷◌, ◌++◌, get_or, set, sym, refl, ap, ◌∙◌, subst, arith, length-set, get_or-set_same, get_or-set_other, None}
-use Rattle.std.specs.Prelude.{MatchBool}
+use Rattle.running_atomic.specs.Names.{MatchBool, Arithmetic, IsValue, IsClosed, View, IsWhole, looked, missed, wrote, Updates, one_more, Held, Free, Reading, Writing, Torn, both_held, Locks, value_after, answer_to, after_acts}
+use Rattle.running_atomic.proofs.Names.{◌≡◌, ℕ, ◌+◌, ◌-◌, ◌%◌, ◌^◌, ◌<◌, ◌==◌, Bool, true, false, List, [], ◌∷◌, ◌++◌, get_or, set, sym, refl, ap, ◌∙◌, subst, arith, length-set, get_or-set_same, get_or-set_other, None}
 use prog.Atomic.{either}
-use Rattle.steps_events.specs.Arithmetic.{Arithmetic, IsValue, IsClosed}
-use Rattle.passes.specs.declared.view.View.{View}
-use Rattle.passes.specs.Parts.{IsWhole}
-use Rattle.passes.specs.Views.{looked, missed, wrote, Updates}
 use Rattle.passes.proofs.Updates.{by_look, by_exchange}
-use Rattle.tallies.specs.Counts.{one_more}
-use Rattle.tallies.specs.declared.held.Held.{Held}
-use Rattle.tallies.specs.declared.held.Held.TheVariants.{Free, Reading, Writing, Torn}
 use Rattle.running_atomic.specs.declared.history.AtomicTally.{AtomicTally}
-use Rattle.tallies.specs.Held.{both_held, Locks}
 use Rattle.running_atomic.specs.declared.history.Content.{Content}
 use Rattle.running_atomic.specs.declared.history.AtomicAct.{AtomicAct}
-use Rattle.running_atomic.specs.declared.history.AtomicAct.TheVariants as act
 use Rattle.running_atomic.specs.declared.history.Heard.{Heard}
 use Rattle.running_atomic.specs.History.{content, heard, both_heard, atomic_tally, no_acts, both_tallies, heard_adds_up, same_content, tells_same_content}
-use Rattle.steps_atomic.specs.Register.{value_after, answer_to, after_acts}
 use Rattle.running_atomic.specs.AtomicRule.{IsRegister, HasHistory, AtomicAgrees, data_of, register_of, value_of, act_in, acts_in, history_in, known, each_once}
 use Rattle.running_atomic.specs.AtomicSteps.{StartsWith, now_holds, EntersRead, EntersWrite, Leaves, IfHeld, ReadsLow, ReadsHigh, EndsLoad, IfWriting, StoresLow, EndsStore, EndsUnchanged, Settles, Acts, ActsAt, Records, IsReading, IsSettled, IsWriting, IsOn, IsRight, KeepsOthers, ComparesHigh, IsLast}
 use Rattle.running_atomic.proofs.LockKeeps.{enters_read, enters_write, reads, leaves_read, writes}
@@ -161,11 +151,11 @@ module _ {T : Type 0} (z : Arithmetic T) (k : T) where
       let t = reads same_content tells_same_content n d x rest.hold (subst (λ (h : Held Content). Locks n d (both_held same_content h rest.hold)) is r.locks) in
       let old_is : register_of (both_held same_content v.tally.hold rest.hold) d ≡ x = ap (λ (h : Held Content). register_of (both_held same_content h rest.hold) d) is ∙ t.1 ∙ sym t.0 in
       let has : HasHistory z k (both_heard v.tally.heard rest.heard) (value_of z x) = subst (HasHistory z k (both_heard v.tally.heard rest.heard)) (ap (value_of z) old_is) r.has in
-      let w : View B = after has.history act.Load v.tally.hold v in (
+      let w : View B = after has.history AtomicAct.Load v.tally.hold v in (
         w,
         refl,
-        record { closed = r.closed; opening_is = r.opening_is; three_words = r.three_words; locks = r.locks; has = subst (HasHistory z k (both_heard w.tally.heard rest.heard)) (ap (value_of z) (sym old_is)) (extends z k v.tally.heard rest.heard act.Load (value_of z x) has) },
-        (refl, subst (λ (h : Held Content). IfHeld h (λ c. (d.high ≡ c.high) × ActsAt z k act.Load c v w)) (sym is) (ap (λ (c : Content). c.high) (sym t.0), acts v rest v.tally.hold act.Load (value_of z x) has only), recorded v rest v.tally.hold act.Load (value_of z x) has),
+        record { closed = r.closed; opening_is = r.opening_is; three_words = r.three_words; locks = r.locks; has = subst (HasHistory z k (both_heard w.tally.heard rest.heard)) (ap (value_of z) (sym old_is)) (extends z k v.tally.heard rest.heard AtomicAct.Load (value_of z x) has) },
+        (refl, subst (λ (h : Held Content). IfHeld h (λ c. (d.high ≡ c.high) × ActsAt z k AtomicAct.Load c v w)) (sym is) (ap (λ (c : Content). c.high) (sym t.0), acts v rest v.tally.hold AtomicAct.Load (value_of z x) has only), recorded v rest v.tally.hold AtomicAct.Load (value_of z x) has),
       ))
 
   pub stores_low : (v : View B) (new : ℕ) → IsWriting v.tally.hold → Update v 1 (λ _. new) (λ _. StoresLow v new)
@@ -210,16 +200,16 @@ module _ {T : Type 0} (z : Arithmetic T) (k : T) where
         );
   }
 
-  pub ends_unchanged : (v : View B) → IsSettled v.tally.hold → Update v 2 (λ n. n) (λ _ w. EndsUnchanged z k (act.FetchUpdate None) v w)
-  ends_unchanged v on = by_look no_acts both_tallies (AtomicAgrees z k) v 2 (λ _ w. EndsUnchanged z k (act.FetchUpdate None) v w) (λ words homes rest r only fits. let x = (settled_is v.tally.hold on).0 in let is = (settled_is v.tally.hold on).1 in let d : Content = data_of words in let n : ℕ = get_or words 0 0 in
+  pub ends_unchanged : (v : View B) → IsSettled v.tally.hold → Update v 2 (λ n. n) (λ _ w. EndsUnchanged z k (AtomicAct.FetchUpdate None) v w)
+  ends_unchanged v on = by_look no_acts both_tallies (AtomicAgrees z k) v 2 (λ _ w. EndsUnchanged z k (AtomicAct.FetchUpdate None) v w) (λ words homes rest r only fits. let x = (settled_is v.tally.hold on).0 in let is = (settled_is v.tally.hold on).1 in let d : Content = data_of words in let n : ℕ = get_or words 0 0 in
       let t = writes same_content tells_same_content n d x x rest.hold (subst (λ (h : Held Content). Locks n d (both_held same_content h rest.hold)) is r.locks) in
       let old_is : value_of z (register_of (both_held same_content v.tally.hold rest.hold) d) ≡ value_of z x = ap (value_of z) (ap (λ (g : Held Content). register_of (both_held same_content g rest.hold) d) is ∙ ap (λ (g : Held Content). register_of (both_held same_content (Writing x x) g) d) t.0) in
       let has : HasHistory z k (both_heard v.tally.heard rest.heard) (value_of z x) = subst (HasHistory z k (both_heard v.tally.heard rest.heard)) old_is r.has in
-      let w : View B = after has.history (act.FetchUpdate None) v.tally.hold v in (
+      let w : View B = after has.history (AtomicAct.FetchUpdate None) v.tally.hold v in (
         w,
         refl,
-        record { closed = r.closed; opening_is = r.opening_is; three_words = r.three_words; locks = r.locks; has = subst (HasHistory z k (both_heard w.tally.heard rest.heard)) (sym old_is) (extends z k v.tally.heard rest.heard (act.FetchUpdate None) (value_of z x) has) },
-        (refl, subst (λ (g : Held Content). IfWriting g (λ c found. ActsAt z k (act.FetchUpdate None) found v w)) (sym is) (acts v rest v.tally.hold (act.FetchUpdate None) (value_of z x) has only), recorded v rest v.tally.hold (act.FetchUpdate None) (value_of z x) has),
+        record { closed = r.closed; opening_is = r.opening_is; three_words = r.three_words; locks = r.locks; has = subst (HasHistory z k (both_heard w.tally.heard rest.heard)) (sym old_is) (extends z k v.tally.heard rest.heard (AtomicAct.FetchUpdate None) (value_of z x) has) },
+        (refl, subst (λ (g : Held Content). IfWriting g (λ c found. ActsAt z k (AtomicAct.FetchUpdate None) found v w)) (sym is) (acts v rest v.tally.hold (AtomicAct.FetchUpdate None) (value_of z x) has only), recorded v rest v.tally.hold (AtomicAct.FetchUpdate None) (value_of z x) has),
       ))
 
   -- by the value that is compared: where it is another, the act is made

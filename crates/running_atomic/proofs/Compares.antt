@@ -1,26 +1,11 @@
 -- What a call knows that compares: it has taken the lock and the value, or has acted.
-use Rattle.std.proofs.Common.{◌≡◌, ℕ, refl, sym, ap, subst, ◌∙◌, Bool, true, false, length, None}
-use Rattle.std.specs.Prelude.{MatchBool}
-use Rattle.steps_events.specs.declared.event.Call.{Call}
-use Rattle.steps_events.specs.declared.event.Answer.{Answer}
-use Rattle.steps_events.specs.declared.event.Answer.TheVariants as answers
-use Rattle.steps_events.specs.declared.row.After.TheVariants as afters
-use Rattle.steps_events.specs.Arithmetic.{Arithmetic}
-use Rattle.passes.specs.declared.pass.Pass.{Pass}
-use Rattle.passes.specs.declared.view.View.{View}
-use Rattle.passes.specs.Passes.{IsSamePass}
-use Rattle.passes.specs.Parts.{IsWhole}
-use Rattle.steps_atomic.specs.Table.{compares, knows, puts}
+use Rattle.running_atomic.specs.Names.{MatchBool, Call, Answer, After, Arithmetic, Pass, View, IsSamePass, IsWhole, compares, knows, puts, one_more, Held, Free, Writing, counts_of, counted, RegisterAct, Outcome, plain, answer_to, value_after}
+use Rattle.running_atomic.proofs.Names.{◌≡◌, ℕ, refl, sym, ap, subst, ◌∙◌, Bool, true, false, length, None}
 use Rattle.steps_atomic.specs.Register as register
-use Rattle.tallies.specs.Counts.{one_more}
-use Rattle.tallies.specs.declared.held.Held.{Held}
-use Rattle.tallies.specs.declared.held.Held.TheVariants.{Free, Writing}
-use Rattle.playing.specs.Passes.{counts_of, counted}
 use Rattle.running_atomic.specs.declared.history.AtomicTally.{AtomicTally}
 use Rattle.running_atomic.specs.declared.history.Content.{Content}
 use Rattle.running_atomic.specs.declared.history.AtomicAct.{AtomicAct}
 use Rattle.running_atomic.specs.declared.history.Heard.{Heard}
-use Rattle.steps_atomic.specs.Register.{RegisterAct, Outcome, plain, answer_to, value_after}
 use Rattle.running_atomic.specs.AtomicRule.{value_of, act_in, history_in}
 use Rattle.running_atomic.specs.AtomicSteps.{PlayedAtomic, StartsWith, Acts, ActsAt, IfHeld, IfWriting, IsSettled, Leaves, now_holds, ReadsLow, EndsUnchanged, ComparesHigh}
 use Rattle.running_atomic.specs.AtomicParties.{Puts}
@@ -94,11 +79,11 @@ module _ {T : Type 0} (z : Arithmetic T) (k : T) where
       (by_value a x p q r s (z.same (value_of z x) current) (same_twice p r s (same_twice p q r got.same first) second) got read.0 settled.1 told.1)
 
   -- a call that compares and found another value acted so, and has left the lock
-  pub has_kept : (a : AtomicAct) (call : Call T) (old : T) (p q r : Pass (PlayedAtomic T)) → act_in z a ≡ plain call → answer_to z (plain call) old ≡ answers.ErrOld old → HasCompared z k a old p q → IsSamePass q r →
-      Leaves (counted q) (counted r) → HasActedAt z k (plain call) (answers.ErrOld old) p r
+  pub has_kept : (a : AtomicAct) (call : Call T) (old : T) (p q r : Pass (PlayedAtomic T)) → act_in z a ≡ plain call → answer_to z (plain call) old ≡ Answer.ErrOld old → HasCompared z k a old p q → IsSamePass q r →
+      Leaves (counted q) (counted r) → HasActedAt z k (plain call) (Answer.ErrOld old) p r
   has_kept a call old p q r is answered made same left =
-      let told : Acts z k (plain call) (answers.ErrOld old) (counted p) (counted q) = subst (λ (x : Answer T). Acts z k (plain call) x (counted p) (counted q)) answered (subst (λ (x : RegisterAct T). Acts z k x (answer_to z x old) (counted p) (counted q)) is made.acted.1) in
-      let after : Acts z k (plain call) (answers.ErrOld old) (counted p) (now_holds Free (counted q)) = record {
+      let told : Acts z k (plain call) (Answer.ErrOld old) (counted p) (counted q) = subst (λ (x : Answer T). Acts z k (plain call) x (counted p) (counted q)) answered (subst (λ (x : RegisterAct T). Acts z k x (answer_to z x old) (counted p) (counted q)) is made.acted.1) in
+      let after : Acts z k (plain call) (Answer.ErrOld old) (counted p) (now_holds Free (counted q)) = record {
         before = told.before;
         answered = told.answered;
         begins = told.begins;
@@ -108,17 +93,17 @@ module _ {T : Type 0} (z : Arithmetic T) (k : T) where
         marks = told.marks;
         part = told.part;
       } in
-      (same_twice p q r made.acted.0 same, subst (λ (x : View AtomicTally). Acts z k (plain call) (answers.ErrOld old) (counted p) x) (sym left) after)
+      (same_twice p q r made.acted.0 same, subst (λ (x : View AtomicTally). Acts z k (plain call) (Answer.ErrOld old) (counted p) x) (sym left) after)
 
   -- What it answers, and what it makes of the value.
   module _ (call : Call T) (current old new : T) (acts : register.act_of z call None old ≡ register.compared (z.same old current) old new) where
     compared_so : (b : Bool) → z.same old current ≡ b → register.act_of z call None old ≡ register.compared b old new
     compared_so b is = acts ∙ ap (λ (c : Bool). register.compared c old new) is
 
-    pub answers_other : z.same old current ≡ false → answer_to z (plain call) old ≡ answers.ErrOld old
+    pub answers_other : z.same old current ≡ false → answer_to z (plain call) old ≡ Answer.ErrOld old
     answers_other is = ap (λ (o : Outcome T). o.0) (compared_so false is)
 
-    pub answers_same : z.same old current ≡ true → answer_to z (plain call) old ≡ answers.OkOld old
+    pub answers_same : z.same old current ≡ true → answer_to z (plain call) old ≡ Answer.OkOld old
     answers_same is = ap (λ (o : Outcome T). o.0) (compared_so true is)
 
     pub keeps_other : z.same old current ≡ false → value_after z (plain call) old ≡ old
@@ -127,5 +112,5 @@ module _ {T : Type 0} (z : Arithmetic T) (k : T) where
     pub writes_new : z.same old current ≡ true → value_after z (plain call) old ≡ new
     writes_new is = ap (λ (o : Outcome T). o.1) (compared_so true is)
 
-    pub puts_new : knows z call old ≡ afters.At (compares z (z.same old current) old new) → z.same old current ≡ true → Puts z call old new (answer_to z (plain call) old)
-    puts_new goes is = goes ∙ ap (λ (b : Bool). afters.At (compares z b old new)) is ∙ ap (λ (a : Answer T). afters.At (puts z new a)) (sym (answers_same is))
+    pub puts_new : knows z call old ≡ After.At (compares z (z.same old current) old new) → z.same old current ≡ true → Puts z call old new (answer_to z (plain call) old)
+    puts_new goes is = goes ∙ ap (λ (b : Bool). After.At (compares z b old new)) is ∙ ap (λ (a : Answer T). After.At (puts z new a)) (sym (answers_same is))

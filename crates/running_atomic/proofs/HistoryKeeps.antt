@@ -1,7 +1,6 @@
 -- What is known of the history, and which acts are own, as it grows.
-use Rattle.std.proofs.Common.{◌≡◌, ℕ, zero, suc, ◌+◌, ◌≤◌, List, [], ◌∷◌, ◌++◌, length, sym, refl, ap, ◌∙◌, subst, arith}
-use Rattle.steps_events.specs.Arithmetic.{Arithmetic}
-use Rattle.tallies.specs.Counts.{count_at, one_more, both_counts}
+use Rattle.running_atomic.specs.Names.{Arithmetic, count_at, one_more, both_counts, RegisterAct, value_after, after_acts}
+use Rattle.running_atomic.proofs.Names.{◌≡◌, ℕ, zero, suc, ◌+◌, ◌≤◌, List, [], ◌∷◌, ◌++◌, length, sym, refl, ap, ◌∙◌, subst, arith}
 use Rattle.tallies.proofs.CountLaws.{in_both, more_in_both}
 use Rattle.running_atomic.specs.declared.history.AtomicAct.{AtomicAct}
 use Rattle.running_atomic.specs.declared.history.Place.{Place}
@@ -9,7 +8,6 @@ use Rattle.running_atomic.specs.declared.history.Place.TheVariants.{Unknown, Is,
 use Rattle.running_atomic.specs.declared.history.Heard.{Heard}
 use Rattle.running_atomic.specs.Agree.{merge, met_is, met_else, by_same, merge_none, merge_idem, merge_comm, merge_assoc}
 use Rattle.running_atomic.specs.History.{heard, both_heard, same_act, acts_tell}
-use Rattle.steps_atomic.specs.Register.{RegisterAct, value_after, after_acts}
 use Rattle.running_atomic.specs.AtomicRule.{front, known, each_once, acts_in, act_in, history_in, HasHistory}
 use Rattle.running_atomic.specs.AtomicSteps.{StartsWith, AreMarks}
 

@@ -1,8 +1,6 @@
 -- Two passes that are joined, and then see all of the history.
-use Rattle.std.proofs.Common.{◌≡◌, ap, ◌∙◌}
-use Rattle.steps_events.specs.Arithmetic.{Arithmetic}
-use Rattle.passes.specs.declared.view.View.{View}
-use Rattle.passes.specs.Views.{joined_view}
+use Rattle.running_atomic.specs.Names.{Arithmetic, View, joined_view}
+use Rattle.running_atomic.proofs.Names.{◌≡◌, ap, ◌∙◌}
 use Rattle.running_atomic.specs.declared.history.AtomicTally.{AtomicTally}
 use Rattle.running_atomic.specs.History.{both_tallies}
 use Rattle.running_atomic.specs.AtomicSteps.{Settles, Joins}

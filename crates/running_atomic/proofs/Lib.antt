@@ -1,3 +1,4 @@
+pub mod Names
 pub mod LockKeeps
 pub mod HistoryKeeps
 pub mod AtomicKeeps
@@ -9,3 +10,4 @@ pub mod AtomicPlays
 pub mod HistoryFollows
 pub mod Compares
 pub mod OverCalls
+pub mod Additions

@@ -1,22 +1,9 @@
 -- What the steps of a call leave of its pass: what it saw on the way, the hold, and what the hold knows.
-use Rattle.std.proofs.Common.{◌≡◌, ◌≢◌, ℕ, refl, sym, ap, subst, ◌∙◌, None}
-use Rattle.steps_events.specs.declared.event.Answer.{Answer}
-use Rattle.steps_events.specs.declared.event.Answer.TheVariants as answers
-use Rattle.steps_events.specs.declared.event.Call.{Call}
-use Rattle.steps_events.specs.declared.event.Call.TheVariants as calls
-use Rattle.steps_events.specs.Arithmetic.{Arithmetic}
-use Rattle.passes.specs.declared.pass.Pass.{Pass}
-use Rattle.passes.specs.declared.view.View.{View}
-use Rattle.passes.specs.Passes.{IsSamePass}
-use Rattle.passes.specs.Views.{looked}
-use Rattle.playing.specs.Passes.{counts_of, counted}
-use Rattle.steps_atomic.specs.Register.{RegisterAct, plain, update, answer_to, value_after}
-use Rattle.tallies.specs.declared.held.Held.{Held}
-use Rattle.tallies.specs.declared.held.Held.TheVariants.{Free, Reading, Writing, Torn}
+use Rattle.running_atomic.specs.Names.{Answer, Call, Arithmetic, Pass, View, IsSamePass, looked, counts_of, counted, RegisterAct, plain, update, answer_to, value_after, Held, Free, Reading, Writing, Torn}
+use Rattle.running_atomic.proofs.Names.{◌≡◌, ◌≢◌, ℕ, refl, sym, ap, subst, ◌∙◌, None}
 use Rattle.running_atomic.specs.declared.history.AtomicTally.{AtomicTally}
 use Rattle.running_atomic.specs.declared.history.Content.{Content}
 use Rattle.running_atomic.specs.declared.history.AtomicAct.{AtomicAct}
-use Rattle.running_atomic.specs.declared.history.AtomicAct.TheVariants as act
 use Rattle.running_atomic.specs.History.{content}
 use Rattle.running_atomic.specs.AtomicRule.{value_of, act_in}
 use Rattle.running_atomic.specs.AtomicSteps.{PlayedAtomic, Acts, ActsAt, EntersRead, EntersWrite, EndsLoad, EndsStore, EndsUnchanged, IfHeld, IfWriting, IsReading, IsRight, IsSettled, IsStoring, Leaves, ReadsLow, ReadsHigh, Records, StoresLow, now_holds}
@@ -105,7 +92,7 @@ module _ {T : Type 0} (z : Arithmetic T) where
 
   -- the act of a call that asks nobody stores
   pub stores_plain : (a : AtomicAct) (call : Call T) → act_in z a ≡ plain call → IsStoring a
-  stores_plain (act.FetchUpdate None) call is = let choice = ap (λ (r : RegisterAct T). r.choice) is in absurd cc
+  stores_plain (AtomicAct.FetchUpdate None) call is = let choice = ap (λ (r : RegisterAct T). r.choice) is in absurd cc
   stores_plain other call is = tt
 
   -- the act makes this of what the hold knows
@@ -140,18 +127,18 @@ module _ {T : Type 0} (z : Arithmetic T) where
 
     -- A `load` read both words under its hold, and has left.
     pub has_loaded : (low high : ℕ) (value : T) (p q r s t : Pass (PlayedAtomic T)) → HasGot IsReading p q → IsSamePass q r → ReadsLow (counted q) low (counted r) → IsSamePass r s → EndsLoad z k (counted r) high (counted s) → IsSamePass s t →
-        Leaves (counted s) (counted t) → value ≡ z.of_words low high → HasActedAt z k (plain calls.Load) (answers.Value value) p t
+        Leaves (counted s) (counted t) → value ≡ z.of_words low high → HasActedAt z k (plain Call.Load) (Answer.Value value) p t
     has_loaded low high value p q r s t got first read second ended third left given =
         let reading = reading_is (counts_of q).hold got.on in
         let x : Content = reading.0 in
         let hold : (counts_of r).hold ≡ Reading 0 x = ap (λ (v : View AtomicTally). v.tally.hold) read.0 ∙ reading.1 in
         let low_is : low ≡ x.low = subst (λ (h : Held Content). IfHeld h (λ (c : Content). low ≡ c.low)) reading.1 read.1 in
-        let told : (high ≡ x.high) × ActsAt z k act.Load x (counted r) (counted s) = subst (λ (h : Held Content). IfHeld h (λ (c : Content). (high ≡ c.high) × ActsAt z k act.Load c (counted r) (counted s))) hold ended.1 in
+        let told : (high ≡ x.high) × ActsAt z k AtomicAct.Load x (counted r) (counted s) = subst (λ (h : Held Content). IfHeld h (λ (c : Content). (high ≡ c.high) × ActsAt z k AtomicAct.Load c (counted r) (counted s))) hold ended.1 in
         let value_is : value_of z x ≡ value = sym (given ∙ (λ i. z.of_words (low_is i) (told.0 i))) in
-        let acts : Acts z k (plain calls.Load) (answers.Value (value_of z x)) (counted p) (counted s) =
-        acts_since z k (plain calls.Load) (answers.Value (value_of z x)) (counted p) (counted r) (counted s) (ap (λ (v : View AtomicTally). v.tally.heard) read.0 ∙ got.heard) (ap (λ (v : View AtomicTally). v.part) read.0 ∙ got.part) told.1 in (
+        let acts : Acts z k (plain Call.Load) (Answer.Value (value_of z x)) (counted p) (counted s) =
+        acts_since z k (plain Call.Load) (Answer.Value (value_of z x)) (counted p) (counted r) (counted s) (ap (λ (v : View AtomicTally). v.tally.heard) read.0 ∙ got.heard) (ap (λ (v : View AtomicTally). v.part) read.0 ∙ got.part) told.1 in (
           same_twice p s t (same_twice p r s (same_twice p q r got.same first) second) third,
-          subst (λ (u : T). Acts z k (plain calls.Load) (answers.Value u) (counted p) (counted t)) value_is (acts_left (plain calls.Load) (answers.Value (value_of z x)) (counted p) (counted s) (counted t) acts left),
+          subst (λ (u : T). Acts z k (plain Call.Load) (Answer.Value u) (counted p) (counted t)) value_is (acts_left (plain Call.Load) (Answer.Value (value_of z x)) (counted p) (counted s) (counted t) acts left),
         )
 
     high_stored : (a : AtomicAct) (x : Content) (low high : ℕ) (p q r : Pass (PlayedAtomic T)) → counted q ≡ now_holds (Writing (content low x.high) x) (counted p) → EndsStore z k a (counted q) high (counted r) →
@@ -183,15 +170,15 @@ module _ {T : Type 0} (z : Arithmetic T) where
         (same, subst (λ (u : T). Acts z k (act_in z a) (answer_to z (act_in z a) u) (counted p) (counted q)) holding.value_is (subst (λ (h : Held Content). IfWriting h (λ _ found. ActsAt z k a found (counted p) (counted q))) holding.on acted))
 
     -- The value was kept, by a `fetch_update` whose closure chose nothing, and the lock is left.
-    pub settles_unchanged : (p q : Pass (PlayedAtomic T)) → IsSettled (counts_of p).hold → EndsUnchanged z k (act.FetchUpdate None) (counted p) (counted q) → IsSettled (counts_of q).hold
+    pub settles_unchanged : (p q : Pass (PlayedAtomic T)) → IsSettled (counts_of p).hold → EndsUnchanged z k (AtomicAct.FetchUpdate None) (counted p) (counted q) → IsSettled (counts_of q).hold
     settles_unchanged p q on ended = subst IsSettled (sym ended.0) on
 
-    pub has_unchanged : (old : T) (p q r : Pass (PlayedAtomic T)) → IsHolding z old p → IsSamePass p q → EndsUnchanged z k (act.FetchUpdate None) (counted p) (counted q) → IsSamePass q r → Leaves (counted q) (counted r) →
-        HasActedAt z k (update None) (answers.ErrOld old) p r
+    pub has_unchanged : (old : T) (p q r : Pass (PlayedAtomic T)) → IsHolding z old p → IsSamePass p q → EndsUnchanged z k (AtomicAct.FetchUpdate None) (counted p) (counted q) → IsSamePass q r → Leaves (counted q) (counted r) →
+        HasActedAt z k (update None) (Answer.ErrOld old) p r
     has_unchanged old p q r holding first ended second left =
-        let acts : ActsAt z k (act.FetchUpdate None) holding.words (counted p) (counted q) = subst (λ (h : Held Content). IfWriting h (λ _ found. ActsAt z k (act.FetchUpdate None) found (counted p) (counted q))) holding.on ended.1 in (
+        let acts : ActsAt z k (AtomicAct.FetchUpdate None) holding.words (counted p) (counted q) = subst (λ (h : Held Content). IfWriting h (λ _ found. ActsAt z k (AtomicAct.FetchUpdate None) found (counted p) (counted q))) holding.on ended.1 in (
           same_twice p q r first second,
-          acts_left (update None) (answers.ErrOld old) (counted p) (counted q) (counted r) (subst (λ (u : T). Acts z k (update None) (answers.ErrOld u) (counted p) (counted q)) holding.value_is acts) left,
+          acts_left (update None) (Answer.ErrOld old) (counted p) (counted q) (counted r) (subst (λ (u : T). Acts z k (update None) (Answer.ErrOld u) (counted p) (counted q)) holding.value_is acts) left,
         )
 
     -- A call that took the lock and the value has acted so, however act and answer are written.

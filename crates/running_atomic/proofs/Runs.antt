@@ -1,18 +1,11 @@
 -- The history is that of the run in which all passes are the parties, and so is the value that it leads to.
-use Rattle.std.proofs.Common.{◌≡◌, ℕ, get_or, List, [], ◌∷◌, sym, ap, ◌∙◌}
-use Rattle.steps_events.specs.declared.event.Word.{Word}
-use Rattle.steps_events.specs.declared.event.Word.TheVariants as names
-use Rattle.steps_events.specs.Arithmetic.{Arithmetic}
-use Rattle.steps_atomic.specs.Register.{RegisterAct, after_acts, acts_of_run}
-use Rattle.steps_atomic.proofs.Acts.{register_by_acts}
-use Rattle.playing.specs.Slots.{Parties}
-use Rattle.playing.specs.Words.{AllHold}
-use Rattle.playing.specs.Plays.{IsPlayed}
+use Rattle.running_atomic.specs.Names.{Word, Arithmetic, RegisterAct, after_acts, acts_of_run, Parties, AllHold, IsPlayed}
+use Rattle.running_atomic.proofs.Names.{◌≡◌, ℕ, get_or, List, [], ◌∷◌, sym, ap, ◌∙◌, register_by_acts}
 use Rattle.running_atomic.specs.AtomicModel.{atomic_model, atomic_names}
 use Rattle.running_atomic.specs.AtomicParties.{StandsAtRun}
 
 -- the word of each name
-pub three_hold : (words : List ℕ) (memory : Word → ℕ) → AllHold atomic_names words memory → (get_or words 0 0 ≡ memory names.State) × (get_or words 1 0 ≡ memory names.Low) × (get_or words 2 0 ≡ memory names.High)
+pub three_hold : (words : List ℕ) (memory : Word → ℕ) → AllHold atomic_names words memory → (get_or words 0 0 ≡ memory Word.State) × (get_or words 1 0 ≡ memory Word.Low) × (get_or words 2 0 ≡ memory Word.High)
 three_hold [] memory all = absurd all
 three_hold (a ∷ []) memory all = absurd all.1
 three_hold (a ∷ b ∷ []) memory all = absurd all.1.1

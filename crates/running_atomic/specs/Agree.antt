@@ -1,5 +1,5 @@
 -- What two know of the same places: both know the same there, or they are torn.
-use Rattle.std.specs.Prelude.{◌≡◌, ◌≢◌, Bool, true, false, cond, List, [], ◌∷◌}
+use Rattle.running_atomic.specs.Names.{◌≡◌, ◌≢◌, Bool, true, false, cond, List, [], ◌∷◌}
 use Rattle.std.proofs.Common.{refl, sym, ap, ◌∙◌, ⊎_elim}
 use Rattle.running_atomic.specs.Alike.{Tells}
 use Rattle.running_atomic.specs.declared.history.Place.{Place}

@@ -1,9 +1,8 @@
 -- Two are the same where the numbers that they are written as are the same.
-use Rattle.std.specs.Prelude.{◌≡◌, ◌≢◌, ℕ, Bool, true, false, List, [], ◌∷◌, ◌⊎◌, eqb, ◌&&◌}
+use Rattle.running_atomic.specs.Names.{◌≡◌, ◌≢◌, ℕ, Bool, true, false, List, [], ◌∷◌, ◌⊎◌, eqb, ◌&&◌, TellsSame}
 use Rattle.std.proofs.Common.{refl, sym, ap, ◌∙◌, zero, suc, ⊎_elim, inl, inr, arith}
 use Rattle.std.proofs.lemmas.Bool.{true≢false}
 use Rattle.std.proofs.lemmas.Bool.Decides.{eqb_tells}
-use Rattle.tallies.specs.Held.{TellsSame}
 
 -- a test tells whether two are the same
 abbrev pub Tells : {X : Type 0} → (X → X → Bool) → Type 0

@@ -1,12 +1,5 @@
 -- The model that an atomic plays.
-use Rattle.std.specs.Prelude.{ℕ, List, [], ◌∷◌}
-use Rattle.steps_events.specs.declared.event.Word.{Word}
-use Rattle.steps_events.specs.declared.event.Word.TheVariants as words
-use Rattle.steps_events.specs.declared.event.Event.{Event}
-use Rattle.steps_events.specs.Arithmetic.{Arithmetic, IsValue, IsClosed}
-use Rattle.steps_events.specs.Runs.{IsPast}
-use Rattle.steps_atomic.specs.declared.AtomicPlace.{AtomicPlace}
-use Rattle.steps_atomic.specs.Table.{atomic_table}
+use Rattle.running_atomic.specs.Names.{ℕ, List, [], ◌∷◌, Word, Event, Arithmetic, IsValue, IsClosed, IsPast, AtomicPlace, atomic_table}
 use Rattle.steps_atomic.specs.Law.{KeepsAtomic}
 use Rattle.steps_atomic.proofs.Data.{keeps_atomic}
 use Rattle.playing.specs.Models.{Model}
@@ -24,4 +17,4 @@ atomic_lawful z v parties past run closed is = keeps_atomic z closed v parties p
 
 -- the lock's word, and the two data words
 abbrev pub atomic_names : List Word
-atomic_names = words.State ∷ words.Low ∷ words.High ∷ []
+atomic_names = Word.State ∷ Word.Low ∷ Word.High ∷ []

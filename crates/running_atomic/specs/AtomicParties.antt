@@ -1,28 +1,12 @@
 -- The party of the model that a pass of an atomic is, and how its calls go.
-use Rattle.std.specs.Prelude.{◌≡◌, ℕ, false, not, List, Option, Some, None}
-use Rattle.steps_events.specs.declared.event.Call.{Call}
-use Rattle.steps_events.specs.declared.event.Call.TheVariants as calls
-use Rattle.steps_events.specs.declared.event.Answer.{Answer}
-use Rattle.steps_events.specs.declared.event.Event.{Event}
-use Rattle.steps_events.specs.declared.event.Then.TheVariants as thens
-use Rattle.steps_events.specs.declared.hold.HoldKind.{HoldKind}
-use Rattle.steps_events.specs.declared.hold.HoldKind.TheVariants as kinds
-use Rattle.steps_events.specs.declared.row.After.TheVariants as afters
-use Rattle.steps_events.specs.Arithmetic.{Arithmetic}
-use Rattle.steps_events.specs.Moves.{hold_fault}
-use Rattle.steps_events.specs.Runs.{IsPast}
-use Rattle.steps_atomic.specs.declared.AtomicPlace.{AtomicPlace}
-use Rattle.steps_atomic.specs.declared.AtomicPlace.TheVariants as places
-use Rattle.steps_atomic.specs.Table.{atomic_table, atomic_begins, atomic_grant, puts, inside, knows}
-use Rattle.steps_atomic.specs.Register.{RegisterAct, register_after, acts_of_run, ends_at_look, choice_for}
-use Rattle.playing.specs.Slots.{Slot, Parties, slot_at, all_of}
-use Rattle.playing.specs.Plays.{events_of, Matches, Coming, ComesBy, IsAt, Leads, HasEnded}
+use Rattle.running_atomic.specs.Names.{◌≡◌, ℕ, false, not, List, Option, Some, None, Call, Answer, Event, HoldKind, After, Arithmetic, hold_fault, IsPast, AtomicPlace, atomic_table, atomic_begins, atomic_grant, puts, inside, knows, RegisterAct, register_after, acts_of_run, ends_at_look, choice_for, Slot, Parties, slot_at, all_of, events_of, Matches, Coming, ComesBy, IsAt, Leads, HasEnded}
+use Rattle.steps_events.specs.declared.event.Then.{Then}
 use Rattle.running_atomic.specs.AtomicModel.{atomic_model}
 
 -- a call that takes the lock for writing
 pub record Writes {T : Type 0} (z : Arithmetic T) (v : T) (call : Call T) : Type 0 where
-  pub begins : atomic_begins call ≡ Some (places.Take call)
-  pub grants : atomic_grant call ≡ Some kinds.Write
+  pub begins : atomic_begins call ≡ Some (AtomicPlace.Take call)
+  pub grants : atomic_grant call ≡ Some HoldKind.Write
   pub free : hold_fault (atomic_table z v) call None ≡ None
 
 -- it has no choice, as a `FetchUpdate` has
@@ -31,11 +15,11 @@ AsksNobody call = choice_for call (Some None) ≡ None
 
 -- and reads the value, once it has the lock
 abbrev pub Reads : {T : Type 0} → Arithmetic T → Call T → Type 0
-Reads z call = inside z call ≡ places.Low call
+Reads z call = inside z call ≡ AtomicPlace.Low call
 
 -- it puts a new value in the place of the old one, and then answers so
 abbrev pub Puts : {T : Type 0} → Arithmetic T → Call T → T → T → Answer T → Type 0
-Puts z call old new answer = knows z call old ≡ afters.At (puts z new answer)
+Puts z call old new answer = knows z call old ≡ After.At (puts z new answer)
 
 -- it goes on once it knows the value, whatever that is
 abbrev pub GoesOnKnowing : {T : Type 0} → Arithmetic T → Call T → Type 0
@@ -48,15 +32,15 @@ ActsAtOther {T} z call current = (old : T) → ends_at_look z call None old ≡ 
 module _ {T : Type 0} (z : Arithmetic T) (v : T) where
   -- the call goes on at this place
   abbrev pub IsNext : Call T → AtomicPlace T → Option HoldKind → List (Slot T) → Parties T → Type 0
-  IsNext call place hold done p = IsAt (atomic_model z v) call place thens.GoesOn hold done p
+  IsNext call place hold done p = IsAt (atomic_model z v) call place Then.GoesOn hold done p
 
   -- the call has the lock for writing, knows the old value, and goes on as that tells
   abbrev pub Knows : Call T → T → List (Slot T) → Parties T → Type 0
-  Knows call old done p = Leads (atomic_model z v) call (knows z call old) (Some kinds.Write) done p
+  Knows call old done p = Leads (atomic_model z v) call (knows z call old) (Some HoldKind.Write) done p
 
   -- a call comes so to where it puts this value
   abbrev pub ComesToPut : Coming T → Call T → T → Answer T → List (Slot T) → Parties T → Type 0
-  ComesToPut coming call new answer done p = ComesBy (atomic_model z v) coming call (puts z new answer) (Some kinds.Write) done p
+  ComesToPut coming call new answer done p = ComesBy (atomic_model z v) coming call (puts z new answer) (Some HoldKind.Write) done p
 
   abbrev pub MayPut : Coming T → Call T → T → Parties T → Type 0
   MayPut coming call new p = (answer : Answer T) × (done : List (Slot T)) × ComesToPut coming call new answer done p
@@ -65,7 +49,7 @@ module _ {T : Type 0} (z : Arithmetic T) (v : T) where
   pub record IsAtHigh (call : Call T) (low : ℕ) (p : Parties T) : Type 0 where
     pub hold : Option HoldKind
     pub done : List (Slot T)
-    pub at : IsNext call (places.High call low) hold done p
+    pub at : IsNext call (AtomicPlace.High call low) hold done p
 
   -- a call is there, and goes on after it
   pub record IsAtLook (p : Parties T) : Type 0 where
@@ -78,13 +62,13 @@ module _ {T : Type 0} (z : Arithmetic T) (v : T) where
   pub record ComesAgain (coming : Coming T) (p : Parties T) : Type 0 where
     pub old : T
     pub done : List (Slot T)
-    pub comes : ComesBy (atomic_model z v) coming calls.FetchUpdate (places.Again old) (Some kinds.Write) done p
+    pub comes : ComesBy (atomic_model z v) coming Call.FetchUpdate (AtomicPlace.Again old) (Some HoldKind.Write) done p
 
   -- the call is at its store of the high word
   pub record IsAtPutHigh (call : Call T) (high : ℕ) (p : Parties T) : Type 0 where
     pub answer : Answer T
     pub done : List (Slot T)
-    pub at : IsNext call (places.PutHigh high answer) (Some kinds.Write) done p
+    pub at : IsNext call (AtomicPlace.PutHigh high answer) (Some HoldKind.Write) done p
 
   -- and has put it, left the lock and answered
   abbrev pub HasPut : Coming T → T → Parties T → Parties T → Type 0

@@ -1,23 +1,11 @@
 -- An atomic as one register, by the model's acts; and the rule that ties the one history of all passes to the words.
-use Rattle.std.specs.Prelude.{◌≡◌, ℕ, List, [], ◌∷◌, ◌++◌, length, slice_index, Option, Some, None}
+use Rattle.running_atomic.specs.Names.{◌≡◌, ℕ, List, [], ◌∷◌, ◌++◌, length, slice_index, Option, Some, None, Call, Act, Event, Arithmetic, IsValue, IsClosed, PendingCall, call_of, RegisterAct, plain, update, after_acts, acts_at, acts_of_run, Held, Free, Reading, Writing, Torn, Locks, IsOnNoWord, on_no_word, StaysOnNoWord}
 use Rattle.std.proofs.Common.{refl, sym, ap, ◌∙◌}
 use Rattle.std.proofs.lemmas.List.{append-nil}
 use mathlib.Core.Option as maybe
-use Rattle.steps_events.specs.declared.event.Call.TheVariants as calls
-use Rattle.steps_events.specs.declared.event.Act.{Act}
-use Rattle.steps_events.specs.declared.event.Event.{Event}
-use Rattle.steps_events.specs.Arithmetic.{Arithmetic, IsValue, IsClosed}
-use Rattle.steps_events.specs.Past.{PendingCall, call_of}
-use Rattle.steps_atomic.specs.Register.{RegisterAct, plain, update, after_acts, acts_at, acts_of_run}
-use Rattle.tallies.specs.declared.held.Held.{Held}
-use Rattle.tallies.specs.declared.held.Held.TheVariants.{Free, Reading, Writing, Torn}
-use Rattle.tallies.specs.Held.{Locks}
-use Rattle.playing.specs.Words.{IsOnNoWord, on_no_word}
-use Rattle.playing.specs.Passes.{StaysOnNoWord}
 use Rattle.running_atomic.specs.declared.history.AtomicTally.{AtomicTally}
 use Rattle.running_atomic.specs.declared.history.Content.{Content}
 use Rattle.running_atomic.specs.declared.history.AtomicAct.{AtomicAct}
-use Rattle.running_atomic.specs.declared.history.AtomicAct.TheVariants as act
 use Rattle.running_atomic.specs.declared.history.Place.{Place}
 use Rattle.running_atomic.specs.declared.history.Place.TheVariants.{Unknown, Is, Torn}
 use Rattle.running_atomic.specs.declared.history.Heard.{Heard}
@@ -29,21 +17,21 @@ module _ {T : Type 0} (z : Arithmetic T) where
 
   -- the act that a place of the history stands for
   abbrev pub act_in : AtomicAct → RegisterAct T
-  act_in act.Load = plain calls.Load
-  act_in (act.Store x) = plain (calls.Store (value_of x))
-  act_in (act.Swap x) = plain (calls.Swap (value_of x))
-  act_in (act.CompareExchange x y) = plain (calls.CompareExchange (value_of x) (value_of y))
-  act_in (act.CompareExchangeWeak x y) = plain (calls.CompareExchangeWeak (value_of x) (value_of y))
-  act_in (act.FetchAdd x) = plain (calls.FetchAdd (value_of x))
-  act_in (act.FetchSub x) = plain (calls.FetchSub (value_of x))
-  act_in (act.FetchAnd x) = plain (calls.FetchAnd (value_of x))
-  act_in (act.FetchOr x) = plain (calls.FetchOr (value_of x))
-  act_in (act.FetchXor x) = plain (calls.FetchXor (value_of x))
-  act_in (act.FetchNand x) = plain (calls.FetchNand (value_of x))
-  act_in (act.FetchMax x) = plain (calls.FetchMax (value_of x))
-  act_in (act.FetchMin x) = plain (calls.FetchMin (value_of x))
-  act_in (act.FetchUpdate None) = update None
-  act_in (act.FetchUpdate (Some x)) = update (Some (value_of x))
+  act_in AtomicAct.Load = plain Call.Load
+  act_in (AtomicAct.Store x) = plain (Call.Store (value_of x))
+  act_in (AtomicAct.Swap x) = plain (Call.Swap (value_of x))
+  act_in (AtomicAct.CompareExchange x y) = plain (Call.CompareExchange (value_of x) (value_of y))
+  act_in (AtomicAct.CompareExchangeWeak x y) = plain (Call.CompareExchangeWeak (value_of x) (value_of y))
+  act_in (AtomicAct.FetchAdd x) = plain (Call.FetchAdd (value_of x))
+  act_in (AtomicAct.FetchSub x) = plain (Call.FetchSub (value_of x))
+  act_in (AtomicAct.FetchAnd x) = plain (Call.FetchAnd (value_of x))
+  act_in (AtomicAct.FetchOr x) = plain (Call.FetchOr (value_of x))
+  act_in (AtomicAct.FetchXor x) = plain (Call.FetchXor (value_of x))
+  act_in (AtomicAct.FetchNand x) = plain (Call.FetchNand (value_of x))
+  act_in (AtomicAct.FetchMax x) = plain (Call.FetchMax (value_of x))
+  act_in (AtomicAct.FetchMin x) = plain (Call.FetchMin (value_of x))
+  act_in (AtomicAct.FetchUpdate None) = update None
+  act_in (AtomicAct.FetchUpdate (Some x)) = update (Some (value_of x))
 
   abbrev pub acts_in : List AtomicAct → List (RegisterAct T)
   acts_in [] = []

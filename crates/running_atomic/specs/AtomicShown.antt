@@ -1,18 +1,6 @@
 -- What contracts see of an atomic and its pass, and what a call changes in a pass.
-use Rattle.std.specs.Prelude.{◌≡◌, ℕ, List, ◌++◌, codes, Option, Some, None}
-use Rattle.steps_events.specs.declared.event.Call.{Call}
-use Rattle.steps_events.specs.declared.event.Answer.{Answer}
-use Rattle.steps_events.specs.Arithmetic.{Arithmetic}
+use Rattle.running_atomic.specs.Names.{◌≡◌, ℕ, List, ◌++◌, codes, Option, Some, None, Call, Answer, Arithmetic, Pass, IsWhole, IsSamePass, view, part_of, Parties, HasCalled, parties_of, counts_of, counted, IsPassOf, key_of, Held, Writing, RegisterAct, answer_to}
 use Rattle.passes.specs.declared.part.Part.{Part}
-use Rattle.passes.specs.declared.pass.Pass.{Pass}
-use Rattle.passes.specs.Parts.{IsWhole}
-use Rattle.passes.specs.Passes.{IsSamePass, view, part_of}
-use Rattle.playing.specs.Slots.{Parties}
-use Rattle.playing.specs.Plays.{HasCalled}
-use Rattle.playing.specs.Passes.{parties_of, counts_of, counted}
-use Rattle.playing.specs.Stages.{IsPassOf, key_of}
-use Rattle.tallies.specs.declared.held.Held.{Held}
-use Rattle.tallies.specs.declared.held.Held.TheVariants.{Writing}
 use Rattle.running_atomic.specs.declared.history.Content.{Content}
 use Rattle.running_atomic.specs.declared.history.AtomicAct.{AtomicAct}
 use Rattle.running_atomic.specs.declared.calls.Atomic.{Atomic}
@@ -20,7 +8,6 @@ use Rattle.running_atomic.specs.declared.pass.AtomicPass.{AtomicPass}
 use Rattle.running_atomic.specs.declared.shown.AtomicShown.{AtomicShown}
 use Rattle.running_atomic.specs.AtomicModel.{atomic_model}
 use Rattle.running_atomic.specs.AtomicParties.{StandsAtRun}
-use Rattle.steps_atomic.specs.Register.{RegisterAct, answer_to}
 use Rattle.running_atomic.specs.AtomicRule.{value_of, act_in, history_in}
 use Rattle.running_atomic.specs.AtomicSteps.{PlayedAtomic, Acts, Joins, IsLast, IsSettled}
 

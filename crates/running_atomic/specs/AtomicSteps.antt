@@ -1,29 +1,14 @@
 -- What the steps of an atomic tell, and what holds whenever its rule does.
-use Rattle.std.specs.Prelude.{◌≡◌, ◌≢◌, ℕ, ◌≤◌, false, MatchBool, List, [], ◌∷◌, ◌++◌, length, None}
+use Rattle.running_atomic.specs.Names.{◌≡◌, ◌≢◌, ℕ, ◌≤◌, false, MatchBool, List, [], ◌∷◌, ◌++◌, length, None, Call, Answer, Arithmetic, View, IsWhole, together, missed, wrote, sum_of, IsCounted, count_at, one_more, both_counts, Held, Free, Reading, Writing, Torn, write_holds, AtomicPlace, RegisterAct, plain, answer_to, value_after, after_acts, Parties, none_played, both_played, PlaysAndCounts}
 use mathlib.Core.Option as maybe
 use mathlib.Core.Option.{some}
 use lib.ListN.{get_elem?}
 use Rattle.atomic_table.specs.Table.{State}
-use Rattle.steps_events.specs.declared.event.Call.{Call}
-use Rattle.steps_events.specs.declared.event.Answer.{Answer}
-use Rattle.steps_events.specs.Arithmetic.{Arithmetic}
-use Rattle.passes.specs.declared.view.View.{View}
-use Rattle.passes.specs.Parts.{IsWhole, together}
-use Rattle.passes.specs.Views.{missed, wrote, sum_of, IsCounted}
-use Rattle.tallies.specs.Counts.{count_at, one_more, both_counts}
-use Rattle.tallies.specs.declared.held.Held.{Held}
-use Rattle.tallies.specs.declared.held.Held.TheVariants.{Free, Reading, Writing, Torn}
-use Rattle.tallies.specs.Held.{write_holds}
-use Rattle.steps_atomic.specs.declared.AtomicPlace.{AtomicPlace}
-use Rattle.steps_atomic.specs.Register.{RegisterAct, plain, answer_to, value_after, after_acts}
 use Rattle.playing.specs.declared.played.Played.{Played}
-use Rattle.playing.specs.Slots.{Parties}
-use Rattle.playing.specs.Passes.{none_played, both_played, PlaysAndCounts}
 use Rattle.running_atomic.specs.declared.script.AtomicScript.{AtomicScript}
 use Rattle.running_atomic.specs.declared.history.AtomicTally.{AtomicTally}
 use Rattle.running_atomic.specs.declared.history.Content.{Content}
 use Rattle.running_atomic.specs.declared.history.AtomicAct.{AtomicAct}
-use Rattle.running_atomic.specs.declared.history.AtomicAct.TheVariants as act
 use Rattle.running_atomic.specs.declared.history.Heard.{Heard}
 use Rattle.running_atomic.specs.Agree.{merge}
 use Rattle.running_atomic.specs.History.{content, both_heard, atomic_tally, both_tallies, no_acts, same_act}
@@ -104,7 +89,7 @@ ActsAt z opening a found v w = Acts z opening (act_in z a) (answer_to z (act_in 
 
 -- the last access of a load
 abbrev pub EndsLoad : {T : Type 0} → Arithmetic T → T → V → ℕ → V → Type 0
-EndsLoad z opening v found w = (w.tally.hold ≡ v.tally.hold) × IfHeld v.tally.hold (λ x. (found ≡ x.high) × ActsAt z opening act.Load x v w) × Records act.Load v w
+EndsLoad z opening v found w = (w.tally.hold ≡ v.tally.hold) × IfHeld v.tally.hold (λ x. (found ≡ x.high) × ActsAt z opening AtomicAct.Load x v w) × Records AtomicAct.Load v w
 
 -- the last access of a call that stores
 abbrev pub EndsStore : {T : Type 0} → Arithmetic T → T → AtomicAct → V → ℕ → V → Type 0
@@ -167,7 +152,7 @@ pub record IsComparing {T : Type 0} (z : Arithmetic T) (opening : T) (a : Atomic
 
 -- it stores: it is no `fetch_update` whose closure has chosen nothing
 abbrev pub IsStoring : AtomicAct → Type 0
-IsStoring (act.FetchUpdate None) = ⊥
+IsStoring (AtomicAct.FetchUpdate None) = ⊥
 IsStoring other = Unit {0}
 
 -- all of the history was seen, whose start the pass knew

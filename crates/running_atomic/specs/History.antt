@@ -1,15 +1,10 @@
 -- What is known of the history, and which places of it are own acts.
-use Rattle.std.specs.Prelude.{◌≡◌, ℕ, Bool, List, [], ◌∷◌, Some, None}
+use Rattle.running_atomic.specs.Names.{◌≡◌, ℕ, Bool, List, [], ◌∷◌, Some, None, Held, Free, TellsSame, both_held, both_counts, counts_swap, counts_group}
 use Rattle.std.proofs.Common.{refl, zero, suc}
 use Rattle.passes.specs.Tallies.{IsTally}
-use Rattle.tallies.specs.declared.held.Held.{Held}
-use Rattle.tallies.specs.declared.held.Held.TheVariants.{Free}
-use Rattle.tallies.specs.Held.{TellsSame, both_held}
 use Rattle.tallies.specs.HeldTally.{held_adds_up}
-use Rattle.tallies.specs.Counts.{both_counts, counts_swap, counts_group}
 use Rattle.running_atomic.specs.declared.history.Content.{Content}
 use Rattle.running_atomic.specs.declared.history.AtomicAct.{AtomicAct}
-use Rattle.running_atomic.specs.declared.history.AtomicAct.TheVariants as act
 use Rattle.running_atomic.specs.declared.history.Place.{Place}
 use Rattle.running_atomic.specs.declared.history.Heard.{Heard}
 use Rattle.running_atomic.specs.declared.history.AtomicTally.{AtomicTally}
@@ -40,53 +35,53 @@ tells_same_content = tells_same same_content contents_tell
 
 -- an act as numbers: which it is, and what it was handed
 abbrev pub act_numbers : AtomicAct → List ℕ
-act_numbers act.Load = 0 ∷ []
-act_numbers (act.Store x) = 1 ∷ words_of x []
-act_numbers (act.Swap x) = 2 ∷ words_of x []
-act_numbers (act.CompareExchange x y) = 3 ∷ words_of x (words_of y [])
-act_numbers (act.CompareExchangeWeak x y) = 4 ∷ words_of x (words_of y [])
-act_numbers (act.FetchAdd x) = 5 ∷ words_of x []
-act_numbers (act.FetchSub x) = 6 ∷ words_of x []
-act_numbers (act.FetchAnd x) = 7 ∷ words_of x []
-act_numbers (act.FetchOr x) = 8 ∷ words_of x []
-act_numbers (act.FetchXor x) = 9 ∷ words_of x []
-act_numbers (act.FetchNand x) = 10 ∷ words_of x []
-act_numbers (act.FetchMax x) = 11 ∷ words_of x []
-act_numbers (act.FetchMin x) = 12 ∷ words_of x []
-act_numbers (act.FetchUpdate None) = 13 ∷ []
-act_numbers (act.FetchUpdate (Some x)) = 14 ∷ words_of x []
+act_numbers AtomicAct.Load = 0 ∷ []
+act_numbers (AtomicAct.Store x) = 1 ∷ words_of x []
+act_numbers (AtomicAct.Swap x) = 2 ∷ words_of x []
+act_numbers (AtomicAct.CompareExchange x y) = 3 ∷ words_of x (words_of y [])
+act_numbers (AtomicAct.CompareExchangeWeak x y) = 4 ∷ words_of x (words_of y [])
+act_numbers (AtomicAct.FetchAdd x) = 5 ∷ words_of x []
+act_numbers (AtomicAct.FetchSub x) = 6 ∷ words_of x []
+act_numbers (AtomicAct.FetchAnd x) = 7 ∷ words_of x []
+act_numbers (AtomicAct.FetchOr x) = 8 ∷ words_of x []
+act_numbers (AtomicAct.FetchXor x) = 9 ∷ words_of x []
+act_numbers (AtomicAct.FetchNand x) = 10 ∷ words_of x []
+act_numbers (AtomicAct.FetchMax x) = 11 ∷ words_of x []
+act_numbers (AtomicAct.FetchMin x) = 12 ∷ words_of x []
+act_numbers (AtomicAct.FetchUpdate None) = 13 ∷ []
+act_numbers (AtomicAct.FetchUpdate (Some x)) = 14 ∷ words_of x []
 
 -- the act in this place
 abbrev pick : ℕ → List AtomicAct → AtomicAct
-pick n [] = act.Load
+pick n [] = AtomicAct.Load
 pick zero (a ∷ others) = a
 pick (suc n) (a ∷ others) = pick n others
 
 abbrev act_by : ℕ → Content → Content → AtomicAct
 act_by which x y =
     pick which (
-    act.Load ∷ act.Store x ∷ act.Swap x ∷ act.CompareExchange x y ∷ act.CompareExchangeWeak x y ∷ act.FetchAdd x ∷ act.FetchSub x ∷ act.FetchAnd x ∷ act.FetchOr x ∷ act.FetchXor x ∷ act.FetchNand x
-    ∷ act.FetchMax x ∷ act.FetchMin x ∷ act.FetchUpdate None ∷ act.FetchUpdate (Some x) ∷ [])
+    AtomicAct.Load ∷ AtomicAct.Store x ∷ AtomicAct.Swap x ∷ AtomicAct.CompareExchange x y ∷ AtomicAct.CompareExchangeWeak x y ∷ AtomicAct.FetchAdd x ∷ AtomicAct.FetchSub x ∷ AtomicAct.FetchAnd x ∷ AtomicAct.FetchOr x ∷ AtomicAct.FetchXor x ∷ AtomicAct.FetchNand x
+    ∷ AtomicAct.FetchMax x ∷ AtomicAct.FetchMin x ∷ AtomicAct.FetchUpdate None ∷ AtomicAct.FetchUpdate (Some x) ∷ [])
 
 abbrev read_back : List ℕ → AtomicAct
 read_back ns = act_by (number_at ns 0) (content_at ns 1) (content_at ns 3)
 
 reads_back : (a : AtomicAct) → read_back (act_numbers a) ≡ a
-reads_back act.Load = refl
-reads_back (act.Store x) = refl
-reads_back (act.Swap x) = refl
-reads_back (act.CompareExchange x y) = refl
-reads_back (act.CompareExchangeWeak x y) = refl
-reads_back (act.FetchAdd x) = refl
-reads_back (act.FetchSub x) = refl
-reads_back (act.FetchAnd x) = refl
-reads_back (act.FetchOr x) = refl
-reads_back (act.FetchXor x) = refl
-reads_back (act.FetchNand x) = refl
-reads_back (act.FetchMax x) = refl
-reads_back (act.FetchMin x) = refl
-reads_back (act.FetchUpdate None) = refl
-reads_back (act.FetchUpdate (Some x)) = refl
+reads_back AtomicAct.Load = refl
+reads_back (AtomicAct.Store x) = refl
+reads_back (AtomicAct.Swap x) = refl
+reads_back (AtomicAct.CompareExchange x y) = refl
+reads_back (AtomicAct.CompareExchangeWeak x y) = refl
+reads_back (AtomicAct.FetchAdd x) = refl
+reads_back (AtomicAct.FetchSub x) = refl
+reads_back (AtomicAct.FetchAnd x) = refl
+reads_back (AtomicAct.FetchOr x) = refl
+reads_back (AtomicAct.FetchXor x) = refl
+reads_back (AtomicAct.FetchNand x) = refl
+reads_back (AtomicAct.FetchMax x) = refl
+reads_back (AtomicAct.FetchMin x) = refl
+reads_back (AtomicAct.FetchUpdate None) = refl
+reads_back (AtomicAct.FetchUpdate (Some x)) = refl
 
 abbrev pub same_act : AtomicAct → AtomicAct → Bool
 same_act = same_by act_numbers

@@ -1,3 +1,4 @@
+pub mod Names
 pub mod Alike
 pub mod Agree
 pub mod History
@@ -6,3 +7,4 @@ pub mod AtomicRule
 pub mod AtomicSteps
 pub mod AtomicParties
 pub mod AtomicShown
+pub mod Additions

@@ -5,11 +5,13 @@
 //! the model in which the passes are the parties.
 #![tactic(auto)]
 
+mod acts;
 mod begins;
 mod calls;
 mod deeds;
 mod ends;
 mod history;
+mod locking;
 mod pass;
 mod script;
 mod shown;

@@ -1,34 +1,14 @@
 -- Each step of a barrier keeps its rule.
-use Rattle.std.proofs.Common.{◌≡◌, ℕ, zero, suc, ◌+◌, ◌-◌, ◌*◌, ◌%◌, ◌^◌, ◌<◌, ◌≤◌, ◌==◌, eqb, Bool, true, false, cond, List, [], ◌∷◌, get_or, set, sym, refl, ap, ◌∙◌, subst, arith, length-set, get_or-set_same}
-use Rattle.std.specs.List.{sum}
-use Rattle.std.proofs.lemmas.Bool.{ne_eqb}
+use Rattle.running_barrier.specs.Names.{sum, dite, ℕ_discrete, Word, Intent, epoch_of, count_of, opened, is_arrival, View, IsWhole, total, stale, view_of, looked, missed, left_view, right_view, joined_view, sum_of, Updates, view, Parties, Coming, none_played, both_played, core_played, played_add_up, GoesOnCounting, Rounds, one_more, both_counts, in_round, rounds, no_rounds, both_rounds, known_rounds, word_of, IsFilling, BarrierAgrees, AreArrivalsIn, barrier_model}
+use Rattle.running_barrier.proofs.Names.{◌≡◌, ℕ, zero, suc, ◌+◌, ◌-◌, ◌*◌, ◌%◌, ◌^◌, ◌<◌, ◌≤◌, ◌==◌, eqb, Bool, true, false, cond, List, [], ◌∷◌, get_or, set, sym, refl, ap, ◌∙◌, subst, arith, length-set, get_or-set_same, ne_eqb, eqb_same}
 use Rattle.std.proofs.lemmas.List.Sums.{sum_by-cons}
-use mathlib.Core.Logic.{dite}
-use native.Mathlib.Decide.{ℕ_discrete}
 use prog.Atomic.{either}
-use Rattle.steps_events.specs.declared.event.Word.{Word}
-use Rattle.steps_events.specs.declared.event.Word.TheVariants as words
-use Rattle.steps_events.specs.declared.event.Act.TheVariants as acts
+use Rattle.steps_events.specs.declared.event.Act.{Act}
 use Rattle.steps_events.specs.declared.event.Event.{Event}
-use Rattle.steps_events.specs.declared.row.Intent.TheVariants as intents
-use Rattle.steps_events.proofs.Holds.{eqb_same}
-use Rattle.steps_barrier.specs.Rounds.{epoch_of, count_of, opened, is_arrival}
-use Rattle.passes.specs.declared.view.View.{View}
-use Rattle.passes.specs.Parts.{IsWhole, total}
-use Rattle.passes.specs.Sights.{stale}
-use Rattle.passes.specs.Views.{view_of, looked, missed, left_view, right_view, joined_view, sum_of, Updates}
-use Rattle.passes.specs.Passes.{view}
-use Rattle.playing.specs.Slots.{Parties}
-use Rattle.playing.specs.Plays.{Coming}
 use Rattle.playing.proofs.OfARun.{of_a_run}
-use Rattle.playing.specs.Passes.{none_played, both_played, core_played, played_add_up, GoesOnCounting}
 use Rattle.passes.proofs.Sums.{sum_at}
 use Rattle.passes.proofs.Updates.{by_look, by_exchange}
-use Rattle.tallies.specs.declared.barrier.Rounds.{Rounds}
-use Rattle.tallies.specs.Counts.{one_more, both_counts}
 use Rattle.tallies.proofs.CountLaws.{in_both, more_in_both, more_here, more_elsewhere}
-use Rattle.tallies.specs.BarrierRule.{in_round, rounds, no_rounds, both_rounds, known_rounds, word_of, IsFilling, BarrierAgrees, AreArrivalsIn}
-use Rattle.tallies.specs.BarrierScript.{barrier_model}
 use Rattle.running_barrier.specs.BarrierSteps.{BarrierView, ArrivalsAreOfARun, OpenRoundsAreFull, reaches, Says, MadeAll, Loaded, Exchanged}
 use Rattle.tallies.specs.BarrierTally.{rounds_add_up}
 use Rattle.running_barrier.specs.BarrierShown.{BarrierPass, counts_of, arrivals_of, IsNextWord}
@@ -190,15 +170,15 @@ arrives_if past e t u rest b act counted is =
     let more : ◌≡◌ {A = ℕ} (cond (is_arrival e.act) 1 0) (cond b 1 0) = ap (λ (c : Bool). cond c 1 0) act in
     omega (arith, before, after, counted, more, is)
 
-pub load_counts : (n : ℕ) (way : Coming ℕ) (p : Parties ℕ) (v : View Rounds) → GoesOnCounting (barrier_model n) (words.State ∷ []) both_rounds (BarrierAgrees n) AreArrivalsIn way 0 (λ w. intents.Load w) p v.tally (Loaded n v)
+pub load_counts : (n : ℕ) (way : Coming ℕ) (p : Parties ℕ) (v : View Rounds) → GoesOnCounting (barrier_model n) (Word.State ∷ []) both_rounds (BarrierAgrees n) AreArrivalsIn way 0 (λ w. Intent.Load w) p v.tally (Loaded n v)
 load_counts n way p v call place hold done comes past e found step name named act rest w told still is =
     let counted = ap (λ (u : View Rounds). sum u.tally.arrivals) told.saw in arrives_if past e v.tally w.tally rest false (ap is_arrival act) (omega (arith, counted)) is
 
-arrival_is : (name : Word) (from to found : ℕ) (done : Bool) → words.State ≡ name → is_arrival {T = ℕ} (acts.Exchange name from to found done) ≡ done
-arrival_is name from to found done named = subst (λ w. is_arrival {T = ℕ} (acts.Exchange w from to found done) ≡ done) named refl
+arrival_is : (name : Word) (from to found : ℕ) (done : Bool) → Word.State ≡ name → is_arrival {T = ℕ} (Act.Exchange name from to found done) ≡ done
+arrival_is name from to found done named = subst (λ w. is_arrival {T = ℕ} (Act.Exchange w from to found done) ≡ done) named refl
 
 pub exchange_counts : (n : ℕ) (way : Coming ℕ) (p : Parties ℕ) (v : View Rounds) (old new : ℕ) →
-    GoesOnCounting (barrier_model n) (words.State ∷ []) both_rounds (BarrierAgrees n) AreArrivalsIn way 0 (λ w. intents.Exchange w old new) p v.tally (Exchanged n old v)
+    GoesOnCounting (barrier_model n) (Word.State ∷ []) both_rounds (BarrierAgrees n) AreArrivalsIn way 0 (λ w. Intent.Exchange w old new) p v.tally (Exchanged n old v)
 exchange_counts n way p v old new call place hold done comes past e found step name named act rest w told still is =
     let arrival : is_arrival e.act ≡ (found == old) = ap is_arrival act ∙ arrival_is name old new found (found == old) named in
     dite (ℕ_discrete found old)
@@ -206,7 +186,7 @@ exchange_counts n way p v old new call place hold done comes past e found step n
     (λ miss. let counted = ap (λ (u : View Rounds). sum u.tally.arrivals) (told.failed miss) in arrives_if past e v.tally w.tally rest false (arrival ∙ ne_eqb found old miss) (omega (arith, counted)) is)
 
 pub arrivals_are_of_a_run : ArrivalsAreOfARun
-arrivals_are_of_a_run n s r = of_a_run (barrier_model n) (words.State ∷ []) (BarrierAgrees n) AreArrivalsIn s.words s.homes (sum_of (none_played no_rounds) (both_played both_rounds) s.views) r.agree
+arrivals_are_of_a_run n s r = of_a_run (barrier_model n) (Word.State ∷ []) (BarrierAgrees n) AreArrivalsIn s.words s.homes (sum_of (none_played no_rounds) (both_played both_rounds) s.views) r.agree
 
 -- the law of open rounds
 

@@ -1,26 +1,8 @@
 -- What contracts see of a barrier and its pass, and what a call changes in a pass.
-use Rattle.std.specs.Prelude.{◌≡◌, ℕ, ◌+◌, ◌<◌, ◌≤◌, ◌%◌, ◌^◌, ◌⊎◌, List, None}
-use Rattle.std.specs.List.{sum}
-use Rattle.steps_events.specs.declared.event.Call.TheVariants as calls
-use Rattle.steps_events.specs.declared.event.Answer.{Answer}
-use Rattle.steps_events.specs.declared.event.Then.TheVariants as thens
-use Rattle.steps_barrier.specs.declared.BarrierPlace.{BarrierPlace}
-use Rattle.steps_barrier.specs.declared.BarrierPlace.TheVariants as places
-use Rattle.steps_barrier.specs.Rounds.{epoch_of, count_of, opened}
-use Rattle.tallies.specs.BarrierScript.{barrier_model}
+use Rattle.running_barrier.specs.Names.{◌≡◌, ℕ, ◌+◌, ◌<◌, ◌≤◌, ◌%◌, ◌^◌, ◌⊎◌, List, None, sum, Call, Answer, Then, BarrierPlace, epoch_of, count_of, opened, barrier_model, IsWhole, seen, stale, IsSamePass, part_of, sights_of, Played, all_of, HasCalled, IsAt, parties_of, tally_of, Rounds, BarrierScript, one_more}
 use Rattle.passes.specs.declared.pass.Pass.{Pass}
-use Rattle.passes.specs.Parts.{IsWhole}
-use Rattle.passes.specs.Sights.{seen, stale}
-use Rattle.passes.specs.Passes.{IsSamePass, part_of, sights_of}
-use Rattle.playing.specs.declared.played.Played.{Played}
-use Rattle.playing.specs.Slots.{all_of}
-use Rattle.playing.specs.Plays.{HasCalled, IsAt}
-use Rattle.playing.specs.Passes.{parties_of, counts_of as tally_of}
 use Rattle.playing.specs.Stages.{IsPassOf, key_of}
-use Rattle.tallies.specs.declared.barrier.Rounds.{Rounds}
-use Rattle.tallies.specs.declared.barrier.BarrierScript.{BarrierScript}
 use Rattle.running_barrier.specs.declared.Barrier.{Barrier}
-use Rattle.tallies.specs.Counts.{one_more}
 use Rattle.running_barrier.specs.BarrierSteps.{Arrives}
 
 -- the pass of a barrier
@@ -113,9 +95,9 @@ module _ (n : ℕ) where
   -- There is a run of the model, which keeps the law of a barrier for n, in which a party of the pass has just been answered so by a
   -- `Wait`. It is the one call that the pass has made since, as a party that is new.
   abbrev pub HasPlayed : Answer ℕ → BarrierPass → BarrierPass → Type 0
-  HasPlayed answer p q = HasCalled (barrier_model n) calls.Wait answer None (parties_of p) (parties_of q)
+  HasPlayed answer p q = HasCalled (barrier_model n) Call.Wait answer None (parties_of p) (parties_of q)
 
   -- As a party that is new the pass has begun a `Wait` and filled a round by its arrival, in a run that keeps the barrier's law; and is
   -- to wake all.
   abbrev pub HasFilled : BarrierPass → BarrierPass → Type 0
-  HasFilled p q = IsAt (barrier_model n) calls.Wait places.Wake thens.GoesOn None (all_of (parties_of p)) (parties_of q)
+  HasFilled p q = IsAt (barrier_model n) Call.Wait BarrierPlace.Wake Then.GoesOn None (all_of (parties_of p)) (parties_of q)

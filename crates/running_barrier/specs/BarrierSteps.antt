@@ -1,23 +1,8 @@
 -- What holds whenever the rule of a barrier does, and what a step changes in a pass.
-use Rattle.std.specs.Prelude.{◌≡◌, ◌≢◌, ℕ, ◌+◌, ◌%◌, ◌^◌, ◌<◌, ◌≤◌, [], ◌∷◌}
-use Rattle.std.specs.List.{sum}
+use Rattle.running_barrier.specs.Names.{◌≡◌, ◌≢◌, ℕ, ◌+◌, ◌%◌, ◌^◌, ◌<◌, ◌≤◌, [], ◌∷◌, sum, Word, BarrierPlace, epoch_of, count_of, barrier_model, View, IsWhole, total, stale, view_of, looked, missed, sum_of, IsCounted, Played, none_played, both_played, PlaysAndCounts, IsOfARun, Rounds, BarrierScript, one_more, in_round, rounds, no_rounds, both_rounds, word_of, BarrierAgrees, AreArrivalsIn}
 use mathlib.Core.Option.{some}
 use lib.ListN.{get_elem?}
 use Rattle.atomic_table.specs.Table.{State}
-use Rattle.steps_events.specs.declared.event.Word.TheVariants as words
-use Rattle.steps_barrier.specs.declared.BarrierPlace.{BarrierPlace}
-use Rattle.steps_barrier.specs.Rounds.{epoch_of, count_of}
-use Rattle.tallies.specs.BarrierScript.{barrier_model}
-use Rattle.passes.specs.declared.view.View.{View}
-use Rattle.passes.specs.Parts.{IsWhole, total}
-use Rattle.passes.specs.Sights.{stale}
-use Rattle.passes.specs.Views.{view_of, looked, missed, sum_of, IsCounted}
-use Rattle.playing.specs.declared.played.Played.{Played}
-use Rattle.playing.specs.Passes.{none_played, both_played, PlaysAndCounts, IsOfARun}
-use Rattle.tallies.specs.declared.barrier.Rounds.{Rounds}
-use Rattle.tallies.specs.declared.barrier.BarrierScript.{BarrierScript}
-use Rattle.tallies.specs.Counts.{one_more}
-use Rattle.tallies.specs.BarrierRule.{in_round, rounds, no_rounds, both_rounds, word_of, BarrierAgrees, AreArrivalsIn}
 
 -- what the pass of a barrier knows
 abbrev pub BarrierView : Type 0
@@ -25,7 +10,7 @@ BarrierView = View (Played BarrierScript BarrierPlace ℕ Rounds)
 
 -- the rule of a barrier for n holds
 abbrev pub IsRuled : ℕ → State (Unit {0}) BarrierView → Type 0
-IsRuled n s = IsCounted (none_played no_rounds) (both_played both_rounds) (PlaysAndCounts (barrier_model n) (words.State ∷ []) (BarrierAgrees n) AreArrivalsIn) s
+IsRuled n s = IsCounted (none_played no_rounds) (both_played both_rounds) (PlaysAndCounts (barrier_model n) (Word.State ∷ []) (BarrierAgrees n) AreArrivalsIn) s
 
 -- whenever it does, all passes are the parties of a run, and arrived as often as calls did in it
 abbrev pub ArrivalsAreOfARun : Type 0

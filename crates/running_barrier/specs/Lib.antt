@@ -1,3 +1,4 @@
+pub mod Names
 pub mod BarrierParties
 pub mod BarrierSteps
 pub mod BarrierShown

@@ -1,8 +1,6 @@
 -- What a call of a closure tells that acts on a value.
-use Rattle.std.proofs.Common.{refl}
-use Rattle.std.specs.Prelude.{Option, Some, None, IfSome}
-use Rattle.std.specs.Borrow.{MutBor}
-use Rattle.std.specs.Fn.{Mut, Called}
+use Rattle.running_guarded.specs.Names.{Option, Some, None, IfSome, MutBor, Mut, Called}
+use Rattle.running_guarded.proofs.Names.{refl}
 use Rattle.running_guarded.specs.Acting.{ActsOn}
 
 module _ {F T X : Type 0} (g : Mut F (MutBor T × Unit {0}) (Option X × (MutBor T × Unit {0}))) where

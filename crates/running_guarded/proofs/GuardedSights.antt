@@ -1,28 +1,12 @@
 -- What becomes of what a pass knows over several exchanges.
-use Rattle.std.proofs.Common.{◌≡◌, ◌≤◌, ◌<◌, ℕ, ◌+◌, [], ◌∷◌, refl, ap, subst, arith}
-use Rattle.std.specs.Prelude.{Bool, true, false, MatchBool, Some, None, List}
-use Rattle.std.specs.Borrow.{Bor}
-use Rattle.std.specs.Fn.{Shared}
-use Rattle.passes.specs.Sights.{seen_instead}
-use Rattle.passes.specs.Answers.{MayAnswerContinue}
-use Rattle.steps_events.specs.declared.WaitAction.{WaitAction}
-use Rattle.steps_events.specs.declared.event.Call.TheVariants as calls
-use Rattle.steps_events.specs.declared.event.Word.TheVariants as words
-use Rattle.steps_events.specs.declared.row.Intent.TheVariants as intents
+use Rattle.running_guarded.specs.Names.{Bool, true, false, MatchBool, Some, None, List, Bor, Shared, seen_instead, MayAnswerContinue, WaitAction, Call, HoldKind, MutexPlace, mutex_model, Slot, all_of, Coming, Going, Beginning, Answered, ComesBy, MayStep, spun, IsGranted, IsRefused, IsStanding, HasMutex, IsLocked, Locks, Enters}
+use Rattle.running_guarded.proofs.Names.{◌≡◌, ◌≤◌, ◌<◌, ℕ, ◌+◌, [], ◌∷◌, refl, ap, subst, arith, may_lock, lock_begins, lock_goes, granted_has}
+use Rattle.steps_events.specs.declared.event.Word.{Word}
+use Rattle.steps_events.specs.declared.row.Intent.{Intent}
 use Rattle.steps_events.specs.Rows.{answered}
-use Rattle.steps_events.specs.declared.hold.HoldKind.TheVariants as kinds
 use Rattle.steps_events.specs.declared.patience.Patience.{Patience}
-use Rattle.steps_mutex.specs.declared.MutexPlace.TheVariants as places
-use Rattle.tallies.specs.MutexScript.{mutex_model}
-use Rattle.playing.specs.Slots.{Slot, all_of}
-use Rattle.playing.specs.Plays.{Coming, Going, Beginning, Answered, ComesBy, MayStep}
-use Rattle.playing.specs.Tries.{spun, IsGranted, IsRefused, IsStanding}
 use Rattle.playing.proofs.Patience.{spins_on, stands, tries_on}
-use Rattle.running_mutex.specs.MutexParties.{HasMutex}
-use Rattle.running_mutex.specs.MutexShown.{IsLocked}
-use Rattle.running_mutex.proofs.MutexPlays.{may_lock, lock_begins, lock_goes, granted_has}
 use Rattle.running_guarded.specs.GuardedRule.{MutexView}
-use Rattle.running_spin_lock.specs.ValueSteps.{Locks, Enters}
 use Rattle.running_spin_lock.proofs.ValueSights as values
 use Rattle.running_guarded.specs.GuardedSteps.{SeesLocked, Tries, SeesLockedOften, GivesUp}
 
@@ -69,51 +53,51 @@ module _ {F W : Type 0} (g : Shared F (Bor W × (Bor ℕ × Unit {0})) WaitActio
 -- The exchanges of `lock`: that they may be made, and where they lead.
 
 abbrev Granted : List (Slot ℕ) → MutexView → Type 0
-Granted done v = IsGranted mutex_model calls.Lock places.Lock (Some kinds.Write) done v.tally.parties
+Granted done v = IsGranted mutex_model Call.Lock MutexPlace.Lock (Some HoldKind.Write) done v.tally.parties
 
 abbrev Refused : Patience → List (Slot ℕ) → MutexView → Type 0
-Refused patience done v = IsRefused mutex_model calls.Lock places.Lock patience 1 done v.tally.parties
+Refused patience done v = IsRefused mutex_model Call.Lock MutexPlace.Lock patience 1 done v.tally.parties
 
 abbrev Stands : List (Slot ℕ) → MutexView → Type 0
-Stands done v = IsStanding mutex_model calls.Lock places.Lock 1 done v.tally.parties
+Stands done v = IsStanding mutex_model Call.Lock MutexPlace.Lock 1 done v.tally.parties
 
 abbrev MayExchange : Coming ℕ → MutexView → Type 0
-MayExchange coming v = MayStep mutex_model (words.State ∷ []) coming 0 (λ w. intents.Exchange w 0 1) v.tally.parties
+MayExchange coming v = MayStep mutex_model (Word.State ∷ []) coming 0 (λ w. Intent.Exchange w 0 1) v.tally.parties
 
 led : (free : Bool) (coming : Coming ℕ) (patience : Patience) (done : List (Slot ℕ)) (v w : MutexView) → Tries coming free v w
-    → ComesBy mutex_model coming calls.Lock (places.Lock patience) None done v.tally.parties → MatchBool free (Granted done w) (Refused patience done w)
+    → ComesBy mutex_model coming Call.Lock (MutexPlace.Lock patience) None done v.tally.parties → MatchBool free (Granted done w) (Refused patience done w)
 led free coming patience done v w t comes = lock_goes free coming t.0 patience done v.tally.parties w.tally.parties t.1 t.2 comes
 
 -- the first
 
-pub may_begin : (v : MutexView) → MayExchange (Beginning calls.Lock) v
-may_begin v = may_lock (Beginning calls.Lock) v.tally.parties 1 refl (record { patience = spun 0; done = all_of v.tally.parties; comes = lock_begins v.tally.parties })
+pub may_begin : (v : MutexView) → MayExchange (Beginning Call.Lock) v
+may_begin v = may_lock (Beginning Call.Lock) v.tally.parties 1 refl (record { patience = spun 0; done = all_of v.tally.parties; comes = lock_begins v.tally.parties })
 
-pub led_first : (free : Bool) (v w : MutexView) → Tries (Beginning calls.Lock) free v w → MatchBool free (Granted (all_of v.tally.parties) w) (Refused (spun 0) (all_of v.tally.parties) w)
-led_first free v w t = led free (Beginning calls.Lock) (spun 0) (all_of v.tally.parties) v w t (lock_begins v.tally.parties)
+pub led_first : (free : Bool) (v w : MutexView) → Tries (Beginning Call.Lock) free v w → MatchBool free (Granted (all_of v.tally.parties) w) (Refused (spun 0) (all_of v.tally.parties) w)
+led_first free v w t = led free (Beginning Call.Lock) (spun 0) (all_of v.tally.parties) v w t (lock_begins v.tally.parties)
 
 -- those by itself
 
 pub may_spin : (n : ℕ) (done : List (Slot ℕ)) (v : MutexView) → n < 10000 → Refused (spun n) done v → MayExchange Going v
-may_spin n done v below at = may_lock Going v.tally.parties 1 refl (record { patience = spun (n + 1); done = done; comes = spins_on mutex_model calls.Lock places.Lock n 1 done v.tally.parties below at })
+may_spin n done v below at = may_lock Going v.tally.parties 1 refl (record { patience = spun (n + 1); done = done; comes = spins_on mutex_model Call.Lock MutexPlace.Lock n 1 done v.tally.parties below at })
 
 pub led_spinning : (free : Bool) (n : ℕ) (done : List (Slot ℕ)) (v w : MutexView) → n < 10000 → Tries Going free v w → Refused (spun n) done v → MatchBool free (Granted done w) (Refused (spun (n + 1)) done w)
-led_spinning free n done v w below t at = led free Going (spun (n + 1)) done v w t (spins_on mutex_model calls.Lock places.Lock n 1 done v.tally.parties below at)
+led_spinning free n done v w below t at = led free Going (spun (n + 1)) done v w t (spins_on mutex_model Call.Lock MutexPlace.Lock n 1 done v.tally.parties below at)
 
 pub stands_at_last : (n : ℕ) (done : List (Slot ℕ)) (v : MutexView) → n ≡ 10000 → Refused (spun n) done v → Stands done v
-stands_at_last n done v all at = stands mutex_model calls.Lock places.Lock n 1 done v.tally.parties all at
+stands_at_last n done v all at = stands mutex_model Call.Lock MutexPlace.Lock n 1 done v.tally.parties all at
 
 -- those after an answer of the wait closure
 
 pub may_try : (action : WaitAction) (done : List (Slot ℕ)) (v : MutexView) → Stands done v → MayExchange (Answered action) v
-may_try action done v at = may_lock (Answered action) v.tally.parties 1 refl (record { patience = answered (spun 10000) action; done = done; comes = tries_on mutex_model calls.Lock places.Lock (λ p a. refl) action 1 done v.tally.parties at })
+may_try action done v at = may_lock (Answered action) v.tally.parties 1 refl (record { patience = answered (spun 10000) action; done = done; comes = tries_on mutex_model Call.Lock MutexPlace.Lock (λ p a. refl) action 1 done v.tally.parties at })
 
 pub led_answered : (free : Bool) (action : WaitAction) (done : List (Slot ℕ)) (v w : MutexView) → Tries (Answered action) free v w → Stands done v → MatchBool free (Granted done w) (Refused (answered (spun 10000) action) done w)
-led_answered free action done v w t at = led free (Answered action) (answered (spun 10000) action) done v w t (tries_on mutex_model calls.Lock places.Lock (λ p a. refl) action 1 done v.tally.parties at)
+led_answered free action done v w t at = led free (Answered action) (answered (spun 10000) action) done v w t (tries_on mutex_model Call.Lock MutexPlace.Lock (λ p a. refl) action 1 done v.tally.parties at)
 
 -- who was granted the lock has it
 pub has_now : (done : List (Slot ℕ)) (v w : MutexView) → done ≡ all_of v.tally.parties → Granted done w → HasMutex w.tally.parties
-has_now done v w is granted = granted_has calls.Lock v.tally.parties w.tally.parties (subst (λ d. Granted d w) is granted)
+has_now done v w is granted = granted_has Call.Lock v.tally.parties w.tally.parties (subst (λ d. Granted d w) is granted)
 
 -- how a call that asked ended, by whether its last exchange was done
 module _ {F W : Type 0} (g : Shared F (Bor W × (Bor ℕ × Unit {0})) WaitAction) (wait : F) where

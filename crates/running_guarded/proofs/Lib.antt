@@ -1,3 +1,4 @@
+pub mod Names
 pub mod GuardedSights
 pub mod SameGuard
 pub mod Acting

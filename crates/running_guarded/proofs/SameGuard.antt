@@ -1,12 +1,10 @@
 -- A guard is told by what it has; its facts say nothing more.
-use Rattle.std.proofs.Common.{◌≡◌, ◌<◌, true}
+use Rattle.running_guarded.specs.Names.{table_id_coded, HasMutex, has_vacant_slot}
+use Rattle.running_guarded.proofs.Names.{◌≡◌, ◌<◌, true}
 use Rattle.std.proofs.Math.Bool.{Bool-set}
 use Rattle.std.proofs.Math.Nat.{ℕ_set}
 use Rattle.std.proofs.Math.Bridge.{le_prop}
 use base.Stored.{Coded-set}
-use Rattle.atomic_table.specs.Seated.{table_id_coded}
-use Rattle.running_mutex.specs.MutexParties.{HasMutex}
-use Rattle.running_spin_lock.specs.ValueSteps.{has_vacant_slot}
 use Rattle.running_guarded.specs.declared.guard.Guard.{Guard}
 use Rattle.running_guarded.specs.GuardedShown.{guard_with}
 

@@ -1,7 +1,5 @@
 -- What a closure did that acts on a value, or cannot yet.
-use Rattle.std.specs.Borrow.{MutBor}
-use Rattle.std.specs.Fn.{Mut, CalledAtMut}
-use Rattle.std.specs.Prelude.{Option, Some}
+use Rattle.running_guarded.specs.Names.{MutBor, Mut, CalledAtMut, Option, Some}
 use Rattle.running_guarded.specs.declared.when.Looked.{Looked}
 use Rattle.running_guarded.specs.declared.when.Looked.TheVariants.{Acted, Again, GaveUp}
 

@@ -1,10 +1,8 @@
 -- What a pass of a guarded value knows, and what the rule over all of them says.
 use Rattle.passes.specs.declared.view.View.{View}
-use Rattle.steps_mutex.specs.declared.MutexPlace.{MutexPlace}
-use Rattle.tallies.specs.MutexScript.{mutex_model}
+use Rattle.running_guarded.specs.Names.{MutexPlace, mutex_model, HasOneHolder, GrantsAreOfARunOf}
 use Rattle.tallies.specs.declared.mutex.MutexScript.{MutexScript}
 use Rattle.running_mutex.specs.MutexSteps.{PlayedMutex}
-use Rattle.running_spin_lock.specs.ValueRule.{HasOneHolder, GrantsAreOfARunOf}
 
 -- what a pass knows
 abbrev pub MutexView : Type 0

@@ -1,15 +1,7 @@
 -- What contracts see of a guarded value, its pass and its guard, and what a call changes in a pass.
-use Rattle.std.specs.Prelude.{◌≡◌, ℕ, ◌+◌, ◌<◌, ◌≤◌}
-use Rattle.std.specs.Borrow.{GName, Bor}
-use Rattle.std.specs.Fn.{Shared}
-use Rattle.atomic_table.specs.Seated.{TableId}
-use Rattle.steps_events.specs.declared.WaitAction.{WaitAction}
+use Rattle.running_guarded.specs.Names.{◌≡◌, ℕ, ◌+◌, ◌<◌, ◌≤◌, GName, Bor, Shared, TableId, WaitAction, IsWhole, HasWritten, view_in, Locks, Lets, Enters}
 use Rattle.passes.specs.declared.part.Part.{Part}
 use Rattle.passes.specs.declared.part.Sights.{Sights}
-use Rattle.passes.specs.Parts.{IsWhole}
-use Rattle.passes.specs.Sights.{HasWritten}
-use Rattle.running_spin_lock.specs.ValueRule.{view_in}
-use Rattle.running_spin_lock.specs.ValueSteps.{Locks, Lets, Enters}
 use Rattle.running_guarded.specs.declared.pass.GuardedPass.{GuardedPass}
 use Rattle.running_guarded.specs.declared.guard.Guard.{Guard}
 use Rattle.running_guarded.specs.declared.guarded.Guarded.{Guarded}

@@ -1,22 +1,5 @@
 -- What a step on the word of a guarded value tells of the seat that makes it, and what several steps change in what the seat knows.
-use Rattle.std.specs.Prelude.{◌≡◌, ℕ, ◌+◌, ◌≤◌, Bool, Option, Some}
-use Rattle.std.specs.Borrow.{Bor, MutBor}
-use Rattle.std.specs.Fn.{Shared, Once, FnOnceReturnsAtMut}
-use Rattle.passes.specs.Sights.{seen_instead}
-use Rattle.passes.specs.Answers.{MayAnswerContinue}
-use Rattle.steps_events.specs.declared.WaitAction.{WaitAction}
-use Rattle.steps_events.specs.declared.event.Call.{Call}
-use Rattle.steps_events.specs.declared.event.Call.TheVariants as calls
-use Rattle.steps_events.specs.declared.event.Answer.{Answer}
-use Rattle.steps_events.specs.declared.event.Answer.TheVariants as answers
-use Rattle.steps_events.specs.declared.hold.HoldKind.{HoldKind}
-use Rattle.steps_events.specs.declared.hold.HoldKind.TheVariants as kinds
-use Rattle.tallies.specs.MutexScript.{mutex_model}
-use Rattle.playing.specs.Slots.{Parties}
-use Rattle.playing.specs.Plays.{Coming, HasCalled}
-use Rattle.running_mutex.specs.MutexParties.{Unlocks}
-use Rattle.running_mutex.specs.MutexShown.{IsLocked}
-use Rattle.running_spin_lock.specs.ValueSteps.{Sees, OnlySees}
+use Rattle.running_guarded.specs.Names.{◌≡◌, ℕ, ◌+◌, ◌≤◌, Bool, Option, Some, Bor, MutBor, Shared, Once, FnOnceReturnsAtMut, seen_instead, MayAnswerContinue, WaitAction, Call, Answer, HoldKind, mutex_model, Parties, Coming, HasCalled, Unlocks, IsLocked, Sees, OnlySees}
 use Rattle.running_spin_lock.specs.ValueSteps as values
 use Rattle.running_guarded.specs.GuardedRule.{MutexView}
 
@@ -57,7 +40,7 @@ PlaysUnlock v w = Unlocks v.tally.parties w.tally.parties
 
 -- the pass has made a `Lock` that was granted, and then, as that party, an `Unlock`
 abbrev pub PlaysBoth : MutexView → MutexView → Type 0
-PlaysBoth v w = (held : Parties ℕ) × HasCalled mutex_model calls.Lock answers.Success (Some kinds.Write) v.tally.parties held × Unlocks held w.tally.parties
+PlaysBoth v w = (held : Parties ℕ) × HasCalled mutex_model Call.Lock Answer.Success (Some HoldKind.Write) v.tally.parties held × Unlocks held w.tally.parties
 
 -- by what the closure promises of its calls, it gave this, and made some value of the one that it was lent
 pub record Acts {F T X : Type 0} (g : Once F (MutBor T × Unit {0}) (X × (MutBor T × Unit {0}))) (act : F) (given : X) : Type 0 where

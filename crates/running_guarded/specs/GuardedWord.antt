@@ -1,5 +1,5 @@
 -- Which object's word closures see.
-use Rattle.atomic_table.specs.Seated.{TableId}
+use Rattle.running_guarded.specs.Names.{TableId}
 use Rattle.running_guarded.specs.declared.word.GuardedWord.{GuardedWord}
 
 abbrev pub object_shown : {T : Type 0} → GuardedWord T → TableId

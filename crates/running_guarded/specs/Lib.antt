@@ -1,3 +1,4 @@
+pub mod Names
 pub mod GuardedRule
 pub mod GuardedWord
 pub mod GuardedSteps

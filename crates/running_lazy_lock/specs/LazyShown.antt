@@ -1,7 +1,7 @@
 -- What contracts see of a lazy value and its pass, and what a call changes in a pass.
 use Rattle.std.specs.Prelude.{◌≡◌, ℕ, ◌<◌}
-use Rattle.steps_events.specs.declared.event.Call.TheVariants as calls
-use Rattle.steps_events.specs.declared.event.Answer.TheVariants as answers
+use Rattle.steps_events.specs.declared.event.Call.{Call}
+use Rattle.steps_events.specs.declared.event.Answer.{Answer}
 use Rattle.passes.specs.declared.part.Part.{Part}
 use Rattle.passes.specs.declared.view.View.{View}
 use Rattle.running_once.specs.declared.Runs.{Runs}
@@ -55,7 +55,7 @@ pub record HasForced (p q : LazyPass) : Type 0 where
 
 -- The pass as a party of the once's model: it made one `CallOnce`, which was answered `Done`.
 abbrev pub HasPlayed : LazyPass → LazyPass → Type 0
-HasPlayed p q = once.HasPlayed calls.CallOnce answers.Done (once_in p) (once_in q)
+HasPlayed p q = once.HasPlayed Call.CallOnce Answer.Done (once_in p) (once_in q)
 
 -- the word was seen once, and nothing else changed but that the pass may know of the end
 abbrev pub HasSeenOnce : LazyPass → LazyPass → Type 0

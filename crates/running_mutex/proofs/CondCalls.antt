@@ -1,19 +1,8 @@
 -- What a notify gives, and what a wait comes to.
-use Rattle.std.proofs.Common.{◌≡◌, ℕ, ◌%◌, ◌^◌, ◌<◌, Bool, true, false, MatchBool, ◌⊎◌, inl, inr, ap, subst, ◌∙◌, arith}
-use Rattle.std.specs.Borrow.{Bor}
-use Rattle.std.specs.Fn.{Shared}
-use Rattle.steps_events.specs.declared.WaitAction.{WaitAction}
+use Rattle.running_mutex.specs.Names.{Bor, Shared, WaitAction, Pass, View, IsWhole, stale, part_of, sights_of, tally_of, HasSeen, HasDone, wrote, Holds, holds, gave}
+use Rattle.running_mutex.proofs.Names.{◌≡◌, ℕ, ◌%◌, ◌^◌, ◌<◌, Bool, true, false, MatchBool, ◌⊎◌, inl, inr, ap, subst, ◌∙◌, arith}
 use Rattle.passes.specs.declared.part.Sights.{Sights}
-use Rattle.passes.specs.declared.pass.Pass.{Pass}
-use Rattle.passes.specs.declared.view.View.{View}
-use Rattle.passes.specs.Parts.{IsWhole}
-use Rattle.passes.specs.Sights.{stale}
-use Rattle.passes.specs.Passes.{part_of, sights_of, tally_of, HasSeen, HasDone}
-use Rattle.passes.specs.Views.{wrote}
 use Rattle.playing.specs.Counts as counts
-use Rattle.tallies.specs.declared.mutex.Holds.{Holds}
-use Rattle.tallies.specs.MutexRule.{holds}
-use Rattle.running_semaphore.specs.SemaphoreSteps.{gave}
 use Rattle.running_mutex.specs.declared.condition_variable.Waits.{Waits}
 use Rattle.running_mutex.specs.declared.condition_variable.CondPass.{CondPass}
 use Rattle.running_mutex.specs.MutexSteps.{granted}

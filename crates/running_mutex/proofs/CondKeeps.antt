@@ -1,9 +1,6 @@
 -- Each step on the count of a condition variable keeps its rule.
-use Rattle.std.proofs.Common.{◌≡◌, ℕ, ◌+◌, ◌-◌, ◌%◌, ◌^◌, List, [], ◌∷◌, get_or, set, sym, refl, ap, ◌∙◌, arith, length-set, get_or-set_same}
-use Rattle.passes.specs.declared.view.View.{View}
-use Rattle.passes.specs.Parts.{total}
-use Rattle.passes.specs.Views.{looked, wrote, sum_of, Updates}
-use Rattle.passes.proofs.Updates.{by_look}
+use Rattle.running_mutex.specs.Names.{View, total, looked, wrote, sum_of, Updates}
+use Rattle.running_mutex.proofs.Names.{◌≡◌, ℕ, ◌+◌, ◌-◌, ◌%◌, ◌^◌, List, [], ◌∷◌, get_or, set, sym, refl, ap, ◌∙◌, arith, length-set, get_or-set_same, by_look}
 use Rattle.running_mutex.specs.declared.condition_variable.Waits.{Waits}
 use Rattle.running_mutex.specs.CondRule.{no_waits, both_waits, IsCountOf, CondAgrees, CountIsInside, went_in, went_out, Loaded, CountedIn, CountedOut}
 

@@ -1,3 +1,4 @@
+pub mod Names
 pub mod MutexKeeps
 pub mod MutexPlays
 pub mod CondKeeps

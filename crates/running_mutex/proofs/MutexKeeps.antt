@@ -1,40 +1,21 @@
 -- Each step of a mutex keeps its rule.
-use Rattle.std.proofs.Common.{◌≡◌, ℕ, ◌≤◌, ◌==◌, eqb, Bool, true, false, cond, List, [], ◌∷◌, Option, Some, set, refl, ap, sym, subst, ◌∙◌, arith, length-set, get_or-set_same}
-use Rattle.steps_events.specs.declared.event.Word.{Word}
-use Rattle.steps_events.specs.declared.event.Word.TheVariants as words
-use Rattle.steps_events.specs.declared.event.Call.{Call}
-use Rattle.steps_events.specs.declared.event.Call.TheVariants as calls
+use Rattle.running_mutex.specs.Names.{Word, Call, Then, HoldKind, Intent, MutexPlace, mutex_table, Parties, Coming, IsStepAt, mutex_model, mutex_lawful, View, sum_of, Updates, Holds, no_holds, both_holds, IsHeld, AreGrantsIn, MutexAgrees, none_played, both_played, core_played, played_add_up, GoesOnCounting}
+use Rattle.running_mutex.proofs.Names.{◌≡◌, ℕ, ◌≤◌, ◌==◌, eqb, Bool, true, false, cond, List, [], ◌∷◌, Option, Some, set, refl, ap, sym, subst, ◌∙◌, arith, length-set, get_or-set_same, by_exchange}
 use Rattle.steps_events.specs.declared.event.Act.{Act}
-use Rattle.steps_events.specs.declared.event.Act.TheVariants as acts
-use Rattle.steps_events.specs.declared.event.Then.{Then}
 use Rattle.steps_events.specs.declared.event.Event.{Event}
-use Rattle.steps_events.specs.declared.hold.HoldKind.{HoldKind}
-use Rattle.steps_events.specs.declared.hold.HoldKind.TheVariants as kinds
-use Rattle.steps_events.specs.declared.row.Intent.TheVariants as intents
 use Rattle.steps_events.specs.Rows.{carried_out}
 use Rattle.steps_events.specs.Past.{PendingCall, call_of}
 use Rattle.steps_events.specs.NextStep.{StepsAs}
-use Rattle.steps_mutex.specs.declared.MutexPlace.{MutexPlace}
-use Rattle.steps_mutex.specs.Table.{mutex_table}
 use Rattle.steps_mutex.specs.Law.{MutexStep, IsUnlockStep, acts_of}
-use Rattle.playing.specs.Slots.{Parties}
-use Rattle.playing.specs.Plays.{Coming, IsStepAt}
 use Rattle.playing.specs.Sums.{grants_by, next_grants}
 use Rattle.playing.proofs.OfARun.{of_a_run}
 use Rattle.playing.proofs.Steps.{next_step}
-use Rattle.tallies.specs.MutexScript.{mutex_model, mutex_lawful}
 use mathlib.Core.Logic.{dite}
 use native.Mathlib.Decide.{ℕ_discrete}
 use prog.Atomic.{either}
-use Rattle.passes.specs.declared.view.View.{View}
-use Rattle.passes.specs.Views.{sum_of, Updates}
 use Rattle.passes.proofs.Sums.{sum_of_two}
-use Rattle.passes.proofs.Updates.{by_exchange}
-use Rattle.tallies.specs.declared.mutex.Holds.{Holds}
-use Rattle.tallies.specs.MutexRule.{no_holds, both_holds, IsHeld, AreGrantsIn, MutexAgrees}
 use Rattle.running_mutex.specs.MutexSteps.{granted, released, locked, unlocked, saw_locked, Exchanged, Stored, PlayedMutex, GrantsAreOfARun, OneHolder}
 use Rattle.tallies.specs.MutexTally.{holds_add_up, at_zero, beside_zero}
-use Rattle.playing.specs.Passes.{none_played, both_played, core_played, played_add_up, GoesOnCounting}
 
 -- the word is written, and is the number of holds again
 held_again : (words : List ℕ) (n : ℕ) (t u : Holds) → IsHeld words t → n ≡ u.holds → n ≤ 1 → IsHeld (set words 0 n) u
@@ -68,50 +49,50 @@ stores v on = record {
 -- The grants are those of the run.
 
 -- in a run only a locking call exchanges, and it takes the hold by an exchange that is done
-granted_by : (past : List (Event ℕ)) (e : Event ℕ) (c : PendingCall ℕ) (name : Word) (new found : ℕ) (done : Bool) → words.State ≡ name → call_of e.party past ≡ Some c → e.act ≡ acts.Exchange name 0 new found done →
-    StepsAs MutexStep (e ∷ past) → grants_by mutex_table kinds.Write e.act (call_of e.party past) ≡ cond done 1 0
-granted_by past e c name new found false named called act steps = subst (λ (a : Act ℕ). grants_by mutex_table kinds.Write a (call_of e.party past) ≡ 0) (sym act)
-    (subst (λ w. grants_by mutex_table kinds.Write (acts.Exchange w 0 new found false) (call_of e.party past) ≡ 0) named refl)
+granted_by : (past : List (Event ℕ)) (e : Event ℕ) (c : PendingCall ℕ) (name : Word) (new found : ℕ) (done : Bool) → Word.State ≡ name → call_of e.party past ≡ Some c → e.act ≡ Act.Exchange name 0 new found done →
+    StepsAs MutexStep (e ∷ past) → grants_by mutex_table HoldKind.Write e.act (call_of e.party past) ≡ cond done 1 0
+granted_by past e c name new found false named called act steps = subst (λ (a : Act ℕ). grants_by mutex_table HoldKind.Write a (call_of e.party past) ≡ 0) (sym act)
+    (subst (λ w. grants_by mutex_table HoldKind.Write (Act.Exchange w 0 new found false) (call_of e.party past) ≡ 0) named refl)
 granted_by past e c name new found true named called act steps =
-    let step : MutexStep c.call c.own (acts.Exchange words.State 0 new found true) e.then =
-    subst (λ w. MutexStep c.call c.own (acts.Exchange w 0 new found true) e.then) (sym named) (next_step MutexStep past e c (acts.Exchange name 0 new found true) act refl called steps) in
-    subst (λ (a : Act ℕ). grants_by mutex_table kinds.Write a (call_of e.party past) ≡ 1) (sym act)
-    (subst (λ w. grants_by mutex_table kinds.Write (acts.Exchange w 0 new found true) (call_of e.party past) ≡ 1) named
-    (subst (λ (k : Option (PendingCall ℕ)). grants_by mutex_table kinds.Write (acts.Exchange words.State 0 new found true) k ≡ 1) (sym called) (by_call c.call c.own e.then step)))
+    let step : MutexStep c.call c.own (Act.Exchange Word.State 0 new found true) e.then =
+    subst (λ w. MutexStep c.call c.own (Act.Exchange w 0 new found true) e.then) (sym named) (next_step MutexStep past e c (Act.Exchange name 0 new found true) act refl called steps) in
+    subst (λ (a : Act ℕ). grants_by mutex_table HoldKind.Write a (call_of e.party past) ≡ 1) (sym act)
+    (subst (λ w. grants_by mutex_table HoldKind.Write (Act.Exchange w 0 new found true) (call_of e.party past) ≡ 1) named
+    (subst (λ (k : Option (PendingCall ℕ)). grants_by mutex_table HoldKind.Write (Act.Exchange Word.State 0 new found true) k ≡ 1) (sym called) (by_call c.call c.own e.then step)))
   where
-    unlocks : (own : List (Act ℕ)) (outcome : Then ℕ) → IsUnlockStep own (acts.Exchange words.State 0 new found true) outcome → ⊥
+    unlocks : (own : List (Act ℕ)) (outcome : Then ℕ) → IsUnlockStep own (Act.Exchange Word.State 0 new found true) outcome → ⊥
     unlocks [] outcome step = absurd cc
     unlocks (a ∷ own) outcome step = absurd cc
 
-    by_call : (call : Call ℕ) (own : List (Event ℕ)) (outcome : Then ℕ) → MutexStep call own (acts.Exchange words.State 0 new found true) outcome →
-        grants_by mutex_table kinds.Write (acts.Exchange words.State 0 new found true) (Some (record { call = call; own = own })) ≡ 1
-    by_call calls.Lock own outcome step = refl
-    by_call calls.TryLock own outcome step = refl
-    by_call calls.Unlock own outcome step = absurd (unlocks (acts_of own) outcome step)
+    by_call : (call : Call ℕ) (own : List (Event ℕ)) (outcome : Then ℕ) → MutexStep call own (Act.Exchange Word.State 0 new found true) outcome →
+        grants_by mutex_table HoldKind.Write (Act.Exchange Word.State 0 new found true) (Some (record { call = call; own = own })) ≡ 1
+    by_call Call.Lock own outcome step = refl
+    by_call Call.TryLock own outcome step = refl
+    by_call Call.Unlock own outcome step = absurd (unlocks (acts_of own) outcome step)
     by_call other own outcome step = absurd step
 
 -- so by its step, whichever call it is of
-pub exchange_grants : (call : Call ℕ) (place : MutexPlace) (hold : Option HoldKind) (past : List (Event ℕ)) (e : Event ℕ) (name : Word) (new found : ℕ) → IsStepAt mutex_model call place hold found past e → words.State ≡ name →
-    e.act ≡ carried_out (intents.Exchange name 0 new) (λ _. found) → grants_by mutex_table kinds.Write e.act (call_of e.party past) ≡ cond (found == 0) 1 0
+pub exchange_grants : (call : Call ℕ) (place : MutexPlace) (hold : Option HoldKind) (past : List (Event ℕ)) (e : Event ℕ) (name : Word) (new found : ℕ) → IsStepAt mutex_model call place hold found past e → Word.State ≡ name →
+    e.act ≡ carried_out (Intent.Exchange name 0 new) (λ _. found) → grants_by mutex_table HoldKind.Write e.act (call_of e.party past) ≡ cond (found == 0) 1 0
 exchange_grants call place hold past e name new found step named act =
     granted_by past e step.pending name new found (found == 0) named step.under_way act (mutex_lawful step.parties (e ∷ past) step.run).law.steps
 
 pub exchange_counts : (way : Coming ℕ) (p : Parties ℕ) (v : View Holds) (new : ℕ) →
-    GoesOnCounting mutex_model (words.State ∷ []) both_holds MutexAgrees (AreGrantsIn mutex_table) way 0 (λ w. intents.Exchange w 0 new) p v.tally (Exchanged v)
+    GoesOnCounting mutex_model (Word.State ∷ []) both_holds MutexAgrees (AreGrantsIn mutex_table) way 0 (λ w. Intent.Exchange w 0 new) p v.tally (Exchanged v)
 exchange_counts way p v new call place hold done comes past e found step name named act rest w told still is =
     let grants = exchange_grants call place hold past e name new found step named act in dite (ℕ_discrete found 0)
     (λ hit. let now = ap (λ (u : View Holds). u.tally.grants) (told.free hit).1 in
-    next_grants mutex_table kinds.Write past e v.tally.grants w.tally.grants rest.grants (now ∙ omega (arith, at_zero found _ grants hit)) is)
+    next_grants mutex_table HoldKind.Write past e v.tally.grants w.tally.grants rest.grants (now ∙ omega (arith, at_zero found _ grants hit)) is)
     (λ miss. let now = ap (λ (u : View Holds). u.tally.grants) (told.taken miss) in
-    next_grants mutex_table kinds.Write past e v.tally.grants w.tally.grants rest.grants (now ∙ omega (arith, beside_zero found _ grants miss)) is)
+    next_grants mutex_table HoldKind.Write past e v.tally.grants w.tally.grants rest.grants (now ∙ omega (arith, beside_zero found _ grants miss)) is)
 
-pub store_counts : (way : Coming ℕ) (p : Parties ℕ) (v : View Holds) → GoesOnCounting mutex_model (words.State ∷ []) both_holds MutexAgrees (AreGrantsIn mutex_table) way 0 (λ w. intents.Store w 0) p v.tally (λ _. Stored v)
+pub store_counts : (way : Coming ℕ) (p : Parties ℕ) (v : View Holds) → GoesOnCounting mutex_model (Word.State ∷ []) both_holds MutexAgrees (AreGrantsIn mutex_table) way 0 (λ w. Intent.Store w 0) p v.tally (λ _. Stored v)
 store_counts way p v call place hold done comes past e found step name named act rest w told still is =
-    let none : grants_by mutex_table kinds.Write e.act (call_of e.party past) ≡ 0 = ap (λ (a : Act ℕ). grants_by mutex_table kinds.Write a (call_of e.party past)) act in
-    next_grants mutex_table kinds.Write past e v.tally.grants w.tally.grants rest.grants (omega (arith, ap (λ (u : View Holds). u.tally.grants) told.off, none)) is
+    let none : grants_by mutex_table HoldKind.Write e.act (call_of e.party past) ≡ 0 = ap (λ (a : Act ℕ). grants_by mutex_table HoldKind.Write a (call_of e.party past)) act in
+    next_grants mutex_table HoldKind.Write past e v.tally.grants w.tally.grants rest.grants (omega (arith, ap (λ (u : View Holds). u.tally.grants) told.off, none)) is
 
 pub grants_are_of_a_run : GrantsAreOfARun
-grants_are_of_a_run s r = of_a_run mutex_model (words.State ∷ []) MutexAgrees (AreGrantsIn mutex_table) s.words s.homes (sum_of (none_played no_holds) (both_played both_holds) s.views) r.agree
+grants_are_of_a_run s r = of_a_run mutex_model (Word.State ∷ []) MutexAgrees (AreGrantsIn mutex_table) s.words s.homes (sum_of (none_played no_holds) (both_played both_holds) s.views) r.agree
 
 -- two holds would be more than one
 pub one_holder : OneHolder

@@ -1,17 +1,7 @@
 -- What the tries of a `lock` come to, one after another.
-use Rattle.std.proofs.Common.{◌≡◌, ℕ, ◌+◌, Bool, true, false, MatchBool, [], ◌∷◌, refl, sym, ap, subst, ◌∙◌, arith}
-use Rattle.std.specs.Borrow.{Bor}
-use Rattle.std.specs.Fn.{Shared}
-use Rattle.steps_events.specs.declared.WaitAction.{WaitAction}
-use Rattle.steps_events.specs.declared.event.Word.TheVariants as words
-use Rattle.passes.specs.declared.view.View.{View}
-use Rattle.passes.specs.Parts.{IsWhole}
-use Rattle.passes.specs.Passes.{part_of, sights_of}
-use Rattle.passes.specs.Answers.{HasAsked}
-use Rattle.playing.specs.Words.{IsNamed}
-use Rattle.playing.specs.Counts.{HasMoved, WasRefused, WasRefusedAt, HasGivenUp}
+use Rattle.running_mutex.specs.Names.{Bor, Shared, WaitAction, Word, View, IsWhole, part_of, sights_of, HasAsked, IsNamed, HasMoved, WasRefused, WasRefusedAt, HasGivenUp, Holds}
+use Rattle.running_mutex.proofs.Names.{◌≡◌, ℕ, ◌+◌, Bool, true, false, MatchBool, [], ◌∷◌, refl, sym, ap, subst, ◌∙◌, arith}
 use Rattle.playing.proofs.Attempts.{missed_once, told_after, asked_after}
-use Rattle.tallies.specs.declared.mutex.Holds.{Holds}
 use Rattle.running_mutex.specs.MutexShown.{MutexPass, IsLocked, IsAlone, Enters, HasLocked, HasSeenLocked, HasUnlocked, HasEntered}
 
 pub locks_once : (p q : MutexPass) → HasLocked p q → HasEntered p q
@@ -40,8 +30,8 @@ ends g wait true p q r saw told asked = told_after Enters IsLocked 1 10001 p q r
 ends g wait false p q r saw told asked = (told_after Enters IsLocked 1 10001 p q r false (refused_once p q saw) told, asked_after g wait IsLocked 1 10000 p q r (sees_once p q saw) (asked refl))
 
 -- the word's name
-pub state_named : (i : ℕ) → i ≡ 0 → IsNamed (words.State ∷ []) i words.State
-state_named i is = subst (λ (n : ℕ). IsNamed (words.State ∷ []) n words.State) (sym is) refl
+pub state_named : (i : ℕ) → i ≡ 0 → IsNamed (Word.State ∷ []) i Word.State
+state_named i is = subst (λ (n : ℕ). IsNamed (Word.State ∷ []) n Word.State) (sym is) refl
 
 -- the hold, once it is off again
 pub alone_again : (p q : MutexPass) → HasUnlocked p q → IsWhole (part_of p) → IsAlone q

@@ -1,10 +1,6 @@
 -- What a pass of a condition variable counts, the rule over all passes, and what a step changes.
-use Rattle.std.specs.Prelude.{◌≡◌, ℕ, ◌+◌, ◌%◌, ◌^◌, List, length, slice_index}
+use Rattle.running_mutex.specs.Names.{◌≡◌, ℕ, ◌+◌, ◌%◌, ◌^◌, List, length, slice_index, State, View, IsWhole, total, looked, wrote, IsCounted}
 use mathlib.Core.Option as maybe
-use Rattle.atomic_table.specs.Table.{State}
-use Rattle.passes.specs.declared.view.View.{View}
-use Rattle.passes.specs.Parts.{IsWhole, total}
-use Rattle.passes.specs.Views.{looked, wrote, IsCounted}
 use Rattle.running_mutex.specs.declared.condition_variable.Waits.{Waits}
 
 abbrev pub waits : ℕ → ℕ → Waits

@@ -1,38 +1,16 @@
 -- What contracts see of a condition variable and its pass, and what a call changes in a pass.
-use Rattle.std.specs.Prelude.{◌≡◌, ℕ, Option, Some, None}
-use Rattle.std.specs.Borrow.{Bor}
-use Rattle.std.specs.Fn.{Shared, Once, FnOnceReturnsAt}
-use Rattle.steps_events.specs.declared.WaitAction.{WaitAction}
-use Rattle.passes.specs.declared.part.Part.{Part}
-use Rattle.passes.specs.declared.pass.Pass.{Pass}
-use Rattle.passes.specs.Parts.{IsWhole}
-use Rattle.passes.specs.Sights.{HasLooked}
-use Rattle.passes.specs.Passes.{IsSamePass, part_of, sights_of, HasSeen, HasDone}
-use Rattle.passes.specs.Answers.{MayAnswerAbort, HasAsked}
+use Rattle.running_mutex.specs.Names.{◌≡◌, ℕ, Option, Some, None, Bor, Shared, Once, FnOnceReturnsAt, WaitAction, Part, Pass, IsWhole, HasLooked, IsSamePass, part_of, sights_of, HasSeen, HasDone, MayAnswerAbort, HasAsked, counts_of, parties_of, Parties, HasCalled, Call, Answer, HoldKind, mutex_model, HasMoved, WasRefused, Holds, gave}
 use Rattle.passes.specs.declared.wait.WaitResult.{WaitResult}
 use Rattle.passes.specs.declared.wait.WaitResult.TheVariants.{Success, Interrupted}
 use Rattle.passes.specs.Objects.{IsPassOf}
-use Rattle.playing.specs.Passes.{counts_of, parties_of}
-use Rattle.playing.specs.Slots.{Parties}
-use Rattle.playing.specs.Plays.{HasCalled}
-use Rattle.steps_events.specs.declared.event.Call.TheVariants as calls
-use Rattle.steps_events.specs.declared.event.Answer.{Answer}
-use Rattle.steps_events.specs.declared.event.Answer.TheVariants as model_answers
-use Rattle.steps_events.specs.declared.hold.HoldKind.{HoldKind}
-use Rattle.steps_events.specs.declared.hold.HoldKind.TheVariants as kinds
-use Rattle.tallies.specs.MutexScript.{mutex_model}
 use Rattle.running_mutex.specs.MutexParties.{Unlocks}
-use Rattle.playing.specs.Counts.{HasMoved, WasRefused}
 use Rattle.playing.specs.Counts as counts
-use Rattle.tallies.specs.declared.mutex.Holds.{Holds}
 use Rattle.running_semaphore.specs.SemaphoreShown.{SemPass, IsSemPass, IsEmpty}
-use Rattle.running_semaphore.specs.SemaphoreSteps.{gave}
 use Rattle.running_mutex.specs.declared.condition_variable.Waits.{Waits}
 use Rattle.running_mutex.specs.declared.condition_variable.CondPass.{CondPass}
 use Rattle.running_mutex.specs.declared.condition_variable.ConditionVariable.{ConditionVariable}
 use Rattle.running_mutex.specs.declared.condition_variable.CountedWait.{CountedWait}
 use Rattle.running_mutex.specs.declared.condition_variable.CondResult.{CondResult}
-use Rattle.running_mutex.specs.declared.condition_variable.CondResult.TheVariants as answers
 use Rattle.running_mutex.specs.declared.condition_variable.Woken.{Woken}
 use Rattle.running_mutex.specs.declared.condition_variable.Woken.TheVariants.{Signalled, Unsignalled}
 use Rattle.running_mutex.specs.MutexSteps.{granted, released}
@@ -86,9 +64,9 @@ module _ {H : Type 0} where
 
   -- both forms of answer tell the same
   abbrev pub woken_of : CondResult H → WaitResult (Woken H)
-  woken_of (answers.Success h) = Success (Signalled h)
-  woken_of (answers.Interrupted (Some h)) = Success (Unsignalled h)
-  woken_of (answers.Interrupted None) = Interrupted
+  woken_of (CondResult.Success h) = Success (Signalled h)
+  woken_of (CondResult.Interrupted (Some h)) = Success (Unsignalled h)
+  woken_of (CondResult.Interrupted None) = Interrupted
 
 -- one wait more was counted in and out again, and nothing else changed
 abbrev pub HasWaited : CondPass → CondPass → Type 0
@@ -126,4 +104,4 @@ pub record LeavesCounted {F Y : Type 0} (g : Once F (Bor CountedWait × Unit {0}
 
 -- the mutex's pass has made an `Unlock`, as the party that had the mutex, and then one `Lock`, as a party that is new, which was answered so; and no other call
 abbrev pub HasPlayedAgain : Answer ℕ → Option HoldKind → MutexPass → MutexPass → Type 0
-HasPlayedAgain answer hold p q = (between : Parties ℕ) × Unlocks (parties_of p) between × HasCalled mutex_model calls.Lock answer hold between (parties_of q)
+HasPlayedAgain answer hold p q = (between : Parties ℕ) × Unlocks (parties_of p) between × HasCalled mutex_model Call.Lock answer hold between (parties_of q)

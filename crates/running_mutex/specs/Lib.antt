@@ -1,3 +1,4 @@
+pub mod Names
 pub mod MutexParties
 pub mod MutexSteps
 pub mod MutexShown

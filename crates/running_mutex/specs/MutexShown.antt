@@ -1,26 +1,6 @@
 -- What contracts see of a mutex, its pass and its hold, and what a call changes in a pass.
-use Rattle.std.specs.Prelude.{◌≡◌, ◌≢◌, ℕ, ◌+◌, ◌≤◌, Bool, Option, Some, MatchBool}
-use Rattle.std.specs.Borrow.{GName}
-use Rattle.steps_events.specs.declared.event.Call.{Call}
-use Rattle.steps_events.specs.declared.event.Call.TheVariants as calls
-use Rattle.steps_events.specs.declared.event.Answer.{Answer}
-use Rattle.steps_events.specs.declared.event.Answer.TheVariants as answers
-use Rattle.steps_events.specs.declared.hold.HoldKind.{HoldKind}
-use Rattle.steps_events.specs.declared.hold.HoldKind.TheVariants as kinds
-use Rattle.steps_mutex.specs.declared.MutexPlace.{MutexPlace}
-use Rattle.tallies.specs.MutexScript.{mutex_model}
-use Rattle.passes.specs.declared.part.Part.{Part}
-use Rattle.passes.specs.declared.pass.Pass.{Pass}
-use Rattle.passes.specs.Parts.{IsWhole}
-use Rattle.passes.specs.Passes.{IsSamePass, part_of, sights_of}
-use Rattle.playing.specs.declared.played.Played.{Played}
-use Rattle.playing.specs.Slots.{Parties}
-use Rattle.playing.specs.Plays.{Coming, HasCalled, Went}
-use Rattle.playing.specs.Passes.{parties_of, counts_of, counted}
-use Rattle.playing.specs.Counts.{HasMoved}
+use Rattle.running_mutex.specs.Names.{◌≡◌, ◌≢◌, ℕ, ◌+◌, ◌≤◌, Bool, Option, Some, MatchBool, GName, Call, Answer, HoldKind, MutexPlace, mutex_model, Part, Pass, IsWhole, IsSamePass, part_of, sights_of, Played, Parties, Coming, HasCalled, Went, parties_of, counts_of, counted, HasMoved, Holds, MutexScript}
 use Rattle.playing.specs.Stages.{IsPassOf}
-use Rattle.tallies.specs.declared.mutex.Holds.{Holds}
-use Rattle.tallies.specs.declared.mutex.MutexScript.{MutexScript}
 use Rattle.running_mutex.specs.declared.MutexHold.{MutexHold}
 use Rattle.running_mutex.specs.declared.Mutex.{Mutex}
 use Rattle.running_mutex.specs.MutexParties.{Unlocks}
@@ -99,7 +79,7 @@ HasPlayedUnlock p q = Unlocks (parties_of p) (parties_of q)
 
 -- it has made a `Lock` that was granted, and then, as that party, an `Unlock`
 abbrev pub HasPlayedBoth : MutexPass → MutexPass → Type 0
-HasPlayedBoth p q = (held : Parties ℕ) × HasCalled mutex_model calls.Lock answers.Success (Some kinds.Write) (parties_of p) held × Unlocks held (parties_of q)
+HasPlayedBoth p q = (held : Parties ℕ) × HasCalled mutex_model Call.Lock Answer.Success (Some HoldKind.Write) (parties_of p) held × Unlocks held (parties_of q)
 
 -- an exchange of 0 for 1 that the table has, to which the pass came so, found the mutex free, or not
 abbrev pub HasTried : Coming ℕ → Bool → MutexPass → MutexPass → Type 0

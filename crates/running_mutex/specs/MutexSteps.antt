@@ -1,20 +1,7 @@
 -- What holds whenever the rule of a mutex does, and what a step changes in a pass.
-use Rattle.std.specs.Prelude.{◌≡◌, ◌≢◌, ℕ, ◌+◌, [], ◌∷◌}
+use Rattle.running_mutex.specs.Names.{◌≡◌, ◌≢◌, ℕ, ◌+◌, [], ◌∷◌, State, View, IsWhole, missed, wrote, sum_of, IsCounted, Word, MutexPlace, mutex_table, mutex_model, Played, none_played, both_played, PlaysAndCounts, IsOfARun, Holds, MutexScript, MutexAgrees, AreGrantsIn, both_holds, holds, no_holds}
 use mathlib.Core.Option.{some}
 use lib.ListN.{get_elem?}
-use Rattle.atomic_table.specs.Table.{State}
-use Rattle.passes.specs.declared.view.View.{View}
-use Rattle.passes.specs.Parts.{IsWhole}
-use Rattle.passes.specs.Views.{missed, wrote, sum_of, IsCounted}
-use Rattle.steps_events.specs.declared.event.Word.TheVariants as words
-use Rattle.steps_mutex.specs.declared.MutexPlace.{MutexPlace}
-use Rattle.steps_mutex.specs.Table.{mutex_table}
-use Rattle.tallies.specs.MutexScript.{mutex_model}
-use Rattle.playing.specs.declared.played.Played.{Played}
-use Rattle.playing.specs.Passes.{none_played, both_played, PlaysAndCounts, IsOfARun}
-use Rattle.tallies.specs.declared.mutex.Holds.{Holds}
-use Rattle.tallies.specs.declared.mutex.MutexScript.{MutexScript}
-use Rattle.tallies.specs.MutexRule.{MutexAgrees, AreGrantsIn, both_holds, holds, no_holds}
 
 -- what a pass of a mutex is in its model, and counts beside
 abbrev pub PlayedMutex : Type 0
@@ -22,7 +9,7 @@ PlayedMutex = Played MutexScript MutexPlace ℕ Holds
 
 -- the rule of a mutex holds
 abbrev pub IsRuled : State (Unit {0}) (View PlayedMutex) → Type 0
-IsRuled s = IsCounted (none_played no_holds) (both_played both_holds) (PlaysAndCounts mutex_model (words.State ∷ []) MutexAgrees (AreGrantsIn mutex_table)) s
+IsRuled s = IsCounted (none_played no_holds) (both_played both_holds) (PlaysAndCounts mutex_model (Word.State ∷ []) MutexAgrees (AreGrantsIn mutex_table)) s
 
 -- whenever it does, all passes are the parties of a run, and were granted as often as calls were in it
 abbrev pub GrantsAreOfARun : Type 0

@@ -1,9 +1,6 @@
 -- The answers come after the end of the closure.
-use Rattle.std.proofs.Common.{◌≡◌, ℕ, subst}
-use Rattle.std.specs.Prelude.{MatchBool}
-use Rattle.steps_events.specs.declared.event.Then.{Then}
-use Rattle.steps_once.specs.Closures.{ends_in}
-use Rattle.steps_once.specs.Law.{tells_end}
+use Rattle.running_once.specs.Names.{MatchBool, Then, ends_in, tells_end}
+use Rattle.running_once.proofs.Names.{◌≡◌, ℕ, subst}
 use Rattle.running_once.specs.OnceLaws.{DoneComesAfterTheEnd, TrueComesAfterTheEnd}
 
 pub done_comes_after : DoneComesAfterTheEnd

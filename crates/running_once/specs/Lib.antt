@@ -1,3 +1,4 @@
+pub mod Names
 pub mod OnceScript
 pub mod OnceRule
 pub mod OnceTally

@@ -1,22 +1,11 @@
 -- What a pass of a once counts and knows, the rule over all passes, and what a step changes.
-use Rattle.std.specs.Prelude.{◌≡◌, ◌≢◌, ℕ, ◌+◌, ◌*◌, ◌≤◌, Bool, true, false, ◌||◌, ◌==◌, List, [], ◌∷◌, length, slice_index}
+use Rattle.running_once.specs.Names.{◌≡◌, ◌≢◌, ℕ, ◌+◌, ◌*◌, ◌≤◌, Bool, true, false, ◌||◌, ◌==◌, List, [], ◌∷◌, length, slice_index, Word, Act, Event, OncePlace, begins_in, ends_in, View, IsWhole, total, view_of, looked, missed, wrote, IsCounted, sum_of, Played, none_played, both_played, PlaysAndCounts, IsOfARun}
 use mathlib.Core.Option as maybe
 use mathlib.Core.Option.{some}
 use lib.ListN.{get_elem?}
 use Rattle.atomic_table.specs.Table.{State}
-use Rattle.steps_events.specs.declared.event.Word.TheVariants as words
-use Rattle.steps_events.specs.declared.event.Act.{Act}
-use Rattle.steps_events.specs.declared.event.Act.TheVariants as acts
-use Rattle.steps_events.specs.declared.event.Event.{Event}
 use Rattle.steps_events.specs.Sights.{acts_in}
-use Rattle.steps_once.specs.declared.OncePlace.{OncePlace}
-use Rattle.steps_once.specs.Closures.{begins_in, ends_in}
 use Rattle.running_once.specs.OnceScript.{once_model}
-use Rattle.passes.specs.declared.view.View.{View}
-use Rattle.passes.specs.Parts.{IsWhole, total}
-use Rattle.passes.specs.Views.{view_of, looked, missed, wrote, IsCounted, sum_of}
-use Rattle.playing.specs.declared.played.Played.{Played}
-use Rattle.playing.specs.Passes.{none_played, both_played, PlaysAndCounts, IsOfARun}
 use Rattle.running_once.specs.declared.Runs.{Runs}
 use Rattle.running_once.specs.declared.OnceScript.{OnceScript}
 
@@ -50,7 +39,7 @@ OnceAgrees words homes = IsRun words
 
 -- a store of the word completes the once
 abbrev pub is_completion : Act ℕ → Bool
-is_completion (acts.Store words.State put) = true
+is_completion (Act.Store Word.State put) = true
 is_completion act = false
 
 -- What the run says of it: so many closures began, and so many calls stored that theirs had ended. The end itself comes just before, on no
@@ -66,7 +55,7 @@ OnceView = View (Played OnceScript OncePlace ℕ Runs)
 
 -- the rule of a once holds
 abbrev pub IsRuled : State (Unit {0}) OnceView → Type 0
-IsRuled s = IsCounted (none_played no_runs) (both_played both_runs) (PlaysAndCounts once_model (words.State ∷ []) OnceAgrees AreRunsIn) s
+IsRuled s = IsCounted (none_played no_runs) (both_played both_runs) (PlaysAndCounts once_model (Word.State ∷ []) OnceAgrees AreRunsIn) s
 
 -- whenever it does, all passes are the parties of a run, and began as many closures as calls did in it, and completed as many
 abbrev pub ClosuresAreOfARun : Type 0

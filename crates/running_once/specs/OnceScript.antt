@@ -1,12 +1,8 @@
 -- The model that a once plays.
-use Rattle.std.specs.Prelude.{ℕ, List}
-use Rattle.steps_events.specs.declared.event.Event.{Event}
+use Rattle.running_once.specs.Names.{ℕ, List, Event, OncePlace, once_table, KeepsOnce}
 use Rattle.steps_events.specs.Integers.{u64_arithmetic}
 use Rattle.playing.specs.Models.{Model}
 use Rattle.steps_events.specs.Runs.{IsPast}
-use Rattle.steps_once.specs.declared.OncePlace.{OncePlace}
-use Rattle.steps_once.specs.Table.{once_table}
-use Rattle.steps_once.specs.Law.{KeepsOnce}
 use Rattle.steps_once.proofs.Laws.{keeps_once}
 
 abbrev pub once_model : Model ℕ OncePlace

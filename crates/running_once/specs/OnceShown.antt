@@ -1,19 +1,9 @@
 -- What contracts see of a once and its pass, and what a call changes in a pass.
-use Rattle.std.specs.Prelude.{◌≡◌, ◌≢◌, ℕ, ◌<◌, ◌≤◌, ◌⊎◌, true, None}
-use Rattle.steps_events.specs.declared.event.Call.{Call}
-use Rattle.steps_events.specs.declared.event.Answer.{Answer}
-use Rattle.steps_once.specs.declared.OncePlace.{OncePlace}
+use Rattle.running_once.specs.Names.{◌≡◌, ◌≢◌, ℕ, ◌<◌, ◌≤◌, ◌⊎◌, true, None, Call, Answer, OncePlace, View, IsSamePass, part_of, sights_of, looked, wrote, Played, Parties, HasCalled, parties_of, counts_of, counted}
 use Rattle.running_once.specs.OnceScript.{once_model}
 use Rattle.passes.specs.declared.part.Part.{Part}
 use Rattle.passes.specs.declared.part.Sights.{Sights}
-use Rattle.passes.specs.declared.view.View.{View}
 use Rattle.passes.specs.declared.pass.Pass.{Pass}
-use Rattle.passes.specs.Passes.{IsSamePass, part_of, sights_of}
-use Rattle.passes.specs.Views.{looked, wrote}
-use Rattle.playing.specs.declared.played.Played.{Played}
-use Rattle.playing.specs.Slots.{Parties}
-use Rattle.playing.specs.Plays.{HasCalled}
-use Rattle.playing.specs.Passes.{parties_of, counts_of, counted}
 use Rattle.playing.specs.Stages.{IsPassOf}
 use Rattle.running_once.specs.declared.Runs.{Runs}
 use Rattle.running_once.specs.declared.OnceScript.{OnceScript}

@@ -2,7 +2,6 @@
 use Rattle.std.specs.Prelude.{◌≡◌, true, ◌⊎◌, ℕ, ◌+◌}
 use Rattle.std.specs.Borrow.{GName}
 use Rattle.steps_events.specs.declared.hold.HoldKind.{HoldKind}
-use Rattle.steps_events.specs.declared.hold.HoldKind.TheVariants as kinds
 use Rattle.passes.specs.declared.view.View.{View}
 use Rattle.passes.specs.declared.pass.Pass.{Pass}
 use Rattle.passes.specs.Passes.{sights_of}
@@ -21,8 +20,8 @@ module _ {P : Type 0} {G : Ghosts P} where
   IsWriteHold (Write h) = Unit {0}
 
   abbrev pub kind_of : RwHold P G → HoldKind
-  kind_of (Read h) = kinds.Read
-  kind_of (Write h) = kinds.Write
+  kind_of (Read h) = HoldKind.Read
+  kind_of (Write h) = HoldKind.Write
 
   -- the pass that a hold borrows, and which borrow of it that is
   abbrev pub pass_of : RwHold P G → P

@@ -1,3 +1,4 @@
+pub mod Names
 pub mod RwReaderKeeps
 pub mod RwReaderCounts
 pub mod RwReaderTries

@@ -1,38 +1,18 @@
 -- After each step of a reader-preferring lock its passes have as many holds as stand in the run: both are what the word says.
-use Rattle.std.proofs.Common.{◌≡◌, ℕ, ◌+◌, ◌-◌, ◌%◌, ◌^◌, ◌<◌, ◌==◌, Bool, true, false, List, [], ◌∷◌, Option, inl, inr, refl, ap, sym, subst, ◌∙◌, arith}
-use Rattle.std.proofs.lemmas.Bool.{eqb-true, eqb-false}
-use Rattle.steps_events.specs.declared.event.Word.{Word}
-use Rattle.steps_events.specs.declared.event.Word.TheVariants as words
+use Rattle.running_rw_reader.specs.Names.{Word, Call, HoldKind, Intent, RwReaderPlace, rw_reader_table, View, Parties, Coming, IsStepAt, sum_of, GoesOnCounting, none_played, both_played, Free, Reading, Writing, Torn, read_holds, write_holds, Knows, Locks, same_nothing, tells_same_nothing, Holds, no_holds, both_holds, AreHoldsIn, RwReaderAgrees, rw_reader_model, rw_reader_lawful}
+use Rattle.running_rw_reader.proofs.Names.{◌≡◌, ℕ, ◌+◌, ◌-◌, ◌%◌, ◌^◌, ◌<◌, ◌==◌, Bool, true, false, List, [], ◌∷◌, Option, inl, inr, refl, ap, sym, subst, ◌∙◌, arith, eqb-true, eqb-false, comes_in, goes_out, takes_over, steps_down}
 use Rattle.steps_events.specs.declared.event.Act.{Act}
-use Rattle.steps_events.specs.declared.event.Act.TheVariants as acts
-use Rattle.steps_events.specs.declared.event.Call.{Call}
 use Rattle.steps_events.specs.declared.event.Event.{Event}
-use Rattle.steps_events.specs.declared.hold.HoldKind.{HoldKind}
-use Rattle.steps_events.specs.declared.row.Intent.{Intent}
-use Rattle.steps_events.specs.declared.row.Intent.TheVariants as intents
 use Rattle.steps_events.specs.Past.{Hold, holds_of, word_in, word_after}
 use Rattle.steps_events.specs.HoldCounts.{reads_in, writes_in}
 use Rattle.steps_events.specs.Laws.{IsTold}
-use Rattle.steps_rw_reader.specs.declared.RwReaderPlace.{RwReaderPlace}
-use Rattle.steps_rw_reader.specs.Table.{rw_reader_table}
 use Rattle.steps_rw_reader.specs.Law.{CountsHolds}
-use Rattle.passes.specs.declared.view.View.{View}
-use Rattle.playing.specs.Slots.{Parties}
-use Rattle.playing.specs.Plays.{Coming, IsStepAt}
 use Rattle.playing.proofs.OfARun.{of_a_run}
-use Rattle.passes.specs.Views.{sum_of}
-use Rattle.playing.specs.Passes.{GoesOnCounting, none_played, both_played}
-use Rattle.tallies.specs.declared.held.Held.TheVariants.{Free, Reading, Writing, Torn}
-use Rattle.tallies.specs.Held.{read_holds, write_holds, Knows, Locks}
-use Rattle.tallies.specs.HeldTally.{same_nothing, tells_same_nothing}
-use Rattle.tallies.specs.RwReaderRule.{Holds, no_holds, both_holds, AreHoldsIn, RwReaderAgrees}
-use Rattle.tallies.specs.RwReaderScript.{rw_reader_model, rw_reader_lawful}
-use Rattle.tallies.proofs.HeldKeeps.{comes_in, goes_out, takes_over, steps_down}
 use Rattle.running_rw_reader.specs.RwReaderSteps.{read, no_more_read, written, Loaded, ReaderIn, ReaderOut, WriterIn, WriterOut, HoldsAreOfARun}
 
 -- the step on the word goes on counting so
 abbrev Counting : Coming ℕ → (Word → Intent ℕ) → Parties ℕ → View Holds → (ℕ → View Holds → Type 0) → Type 0
-Counting way intent p v tells = GoesOnCounting rw_reader_model (words.State ∷ []) both_holds RwReaderAgrees (AreHoldsIn rw_reader_table) way 0 intent p v.tally tells
+Counting way intent p v tells = GoesOnCounting rw_reader_model (Word.State ∷ []) both_holds RwReaderAgrees (AreHoldsIn rw_reader_table) way 0 intent p v.tally tells
 
 -- The word counts the holds of the run, and so those of the passes.
 
@@ -70,9 +50,9 @@ word_fits w holds (inr run) = omega (arith, run.is_full)
 -- What a step of this act does, which stands in a run.
 record Acts (past : List (Event ℕ)) (e : Event ℕ) (act : Act ℕ) (rest : Holds) (t u : Holds) : Type 0 where
   told : IsTold act (word_in rw_reader_table past)
-  fits : word_in rw_reader_table past words.State < 2 ^ 64
-  before : Locks (word_in rw_reader_table past words.State) tt (both_holds t rest)
-  after : Locks (word_after words.State act (word_in rw_reader_table past words.State)) tt (both_holds u rest) → AreHoldsIn rw_reader_table (e ∷ past) (both_holds u rest)
+  fits : word_in rw_reader_table past Word.State < 2 ^ 64
+  before : Locks (word_in rw_reader_table past Word.State) tt (both_holds t rest)
+  after : Locks (word_after Word.State act (word_in rw_reader_table past Word.State)) tt (both_holds u rest) → AreHoldsIn rw_reader_table (e ∷ past) (both_holds u rest)
 
 acts_so : (call : Call ℕ) (place : RwReaderPlace) (hold : Option HoldKind) (past : List (Event ℕ)) (e : Event ℕ) (act : Act ℕ) (found : ℕ) (rest t u : Holds) → IsStepAt rw_reader_model call place hold found past e → e.act ≡ act →
     AreHoldsIn rw_reader_table past (both_holds t rest) → Acts past e act rest t u
@@ -80,70 +60,70 @@ acts_so call place hold past e act found rest t u step acted is =
     let law = rw_reader_lawful step.parties (e ∷ past) step.run in
     let counts = step.law.law.counts in record {
       told = subst (λ (a : Act ℕ). IsTold a (word_in rw_reader_table past)) acted law.told;
-      fits = word_fits (word_in rw_reader_table past words.State) (holds_of rw_reader_table past) counts;
-      before = locks (word_in rw_reader_table past words.State) (holds_of rw_reader_table past) (both_holds t rest) counts is.reads is.writes;
+      fits = word_fits (word_in rw_reader_table past Word.State) (holds_of rw_reader_table past) counts;
+      before = locks (word_in rw_reader_table past Word.State) (holds_of rw_reader_table past) (both_holds t rest) counts is.reads is.writes;
       after = λ left.
-          let same = subst (λ (a : Act ℕ). Locks (word_after words.State a (word_in rw_reader_table past words.State)) tt (both_holds u rest)) (sym acted) left in
-          let both = counted (word_in rw_reader_table (e ∷ past) words.State) (holds_of rw_reader_table (e ∷ past)) (both_holds u rest) law.law.counts same in
+          let same = subst (λ (a : Act ℕ). Locks (word_after Word.State a (word_in rw_reader_table past Word.State)) tt (both_holds u rest)) (sym acted) left in
+          let both = counted (word_in rw_reader_table (e ∷ past) Word.State) (holds_of rw_reader_table (e ∷ past)) (both_holds u rest) law.law.counts same in
           record { reads = both.0; writes = both.1 };
     }
 
 -- nothing changes
-stays : (past : List (Event ℕ)) (e : Event ℕ) (act : Act ℕ) (rest t u : Holds) → Acts past e act rest t u → word_after words.State act (word_in rw_reader_table past words.State) ≡ word_in rw_reader_table past words.State → u ≡ t →
+stays : (past : List (Event ℕ)) (e : Event ℕ) (act : Act ℕ) (rest t u : Holds) → Acts past e act rest t u → word_after Word.State act (word_in rw_reader_table past Word.State) ≡ word_in rw_reader_table past Word.State → u ≡ t →
     AreHoldsIn rw_reader_table (e ∷ past) (both_holds u rest)
-stays past e act rest t u so word same = so.after (subst (λ n. Locks n tt (both_holds u rest)) (sym word) (subst (λ (h : Holds). Locks (word_in rw_reader_table past words.State) tt (both_holds h rest)) (sym same) so.before))
+stays past e act rest t u so word same = so.after (subst (λ n. Locks n tt (both_holds u rest)) (sym word) (subst (λ (h : Holds). Locks (word_in rw_reader_table past Word.State) tt (both_holds h rest)) (sym same) so.before))
 
-pub load_counts : (way : Coming ℕ) (p : Parties ℕ) (v : View Holds) → Counting way (λ w. intents.Load w) p v (Loaded v)
+pub load_counts : (way : Coming ℕ) (p : Parties ℕ) (v : View Holds) → Counting way (λ w. Intent.Load w) p v (Loaded v)
 load_counts way p v call place hold done comes past e found step name named act rest w told still is =
-    stays past e (acts.Load name found) rest v.tally w.tally (acts_so call place hold past e (acts.Load name found) found rest v.tally w.tally step act is) refl (ap (λ (u : View Holds). u.tally) told.saw)
+    stays past e (Act.Load name found) rest v.tally w.tally (acts_so call place hold past e (Act.Load name found) found rest v.tally w.tally step act is) refl (ap (λ (u : View Holds). u.tally) told.saw)
 
 -- the act of an exchange, by whether it is done
-exchanged : (e : Event ℕ) (name : Word) (from to found : ℕ) (done : Bool) → words.State ≡ name → e.act ≡ acts.Exchange name from to found (found == from) → (found == from) ≡ done → e.act ≡ acts.Exchange words.State from to found done
-exchanged e name from to found done named act test = act ∙ ap (λ w. acts.Exchange w from to found (found == from)) (sym named) ∙ ap (λ b. acts.Exchange words.State from to found b) test
+exchanged : (e : Event ℕ) (name : Word) (from to found : ℕ) (done : Bool) → Word.State ≡ name → e.act ≡ Act.Exchange name from to found (found == from) → (found == from) ≡ done → e.act ≡ Act.Exchange Word.State from to found done
+exchanged e name from to found done named act test = act ∙ ap (λ w. Act.Exchange w from to found (found == from)) (sym named) ∙ ap (λ b. Act.Exchange Word.State from to found b) test
 
-pub reader_in_counts : (way : Coming ℕ) (p : Parties ℕ) (v : View Holds) (from to : ℕ) → from < 2 ^ 64 - 2 → to ≡ from + 1 → Counting way (λ w. intents.Exchange w from to) p v (ReaderIn from v)
+pub reader_in_counts : (way : Coming ℕ) (p : Parties ℕ) (v : View Holds) (from to : ℕ) → from < 2 ^ 64 - 2 → to ≡ from + 1 → Counting way (λ w. Intent.Exchange w from to) p v (ReaderIn from v)
 reader_in_counts way p v from to room more call place hold done comes past e found step name named act rest w told still is = by_test (found == from) refl
   where
     by_test : (b : Bool) → (found == from) ≡ b → AreHoldsIn rw_reader_table (e ∷ past) (both_holds w.tally rest)
     by_test true test =
         let hit = eqb-true found from test in
-        let so = acts_so call place hold past e (acts.Exchange words.State from to found true) found rest v.tally w.tally step (exchanged e name from to found true named act test) is in
-        let enters = comes_in same_nothing tells_same_nothing tt (word_in rw_reader_table past words.State) v.tally rest so.before (omega (arith, so.told.0, hit, room)) in
+        let so = acts_so call place hold past e (Act.Exchange Word.State from to found true) found rest v.tally w.tally step (exchanged e name from to found true named act test) is in
+        let enters = comes_in same_nothing tells_same_nothing tt (word_in rw_reader_table past Word.State) v.tally rest so.before (omega (arith, so.told.0, hit, room)) in
         so.after (subst (λ (h : Holds). Locks to tt (both_holds h rest)) (sym (ap (λ (u : View Holds). u.tally) (told.done hit)))
         (subst (λ n. Locks n tt (both_holds (read v.tally) rest)) (omega (arith, so.told.0, hit, more)) enters.locks))
     by_test false test =
-        stays past e (acts.Exchange words.State from to found false) rest v.tally w.tally
-        (acts_so call place hold past e (acts.Exchange words.State from to found false) found rest v.tally w.tally step (exchanged e name from to found false named act test) is)
+        stays past e (Act.Exchange Word.State from to found false) rest v.tally w.tally
+        (acts_so call place hold past e (Act.Exchange Word.State from to found false) found rest v.tally w.tally step (exchanged e name from to found false named act test) is)
         refl (ap (λ (u : View Holds). u.tally) (told.failed (eqb-false found from test)))
 
-pub writer_in_counts : (way : Coming ℕ) (p : Parties ℕ) (v : View Holds) (to : ℕ) → to ≡ 2 ^ 64 - 1 → Counting way (λ w. intents.Exchange w 0 to) p v (WriterIn v)
+pub writer_in_counts : (way : Coming ℕ) (p : Parties ℕ) (v : View Holds) (to : ℕ) → to ≡ 2 ^ 64 - 1 → Counting way (λ w. Intent.Exchange w 0 to) p v (WriterIn v)
 writer_in_counts way p v to full call place hold done comes past e found step name named act rest w told still is = by_test (found == 0) refl
   where
     by_test : (b : Bool) → (found == 0) ≡ b → AreHoldsIn rw_reader_table (e ∷ past) (both_holds w.tally rest)
     by_test true test =
         let hit = eqb-true found 0 test in
-        let so = acts_so call place hold past e (acts.Exchange words.State 0 to found true) found rest v.tally w.tally step (exchanged e name 0 to found true named act test) is in
-        let enters = takes_over same_nothing tells_same_nothing tt (word_in rw_reader_table past words.State) v.tally rest so.before (omega (arith, so.told.0, hit)) in
+        let so = acts_so call place hold past e (Act.Exchange Word.State 0 to found true) found rest v.tally w.tally step (exchanged e name 0 to found true named act test) is in
+        let enters = takes_over same_nothing tells_same_nothing tt (word_in rw_reader_table past Word.State) v.tally rest so.before (omega (arith, so.told.0, hit)) in
         so.after (subst (λ (h : Holds). Locks to tt (both_holds h rest)) (sym (ap (λ (u : View Holds). u.tally) (told.done hit).1))
         (subst (λ n. Locks n tt (both_holds written rest)) (sym full) enters.locks))
     by_test false test =
-        stays past e (acts.Exchange words.State 0 to found false) rest v.tally w.tally
-        (acts_so call place hold past e (acts.Exchange words.State 0 to found false) found rest v.tally w.tally step (exchanged e name 0 to found false named act test) is)
+        stays past e (Act.Exchange Word.State 0 to found false) rest v.tally w.tally
+        (acts_so call place hold past e (Act.Exchange Word.State 0 to found false) found rest v.tally w.tally step (exchanged e name 0 to found false named act test) is)
         refl (ap (λ (u : View Holds). u.tally) (told.failed (eqb-false found 0 test)))
 
-pub reader_out_counts : (way : Coming ℕ) (p : Parties ℕ) (v : View Holds) → 0 < read_holds v.tally → Counting way (λ w. intents.Subtract w 1) p v (λ _. ReaderOut v)
+pub reader_out_counts : (way : Coming ℕ) (p : Parties ℕ) (v : View Holds) → 0 < read_holds v.tally → Counting way (λ w. Intent.Subtract w 1) p v (λ _. ReaderOut v)
 reader_out_counts way p v some call place hold done comes past e found step name named act rest w told still is =
     let left : ℕ = (found + (2 ^ 64 - 1)) % 2 ^ 64 in
-    let so = acts_so call place hold past e (acts.Add words.State found left) found rest v.tally w.tally step (act ∙ ap (λ w. acts.Add w found left) (sym named)) is in
-    let leaves = goes_out same_nothing tells_same_nothing tt (word_in rw_reader_table past words.State) v.tally rest so.before some in
+    let so = acts_so call place hold past e (Act.Add Word.State found left) found rest v.tally w.tally step (act ∙ ap (λ w. Act.Add w found left) (sym named)) is in
+    let leaves = goes_out same_nothing tells_same_nothing tt (word_in rw_reader_table past Word.State) v.tally rest so.before some in
     so.after (subst (λ (h : Holds). Locks left tt (both_holds h rest)) (sym (ap (λ (u : View Holds). u.tally) told.done))
     (subst (λ n. Locks n tt (both_holds (no_more_read v.tally) rest)) (omega (arith, so.told, so.fits, leaves.some)) leaves.locks))
 
-pub writer_out_counts : (way : Coming ℕ) (p : Parties ℕ) (v : View Holds) → write_holds v.tally ≡ 1 → Counting way (λ w. intents.Store w 0) p v (λ _. WriterOut v)
+pub writer_out_counts : (way : Coming ℕ) (p : Parties ℕ) (v : View Holds) → write_holds v.tally ≡ 1 → Counting way (λ w. Intent.Store w 0) p v (λ _. WriterOut v)
 writer_out_counts way p v on call place hold done comes past e found step name named act rest w told still is =
-    let so = acts_so call place hold past e (acts.Store words.State 0) found rest v.tally w.tally step (act ∙ ap (λ w. acts.Store w 0) (sym named)) is in
+    let so = acts_so call place hold past e (Act.Store Word.State 0) found rest v.tally w.tally step (act ∙ ap (λ w. Act.Store w 0) (sym named)) is in
     so.after (subst (λ (h : Holds). Locks 0 tt (both_holds h rest)) (sym (ap (λ (u : View Holds). u.tally) told.done))
-    (steps_down same_nothing tells_same_nothing tt (word_in rw_reader_table past words.State) v.tally rest so.before on))
+    (steps_down same_nothing tells_same_nothing tt (word_in rw_reader_table past Word.State) v.tally rest so.before on))
 
 pub holds_are_of_a_run : HoldsAreOfARun
-holds_are_of_a_run s r = of_a_run rw_reader_model (words.State ∷ []) RwReaderAgrees (AreHoldsIn rw_reader_table) s.words s.homes (sum_of (none_played no_holds) (both_played both_holds) s.views) r.agree
+holds_are_of_a_run s r = of_a_run rw_reader_model (Word.State ∷ []) RwReaderAgrees (AreHoldsIn rw_reader_table) s.words s.homes (sum_of (none_played no_holds) (both_played both_holds) s.views) r.agree

@@ -1,19 +1,12 @@
 -- Each step of a reader-preferring lock keeps its rule.
-use Rattle.std.proofs.Common.{◌≡◌, ℕ, ◌+◌, ◌-◌, ◌%◌, ◌^◌, ◌<◌, eqb, List, get_or, set, refl, sym, ap, ◌∙◌, subst, arith, length-set, get_or-set_same}
+use Rattle.running_rw_reader.specs.Names.{View, looked, missed, wrote, Updates, none_played, both_played, core_played, played_add_up, Free, read_holds, write_holds, Locks, same_nothing, tells_same_nothing, held_adds_up, Holds, no_holds, both_holds, IsHeld, RwReaderAgrees}
+use Rattle.running_rw_reader.proofs.Names.{◌≡◌, ℕ, ◌+◌, ◌-◌, ◌%◌, ◌^◌, ◌<◌, eqb, List, get_or, set, refl, sym, ap, ◌∙◌, subst, arith, length-set, get_or-set_same, comes_in, goes_out, takes_over, steps_down, word_alone, parts, only_writes}
 use mathlib.Core.Logic.{dite}
 use native.Mathlib.Decide.{ℕ_discrete}
 use prog.Atomic.{either}
-use Rattle.passes.specs.declared.view.View.{View}
-use Rattle.passes.specs.Views.{looked, missed, wrote, Updates}
 use Rattle.passes.proofs.Sums.{sum_of_two}
 use Rattle.passes.proofs.Updates.{by_look, by_exchange}
-use Rattle.playing.specs.Passes.{none_played, both_played, core_played, played_add_up}
-use Rattle.tallies.specs.declared.held.Held.TheVariants.{Free}
-use Rattle.tallies.specs.Held.{read_holds, write_holds, Locks}
-use Rattle.tallies.specs.HeldTally.{same_nothing, tells_same_nothing, held_adds_up}
-use Rattle.tallies.specs.RwReaderRule.{Holds, no_holds, both_holds, IsHeld, RwReaderAgrees}
 use Rattle.running_rw_reader.specs.RwReaderSteps.{NoHoldBesideAWriteHold, word_of, read, no_more_read, written, Loaded, ReaderIn, ReaderOut, WriterIn, WriterOut}
-use Rattle.tallies.proofs.HeldKeeps.{comes_in, goes_out, takes_over, steps_down, word_alone, parts, only_writes}
 
 -- the word is written, and is what all holds come to again
 held_again : (words : List ℕ) (n : ℕ) (t u : Holds) → IsHeld words t → Locks n tt u → IsHeld (set words 0 n) u

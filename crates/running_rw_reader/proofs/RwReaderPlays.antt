@@ -1,31 +1,11 @@
 -- The steps of a reader-preferring lock are those of its table.
-use Rattle.std.proofs.Common.{◌≡◌, ◌≢◌, ℕ, ◌+◌, ◌-◌, ◌^◌, ◌<◌, ◌≤◌, ◌==◌, Bool, true, false, cond, refl, sym, ap, subst, ◌∙◌, List, [], ◌∷◌, Option, Some, None, arith}
-use Rattle.std.specs.Prelude.{nat_lt, MatchBool}
-use Rattle.std.proofs.lemmas.Bool.{ne_eqb}
+use Rattle.running_rw_reader.specs.Names.{nat_lt, MatchBool, Word, Call, Answer, Then, HoldKind, Patience, Intent, RwReaderPlace, rw_reader_intent, rw_reader_model, Slot, Parties, all_of, IsNamed, Coming, Going, Beginning, Continuing, ComesBy, IsAt, IsHolding, Led, Leads, HasCalled, HasEnded, MayStep, Went, spun, IsRefused, IsGranted, MayTry, IsToWake}
+use Rattle.running_rw_reader.proofs.Names.{◌≡◌, ◌≢◌, ℕ, ◌+◌, ◌-◌, ◌^◌, ◌<◌, ◌≤◌, ◌==◌, Bool, true, false, cond, refl, sym, ap, subst, ◌∙◌, List, [], ◌∷◌, Option, Some, None, arith, ne_eqb, eqb_same}
 use Rattle.std.proofs.lemmas.Bool.Decides.{nat_tests}
-use Rattle.steps_events.specs.declared.event.Word.TheVariants as words
-use Rattle.steps_events.specs.declared.event.Wake.TheVariants as wakes
-use Rattle.steps_events.specs.declared.event.Call.{Call}
-use Rattle.steps_events.specs.declared.event.Call.TheVariants as calls
-use Rattle.steps_events.specs.declared.event.Answer.TheVariants as answers
-use Rattle.steps_events.specs.declared.event.Then.TheVariants as thens
-use Rattle.steps_events.specs.declared.hold.HoldKind.{HoldKind}
-use Rattle.steps_events.specs.declared.hold.HoldKind.TheVariants as kinds
-use Rattle.steps_events.specs.declared.patience.Patience.{Patience}
-use Rattle.steps_events.specs.declared.row.Intent.{Intent}
-use Rattle.steps_events.specs.declared.row.Intent.TheVariants as intents
-use Rattle.steps_events.specs.declared.row.After.TheVariants as afters
+use Rattle.steps_events.specs.declared.event.Wake.{Wake}
+use Rattle.steps_events.specs.declared.row.After.{After}
 use Rattle.steps_events.specs.Rows.{within, refused}
-use Rattle.steps_events.proofs.Holds.{eqb_same}
-use Rattle.steps_rw_reader.specs.declared.RwReaderPlace.{RwReaderPlace}
-use Rattle.steps_rw_reader.specs.declared.RwReaderPlace.TheVariants as places
-use Rattle.steps_rw_reader.specs.Table.{rw_reader_intent}
-use Rattle.tallies.specs.RwReaderScript.{rw_reader_model}
-use Rattle.playing.specs.Slots.{Slot, Parties, all_of}
-use Rattle.playing.specs.Words.{IsNamed}
-use Rattle.playing.specs.Plays.{Coming, Going, Beginning, Continuing, ComesBy, IsAt, IsHolding, Led, Leads, HasCalled, HasEnded, MayStep, Went}
 use Rattle.playing.specs.Turns.{IsOverAside}
-use Rattle.playing.specs.Tries.{spun, IsRefused, IsGranted, MayTry, IsToWake}
 use Rattle.playing.proofs.Holding.{holding_told, holding_is}
 use Rattle.running_rw_reader.specs.RwReaderParties.{has_hold, HasLookedOnce, HasLooked, Unlocks}
 
@@ -33,55 +13,55 @@ abbrev Comes : Coming ℕ → Call ℕ → RwReaderPlace → List (Slot ℕ) →
 Comes way call place done p = ComesBy rw_reader_model way call place None done p
 
 abbrev At : Call ℕ → RwReaderPlace → List (Slot ℕ) → Parties ℕ → Type 0
-At call place done p = IsAt rw_reader_model call place thens.GoesOn None done p
+At call place done p = IsAt rw_reader_model call place Then.GoesOn None done p
 
 -- how the calls begin
 
-try_read_begins : (p : Parties ℕ) → Comes (Beginning calls.TryReadLock) calls.TryReadLock places.TryReadLook (all_of p) p
+try_read_begins : (p : Parties ℕ) → Comes (Beginning Call.TryReadLock) Call.TryReadLock RwReaderPlace.TryReadLook (all_of p) p
 try_read_begins p = (refl, record { may = record { begins = refl; free = refl; values = tt }; new = refl; others = refl })
 
-pub read_begins : (p : Parties ℕ) → Comes (Beginning calls.ReadLock) calls.ReadLock (places.ReadLook (spun 0)) (all_of p) p
+pub read_begins : (p : Parties ℕ) → Comes (Beginning Call.ReadLock) Call.ReadLock (RwReaderPlace.ReadLook (spun 0)) (all_of p) p
 read_begins p = (refl, record { may = record { begins = refl; free = refl; values = tt }; new = refl; others = refl })
 
-try_write_begins : (p : Parties ℕ) → Comes (Beginning calls.TryWriteLock) calls.TryWriteLock places.TryWrite (all_of p) p
+try_write_begins : (p : Parties ℕ) → Comes (Beginning Call.TryWriteLock) Call.TryWriteLock RwReaderPlace.TryWrite (all_of p) p
 try_write_begins p = (refl, record { may = record { begins = refl; free = refl; values = tt }; new = refl; others = refl })
 
-pub write_begins : (p : Parties ℕ) → Comes (Beginning calls.WriteLock) calls.WriteLock (places.Write (spun 0)) (all_of p) p
+pub write_begins : (p : Parties ℕ) → Comes (Beginning Call.WriteLock) Call.WriteLock (RwReaderPlace.Write (spun 0)) (all_of p) p
 write_begins p = (refl, record { may = record { begins = refl; free = refl; values = tt }; new = refl; others = refl })
 
 unlock_begins : (kind : HoldKind) (done : List (Slot ℕ)) (p : Parties ℕ) → IsHolding rw_reader_model kind done p →
-    ComesBy rw_reader_model (Continuing calls.Unlock) calls.Unlock places.Release (Some kind) done p
+    ComesBy rw_reader_model (Continuing Call.Unlock) Call.Unlock RwReaderPlace.Release (Some kind) done p
 unlock_begins kind done p holding = (refl, record { kind = kind; may = record { begins = refl; free = refl; values = tt }; kept = refl; holding = holding })
 
 -- the looks that the table has
 
-may_load : (way : Coming ℕ) (call : Call ℕ) (place : RwReaderPlace) (done : List (Slot ℕ)) (p : Parties ℕ) → ◌≡◌ {A = Intent ℕ} (rw_reader_intent words.State place None) (intents.Load words.State) →
-    Comes way call place done p → MayStep rw_reader_model (words.State ∷ []) way 0 (λ w. intents.Load w) p
-may_load way call place done p intends comes = record { call = call; place = place; hold = None; done = done; comes = comes; name = words.State; named = refl; intends = intends; on = refl }
+may_load : (way : Coming ℕ) (call : Call ℕ) (place : RwReaderPlace) (done : List (Slot ℕ)) (p : Parties ℕ) → ◌≡◌ {A = Intent ℕ} (rw_reader_intent Word.State place None) (Intent.Load Word.State) →
+    Comes way call place done p → MayStep rw_reader_model (Word.State ∷ []) way 0 (λ w. Intent.Load w) p
+may_load way call place done p intends comes = record { call = call; place = place; hold = None; done = done; comes = comes; name = Word.State; named = refl; intends = intends; on = refl }
 
-pub may_look_once : (p : Parties ℕ) → MayStep rw_reader_model (words.State ∷ []) (Beginning calls.TryReadLock) 0 (λ w. intents.Load w) p
-may_look_once p = may_load _ calls.TryReadLock places.TryReadLook (all_of p) p refl (try_read_begins p)
+pub may_look_once : (p : Parties ℕ) → MayStep rw_reader_model (Word.State ∷ []) (Beginning Call.TryReadLock) 0 (λ w. Intent.Load w) p
+may_look_once p = may_load _ Call.TryReadLock RwReaderPlace.TryReadLook (all_of p) p refl (try_read_begins p)
 
-pub may_look : (way : Coming ℕ) (p : Parties ℕ) → MayTry rw_reader_model calls.ReadLock places.ReadLook way p → MayStep rw_reader_model (words.State ∷ []) way 0 (λ w. intents.Load w) p
-may_look way p may = may_load way calls.ReadLock (places.ReadLook may.patience) may.done p refl may.comes
+pub may_look : (way : Coming ℕ) (p : Parties ℕ) → MayTry rw_reader_model Call.ReadLock RwReaderPlace.ReadLook way p → MayStep rw_reader_model (Word.State ∷ []) way 0 (λ w. Intent.Load w) p
+may_look way p may = may_load way Call.ReadLock (RwReaderPlace.ReadLook may.patience) may.done p refl may.comes
 
-pub looked_once : (found : ℕ) (p q : Parties ℕ) → Went rw_reader_model (Beginning calls.TryReadLock) p found q → HasLookedOnce found (all_of p) q
-looked_once found p q went = went calls.TryReadLock places.TryReadLook None (all_of p) (try_read_begins p)
+pub looked_once : (found : ℕ) (p q : Parties ℕ) → Went rw_reader_model (Beginning Call.TryReadLock) p found q → HasLookedOnce found (all_of p) q
+looked_once found p q went = went Call.TryReadLock RwReaderPlace.TryReadLook None (all_of p) (try_read_begins p)
 
-pub looked : (way : Coming ℕ) (found : ℕ) (p q : Parties ℕ) → Went rw_reader_model way p found q → (patience : Patience) (done : List (Slot ℕ)) → Comes way calls.ReadLock (places.ReadLook patience) done p →
+pub looked : (way : Coming ℕ) (found : ℕ) (p q : Parties ℕ) → Went rw_reader_model way p found q → (patience : Patience) (done : List (Slot ℕ)) → Comes way Call.ReadLock (RwReaderPlace.ReadLook patience) done p →
     HasLooked patience found done q
-looked way found p q went patience done comes = went calls.ReadLock (places.ReadLook patience) None done comes
+looked way found p q went patience done comes = went Call.ReadLock (RwReaderPlace.ReadLook patience) None done comes
 
 -- where a reader may enter, the call comes to an exchange
 
 once_open : (seen : ℕ) (b : Bool) (done : List (Slot ℕ)) (p : Parties ℕ) → seen < 2 ^ 64 - 2 → nat_lt seen (2 ^ 64 - 2) ≡ b →
-    Leads rw_reader_model calls.TryReadLock (cond b (afters.At (places.TryRead seen (seen + 1))) (afters.Ends answers.Interrupted)) None done p → At calls.TryReadLock (places.TryRead seen (seen + 1)) done p
+    Leads rw_reader_model Call.TryReadLock (cond b (After.At (RwReaderPlace.TryRead seen (seen + 1))) (After.Ends Answer.Interrupted)) None done p → At Call.TryReadLock (RwReaderPlace.TryRead seen (seen + 1)) done p
 once_open seen true done p room test at = at
 once_open seen false done p room test at = absurd (grind (arith, nat_tests))
 
 once_shut : (seen : ℕ) (b : Bool) (done : List (Slot ℕ)) (p : Parties ℕ) → 2 ^ 64 - 2 ≤ seen → nat_lt seen (2 ^ 64 - 2) ≡ b →
-    Leads rw_reader_model calls.TryReadLock (cond b (afters.At (places.TryRead seen (seen + 1))) (afters.Ends answers.Interrupted)) None done p →
-    HasEnded rw_reader_model calls.TryReadLock answers.Interrupted None done p
+    Leads rw_reader_model Call.TryReadLock (cond b (After.At (RwReaderPlace.TryRead seen (seen + 1))) (After.Ends Answer.Interrupted)) None done p →
+    HasEnded rw_reader_model Call.TryReadLock Answer.Interrupted None done p
 once_shut seen true done p full test at = absurd (grind (arith, nat_tests))
 once_shut seen false done p full test at = at
 
@@ -96,194 +76,194 @@ reads_some seen to answer one_more full is =
 pub reads_none : (seen : ℕ) (answer : Option ℕ) → (seen < 2 ^ 64 - 2 → answer ≡ Some (seen + 1)) → answer ≡ None → 2 ^ 64 - 2 ≤ seen
 reads_none seen answer one_more is = let no_room : seen < 2 ^ 64 - 2 → ⊥ = λ room. let more = one_more room in cc in omega (arith, no_room)
 
-pub turned_away : (seen : ℕ) (done : List (Slot ℕ)) (p : Parties ℕ) → 2 ^ 64 - 2 ≤ seen → HasLookedOnce seen done p → HasEnded rw_reader_model calls.TryReadLock answers.Interrupted None done p
+pub turned_away : (seen : ℕ) (done : List (Slot ℕ)) (p : Parties ℕ) → 2 ^ 64 - 2 ≤ seen → HasLookedOnce seen done p → HasEnded rw_reader_model Call.TryReadLock Answer.Interrupted None done p
 turned_away seen done p full at = once_shut seen (nat_lt seen (2 ^ 64 - 2)) done p full refl at
 
-comes_once : (seen : ℕ) (done : List (Slot ℕ)) (p : Parties ℕ) → seen < 2 ^ 64 - 2 → HasLookedOnce seen done p → At calls.TryReadLock (places.TryRead seen (seen + 1)) done p
+comes_once : (seen : ℕ) (done : List (Slot ℕ)) (p : Parties ℕ) → seen < 2 ^ 64 - 2 → HasLookedOnce seen done p → At Call.TryReadLock (RwReaderPlace.TryRead seen (seen + 1)) done p
 comes_once seen done p room at = once_open seen (nat_lt seen (2 ^ 64 - 2)) done p room refl at
 
 open_so : (patience : Patience) (seen : ℕ) (b : Bool) (done : List (Slot ℕ)) (p : Parties ℕ) → seen < 2 ^ 64 - 2 → nat_lt seen (2 ^ 64 - 2) ≡ b →
-    Leads rw_reader_model calls.ReadLock (cond b (afters.At (places.Read seen (seen + 1) patience)) (within places.ReadLook (refused patience seen))) None done p →
-    At calls.ReadLock (places.Read seen (seen + 1) patience) done p
+    Leads rw_reader_model Call.ReadLock (cond b (After.At (RwReaderPlace.Read seen (seen + 1) patience)) (within RwReaderPlace.ReadLook (refused patience seen))) None done p →
+    At Call.ReadLock (RwReaderPlace.Read seen (seen + 1) patience) done p
 open_so patience seen true done p room test at = at
 open_so patience seen false done p room test at = absurd (grind (arith, nat_tests))
 
 shut_so : (patience : Patience) (seen : ℕ) (b : Bool) (done : List (Slot ℕ)) (p : Parties ℕ) → 2 ^ 64 - 2 ≤ seen → nat_lt seen (2 ^ 64 - 2) ≡ b →
-    Leads rw_reader_model calls.ReadLock (cond b (afters.At (places.Read seen (seen + 1) patience)) (within places.ReadLook (refused patience seen))) None done p →
-    IsRefused rw_reader_model calls.ReadLock places.ReadLook patience seen done p
+    Leads rw_reader_model Call.ReadLock (cond b (After.At (RwReaderPlace.Read seen (seen + 1) patience)) (within RwReaderPlace.ReadLook (refused patience seen))) None done p →
+    IsRefused rw_reader_model Call.ReadLock RwReaderPlace.ReadLook patience seen done p
 shut_so patience seen true done p full test at = absurd (grind (arith, nat_tests))
 shut_so patience seen false done p full test at = at
 
-pub found_shut : (patience : Patience) (seen : ℕ) (done : List (Slot ℕ)) (p : Parties ℕ) → 2 ^ 64 - 2 ≤ seen → HasLooked patience seen done p → IsRefused rw_reader_model calls.ReadLock places.ReadLook patience seen done p
+pub found_shut : (patience : Patience) (seen : ℕ) (done : List (Slot ℕ)) (p : Parties ℕ) → 2 ^ 64 - 2 ≤ seen → HasLooked patience seen done p → IsRefused rw_reader_model Call.ReadLock RwReaderPlace.ReadLook patience seen done p
 found_shut patience seen done p full at = shut_so patience seen (nat_lt seen (2 ^ 64 - 2)) done p full refl at
 
-comes_to_read : (patience : Patience) (seen : ℕ) (done : List (Slot ℕ)) (p : Parties ℕ) → seen < 2 ^ 64 - 2 → HasLooked patience seen done p → At calls.ReadLock (places.Read seen (seen + 1) patience) done p
+comes_to_read : (patience : Patience) (seen : ℕ) (done : List (Slot ℕ)) (p : Parties ℕ) → seen < 2 ^ 64 - 2 → HasLooked patience seen done p → At Call.ReadLock (RwReaderPlace.Read seen (seen + 1) patience) done p
 comes_to_read patience seen done p room at = open_so patience seen (nat_lt seen (2 ^ 64 - 2)) done p room refl at
 
 -- the exchanges that the table has there
 
-may_exchange : (call : Call ℕ) (place : RwReaderPlace) (done : List (Slot ℕ)) (p : Parties ℕ) (seen more : ℕ) → more ≡ seen + 1 → ◌≡◌ {A = Intent ℕ} (rw_reader_intent words.State place None) (intents.Exchange words.State seen (seen + 1)) →
-    At call place done p → MayStep rw_reader_model (words.State ∷ []) Going 0 (λ w. intents.Exchange w seen more) p
+may_exchange : (call : Call ℕ) (place : RwReaderPlace) (done : List (Slot ℕ)) (p : Parties ℕ) (seen more : ℕ) → more ≡ seen + 1 → ◌≡◌ {A = Intent ℕ} (rw_reader_intent Word.State place None) (Intent.Exchange Word.State seen (seen + 1)) →
+    At call place done p → MayStep rw_reader_model (Word.State ∷ []) Going 0 (λ w. Intent.Exchange w seen more) p
 may_exchange call place done p seen more is intends at = record {
   call = call;
   place = place;
   hold = None;
   done = done;
   comes = at;
-  name = words.State;
+  name = Word.State;
   named = refl;
-  intends = intends ∙ ap (λ (n : ℕ). intents.Exchange words.State seen n) (sym is);
+  intends = intends ∙ ap (λ (n : ℕ). Intent.Exchange Word.State seen n) (sym is);
   on = refl;
 }
 
-pub may_read_once : (seen more : ℕ) (done : List (Slot ℕ)) (p : Parties ℕ) → seen < 2 ^ 64 - 2 → more ≡ seen + 1 → HasLookedOnce seen done p → MayStep rw_reader_model (words.State ∷ []) Going 0 (λ w. intents.Exchange w seen more) p
-may_read_once seen more done p room is at = may_exchange calls.TryReadLock (places.TryRead seen (seen + 1)) done p seen more is refl (comes_once seen done p room at)
+pub may_read_once : (seen more : ℕ) (done : List (Slot ℕ)) (p : Parties ℕ) → seen < 2 ^ 64 - 2 → more ≡ seen + 1 → HasLookedOnce seen done p → MayStep rw_reader_model (Word.State ∷ []) Going 0 (λ w. Intent.Exchange w seen more) p
+may_read_once seen more done p room is at = may_exchange Call.TryReadLock (RwReaderPlace.TryRead seen (seen + 1)) done p seen more is refl (comes_once seen done p room at)
 
-pub may_read : (patience : Patience) (seen more : ℕ) (done : List (Slot ℕ)) (p : Parties ℕ) → seen < 2 ^ 64 - 2 → more ≡ seen + 1 → HasLooked patience seen done p → MayStep rw_reader_model (words.State ∷ []) Going 0 (λ w. intents.Exchange w seen more) p
-may_read patience seen more done p room is at = may_exchange calls.ReadLock (places.Read seen (seen + 1) patience) done p seen more is refl (comes_to_read patience seen done p room at)
+pub may_read : (patience : Patience) (seen more : ℕ) (done : List (Slot ℕ)) (p : Parties ℕ) → seen < 2 ^ 64 - 2 → more ≡ seen + 1 → HasLooked patience seen done p → MayStep rw_reader_model (Word.State ∷ []) Going 0 (λ w. Intent.Exchange w seen more) p
+may_read patience seen more done p room is at = may_exchange Call.ReadLock (RwReaderPlace.Read seen (seen + 1) patience) done p seen more is refl (comes_to_read patience seen done p room at)
 
 -- where they lead
 
-once_so : (seen found : ℕ) (b : Bool) (done : List (Slot ℕ)) (q : Parties ℕ) → (found == seen) ≡ b → Led rw_reader_model calls.TryReadLock (places.TryRead seen (seen + 1)) None found done q →
-    MatchBool b (HasEnded rw_reader_model calls.TryReadLock answers.Success (Some kinds.Read) done q) (HasEnded rw_reader_model calls.TryReadLock answers.Interrupted None done q)
+once_so : (seen found : ℕ) (b : Bool) (done : List (Slot ℕ)) (q : Parties ℕ) → (found == seen) ≡ b → Led rw_reader_model Call.TryReadLock (RwReaderPlace.TryRead seen (seen + 1)) None found done q →
+    MatchBool b (HasEnded rw_reader_model Call.TryReadLock Answer.Success (Some HoldKind.Read) done q) (HasEnded rw_reader_model Call.TryReadLock Answer.Interrupted None done q)
 once_so seen found true done q test led = rw test at led
 once_so seen found false done q test led = rw test at led
 
 pub read_once : (seen found : ℕ) (done : List (Slot ℕ)) (p q : Parties ℕ) → seen < 2 ^ 64 - 2 → HasLookedOnce seen done p → Went rw_reader_model Going p found q →
-    MatchBool (found == seen) (HasEnded rw_reader_model calls.TryReadLock answers.Success (Some kinds.Read) done q) (HasEnded rw_reader_model calls.TryReadLock answers.Interrupted None done q)
-read_once seen found done p q room at went = once_so seen found (found == seen) done q refl (went calls.TryReadLock (places.TryRead seen (seen + 1)) None done (comes_once seen done p room at))
+    MatchBool (found == seen) (HasEnded rw_reader_model Call.TryReadLock Answer.Success (Some HoldKind.Read) done q) (HasEnded rw_reader_model Call.TryReadLock Answer.Interrupted None done q)
+read_once seen found done p q room at went = once_so seen found (found == seen) done q refl (went Call.TryReadLock (RwReaderPlace.TryRead seen (seen + 1)) None done (comes_once seen done p room at))
 
 read_so : (patience : Patience) (seen found : ℕ) (b : Bool) (done : List (Slot ℕ)) (q : Parties ℕ) → (found == seen) ≡ b → b ≡ true →
-    Led rw_reader_model calls.ReadLock (places.Read seen (seen + 1) patience) None found done q → IsGranted rw_reader_model calls.ReadLock places.ReadLook (Some kinds.Read) done q
+    Led rw_reader_model Call.ReadLock (RwReaderPlace.Read seen (seen + 1) patience) None found done q → IsGranted rw_reader_model Call.ReadLock RwReaderPlace.ReadLook (Some HoldKind.Read) done q
 read_so patience seen found true done q test hit led = rw test at led
 read_so patience seen found false done q test hit led = absurd cc
 
 again_so : (patience : Patience) (seen found : ℕ) (b : Bool) (done : List (Slot ℕ)) (q : Parties ℕ) → (found == seen) ≡ b → b ≡ false →
-    Led rw_reader_model calls.ReadLock (places.Read seen (seen + 1) patience) None found done q → HasLooked patience found done q
+    Led rw_reader_model Call.ReadLock (RwReaderPlace.Read seen (seen + 1) patience) None found done q → HasLooked patience found done q
 again_so patience seen found true done q test miss led = absurd cc
 again_so patience seen found false done q test miss led = rw test at led
 
 pub has_read : (patience : Patience) (seen found : ℕ) (done : List (Slot ℕ)) (p q : Parties ℕ) → seen < 2 ^ 64 - 2 → found ≡ seen → HasLooked patience seen done p → Went rw_reader_model Going p found q →
-    IsGranted rw_reader_model calls.ReadLock places.ReadLook (Some kinds.Read) done q
+    IsGranted rw_reader_model Call.ReadLock RwReaderPlace.ReadLook (Some HoldKind.Read) done q
 has_read patience seen found done p q room hit at went =
-    read_so patience seen found (found == seen) done q refl (subst (λ m. (m == seen) ≡ true) (sym hit) (eqb_same seen)) (went calls.ReadLock (places.Read seen (seen + 1) patience) None done (comes_to_read patience seen done p room at))
+    read_so patience seen found (found == seen) done q refl (subst (λ m. (m == seen) ≡ true) (sym hit) (eqb_same seen)) (went Call.ReadLock (RwReaderPlace.Read seen (seen + 1) patience) None done (comes_to_read patience seen done p room at))
 
 pub looked_again : (patience : Patience) (seen found : ℕ) (done : List (Slot ℕ)) (p q : Parties ℕ) → seen < 2 ^ 64 - 2 → found ≢ seen → HasLooked patience seen done p → Went rw_reader_model Going p found q →
     HasLooked patience found done q
 looked_again patience seen found done p q room miss at went =
-    again_so patience seen found (found == seen) done q refl (ne_eqb found seen miss) (went calls.ReadLock (places.Read seen (seen + 1) patience) None done (comes_to_read patience seen done p room at))
+    again_so patience seen found (found == seen) done q refl (ne_eqb found seen miss) (went Call.ReadLock (RwReaderPlace.Read seen (seen + 1) patience) None done (comes_to_read patience seen done p room at))
 
 -- a writer's exchange
 
-may_enter : (way : Coming ℕ) (call : Call ℕ) (place : RwReaderPlace) (done : List (Slot ℕ)) (p : Parties ℕ) (put : ℕ) → put ≡ 2 ^ 64 - 1 → ◌≡◌ {A = Intent ℕ} (rw_reader_intent words.State place None) (intents.Exchange words.State 0 (2 ^ 64 - 1)) →
-    Comes way call place done p → MayStep rw_reader_model (words.State ∷ []) way 0 (λ w. intents.Exchange w 0 put) p
+may_enter : (way : Coming ℕ) (call : Call ℕ) (place : RwReaderPlace) (done : List (Slot ℕ)) (p : Parties ℕ) (put : ℕ) → put ≡ 2 ^ 64 - 1 → ◌≡◌ {A = Intent ℕ} (rw_reader_intent Word.State place None) (Intent.Exchange Word.State 0 (2 ^ 64 - 1)) →
+    Comes way call place done p → MayStep rw_reader_model (Word.State ∷ []) way 0 (λ w. Intent.Exchange w 0 put) p
 may_enter way call place done p put is intends comes = record {
   call = call;
   place = place;
   hold = None;
   done = done;
   comes = comes;
-  name = words.State;
+  name = Word.State;
   named = refl;
-  intends = intends ∙ ap (λ (n : ℕ). intents.Exchange words.State 0 n) (sym is);
+  intends = intends ∙ ap (λ (n : ℕ). Intent.Exchange Word.State 0 n) (sym is);
   on = refl;
 }
 
-pub may_write_once : (p : Parties ℕ) (put : ℕ) → put ≡ 2 ^ 64 - 1 → MayStep rw_reader_model (words.State ∷ []) (Beginning calls.TryWriteLock) 0 (λ w. intents.Exchange w 0 put) p
-may_write_once p put is = may_enter _ calls.TryWriteLock places.TryWrite (all_of p) p put is refl (try_write_begins p)
+pub may_write_once : (p : Parties ℕ) (put : ℕ) → put ≡ 2 ^ 64 - 1 → MayStep rw_reader_model (Word.State ∷ []) (Beginning Call.TryWriteLock) 0 (λ w. Intent.Exchange w 0 put) p
+may_write_once p put is = may_enter _ Call.TryWriteLock RwReaderPlace.TryWrite (all_of p) p put is refl (try_write_begins p)
 
-pub may_write : (way : Coming ℕ) (p : Parties ℕ) → MayTry rw_reader_model calls.WriteLock places.Write way p → (put : ℕ) → put ≡ 2 ^ 64 - 1 →
-    MayStep rw_reader_model (words.State ∷ []) way 0 (λ w. intents.Exchange w 0 put) p
-may_write way p may put is = may_enter way calls.WriteLock (places.Write may.patience) may.done p put is refl may.comes
+pub may_write : (way : Coming ℕ) (p : Parties ℕ) → MayTry rw_reader_model Call.WriteLock RwReaderPlace.Write way p → (put : ℕ) → put ≡ 2 ^ 64 - 1 →
+    MayStep rw_reader_model (Word.State ∷ []) way 0 (λ w. Intent.Exchange w 0 put) p
+may_write way p may put is = may_enter way Call.WriteLock (RwReaderPlace.Write may.patience) may.done p put is refl may.comes
 
-pub first_write : (p : Parties ℕ) → MayTry rw_reader_model calls.WriteLock places.Write (Beginning calls.WriteLock) p
+pub first_write : (p : Parties ℕ) → MayTry rw_reader_model Call.WriteLock RwReaderPlace.Write (Beginning Call.WriteLock) p
 first_write p = record { patience = spun 0; done = all_of p; comes = write_begins p }
 
-pub first_read : (p : Parties ℕ) → MayTry rw_reader_model calls.ReadLock places.ReadLook (Beginning calls.ReadLock) p
+pub first_read : (p : Parties ℕ) → MayTry rw_reader_model Call.ReadLock RwReaderPlace.ReadLook (Beginning Call.ReadLock) p
 first_read p = record { patience = spun 0; done = all_of p; comes = read_begins p }
 
-pub wrote_once : (p q : Parties ℕ) → Went rw_reader_model (Beginning calls.TryWriteLock) p 0 q → HasCalled rw_reader_model calls.TryWriteLock answers.Success (Some kinds.Write) p q
-wrote_once p q went = went calls.TryWriteLock places.TryWrite None (all_of p) (try_write_begins p)
+pub wrote_once : (p q : Parties ℕ) → Went rw_reader_model (Beginning Call.TryWriteLock) p 0 q → HasCalled rw_reader_model Call.TryWriteLock Answer.Success (Some HoldKind.Write) p q
+wrote_once p q went = went Call.TryWriteLock RwReaderPlace.TryWrite None (all_of p) (try_write_begins p)
 
-once_missed : (found : ℕ) (b : Bool) (p q : Parties ℕ) → (found == 0) ≡ b → b ≡ false → Led rw_reader_model calls.TryWriteLock places.TryWrite None found (all_of p) q →
-    HasCalled rw_reader_model calls.TryWriteLock answers.Interrupted None p q
+once_missed : (found : ℕ) (b : Bool) (p q : Parties ℕ) → (found == 0) ≡ b → b ≡ false → Led rw_reader_model Call.TryWriteLock RwReaderPlace.TryWrite None found (all_of p) q →
+    HasCalled rw_reader_model Call.TryWriteLock Answer.Interrupted None p q
 once_missed found true p q test miss led = absurd cc
 once_missed found false p q test miss led = rw test at led
 
-pub missed_once : (found : ℕ) (p q : Parties ℕ) → found ≢ 0 → Went rw_reader_model (Beginning calls.TryWriteLock) p found q → HasCalled rw_reader_model calls.TryWriteLock answers.Interrupted None p q
-missed_once found p q miss went = once_missed found (found == 0) p q refl (ne_eqb found 0 miss) (went calls.TryWriteLock places.TryWrite None (all_of p) (try_write_begins p))
+pub missed_once : (found : ℕ) (p q : Parties ℕ) → found ≢ 0 → Went rw_reader_model (Beginning Call.TryWriteLock) p found q → HasCalled rw_reader_model Call.TryWriteLock Answer.Interrupted None p q
+missed_once found p q miss went = once_missed found (found == 0) p q refl (ne_eqb found 0 miss) (went Call.TryWriteLock RwReaderPlace.TryWrite None (all_of p) (try_write_begins p))
 
-pub has_written : (way : Coming ℕ) (p q : Parties ℕ) → Went rw_reader_model way p 0 q → (patience : Patience) (done : List (Slot ℕ)) → Comes way calls.WriteLock (places.Write patience) done p →
-    IsGranted rw_reader_model calls.WriteLock places.Write (Some kinds.Write) done q
-has_written way p q went patience done comes = went calls.WriteLock (places.Write patience) None done comes
+pub has_written : (way : Coming ℕ) (p q : Parties ℕ) → Went rw_reader_model way p 0 q → (patience : Patience) (done : List (Slot ℕ)) → Comes way Call.WriteLock (RwReaderPlace.Write patience) done p →
+    IsGranted rw_reader_model Call.WriteLock RwReaderPlace.Write (Some HoldKind.Write) done q
+has_written way p q went patience done comes = went Call.WriteLock (RwReaderPlace.Write patience) None done comes
 
 refused_so : (found : ℕ) (b : Bool) (patience : Patience) (done : List (Slot ℕ)) (q : Parties ℕ) → (found == 0) ≡ b → b ≡ false →
-    Led rw_reader_model calls.WriteLock (places.Write patience) None found done q → IsRefused rw_reader_model calls.WriteLock places.Write patience found done q
+    Led rw_reader_model Call.WriteLock (RwReaderPlace.Write patience) None found done q → IsRefused rw_reader_model Call.WriteLock RwReaderPlace.Write patience found done q
 refused_so found true patience done q test miss led = absurd cc
 refused_so found false patience done q test miss led = rw test at led
 
-pub found_taken : (way : Coming ℕ) (found : ℕ) (p q : Parties ℕ) → found ≢ 0 → Went rw_reader_model way p found q → (patience : Patience) (done : List (Slot ℕ)) → Comes way calls.WriteLock (places.Write patience) done p →
-    IsRefused rw_reader_model calls.WriteLock places.Write patience found done q
-found_taken way found p q miss went patience done comes = refused_so found (found == 0) patience done q refl (ne_eqb found 0 miss) (went calls.WriteLock (places.Write patience) None done comes)
+pub found_taken : (way : Coming ℕ) (found : ℕ) (p q : Parties ℕ) → found ≢ 0 → Went rw_reader_model way p found q → (patience : Patience) (done : List (Slot ℕ)) → Comes way Call.WriteLock (RwReaderPlace.Write patience) done p →
+    IsRefused rw_reader_model Call.WriteLock RwReaderPlace.Write patience found done q
+found_taken way found p q miss went patience done comes = refused_so found (found == 0) patience done q refl (ne_eqb found 0 miss) (went Call.WriteLock (RwReaderPlace.Write patience) None done comes)
 
 -- who was granted the lock has it
-pub granted_has : (call : Call ℕ) (kind : HoldKind) (done : List (Slot ℕ)) (q : Parties ℕ) → HasEnded rw_reader_model call answers.Success (Some kind) done q → has_hold kind q ≡ true
+pub granted_has : (call : Call ℕ) (kind : HoldKind) (done : List (Slot ℕ)) (q : Parties ℕ) → HasEnded rw_reader_model call Answer.Success (Some kind) done q → has_hold kind q ≡ true
 granted_has call kind done q ended = holding_is rw_reader_model kind done q ended.rests
 
 -- `Unlock`
 
-pub may_leave_reading : (p : Parties ℕ) → has_hold kinds.Read p ≡ true → MayStep rw_reader_model (words.State ∷ []) (Continuing calls.Unlock) 0 (λ w. intents.Subtract w 1) p
+pub may_leave_reading : (p : Parties ℕ) → has_hold HoldKind.Read p ≡ true → MayStep rw_reader_model (Word.State ∷ []) (Continuing Call.Unlock) 0 (λ w. Intent.Subtract w 1) p
 may_leave_reading p has = record {
-  call = calls.Unlock;
-  place = places.Release;
-  hold = Some kinds.Read;
+  call = Call.Unlock;
+  place = RwReaderPlace.Release;
+  hold = Some HoldKind.Read;
   done = p.resting;
-  comes = unlock_begins kinds.Read p.resting p (holding_told rw_reader_model kinds.Read p has);
-  name = words.State;
+  comes = unlock_begins HoldKind.Read p.resting p (holding_told rw_reader_model HoldKind.Read p has);
+  name = Word.State;
   named = refl;
   intends = refl;
   on = refl;
 }
 
-pub may_leave_writing : (p : Parties ℕ) → has_hold kinds.Write p ≡ true → MayStep rw_reader_model (words.State ∷ []) (Continuing calls.Unlock) 0 (λ w. intents.Store w 0) p
+pub may_leave_writing : (p : Parties ℕ) → has_hold HoldKind.Write p ≡ true → MayStep rw_reader_model (Word.State ∷ []) (Continuing Call.Unlock) 0 (λ w. Intent.Store w 0) p
 may_leave_writing p has = record {
-  call = calls.Unlock;
-  place = places.Release;
-  hold = Some kinds.Write;
+  call = Call.Unlock;
+  place = RwReaderPlace.Release;
+  hold = Some HoldKind.Write;
   done = p.resting;
-  comes = unlock_begins kinds.Write p.resting p (holding_told rw_reader_model kinds.Write p has);
-  name = words.State;
+  comes = unlock_begins HoldKind.Write p.resting p (holding_told rw_reader_model HoldKind.Write p has);
+  name = Word.State;
   named = refl;
   intends = refl;
   on = refl;
 }
 
-pub leaves_reading : (found : ℕ) (p q : Parties ℕ) → Went rw_reader_model (Continuing calls.Unlock) p found q → Unlocks kinds.Read p q
-leaves_reading found p q went = λ done holding. went calls.Unlock places.Release (Some kinds.Read) done (unlock_begins kinds.Read done p holding)
+pub leaves_reading : (found : ℕ) (p q : Parties ℕ) → Went rw_reader_model (Continuing Call.Unlock) p found q → Unlocks HoldKind.Read p q
+leaves_reading found p q went = λ done holding. went Call.Unlock RwReaderPlace.Release (Some HoldKind.Read) done (unlock_begins HoldKind.Read done p holding)
 
-pub leaves_writing : (found : ℕ) (p q : Parties ℕ) → Went rw_reader_model (Continuing calls.Unlock) p found q → Unlocks kinds.Write p q
-leaves_writing found p q went = λ done holding. went calls.Unlock places.Release (Some kinds.Write) done (unlock_begins kinds.Write done p holding)
+pub leaves_writing : (found : ℕ) (p q : Parties ℕ) → Went rw_reader_model (Continuing Call.Unlock) p found q → Unlocks HoldKind.Write p q
+leaves_writing found p q went = λ done holding. went Call.Unlock RwReaderPlace.Release (Some HoldKind.Write) done (unlock_begins HoldKind.Write done p holding)
 
-pub is_to_wake : (kind : HoldKind) (i : ℕ) (p q : Parties ℕ) → i ≡ 0 → has_hold kind p ≡ true → Unlocks kind p q → IsToWake rw_reader_model (words.State ∷ []) (λ (_ : RwReaderPlace). words.State) i q
+pub is_to_wake : (kind : HoldKind) (i : ℕ) (p q : Parties ℕ) → i ≡ 0 → has_hold kind p ≡ true → Unlocks kind p q → IsToWake rw_reader_model (Word.State ∷ []) (λ (_ : RwReaderPlace). Word.State) i q
 is_to_wake kind i p q is has unlocked = record {
-  call = calls.Unlock;
-  place = places.Wake;
+  call = Call.Unlock;
+  place = RwReaderPlace.Wake;
   hold = None;
   done = p.resting;
   at = unlocked p.resting (holding_told rw_reader_model kind p has);
-  who = wakes.One;
+  who = Wake.One;
   wakes = refl;
-  word = subst (λ (n : ℕ). IsNamed (words.State ∷ []) n words.State) (sym is) refl;
+  word = subst (λ (n : ℕ). IsNamed (Word.State ∷ []) n Word.State) (sym is) refl;
 }
 
 pub unlock_is_over : (kind : HoldKind) (p q : Parties ℕ) → has_hold kind p ≡ true → Unlocks kind p q → IsOverAside rw_reader_model q
 unlock_is_over kind p q has unlocked = record {
-  call = calls.Unlock;
-  place = places.Wake;
+  call = Call.Unlock;
+  place = RwReaderPlace.Wake;
   hold = None;
   done = p.resting;
   at = unlocked p.resting (holding_told rw_reader_model kind p has);
   aside = tt;
-  answer = answers.Done;
+  answer = Answer.Done;
   ends = refl;
 }

@@ -1,16 +1,6 @@
 -- What the sights and exchanges of a call at a reader-preferring lock come to.
-use Rattle.std.proofs.Common.{◌≡◌, ◌≢◌, ℕ, ◌+◌, ◌-◌, ◌^◌, ◌<◌, ◌≤◌, ◌==◌, Bool, true, false, MatchBool, refl, sym, ap, subst, ◌∙◌, arith}
-use Rattle.std.proofs.lemmas.Bool.{eqb-true, eqb-false}
-use Rattle.steps_events.proofs.Holds.{eqb_same}
-use Rattle.passes.specs.declared.view.View.{View}
-use Rattle.passes.specs.Parts.{IsWhole}
-use Rattle.passes.specs.Passes.{part_of, sights_of}
-use Rattle.passes.specs.Views.{looked, wrote}
-use Rattle.playing.specs.Passes.{counts_of, counted}
-use Rattle.playing.specs.Counts.{HasSeen, HasMissed, HasDone, HasOnlySeen, WasRefused, WasRefusedAt}
-use Rattle.playing.proofs.Attempts.{seen_twice, moved_later}
-use Rattle.tallies.specs.RwReaderRule.{Holds}
-use Rattle.running_rw_hold.proofs.RwTries.{last_seen, last_kept, seen_once, moved_after, overtaken}
+use Rattle.running_rw_reader.specs.Names.{View, IsWhole, part_of, sights_of, looked, wrote, counts_of, counted, HasSeen, HasMissed, HasDone, HasOnlySeen, WasRefused, WasRefusedAt, Holds}
+use Rattle.running_rw_reader.proofs.Names.{◌≡◌, ◌≢◌, ℕ, ◌+◌, ◌-◌, ◌^◌, ◌<◌, ◌≤◌, ◌==◌, Bool, true, false, MatchBool, refl, sym, ap, subst, ◌∙◌, arith, eqb-true, eqb-false, eqb_same, seen_twice, moved_later, last_seen, last_kept, seen_once, moved_after, overtaken}
 use Rattle.running_rw_reader.specs.RwReaderSteps.{read, word_of}
 use Rattle.running_rw_reader.specs.RwReaderShown.{RwReaderPass, IsAlone, IsTaken, IsShut, EntersToRead, HasEnteredToRead, HasReadAtOnce, HasSeenTaken, WasTurnedAway, reads_of, writes_of}
 

@@ -1,13 +1,9 @@
 -- What is unlocked goes by the kind of the hold.
-use Rattle.std.proofs.Common.{◌≡◌, sym, subst}
-use Rattle.steps_events.specs.declared.hold.HoldKind.TheVariants as kinds
-use Rattle.passes.specs.Passes.{IsSamePass}
-use Rattle.running_rw_hold.specs.declared.hold.RwPass.{Ghosts}
+use Rattle.running_rw_reader.specs.Names.{HoldKind, IsSamePass, Ghosts, RwHold, parties_of}
+use Rattle.running_rw_reader.proofs.Names.{◌≡◌, sym, subst}
 use Rattle.running_rw_hold.specs.declared.hold.ReadHold.{ReadHold}
 use Rattle.running_rw_hold.specs.declared.hold.WriteHold.{WriteHold}
-use Rattle.running_rw_hold.specs.declared.hold.RwHold.{RwHold}
 use Rattle.running_rw_hold.specs.declared.hold.RwHold.TheVariants.{Read, Write}
-use Rattle.playing.specs.Passes.{parties_of}
 use Rattle.running_rw_reader.specs.RwReaderParties.{Unlocks}
 use Rattle.running_rw_reader.specs.RwReaderShown.{RwReaderPass, HasLeftReading, HasLeftWriting, HasUnlocked, HasPlayedUnlock}
 
@@ -26,8 +22,8 @@ module _ {G : Ghosts RwReaderPass} where
     writing = λ _. subst (λ r. HasLeftWriting r q) by left;
   })
 
-  pub played_reading : (hold : RwHold RwReaderPass G) (h : ReadHold RwReaderPass G) (p q : RwReaderPass) → hold ≡ Read h → p ≡ h.pass.now → Unlocks kinds.Read (parties_of p) (parties_of q) → HasPlayedUnlock hold q
-  played_reading hold h p q is by left = subst (λ k. HasPlayedUnlock k q) (sym is) (subst (λ (r : RwReaderPass). Unlocks kinds.Read (parties_of r) (parties_of q)) by left)
+  pub played_reading : (hold : RwHold RwReaderPass G) (h : ReadHold RwReaderPass G) (p q : RwReaderPass) → hold ≡ Read h → p ≡ h.pass.now → Unlocks HoldKind.Read (parties_of p) (parties_of q) → HasPlayedUnlock hold q
+  played_reading hold h p q is by left = subst (λ k. HasPlayedUnlock k q) (sym is) (subst (λ (r : RwReaderPass). Unlocks HoldKind.Read (parties_of r) (parties_of q)) by left)
 
-  pub played_writing : (hold : RwHold RwReaderPass G) (h : WriteHold RwReaderPass G) (p q : RwReaderPass) → hold ≡ Write h → p ≡ h.pass.now → Unlocks kinds.Write (parties_of p) (parties_of q) → HasPlayedUnlock hold q
-  played_writing hold h p q is by left = subst (λ k. HasPlayedUnlock k q) (sym is) (subst (λ (r : RwReaderPass). Unlocks kinds.Write (parties_of r) (parties_of q)) by left)
+  pub played_writing : (hold : RwHold RwReaderPass G) (h : WriteHold RwReaderPass G) (p q : RwReaderPass) → hold ≡ Write h → p ≡ h.pass.now → Unlocks HoldKind.Write (parties_of p) (parties_of q) → HasPlayedUnlock hold q
+  played_writing hold h p q is by left = subst (λ k. HasPlayedUnlock k q) (sym is) (subst (λ (r : RwReaderPass). Unlocks HoldKind.Write (parties_of r) (parties_of q)) by left)

@@ -1,3 +1,4 @@
+pub mod Names
 pub mod RwReaderParties
 pub mod RwReaderSteps
 pub mod RwReaderShown

@@ -1,16 +1,5 @@
 -- The party of the model that a pass of a reader-preferring lock is, and how its calls go.
-use Rattle.std.specs.Prelude.{ℕ, Bool, List, None}
-use Rattle.steps_events.specs.declared.event.Call.TheVariants as calls
-use Rattle.steps_events.specs.declared.event.Then.TheVariants as thens
-use Rattle.steps_events.specs.declared.hold.HoldKind.{HoldKind}
-use Rattle.steps_events.specs.declared.patience.Patience.{Patience}
-use Rattle.steps_rw_reader.specs.declared.RwReaderPlace.{RwReaderPlace}
-use Rattle.steps_rw_reader.specs.declared.RwReaderPlace.TheVariants as places
-use Rattle.steps_rw_reader.specs.Table.{rw_reader_table, try_read_look, read_look}
-use Rattle.tallies.specs.RwReaderScript.{rw_reader_model}
-use Rattle.playing.specs.Slots.{Slot, Parties}
-use Rattle.playing.specs.Plays.{Coming, IsAt, Leads, IsHolding}
-use Rattle.playing.specs.Tries.{Tried}
+use Rattle.running_rw_reader.specs.Names.{ℕ, Bool, List, None, Call, Then, HoldKind, Patience, RwReaderPlace, rw_reader_table, try_read_look, read_look, rw_reader_model, Slot, Parties, Coming, IsAt, Leads, IsHolding, Tried}
 use Rattle.playing.specs.Holding.{is_holding}
 
 -- a party of the pass has a hold of this kind
@@ -19,16 +8,16 @@ has_hold kind p = is_holding {P = RwReaderPlace} rw_reader_table kind p
 
 -- a `TryReadLock` saw this, and goes on so
 abbrev pub HasLookedOnce : ℕ → List (Slot ℕ) → Parties ℕ → Type 0
-HasLookedOnce seen done p = Leads rw_reader_model calls.TryReadLock (try_read_look seen) None done p
+HasLookedOnce seen done p = Leads rw_reader_model Call.TryReadLock (try_read_look seen) None done p
 
 -- a `ReadLock` saw this last, and goes on so
 abbrev pub HasLooked : Patience → ℕ → List (Slot ℕ) → Parties ℕ → Type 0
-HasLooked patience seen done p = Leads rw_reader_model calls.ReadLock (read_look patience seen) None done p
+HasLooked patience seen done p = Leads rw_reader_model Call.ReadLock (read_look patience seen) None done p
 
 -- what follows from where a `ReadLock` came to a try
 abbrev pub OnceReading : Coming ℕ → Parties ℕ → (Patience → List (Slot ℕ) → Type 0) → Type 0
-OnceReading = Tried rw_reader_model calls.ReadLock places.ReadLook
+OnceReading = Tried rw_reader_model Call.ReadLock RwReaderPlace.ReadLook
 
 -- The party that had a hold of this kind has begun an `Unlock` and made its release, in a run that keeps the lock's law; and is to wake one.
 abbrev pub Unlocks : HoldKind → Parties ℕ → Parties ℕ → Type 0
-Unlocks kind p q = (done : List (Slot ℕ)) → IsHolding rw_reader_model kind done p → IsAt rw_reader_model calls.Unlock places.Wake thens.GoesOn None done q
+Unlocks kind p q = (done : List (Slot ℕ)) → IsHolding rw_reader_model kind done p → IsAt rw_reader_model Call.Unlock RwReaderPlace.Wake Then.GoesOn None done q

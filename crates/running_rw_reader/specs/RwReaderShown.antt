@@ -1,24 +1,10 @@
 -- What contracts see of a reader-preferring lock and its pass, and what a call changes in a pass.
-use Rattle.std.specs.Prelude.{◌≡◌, ◌≢◌, ℕ, ◌+◌, ◌-◌, ◌^◌, ◌<◌, ◌≤◌, Option}
-use Rattle.steps_events.specs.declared.event.Call.{Call}
-use Rattle.steps_events.specs.declared.event.Answer.{Answer}
-use Rattle.steps_events.specs.declared.hold.HoldKind.{HoldKind}
-use Rattle.tallies.specs.RwReaderScript.{rw_reader_model}
+use Rattle.running_rw_reader.specs.Names.{◌≡◌, ◌≢◌, ℕ, ◌+◌, ◌-◌, ◌^◌, ◌<◌, ◌≤◌, Option, Call, Answer, HoldKind, rw_reader_model, IsWhole, IsSamePass, part_of, sights_of, looked, missed, wrote, HasCalled, parties_of, tally_of, counted, HasOnlySeen, HasMoved, Ghosts, RwHold, read_holds, write_holds, Holds, no_holds}
 use Rattle.passes.specs.declared.part.Part.{Part}
 use Rattle.passes.specs.declared.pass.Pass.{Pass}
-use Rattle.passes.specs.Parts.{IsWhole}
-use Rattle.passes.specs.Passes.{IsSamePass, part_of, sights_of}
-use Rattle.passes.specs.Views.{looked, missed, wrote}
-use Rattle.playing.specs.Plays.{HasCalled}
-use Rattle.playing.specs.Passes.{parties_of, counts_of as tally_of, counted}
-use Rattle.playing.specs.Counts.{HasOnlySeen, HasMoved}
 use Rattle.playing.specs.Stages.{IsPassOf}
-use Rattle.running_rw_hold.specs.declared.hold.RwPass.{Ghosts}
-use Rattle.running_rw_hold.specs.declared.hold.RwHold.{RwHold}
 use Rattle.running_rw_reader.specs.declared.RwLockReaderPreference.{RwLockReaderPreference}
-use Rattle.tallies.specs.Held.{read_holds, write_holds}
 use Rattle.running_rw_hold.specs.RwShown.{IsReadHold, IsWriteHold, kind_of, pass_of, TurnsAway}
-use Rattle.tallies.specs.RwReaderRule.{Holds, no_holds}
 use Rattle.running_rw_reader.specs.RwReaderParties.{Unlocks}
 use Rattle.running_rw_reader.specs.RwReaderSteps.{PlayedRwReader, word_of, read, no_more_read, written}
 

@@ -1,22 +1,10 @@
 -- What holds whenever the rule of a reader-preferring lock does, and what a step changes in a pass.
-use Rattle.std.specs.Prelude.{◌≡◌, ◌≢◌, ℕ, ◌+◌, ◌-◌, ◌*◌, ◌^◌, ◌<◌, [], ◌∷◌}
+use Rattle.running_rw_reader.specs.Names.{◌≡◌, ◌≢◌, ℕ, ◌+◌, ◌-◌, ◌*◌, ◌^◌, ◌<◌, [], ◌∷◌, Word, RwReaderPlace, rw_reader_table, rw_reader_model, View, IsWhole, looked, missed, wrote, sum_of, IsCounted, none_played, both_played, PlaysAndCounts, IsOfARun, Writing, read_holds, write_holds, reader_in, reader_out, same_nothing, Holds, RwReaderAgrees, AreHoldsIn, both_holds, no_holds}
 use mathlib.Core.Option.{some}
 use lib.ListN.{get_elem?}
 use Rattle.atomic_table.specs.Table.{State}
-use Rattle.steps_events.specs.declared.event.Word.TheVariants as words
-use Rattle.steps_rw_reader.specs.declared.RwReaderPlace.{RwReaderPlace}
-use Rattle.steps_rw_reader.specs.Table.{rw_reader_table}
-use Rattle.tallies.specs.RwReaderScript.{rw_reader_model}
-use Rattle.passes.specs.declared.view.View.{View}
-use Rattle.passes.specs.Parts.{IsWhole}
-use Rattle.passes.specs.Views.{looked, missed, wrote, sum_of, IsCounted}
 use Rattle.playing.specs.declared.played.Played.{Played}
-use Rattle.playing.specs.Passes.{none_played, both_played, PlaysAndCounts, IsOfARun}
 use Rattle.tallies.specs.declared.rw_reader.RwReaderScript.{RwReaderScript}
-use Rattle.tallies.specs.declared.held.Held.TheVariants.{Writing}
-use Rattle.tallies.specs.Held.{read_holds, write_holds, reader_in, reader_out}
-use Rattle.tallies.specs.HeldTally.{same_nothing}
-use Rattle.tallies.specs.RwReaderRule.{Holds, RwReaderAgrees, AreHoldsIn, both_holds, no_holds}
 
 -- what a pass of a reader-preferring lock is in its model, and counts beside
 abbrev pub PlayedRwReader : Type 0
@@ -24,7 +12,7 @@ PlayedRwReader = Played RwReaderScript RwReaderPlace ℕ Holds
 
 -- the rule of a lock holds
 abbrev pub IsRuled : State (Unit {0}) (View PlayedRwReader) → Type 0
-IsRuled s = IsCounted (none_played no_holds) (both_played both_holds) (PlaysAndCounts rw_reader_model (words.State ∷ []) RwReaderAgrees (AreHoldsIn rw_reader_table)) s
+IsRuled s = IsCounted (none_played no_holds) (both_played both_holds) (PlaysAndCounts rw_reader_model (Word.State ∷ []) RwReaderAgrees (AreHoldsIn rw_reader_table)) s
 
 -- whenever it does, all passes are the parties of a run, and have as many holds of each kind as calls have in it
 abbrev pub HoldsAreOfARun : Type 0

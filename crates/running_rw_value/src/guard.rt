@@ -22,11 +22,10 @@ pub struct ReadGuard<'p, T, A: Allocator = Global> {
     ghost has: { has_hold kinds.Read (parties_of (pass_in pass.now)) ≡ true },
 }
 
-/// The value is locked for writing by the pass that is lent to the guard, and the guard alone lends it: `*guard` reads it, and
-/// `*guard.value` writes it. It must be spent, by `RwLock::unlock_write`.
+/// The value is locked for writing by the pass that is lent to the guard, and the guard alone lends it: `*guard` reads it, and `change`
+/// writes it. It must be spent, by `RwLock::unlock_write`.
 pub struct WriteGuard<'p, T, A: Allocator = Global> {
-    /// The value. It is a field, since what is written through a method's `&mut` into a guard of the kit can't be told of the whole.
-    pub value: RwLockWriteGuard<'p, T>,
+    pub(crate) value: RwLockWriteGuard<'p, T>,
     pub(crate) held: Writing<'p, A>,
 }
 
@@ -37,6 +36,22 @@ pub(crate) struct Writing<'p, A: Allocator> {
     ghost own: { IsRwWriterPass of.now pass.now },
     ghost on: { writes_of (pass_in pass.now) ≡ 1 },
     ghost has: { has_hold kinds.Write (parties_of (pass_in pass.now)) ≡ true },
+}
+
+impl<T, A: Allocator> WriteGuard<'_, T, A> {
+    ghost use Rattle.std.specs.Fn.{FnOnceTakesAtMut, FnOnceReturnsAtMut};
+    ghost use Rattle.running_rw_value.specs.RwValueShown.{writer_pass, writer_borrow, writer_value};
+
+    /// Calls `act` with the value. What it leaves there is what the guard lends from then on.
+    #[inline(always)]
+    pub fn change<X, F: FnOnce(&mut T) -> X>(&mut self, act: F) -> X
+        requires may { FnOnceTakesAtMut F.FnOnce act (writer_value self.old) }
+        ensures same_borrow { writer_borrow self.new ≡ writer_borrow self.old }
+        ensures same_pass { writer_pass self.new ≡ writer_pass self.old }
+        ensures acted { FnOnceReturnsAtMut F.FnOnce act (writer_value self.old) result (writer_value self.new) }
+    {
+        act(&mut *self.value)
+    }
 }
 
 impl<T, A: Allocator> Deref for ReadGuard<'_, T, A> {

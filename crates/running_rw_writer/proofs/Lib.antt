@@ -1,3 +1,4 @@
+pub mod Names
 pub mod RwWriterKeeps
 pub mod RwWriterCounts
 pub mod RwWriterReads

@@ -1,41 +1,19 @@
 -- After each step of a writer-preferring lock its passes were granted as often as calls were in the run.
-use Rattle.std.proofs.Common.{◌≡◌, ◌≢◌, ℕ, ◌+◌, ◌-◌, ◌%◌, ◌^◌, ◌<◌, ◌==◌, Bool, true, false, cond, List, [], ◌∷◌, Option, Some, None, inl, inr, refl, ap, sym, subst, ◌∙◌, arith}
-use Rattle.std.proofs.lemmas.Bool.{eqb-true, eqb-false}
-use Rattle.steps_events.specs.declared.event.Word.{Word}
-use Rattle.steps_events.specs.declared.event.Word.TheVariants as words
-use Rattle.steps_events.specs.declared.event.Call.{Call}
+use Rattle.running_rw_writer.specs.Names.{Word, Call, HoldKind, Intent, RwWriterPlace, rw_writer_grant, rw_writer_table, Sights, seen_instead, View, Parties, is_kind, Coming, IsStepAt, sum_of, GoesOnCounting, none_played, both_played, MarkedHolds, both_marked, AreGrantsByKindIn, RwWriterAgrees, nothing_marked, rw_writer_model}
+use Rattle.running_rw_writer.proofs.Names.{◌≡◌, ◌≢◌, ℕ, ◌+◌, ◌-◌, ◌%◌, ◌^◌, ◌<◌, ◌==◌, Bool, true, false, cond, List, [], ◌∷◌, Option, Some, None, inl, inr, refl, ap, sym, subst, ◌∙◌, arith, eqb-true, eqb-false, IsExchange, IsWriterIntent}
 use Rattle.steps_events.specs.declared.event.Act.{Act}
-use Rattle.steps_events.specs.declared.event.Act.TheVariants as acts
 use Rattle.steps_events.specs.declared.event.Event.{Event}
-use Rattle.steps_events.specs.declared.hold.HoldKind.{HoldKind}
-use Rattle.steps_events.specs.declared.hold.HoldKind.TheVariants as kinds
-use Rattle.steps_events.specs.declared.row.Intent.{Intent}
-use Rattle.steps_events.specs.declared.row.Intent.TheVariants as intents
 use Rattle.steps_events.specs.Rows.{carried_out}
 use Rattle.steps_events.specs.Past.{PendingCall, call_of, hold_of}
 use Rattle.steps_events.specs.Integers.{u64_arithmetic}
-use Rattle.steps_rw_writer.specs.declared.RwWriterPlace.{RwWriterPlace}
-use Rattle.steps_rw_writer.specs.Table.{rw_writer_grant, rw_writer_table}
-use Rattle.steps_rw_writer.proofs.WordLaws.{IsExchange, IsWriterIntent}
 use Rattle.steps_rw_writer.proofs.PlaceLaws.{writer_intent, here}
-use Rattle.passes.specs.declared.part.Sights.{Sights}
-use Rattle.passes.specs.Sights.{seen_instead}
-use Rattle.passes.specs.declared.view.View.{View}
-use Rattle.playing.specs.Slots.{Parties}
-use Rattle.playing.specs.Holding.{is_kind}
-use Rattle.playing.specs.Plays.{Coming, IsStepAt}
 use Rattle.playing.specs.Sums.{grants_by, no_kind, next_grants}
 use Rattle.playing.proofs.OfARun.{of_a_run}
-use Rattle.passes.specs.Views.{sum_of}
-use Rattle.playing.specs.Passes.{GoesOnCounting, none_played, both_played}
-use Rattle.tallies.specs.declared.rw_writer.MarkedHolds.{MarkedHolds}
-use Rattle.tallies.specs.RwWriterRule.{both_marked, AreGrantsByKindIn, RwWriterAgrees, nothing_marked}
-use Rattle.tallies.specs.RwWriterScript.{rw_writer_model}
 use Rattle.running_rw_writer.specs.RwWriterSteps.{IsMarked, Loaded, LoadedToWrite, IsSeenByWriter, ReaderIn, ReaderOut, WriterIn, WriterOut, SetsMark, TakesMark, Unchanged, GrantsAreOfARun}
 
 -- the step on the word at this index goes on counting so
 abbrev Counting : Coming ℕ → ℕ → (Word → Intent ℕ) → Parties ℕ → View MarkedHolds → (ℕ → View MarkedHolds → Type 0) → Type 0
-Counting way i intent p v tells = GoesOnCounting rw_writer_model (words.State ∷ words.Counter ∷ []) both_marked RwWriterAgrees (AreGrantsByKindIn rw_writer_table) way i intent p v.tally tells
+Counting way i intent p v tells = GoesOnCounting rw_writer_model (Word.State ∷ Word.Counter ∷ []) both_marked RwWriterAgrees (AreGrantsByKindIn rw_writer_table) way i intent p v.tally tells
 
 -- whether an event grants a hold of this kind, as a number
 abbrev granted : HoldKind → List (Event ℕ) → Event ℕ → ℕ
@@ -49,80 +27,80 @@ record CountsMore (reads writes : ℕ) (t u : MarkedHolds) : Type 0 where
 no_more : (t u : MarkedHolds) → u.read_grants ≡ t.read_grants → u.write_grants ≡ t.write_grants → CountsMore 0 0 t u
 no_more t u reads writes = record { reads_more = reads ∙ omega arith; writes_more = writes ∙ omega arith }
 
-next : (past : List (Event ℕ)) (e : Event ℕ) (t u rest : MarkedHolds) (reads writes : ℕ) → granted kinds.Read past e ≡ reads → granted kinds.Write past e ≡ writes → CountsMore reads writes t u →
+next : (past : List (Event ℕ)) (e : Event ℕ) (t u rest : MarkedHolds) (reads writes : ℕ) → granted HoldKind.Read past e ≡ reads → granted HoldKind.Write past e ≡ writes → CountsMore reads writes t u →
     AreGrantsByKindIn rw_writer_table past (both_marked t rest) → AreGrantsByKindIn rw_writer_table (e ∷ past) (both_marked u rest)
 next past e t u rest reads writes read written more is = record {
-  reads = next_grants rw_writer_table kinds.Read past e t.read_grants u.read_grants rest.read_grants (more.reads_more ∙ omega (arith, read)) is.reads;
-  writes = next_grants rw_writer_table kinds.Write past e t.write_grants u.write_grants rest.write_grants (more.writes_more ∙ omega (arith, written)) is.writes;
+  reads = next_grants rw_writer_table HoldKind.Read past e t.read_grants u.read_grants rest.read_grants (more.reads_more ∙ omega (arith, read)) is.reads;
+  writes = next_grants rw_writer_table HoldKind.Write past e t.write_grants u.write_grants rest.write_grants (more.writes_more ∙ omega (arith, written)) is.writes;
 }
 
 -- Steps that grant nothing.
 
 -- the act is neither an exchange nor a swap
 abbrev Grantless : Act ℕ → Type 0
-Grantless (acts.Load w seen) = Unit {0}
-Grantless (acts.Store w put) = Unit {0}
-Grantless (acts.Add w old put) = Unit {0}
+Grantless (Act.Load w seen) = Unit {0}
+Grantless (Act.Store w put) = Unit {0}
+Grantless (Act.Add w old put) = Unit {0}
 Grantless other = ⊥
 
 grantless : (kind : HoldKind) (act : Act ℕ) (pending : Option (PendingCall ℕ)) → Grantless act → grants_by rw_writer_table kind act pending ≡ 0
-grantless kind (acts.Load w seen) pending is = no_kind kind
-grantless kind (acts.Store w put) pending is = no_kind kind
-grantless kind (acts.Add w old put) pending is = no_kind kind
+grantless kind (Act.Load w seen) pending is = no_kind kind
+grantless kind (Act.Store w put) pending is = no_kind kind
+grantless kind (Act.Add w old put) pending is = no_kind kind
 grantless kind other pending is = absurd is
 
 grants_none : (past : List (Event ℕ)) (e : Event ℕ) (act : Act ℕ) (t u rest : MarkedHolds) → e.act ≡ act → Grantless act → u.read_grants ≡ t.read_grants → u.write_grants ≡ t.write_grants →
     AreGrantsByKindIn rw_writer_table past (both_marked t rest) → AreGrantsByKindIn rw_writer_table (e ∷ past) (both_marked u rest)
 grants_none past e act t u rest acted without reads writes is =
     let none : (kind : HoldKind) → granted kind past e ≡ 0 = λ kind. grantless kind e.act (call_of e.party past) (subst Grantless (sym acted) without) in
-    next past e t u rest 0 0 (none kinds.Read) (none kinds.Write) (no_more t u reads writes) is
+    next past e t u rest 0 0 (none HoldKind.Read) (none HoldKind.Write) (no_more t u reads writes) is
 
-pub load_counts : (way : Coming ℕ) (p : Parties ℕ) (v : View MarkedHolds) → Counting way 0 (λ w. intents.Load w) p v (Loaded v)
+pub load_counts : (way : Coming ℕ) (p : Parties ℕ) (v : View MarkedHolds) → Counting way 0 (λ w. Intent.Load w) p v (Loaded v)
 load_counts way p v call place hold done comes past e found step name named act rest w told still is =
-    grants_none past e (acts.Load name found) v.tally w.tally rest act tt (ap (λ (u : View MarkedHolds). u.tally.read_grants) told.saw) (ap (λ (u : View MarkedHolds). u.tally.write_grants) told.saw) is
+    grants_none past e (Act.Load name found) v.tally w.tally rest act tt (ap (λ (u : View MarkedHolds). u.tally.read_grants) told.saw) (ap (λ (u : View MarkedHolds). u.tally.write_grants) told.saw) is
 
-pub load_to_write_counts : (way : Coming ℕ) (p : Parties ℕ) (v : View MarkedHolds) → Counting way 0 (λ w. intents.Load w) p v (LoadedToWrite v)
+pub load_to_write_counts : (way : Coming ℕ) (p : Parties ℕ) (v : View MarkedHolds) → Counting way 0 (λ w. Intent.Load w) p v (LoadedToWrite v)
 load_to_write_counts way p v call place hold done comes past e found step name named act rest w told still is =
-    grants_none past e (acts.Load name found) v.tally w.tally rest act tt (ap (λ (u : View MarkedHolds). u.tally.read_grants) told.sees) (ap (λ (u : View MarkedHolds). u.tally.write_grants) told.sees) is
+    grants_none past e (Act.Load name found) v.tally w.tally rest act tt (ap (λ (u : View MarkedHolds). u.tally.read_grants) told.sees) (ap (λ (u : View MarkedHolds). u.tally.write_grants) told.sees) is
 
-pub reader_out_counts : (way : Coming ℕ) (p : Parties ℕ) (v : View MarkedHolds) → Counting way 0 (λ w. intents.Subtract w 2) p v (ReaderOut v)
+pub reader_out_counts : (way : Coming ℕ) (p : Parties ℕ) (v : View MarkedHolds) → Counting way 0 (λ w. Intent.Subtract w 2) p v (ReaderOut v)
 reader_out_counts way p v call place hold done comes past e found step name named act rest w told still is =
-    grants_none past e (acts.Add name found ((found + (2 ^ 64 - 2)) % 2 ^ 64)) v.tally w.tally rest act tt
+    grants_none past e (Act.Add name found ((found + (2 ^ 64 - 2)) % 2 ^ 64)) v.tally w.tally rest act tt
     (ap (λ (u : View MarkedHolds). u.tally.read_grants) told.done) (ap (λ (u : View MarkedHolds). u.tally.write_grants) told.done) is
 
-pub writer_out_counts : (way : Coming ℕ) (p : Parties ℕ) (v : View MarkedHolds) → Counting way 0 (λ w. intents.Store w 0) p v (λ _. WriterOut v)
+pub writer_out_counts : (way : Coming ℕ) (p : Parties ℕ) (v : View MarkedHolds) → Counting way 0 (λ w. Intent.Store w 0) p v (λ _. WriterOut v)
 writer_out_counts way p v call place hold done comes past e found step name named act rest w told still is =
-    grants_none past e (acts.Store name 0) v.tally w.tally rest act tt (ap (λ (u : View MarkedHolds). u.tally.read_grants) told.done) (ap (λ (u : View MarkedHolds). u.tally.write_grants) told.done) is
+    grants_none past e (Act.Store name 0) v.tally w.tally rest act tt (ap (λ (u : View MarkedHolds). u.tally.read_grants) told.done) (ap (λ (u : View MarkedHolds). u.tally.write_grants) told.done) is
 
-pub count_load_counts : (way : Coming ℕ) (p : Parties ℕ) (v : View MarkedHolds) → Counting way 1 (λ w. intents.Load w) p v (λ _. Unchanged v)
+pub count_load_counts : (way : Coming ℕ) (p : Parties ℕ) (v : View MarkedHolds) → Counting way 1 (λ w. Intent.Load w) p v (λ _. Unchanged v)
 count_load_counts way p v call place hold done comes past e found step name named act rest w told still is =
-    grants_none past e (acts.Load name found) v.tally w.tally rest act tt (ap (λ (u : View MarkedHolds). u.tally.read_grants) told) (ap (λ (u : View MarkedHolds). u.tally.write_grants) told) is
+    grants_none past e (Act.Load name found) v.tally w.tally rest act tt (ap (λ (u : View MarkedHolds). u.tally.read_grants) told) (ap (λ (u : View MarkedHolds). u.tally.write_grants) told) is
 
-pub count_add_counts : (way : Coming ℕ) (p : Parties ℕ) (v : View MarkedHolds) → Counting way 1 (λ w. intents.Add w 1) p v (λ _. Unchanged v)
+pub count_add_counts : (way : Coming ℕ) (p : Parties ℕ) (v : View MarkedHolds) → Counting way 1 (λ w. Intent.Add w 1) p v (λ _. Unchanged v)
 count_add_counts way p v call place hold done comes past e found step name named act rest w told still is =
-    grants_none past e (acts.Add name found ((found + 1) % 2 ^ 64)) v.tally w.tally rest act tt (ap (λ (u : View MarkedHolds). u.tally.read_grants) told) (ap (λ (u : View MarkedHolds). u.tally.write_grants) told) is
+    grants_none past e (Act.Add name found ((found + 1) % 2 ^ 64)) v.tally w.tally rest act tt (ap (λ (u : View MarkedHolds). u.tally.read_grants) told) (ap (λ (u : View MarkedHolds). u.tally.write_grants) told) is
 
 -- Exchanges: what one may be at the place where its call is tells what it grants.
 
-by_intent : (call : Call ℕ) (hold : Option HoldKind) (intent : Intent ℕ) (from to found : ℕ) (done : Bool) → carried_out intent (λ _. found) ≡ acts.Exchange words.State from to found done → IsWriterIntent call hold intent → IsExchange call from to
-by_intent call hold (intents.Exchange w old new) from to found done is may =
-    let there : w ≡ words.State = cc in
+by_intent : (call : Call ℕ) (hold : Option HoldKind) (intent : Intent ℕ) (from to found : ℕ) (done : Bool) → carried_out intent (λ _. found) ≡ Act.Exchange Word.State from to found done → IsWriterIntent call hold intent → IsExchange call from to
+by_intent call hold (Intent.Exchange w old new) from to found done is may =
+    let there : w ≡ Word.State = cc in
     let first : old ≡ from = cc in
     let second : new ≡ to = cc in
-    subst (λ n. IsExchange call n to) first (subst (λ n. IsExchange call old n) second (subst (λ u. IsWriterIntent call hold (intents.Exchange u old new)) there may).1)
+    subst (λ n. IsExchange call n to) first (subst (λ n. IsExchange call old n) second (subst (λ u. IsWriterIntent call hold (Intent.Exchange u old new)) there may).1)
 by_intent call hold other from to found done is may = absurd cc
 
 -- an exchange of this step's call, which is done where it found the value from which it was made
 record Exchanges (past : List (Event ℕ)) (e : Event ℕ) (from to found : ℕ) : Type 0 where
   pending : PendingCall ℕ
   under_way : call_of e.party past ≡ Some pending
-  act : e.act ≡ acts.Exchange words.State from to found (found == from)
+  act : e.act ≡ Act.Exchange Word.State from to found (found == from)
   may : IsExchange pending.call from to
 
-exchanged : (call : Call ℕ) (place : RwWriterPlace) (hold : Option HoldKind) (past : List (Event ℕ)) (e : Event ℕ) (name : Word) (from to found : ℕ) → IsStepAt rw_writer_model call place hold found past e → words.State ≡ name →
-    e.act ≡ carried_out (intents.Exchange name from to) (λ _. found) → Exchanges past e from to found
+exchanged : (call : Call ℕ) (place : RwWriterPlace) (hold : Option HoldKind) (past : List (Event ℕ)) (e : Event ℕ) (name : Word) (from to found : ℕ) → IsStepAt rw_writer_model call place hold found past e → Word.State ≡ name →
+    e.act ≡ carried_out (Intent.Exchange name from to) (λ _. found) → Exchanges past e from to found
 exchanged call place hold past e name from to found step named act =
-    let acted : e.act ≡ acts.Exchange words.State from to found (found == from) = act ∙ ap (λ w. acts.Exchange w from to found (found == from)) (sym named) in
+    let acted : e.act ≡ Act.Exchange Word.State from to found (found == from) = act ∙ ap (λ w. Act.Exchange w from to found (found == from)) (sym named) in
     let at = here u64_arithmetic step.parties past step.run.1 e.party step.pending place step.under_way step.stage in
     record {
       pending = step.pending;
@@ -137,16 +115,16 @@ exchange_grants : (past : List (Event ℕ)) (e : Event ℕ) (from to found : ℕ
     granted kind past e ≡ cond (found == from) (cond (is_kind kind grant) 1 0) 0
 exchange_grants past e from to found grant kind x grants =
     subst (λ (a : Act ℕ). grants_by rw_writer_table kind a (call_of e.party past) ≡ cond (found == from) (cond (is_kind kind grant) 1 0) 0) (sym x.act)
-    (subst (λ (c : Option (PendingCall ℕ)). grants_by rw_writer_table kind (acts.Exchange words.State from to found (found == from)) c ≡ cond (found == from) (cond (is_kind kind grant) 1 0) 0) (sym x.under_way)
+    (subst (λ (c : Option (PendingCall ℕ)). grants_by rw_writer_table kind (Act.Exchange Word.State from to found (found == from)) c ≡ cond (found == from) (cond (is_kind kind grant) 1 0) 0) (sym x.under_way)
     (by_test (found == from)))
   where
-    by_test : (b : Bool) → grants_by rw_writer_table kind (acts.Exchange words.State from to found b) (Some x.pending) ≡ cond b (cond (is_kind kind grant) 1 0) 0
+    by_test : (b : Bool) → grants_by rw_writer_table kind (Act.Exchange Word.State from to found b) (Some x.pending) ≡ cond b (cond (is_kind kind grant) 1 0) 0
     by_test false = no_kind kind
     by_test true = ap (λ (g : Option HoldKind). cond (is_kind kind g) 1 0) grants
 
 -- what it counts, by whether it was done
 exchange_counts : (past : List (Event ℕ)) (e : Event ℕ) (from to found : ℕ) (grant : Option HoldKind) (t u rest : MarkedHolds) (x : Exchanges past e from to found) → rw_writer_grant x.pending.call from to ≡ grant →
-    (found ≡ from → CountsMore (cond (is_kind kinds.Read grant) 1 0) (cond (is_kind kinds.Write grant) 1 0) t u) → (found ≢ from → CountsMore 0 0 t u) →
+    (found ≡ from → CountsMore (cond (is_kind HoldKind.Read grant) 1 0) (cond (is_kind HoldKind.Write grant) 1 0) t u) → (found ≢ from → CountsMore 0 0 t u) →
     AreGrantsByKindIn rw_writer_table past (both_marked t rest) → AreGrantsByKindIn rw_writer_table (e ∷ past) (both_marked u rest)
 exchange_counts past e from to found grant t u rest x grants hit miss is = by_test (found == from) refl
   where
@@ -154,11 +132,11 @@ exchange_counts past e from to found grant t u rest x grants hit miss is = by_te
     of_kind kind = exchange_grants past e from to found grant kind x grants
 
     by_test : (b : Bool) → (found == from) ≡ b → AreGrantsByKindIn rw_writer_table (e ∷ past) (both_marked u rest)
-    by_test true test = next past e t u rest (cond (is_kind kinds.Read grant) 1 0) (cond (is_kind kinds.Write grant) 1 0)
-        (of_kind kinds.Read ∙ ap (λ b. cond b (cond (is_kind kinds.Read grant) 1 0) 0) test) (of_kind kinds.Write ∙ ap (λ b. cond b (cond (is_kind kinds.Write grant) 1 0) 0) test)
+    by_test true test = next past e t u rest (cond (is_kind HoldKind.Read grant) 1 0) (cond (is_kind HoldKind.Write grant) 1 0)
+        (of_kind HoldKind.Read ∙ ap (λ b. cond b (cond (is_kind HoldKind.Read grant) 1 0) 0) test) (of_kind HoldKind.Write ∙ ap (λ b. cond b (cond (is_kind HoldKind.Write grant) 1 0) 0) test)
         (hit (eqb-true found from test)) is
     by_test false test = next past e t u rest 0 0
-        (of_kind kinds.Read ∙ ap (λ b. cond b (cond (is_kind kinds.Read grant) 1 0) 0) test) (of_kind kinds.Write ∙ ap (λ b. cond b (cond (is_kind kinds.Write grant) 1 0) 0) test)
+        (of_kind HoldKind.Read ∙ ap (λ b. cond b (cond (is_kind HoldKind.Read grant) 1 0) 0) test) (of_kind HoldKind.Write ∙ ap (λ b. cond b (cond (is_kind HoldKind.Write grant) 1 0) 0) test)
         (miss (eqb-false found from test)) is
 
 -- what it saw counts nothing
@@ -166,14 +144,14 @@ saw_more : (v : View MarkedHolds) (found : ℕ) (saw : Sights) (w : View MarkedH
 saw_more v found saw w told = no_more v.tally w.tally (ap (λ (u : View MarkedHolds). u.tally.read_grants) told.sees) (ap (λ (u : View MarkedHolds). u.tally.write_grants) told.sees)
 
 -- up by two: a read hold
-grants_read : (call : Call ℕ) (from to : ℕ) → to ≡ from + 2 → IsExchange call from to → rw_writer_grant call from to ≡ Some kinds.Read
+grants_read : (call : Call ℕ) (from to : ℕ) → to ≡ from + 2 → IsExchange call from to → rw_writer_grant call from to ≡ Some HoldKind.Read
 grants_read call from to more (inl read) = read.grants
 grants_read call from to more (inr (inl written)) = absurd (omega (arith, more, written.unheld, written.full))
 grants_read call from to more (inr (inr (inl marking))) = absurd (omega (arith, more, marking.more))
 grants_read call from to more (inr (inr (inr unmarking))) = absurd (omega (arith, more, unmarking.less))
 
 -- from 0 or 1 to all: the write hold
-grants_write : (call : Call ℕ) (from to : ℕ) → from < 2 → to ≡ 2 ^ 64 - 1 → IsExchange call from to → rw_writer_grant call from to ≡ Some kinds.Write
+grants_write : (call : Call ℕ) (from to : ℕ) → from < 2 → to ≡ 2 ^ 64 - 1 → IsExchange call from to → rw_writer_grant call from to ≡ Some HoldKind.Write
 grants_write call from to free full (inl read) = absurd (omega (arith, free, full, read.more))
 grants_write call from to free full (inr (inl written)) = written.grants
 grants_write call from to free full (inr (inr (inl marking))) = absurd (omega (arith, free, full, marking.more))
@@ -192,23 +170,23 @@ grants_no_unmark call from to set less (inr (inl written)) = absurd (omega (arit
 grants_no_unmark call from to set less (inr (inr (inl marking))) = absurd (omega (arith, less, marking.more))
 grants_no_unmark call from to set less (inr (inr (inr unmarking))) = unmarking.grants
 
-pub reader_in_counts : (way : Coming ℕ) (p : Parties ℕ) (v : View MarkedHolds) (from to : ℕ) → to ≡ from + 2 → Counting way 0 (λ w. intents.Exchange w from to) p v (ReaderIn from v)
+pub reader_in_counts : (way : Coming ℕ) (p : Parties ℕ) (v : View MarkedHolds) (from to : ℕ) → to ≡ from + 2 → Counting way 0 (λ w. Intent.Exchange w from to) p v (ReaderIn from v)
 reader_in_counts way p v from to more call place hold done comes past e found step name named act rest w told still is =
     let x = exchanged call place hold past e name from to found step named act in
-    exchange_counts past e from to found (Some kinds.Read) v.tally w.tally rest x (grants_read x.pending.call from to more x.may)
+    exchange_counts past e from to found (Some HoldKind.Read) v.tally w.tally rest x (grants_read x.pending.call from to more x.may)
     (λ hit. record { reads_more = ap (λ (u : View MarkedHolds). u.tally.read_grants) (told.done hit) ∙ omega arith; writes_more = ap (λ (u : View MarkedHolds). u.tally.write_grants) (told.done hit) ∙ omega arith })
     (λ miss. no_more v.tally w.tally (ap (λ (u : View MarkedHolds). u.tally.read_grants) (told.failed miss)) (ap (λ (u : View MarkedHolds). u.tally.write_grants) (told.failed miss)))
     is
 
-pub writer_in_counts : (way : Coming ℕ) (p : Parties ℕ) (v : View MarkedHolds) (from to : ℕ) → from < 2 → to ≡ 2 ^ 64 - 1 → Counting way 0 (λ w. intents.Exchange w from to) p v (WriterIn from v)
+pub writer_in_counts : (way : Coming ℕ) (p : Parties ℕ) (v : View MarkedHolds) (from to : ℕ) → from < 2 → to ≡ 2 ^ 64 - 1 → Counting way 0 (λ w. Intent.Exchange w from to) p v (WriterIn from v)
 writer_in_counts way p v from to free full call place hold done comes past e found step name named act rest w told still is =
     let x = exchanged call place hold past e name from to found step named act in
-    exchange_counts past e from to found (Some kinds.Write) v.tally w.tally rest x (grants_write x.pending.call from to free full x.may)
+    exchange_counts past e from to found (Some HoldKind.Write) v.tally w.tally rest x (grants_write x.pending.call from to free full x.may)
     (λ hit. record { reads_more = ap (λ (u : View MarkedHolds). u.tally.read_grants) (told.done hit).1 ∙ omega arith; writes_more = ap (λ (u : View MarkedHolds). u.tally.write_grants) (told.done hit).1 ∙ omega arith })
     (λ miss. saw_more v found (seen_instead v.sights from found) w (told.failed miss))
     is
 
-pub mark_counts : (way : Coming ℕ) (p : Parties ℕ) (v : View MarkedHolds) (from to : ℕ) → to ≡ from + 1 → Counting way 0 (λ w. intents.Exchange w from to) p v (SetsMark from v)
+pub mark_counts : (way : Coming ℕ) (p : Parties ℕ) (v : View MarkedHolds) (from to : ℕ) → to ≡ from + 1 → Counting way 0 (λ w. Intent.Exchange w from to) p v (SetsMark from v)
 mark_counts way p v from to more call place hold done comes past e found step name named act rest w told still is =
     let x = exchanged call place hold past e name from to found step named act in
     exchange_counts past e from to found None v.tally w.tally rest x (grants_no_mark x.pending.call from to more x.may)
@@ -216,7 +194,7 @@ mark_counts way p v from to more call place hold done comes past e found step na
     (λ miss. saw_more v found (seen_instead v.sights from found) w (told.failed miss))
     is
 
-pub unmark_counts : (way : Coming ℕ) (p : Parties ℕ) (v : View MarkedHolds) (from to : ℕ) → IsMarked from → to ≡ from - 1 → Counting way 0 (λ w. intents.Exchange w from to) p v (TakesMark from v)
+pub unmark_counts : (way : Coming ℕ) (p : Parties ℕ) (v : View MarkedHolds) (from to : ℕ) → IsMarked from → to ≡ from - 1 → Counting way 0 (λ w. Intent.Exchange w from to) p v (TakesMark from v)
 unmark_counts way p v from to set less call place hold done comes past e found step name named act rest w told still is =
     let x = exchanged call place hold past e name from to found step named act in
     exchange_counts past e from to found None v.tally w.tally rest x (grants_no_unmark x.pending.call from to set less x.may)
@@ -225,4 +203,4 @@ unmark_counts way p v from to set less call place hold done comes past e found s
     is
 
 pub grants_are_of_a_run : GrantsAreOfARun
-grants_are_of_a_run s r = of_a_run rw_writer_model (words.State ∷ words.Counter ∷ []) RwWriterAgrees (AreGrantsByKindIn rw_writer_table) s.words s.homes (sum_of (none_played nothing_marked) (both_played both_marked) s.views) r.agree
+grants_are_of_a_run s r = of_a_run rw_writer_model (Word.State ∷ Word.Counter ∷ []) RwWriterAgrees (AreGrantsByKindIn rw_writer_table) s.words s.homes (sum_of (none_played nothing_marked) (both_played both_marked) s.views) r.agree

@@ -1,22 +1,10 @@
 -- Each step of a writer-preferring lock keeps its rule.
-use Rattle.std.proofs.Common.{◌≡◌, ◌≢◌, ℕ, ◌+◌, ◌-◌, ◌*◌, ◌%◌, ◌^◌, ◌<◌, ◌≤◌, eqb, List, [], ◌∷◌, get_or, set, refl, sym, ap, ◌∙◌, subst, arith, length-set, get_or-set_same}
+use Rattle.running_rw_writer.specs.Names.{dite, ℕ_discrete, Sights, View, IsWhole, Each, seen, seen_instead, view_of, looked, missed, wrote, sum_of, Updates, none_played, both_played, core_played, played_add_up, MarkedHolds, read_holds, write_holds, Knows, Locks, same_nothing, tells_same_nothing, Holds, no_holds, both_holds, nothing_marked, both_marked, IsMarkedOrHeld, RwWriterAgrees}
+use Rattle.running_rw_writer.proofs.Names.{◌≡◌, ◌≢◌, ℕ, ◌+◌, ◌-◌, ◌*◌, ◌%◌, ◌^◌, ◌<◌, ◌≤◌, eqb, List, [], ◌∷◌, get_or, set, refl, sym, ap, ◌∙◌, subst, arith, length-set, get_or-set_same}
 use Rattle.std.proofs.lemmas.List.{get_or-set_other}
-use mathlib.Core.Logic.{dite}
-use native.Mathlib.Decide.{ℕ_discrete}
 use prog.Atomic.{either}
-use Rattle.passes.specs.declared.part.Sights.{Sights}
-use Rattle.passes.specs.declared.view.View.{View}
-use Rattle.passes.specs.Parts.{IsWhole, Each}
-use Rattle.passes.specs.Sights.{seen, seen_instead}
-use Rattle.passes.specs.Views.{view_of, looked, missed, wrote, sum_of, Updates}
 use Rattle.passes.proofs.Sums.{sum_of_two}
 use Rattle.passes.proofs.Updates.{by_look, by_exchange}
-use Rattle.playing.specs.Passes.{none_played, both_played, core_played, played_add_up}
-use Rattle.tallies.specs.declared.rw_writer.MarkedHolds.{MarkedHolds}
-use Rattle.tallies.specs.Held.{read_holds, write_holds, Knows, Locks}
-use Rattle.tallies.specs.HeldTally.{same_nothing, tells_same_nothing}
-use Rattle.tallies.specs.RwReaderRule.{Holds, no_holds, both_holds}
-use Rattle.tallies.specs.RwWriterRule.{nothing_marked, both_marked, IsMarkedOrHeld, RwWriterAgrees}
 use Rattle.tallies.specs.RwWriterTally.{marked_add_up}
 use Rattle.running_rw_writer.specs.RwWriterSteps.{PlayedRwWriter, NoHoldBesideTheWriter, NoMarkWithoutAFlag, IsMarked, word_of, read, no_more_read, written, no_more_written, flagged, SaysAlone, Loaded, IsSeenByWriter, LoadedToWrite, ReaderIn, ReaderOut, WriterIn, WriterOut, SetsMark, TakesMark, Unchanged}
 use Rattle.tallies.proofs.HeldKeeps.{comes_in, goes_out, takes_over, steps_down, parts, only_writes, only_reads}

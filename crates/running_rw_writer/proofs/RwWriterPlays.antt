@@ -1,41 +1,10 @@
 -- The steps of a writer-preferring lock are those of its table.
-use Rattle.std.proofs.lemmas.Bool.{eqb-false}
-use Rattle.std.proofs.lemmas.Bool.{eqb-true}
-use Rattle.std.proofs.Common.{◌≡◌, ◌≢◌, ℕ, ◌+◌, ◌-◌, ◌%◌, ◌^◌, ◌<◌, ◌≤◌, ◌==◌, Bool, true, false, cond, refl, sym, subst, ◌∙◌, List, [], ◌∷◌, Option, Some, None, arith}
-use Rattle.std.specs.Prelude.{nat_lt, MatchBool}
-use Rattle.std.proofs.lemmas.Bool.{ne_eqb}
+use Rattle.running_rw_writer.specs.Names.{nat_lt, MatchBool, WaitAction, Word, Call, Answer, HoldKind, Patience, Intent, After, Leaver, RwWriterPlace, rw_writer_intent, rw_writer_grant, lets_readers_in, lets_writer_in, lets_mark, is_marked, is_blocked, try_read_look, read_look, spins, marks_or_spins, unmarks_or_leaves, write_refused, write_look, last_look, released, woken_all, rw_writer_model, Slot, Parties, all_of, IsNamed, IsStepOn, Coming, Going, Beginning, Continuing, Answered, ComesBy, IsHolding, Led, HasCalled, HasEnded, spun, IsRefused, IsGranted, MayTry, StandsToWait, IsToWake, rw_writer_handed}
+use Rattle.running_rw_writer.proofs.Names.{eqb-false, eqb-true, ◌≡◌, ◌≢◌, ℕ, ◌+◌, ◌-◌, ◌%◌, ◌^◌, ◌<◌, ◌≤◌, ◌==◌, Bool, true, false, cond, refl, sym, subst, ◌∙◌, List, [], ◌∷◌, Option, Some, None, arith, ne_eqb, eqb_same, is_marking, is_over}
 use Rattle.std.proofs.lemmas.Bool.Decides.{nat_tests}
-use Rattle.steps_events.specs.declared.WaitAction.TheVariants as actions
-use Rattle.steps_events.specs.declared.event.Word.{Word}
-use Rattle.steps_events.specs.declared.event.Word.TheVariants as words
-use Rattle.steps_events.specs.declared.event.Wake.TheVariants as wakes
-use Rattle.steps_events.specs.declared.event.Call.{Call}
-use Rattle.steps_events.specs.declared.event.Call.TheVariants as calls
-use Rattle.steps_events.specs.declared.event.Answer.{Answer}
-use Rattle.steps_events.specs.declared.event.Answer.TheVariants as answers
-use Rattle.steps_events.specs.declared.hold.HoldKind.{HoldKind}
-use Rattle.steps_events.specs.declared.hold.HoldKind.TheVariants as kinds
-use Rattle.steps_events.specs.declared.patience.Patience.{Patience}
-use Rattle.steps_events.specs.declared.row.Intent.{Intent}
-use Rattle.steps_events.specs.declared.row.Intent.TheVariants as intents
-use Rattle.steps_events.specs.declared.row.After.{After}
-use Rattle.steps_events.specs.declared.row.After.TheVariants as afters
-use Rattle.steps_events.proofs.Holds.{eqb_same}
-use Rattle.steps_rw_writer.specs.declared.Leaver.{Leaver}
-use Rattle.steps_rw_writer.specs.declared.Leaver.TheVariants as leavers
-use Rattle.steps_rw_writer.specs.declared.RwWriterPlace.{RwWriterPlace}
-use Rattle.steps_rw_writer.specs.declared.RwWriterPlace.TheVariants as places
-use Rattle.steps_rw_writer.specs.Table.{rw_writer_intent, rw_writer_grant, lets_readers_in, lets_writer_in, lets_mark, is_marked, is_blocked, try_read_look, read_look, spins, marks_or_spins, unmarks_or_leaves, write_refused, write_look, last_look, released, woken_all}
-use Rattle.tallies.specs.RwWriterScript.{rw_writer_model}
-use Rattle.steps_rw_writer.proofs.WordLaws.{is_marking}
-use Rattle.playing.specs.Slots.{Slot, Parties, all_of}
-use Rattle.playing.specs.Words.{IsNamed, IsStepOn}
-use Rattle.playing.specs.Plays.{Coming, Going, Beginning, Continuing, Answered, ComesBy, IsHolding, Led, HasCalled, HasEnded}
-use Rattle.playing.specs.Tries.{spun, IsRefused, IsGranted, MayTry, StandsToWait, IsToWake}
+use Rattle.steps_events.specs.declared.event.Wake.{Wake}
 use Rattle.playing.specs.Turns.{IsToWakeAgain, IsOver, IsOverAside, IsOverAfterTwo}
-use Rattle.playing.proofs.Over.{is_over}
 use Rattle.playing.proofs.Holding.{holding_told, holding_is}
-use Rattle.tallies.specs.RwWriterScript.{rw_writer_handed}
 use Rattle.running_rw_writer.specs.RwWriterSteps.{IsMarked}
 use Rattle.running_rw_writer.specs.RwWriterShown.{IsShut}
 use Rattle.running_rw_writer.specs.RwWriterParties.{has_hold, TableHas, TableLed, CallGoes, WriteGoes, GoesFromTo, SomeCallGoes, ComesToWrite, ComesToGiveUp, WriteIsGranted, IsToWakeBoth, Unlocks, unlocked}
@@ -77,10 +46,10 @@ unmarked_word w h1 = grind (arith, nat_tests, eqb-true, eqb-false)
 
 -- an exchange of a `WriteLock` from 0 or 1 takes the write hold; one up or down takes none
 
-enters : (seen : ℕ) → seen < 2 → rw_writer_grant {T = ℕ} calls.WriteLock seen (2 ^ 64 - 1) ≡ Some kinds.Write
+enters : (seen : ℕ) → seen < 2 → rw_writer_grant {T = ℕ} Call.WriteLock seen (2 ^ 64 - 1) ≡ Some HoldKind.Write
 enters seen free = grind (arith, nat_tests)
 
-marks : (seen : ℕ) → rw_writer_grant {T = ℕ} calls.WriteLock seen (seen + 1) ≡ None
+marks : (seen : ℕ) → rw_writer_grant {T = ℕ} Call.WriteLock seen (seen + 1) ≡ None
 marks seen = rw (is_marking seen (seen + 1) refl) refl
 
 -- how a call goes on by a test
@@ -94,149 +63,149 @@ when_false call b one other done p is at = subst (λ (c : Bool). CallGoes call (
 -- the steps that the table has
 
 has_step : (way : Coming ℕ) (i : ℕ) (intent : Word → Intent ℕ) (call : Call ℕ) (place : RwWriterPlace) (hold : Option HoldKind) (done : List (Slot ℕ)) (p : Parties ℕ) (name : Word) →
-    IsNamed (words.State ∷ words.Counter ∷ []) i name → ◌≡◌ {A = Intent ℕ} (rw_writer_intent words.State words.Counter place hold) (intent name) → IsStepOn name (intent name) →
+    IsNamed (Word.State ∷ Word.Counter ∷ []) i name → ◌≡◌ {A = Intent ℕ} (rw_writer_intent Word.State Word.Counter place hold) (intent name) → IsStepOn name (intent name) →
     ComesBy rw_writer_model way call place hold done p → TableHas way i intent p
 has_step way i intent call place hold done p name h1 h2 h3 h4 = grind (arith, nat_tests, eqb-true, eqb-false)
 
-may_look : (way : Coming ℕ) (call : Call ℕ) (place : RwWriterPlace) (done : List (Slot ℕ)) (p : Parties ℕ) → ◌≡◌ {A = Intent ℕ} (rw_writer_intent words.State words.Counter place None) (intents.Load words.State) →
-    Comes way call place done p → TableHas way 0 (λ w. intents.Load w) p
-may_look way call place done p intends comes = has_step way 0 (λ w. intents.Load w) call place None done p words.State refl intends refl comes
+may_look : (way : Coming ℕ) (call : Call ℕ) (place : RwWriterPlace) (done : List (Slot ℕ)) (p : Parties ℕ) → ◌≡◌ {A = Intent ℕ} (rw_writer_intent Word.State Word.Counter place None) (Intent.Load Word.State) →
+    Comes way call place done p → TableHas way 0 (λ w. Intent.Load w) p
+may_look way call place done p intends comes = has_step way 0 (λ w. Intent.Load w) call place None done p Word.State refl intends refl comes
 
 may_exchange : (way : Coming ℕ) (call : Call ℕ) (place : RwWriterPlace) (done : List (Slot ℕ)) (p : Parties ℕ) (from to put : ℕ) → put ≡ to →
-    ◌≡◌ {A = Intent ℕ} (rw_writer_intent words.State words.Counter place None) (intents.Exchange words.State from to) → Comes way call place done p → TableHas way 0 (λ w. intents.Exchange w from put) p
+    ◌≡◌ {A = Intent ℕ} (rw_writer_intent Word.State Word.Counter place None) (Intent.Exchange Word.State from to) → Comes way call place done p → TableHas way 0 (λ w. Intent.Exchange w from put) p
 may_exchange way call place done p from to put h1 h2 h3 = grind (arith, nat_tests, eqb-true, eqb-false)
 
 -- how the calls begin
 
-try_read_begins : (p : Parties ℕ) → Comes (Beginning calls.TryReadLock) calls.TryReadLock places.TryReadLook (all_of p) p
+try_read_begins : (p : Parties ℕ) → Comes (Beginning Call.TryReadLock) Call.TryReadLock RwWriterPlace.TryReadLook (all_of p) p
 try_read_begins p = (refl, record { may = record { begins = refl; free = refl; values = tt }; new = refl; others = refl })
 
-pub read_begins : (p : Parties ℕ) → Comes (Beginning calls.ReadLock) calls.ReadLock (places.ReadLook (spun 0)) (all_of p) p
+pub read_begins : (p : Parties ℕ) → Comes (Beginning Call.ReadLock) Call.ReadLock (RwWriterPlace.ReadLook (spun 0)) (all_of p) p
 read_begins p = (refl, record { may = record { begins = refl; free = refl; values = tt }; new = refl; others = refl })
 
-try_write_begins : (p : Parties ℕ) → Comes (Beginning calls.TryWriteLock) calls.TryWriteLock places.TryWrite (all_of p) p
+try_write_begins : (p : Parties ℕ) → Comes (Beginning Call.TryWriteLock) Call.TryWriteLock RwWriterPlace.TryWrite (all_of p) p
 try_write_begins p = (refl, record { may = record { begins = refl; free = refl; values = tt }; new = refl; others = refl })
 
-pub write_begins : (p : Parties ℕ) → ComesToWrite (Beginning calls.WriteLock) (spun 0) (all_of p) p
+pub write_begins : (p : Parties ℕ) → ComesToWrite (Beginning Call.WriteLock) (spun 0) (all_of p) p
 write_begins p = (refl, record { may = record { begins = refl; free = refl; values = tt }; new = refl; others = refl })
 
 unlock_begins : (kind : HoldKind) (done : List (Slot ℕ)) (p : Parties ℕ) → IsHolding rw_writer_model kind done p →
-    ComesBy rw_writer_model (Continuing calls.Unlock) calls.Unlock places.Release (Some kind) done p
+    ComesBy rw_writer_model (Continuing Call.Unlock) Call.Unlock RwWriterPlace.Release (Some kind) done p
 unlock_begins kind done p holding = (refl, record { kind = kind; may = record { begins = refl; free = refl; values = tt }; kept = refl; holding = holding })
 
 -- a reader that tries once
 
-pub may_look_once : (p : Parties ℕ) → TableHas (Beginning calls.TryReadLock) 0 (λ w. intents.Load w) p
-may_look_once p = may_look _ calls.TryReadLock places.TryReadLook (all_of p) p refl (try_read_begins p)
+pub may_look_once : (p : Parties ℕ) → TableHas (Beginning Call.TryReadLock) 0 (λ w. Intent.Load w) p
+may_look_once p = may_look _ Call.TryReadLock RwWriterPlace.TryReadLook (all_of p) p refl (try_read_begins p)
 
-pub looked_once : (found : ℕ) (p q : Parties ℕ) → TableLed (Beginning calls.TryReadLock) p found q → CallGoes calls.TryReadLock (try_read_look found) (all_of p) q
-looked_once found p q went = went calls.TryReadLock places.TryReadLook None (all_of p) (try_read_begins p)
+pub looked_once : (found : ℕ) (p q : Parties ℕ) → TableLed (Beginning Call.TryReadLock) p found q → CallGoes Call.TryReadLock (try_read_look found) (all_of p) q
+looked_once found p q went = went Call.TryReadLock RwWriterPlace.TryReadLook None (all_of p) (try_read_begins p)
 
-pub turned_away : (seen : ℕ) (done : List (Slot ℕ)) (p : Parties ℕ) → IsShut seen → CallGoes calls.TryReadLock (try_read_look seen) done p → CallGoes calls.TryReadLock (afters.Ends answers.Interrupted) done p
-turned_away seen done p shut at = when_false calls.TryReadLock (lets_readers_in seen) (afters.At (places.TryRead seen (seen + 2))) (afters.Ends answers.Interrupted) done p (shut_word seen shut) at
+pub turned_away : (seen : ℕ) (done : List (Slot ℕ)) (p : Parties ℕ) → IsShut seen → CallGoes Call.TryReadLock (try_read_look seen) done p → CallGoes Call.TryReadLock (After.Ends Answer.Interrupted) done p
+turned_away seen done p shut at = when_false Call.TryReadLock (lets_readers_in seen) (After.At (RwWriterPlace.TryRead seen (seen + 2))) (After.Ends Answer.Interrupted) done p (shut_word seen shut) at
 
-comes_once : (seen : ℕ) (done : List (Slot ℕ)) (p : Parties ℕ) → seen % 2 ≡ 0 → seen < 2 ^ 64 - 4 → CallGoes calls.TryReadLock (try_read_look seen) done p → CallGoes calls.TryReadLock (afters.At (places.TryRead seen (seen + 2))) done p
-comes_once seen done p even room at = when_true calls.TryReadLock (lets_readers_in seen) (afters.At (places.TryRead seen (seen + 2))) (afters.Ends answers.Interrupted) done p (open_word seen even room) at
+comes_once : (seen : ℕ) (done : List (Slot ℕ)) (p : Parties ℕ) → seen % 2 ≡ 0 → seen < 2 ^ 64 - 4 → CallGoes Call.TryReadLock (try_read_look seen) done p → CallGoes Call.TryReadLock (After.At (RwWriterPlace.TryRead seen (seen + 2))) done p
+comes_once seen done p even room at = when_true Call.TryReadLock (lets_readers_in seen) (After.At (RwWriterPlace.TryRead seen (seen + 2))) (After.Ends Answer.Interrupted) done p (open_word seen even room) at
 
-pub may_read_once : (seen more : ℕ) (done : List (Slot ℕ)) (p : Parties ℕ) → seen % 2 ≡ 0 → seen < 2 ^ 64 - 4 → more ≡ seen + 2 → CallGoes calls.TryReadLock (try_read_look seen) done p → TableHas Going 0 (λ w. intents.Exchange w seen more) p
-may_read_once seen more done p even room is at = may_exchange Going calls.TryReadLock (places.TryRead seen (seen + 2)) done p seen (seen + 2) more is refl (comes_once seen done p even room at)
+pub may_read_once : (seen more : ℕ) (done : List (Slot ℕ)) (p : Parties ℕ) → seen % 2 ≡ 0 → seen < 2 ^ 64 - 4 → more ≡ seen + 2 → CallGoes Call.TryReadLock (try_read_look seen) done p → TableHas Going 0 (λ w. Intent.Exchange w seen more) p
+may_read_once seen more done p even room is at = may_exchange Going Call.TryReadLock (RwWriterPlace.TryRead seen (seen + 2)) done p seen (seen + 2) more is refl (comes_once seen done p even room at)
 
-once_so : (seen found : ℕ) (b : Bool) (done : List (Slot ℕ)) (q : Parties ℕ) → (found == seen) ≡ b → Led rw_writer_model calls.TryReadLock (places.TryRead seen (seen + 2)) None found done q →
-    MatchBool b (Ended calls.TryReadLock answers.Success (Some kinds.Read) done q) (Ended calls.TryReadLock answers.Interrupted None done q)
+once_so : (seen found : ℕ) (b : Bool) (done : List (Slot ℕ)) (q : Parties ℕ) → (found == seen) ≡ b → Led rw_writer_model Call.TryReadLock (RwWriterPlace.TryRead seen (seen + 2)) None found done q →
+    MatchBool b (Ended Call.TryReadLock Answer.Success (Some HoldKind.Read) done q) (Ended Call.TryReadLock Answer.Interrupted None done q)
 once_so seen found b done q h1 h2 = grind (arith, nat_tests, eqb-true, eqb-false)
 
-pub read_once : (seen found : ℕ) (done : List (Slot ℕ)) (p q : Parties ℕ) → seen % 2 ≡ 0 → seen < 2 ^ 64 - 4 → CallGoes calls.TryReadLock (try_read_look seen) done p → TableLed Going p found q →
-    MatchBool (found == seen) (Ended calls.TryReadLock answers.Success (Some kinds.Read) done q) (Ended calls.TryReadLock answers.Interrupted None done q)
-read_once seen found done p q even room at went = once_so seen found (found == seen) done q refl (went calls.TryReadLock (places.TryRead seen (seen + 2)) None done (comes_once seen done p even room at))
+pub read_once : (seen found : ℕ) (done : List (Slot ℕ)) (p q : Parties ℕ) → seen % 2 ≡ 0 → seen < 2 ^ 64 - 4 → CallGoes Call.TryReadLock (try_read_look seen) done p → TableLed Going p found q →
+    MatchBool (found == seen) (Ended Call.TryReadLock Answer.Success (Some HoldKind.Read) done q) (Ended Call.TryReadLock Answer.Interrupted None done q)
+read_once seen found done p q even room at went = once_so seen found (found == seen) done q refl (went Call.TryReadLock (RwWriterPlace.TryRead seen (seen + 2)) None done (comes_once seen done p even room at))
 
 -- a reader that waits
 
-pub may_look_to_read : (way : Coming ℕ) (p : Parties ℕ) → MayTry rw_writer_model calls.ReadLock places.ReadLook way p → TableHas way 0 (λ w. intents.Load w) p
-may_look_to_read way p may = may_look way calls.ReadLock (places.ReadLook may.patience) may.done p refl may.comes
+pub may_look_to_read : (way : Coming ℕ) (p : Parties ℕ) → MayTry rw_writer_model Call.ReadLock RwWriterPlace.ReadLook way p → TableHas way 0 (λ w. Intent.Load w) p
+may_look_to_read way p may = may_look way Call.ReadLock (RwWriterPlace.ReadLook may.patience) may.done p refl may.comes
 
-pub looked : (way : Coming ℕ) (found : ℕ) (p q : Parties ℕ) → TableLed way p found q → (patience : Patience) (done : List (Slot ℕ)) → Comes way calls.ReadLock (places.ReadLook patience) done p → CallGoes calls.ReadLock (read_look patience found) done q
-looked way found p q went patience done comes = went calls.ReadLock (places.ReadLook patience) None done comes
+pub looked : (way : Coming ℕ) (found : ℕ) (p q : Parties ℕ) → TableLed way p found q → (patience : Patience) (done : List (Slot ℕ)) → Comes way Call.ReadLock (RwWriterPlace.ReadLook patience) done p → CallGoes Call.ReadLock (read_look patience found) done q
+looked way found p q went patience done comes = went Call.ReadLock (RwWriterPlace.ReadLook patience) None done comes
 
-pub found_shut : (patience : Patience) (seen : ℕ) (done : List (Slot ℕ)) (p : Parties ℕ) → IsShut seen → CallGoes calls.ReadLock (read_look patience seen) done p → IsRefused rw_writer_model calls.ReadLock places.ReadLook patience seen done p
+pub found_shut : (patience : Patience) (seen : ℕ) (done : List (Slot ℕ)) (p : Parties ℕ) → IsShut seen → CallGoes Call.ReadLock (read_look patience seen) done p → IsRefused rw_writer_model Call.ReadLock RwWriterPlace.ReadLook patience seen done p
 found_shut patience seen done p h1 h2 = grind (arith, nat_tests, eqb-true, eqb-false)
 
-comes_to_read : (patience : Patience) (seen : ℕ) (done : List (Slot ℕ)) (p : Parties ℕ) → seen % 2 ≡ 0 → seen < 2 ^ 64 - 4 → CallGoes calls.ReadLock (read_look patience seen) done p → CallGoes calls.ReadLock (afters.At (places.Read seen (seen + 2) patience)) done p
+comes_to_read : (patience : Patience) (seen : ℕ) (done : List (Slot ℕ)) (p : Parties ℕ) → seen % 2 ≡ 0 → seen < 2 ^ 64 - 4 → CallGoes Call.ReadLock (read_look patience seen) done p → CallGoes Call.ReadLock (After.At (RwWriterPlace.Read seen (seen + 2) patience)) done p
 comes_to_read patience seen done p h1 h2 h3 = grind (arith, nat_tests, eqb-true, eqb-false)
 
-pub may_read : (patience : Patience) (seen more : ℕ) (done : List (Slot ℕ)) (p : Parties ℕ) → seen % 2 ≡ 0 → seen < 2 ^ 64 - 4 → more ≡ seen + 2 → CallGoes calls.ReadLock (read_look patience seen) done p → TableHas Going 0 (λ w. intents.Exchange w seen more) p
-may_read patience seen more done p even room is at = may_exchange Going calls.ReadLock (places.Read seen (seen + 2) patience) done p seen (seen + 2) more is refl (comes_to_read patience seen done p even room at)
+pub may_read : (patience : Patience) (seen more : ℕ) (done : List (Slot ℕ)) (p : Parties ℕ) → seen % 2 ≡ 0 → seen < 2 ^ 64 - 4 → more ≡ seen + 2 → CallGoes Call.ReadLock (read_look patience seen) done p → TableHas Going 0 (λ w. Intent.Exchange w seen more) p
+may_read patience seen more done p even room is at = may_exchange Going Call.ReadLock (RwWriterPlace.Read seen (seen + 2) patience) done p seen (seen + 2) more is refl (comes_to_read patience seen done p even room at)
 
-pub has_read : (patience : Patience) (seen found : ℕ) (done : List (Slot ℕ)) (p q : Parties ℕ) → seen % 2 ≡ 0 → seen < 2 ^ 64 - 4 → found ≡ seen → CallGoes calls.ReadLock (read_look patience seen) done p → TableLed Going p found q →
-    IsGranted rw_writer_model calls.ReadLock places.ReadLook (Some kinds.Read) done q
+pub has_read : (patience : Patience) (seen found : ℕ) (done : List (Slot ℕ)) (p q : Parties ℕ) → seen % 2 ≡ 0 → seen < 2 ^ 64 - 4 → found ≡ seen → CallGoes Call.ReadLock (read_look patience seen) done p → TableLed Going p found q →
+    IsGranted rw_writer_model Call.ReadLock RwWriterPlace.ReadLook (Some HoldKind.Read) done q
 has_read patience seen found done p q h1 h2 h3 h4 h5 = grind (arith, nat_tests, eqb-true, eqb-false)
 
-pub looked_again : (patience : Patience) (seen found : ℕ) (done : List (Slot ℕ)) (p q : Parties ℕ) → seen % 2 ≡ 0 → seen < 2 ^ 64 - 4 → found ≢ seen → CallGoes calls.ReadLock (read_look patience seen) done p → TableLed Going p found q →
-    CallGoes calls.ReadLock (read_look patience found) done q
+pub looked_again : (patience : Patience) (seen found : ℕ) (done : List (Slot ℕ)) (p q : Parties ℕ) → seen % 2 ≡ 0 → seen < 2 ^ 64 - 4 → found ≢ seen → CallGoes Call.ReadLock (read_look patience seen) done p → TableLed Going p found q →
+    CallGoes Call.ReadLock (read_look patience found) done q
 looked_again patience seen found done p q h1 h2 h3 h4 h5 = grind (arith, nat_tests, eqb-true, eqb-false)
 
-pub first_read : (p : Parties ℕ) → MayTry rw_writer_model calls.ReadLock places.ReadLook (Beginning calls.ReadLock) p
+pub first_read : (p : Parties ℕ) → MayTry rw_writer_model Call.ReadLock RwWriterPlace.ReadLook (Beginning Call.ReadLock) p
 first_read p = record { patience = spun 0; done = all_of p; comes = read_begins p }
 
 -- a writer that tries once
 
-pub may_write_once : (p : Parties ℕ) (put : ℕ) → put ≡ 2 ^ 64 - 1 → TableHas (Beginning calls.TryWriteLock) 0 (λ w. intents.Exchange w 0 put) p
-may_write_once p put is = may_exchange (Beginning calls.TryWriteLock) calls.TryWriteLock places.TryWrite (all_of p) p 0 (2 ^ 64 - 1) put is refl (try_write_begins p)
+pub may_write_once : (p : Parties ℕ) (put : ℕ) → put ≡ 2 ^ 64 - 1 → TableHas (Beginning Call.TryWriteLock) 0 (λ w. Intent.Exchange w 0 put) p
+may_write_once p put is = may_exchange (Beginning Call.TryWriteLock) Call.TryWriteLock RwWriterPlace.TryWrite (all_of p) p 0 (2 ^ 64 - 1) put is refl (try_write_begins p)
 
-wrote_so : (found : ℕ) (b : Bool) (done : List (Slot ℕ)) (q : Parties ℕ) → (found == 0) ≡ b → Led rw_writer_model calls.TryWriteLock places.TryWrite None found done q →
-    MatchBool b (Ended calls.TryWriteLock answers.Success (Some kinds.Write) done q) (Ended calls.TryWriteLock answers.Interrupted None done q)
+wrote_so : (found : ℕ) (b : Bool) (done : List (Slot ℕ)) (q : Parties ℕ) → (found == 0) ≡ b → Led rw_writer_model Call.TryWriteLock RwWriterPlace.TryWrite None found done q →
+    MatchBool b (Ended Call.TryWriteLock Answer.Success (Some HoldKind.Write) done q) (Ended Call.TryWriteLock Answer.Interrupted None done q)
 wrote_so found b done q h1 h2 = grind (arith, nat_tests, eqb-true, eqb-false)
 
-pub wrote_once : (found : ℕ) (p q : Parties ℕ) → TableLed (Beginning calls.TryWriteLock) p found q →
-    MatchBool (found == 0) (HasCalled rw_writer_model calls.TryWriteLock answers.Success (Some kinds.Write) p q) (HasCalled rw_writer_model calls.TryWriteLock answers.Interrupted None p q)
-wrote_once found p q went = wrote_so found (found == 0) (all_of p) q refl (went calls.TryWriteLock places.TryWrite None (all_of p) (try_write_begins p))
+pub wrote_once : (found : ℕ) (p q : Parties ℕ) → TableLed (Beginning Call.TryWriteLock) p found q →
+    MatchBool (found == 0) (HasCalled rw_writer_model Call.TryWriteLock Answer.Success (Some HoldKind.Write) p q) (HasCalled rw_writer_model Call.TryWriteLock Answer.Interrupted None p q)
+wrote_once found p q went = wrote_so found (found == 0) (all_of p) q refl (went Call.TryWriteLock RwWriterPlace.TryWrite None (all_of p) (try_write_begins p))
 
 -- who was granted the lock has it
-pub granted_has : (call : Call ℕ) (kind : HoldKind) (done : List (Slot ℕ)) (q : Parties ℕ) → Ended call answers.Success (Some kind) done q → has_hold kind q ≡ true
+pub granted_has : (call : Call ℕ) (kind : HoldKind) (done : List (Slot ℕ)) (q : Parties ℕ) → Ended call Answer.Success (Some kind) done q → has_hold kind q ≡ true
 granted_has call kind done q ended = holding_is rw_writer_model kind done q ended.rests
 
 -- a writer's looks
 
-pub may_look_to_write : (way : Coming ℕ) (patience : Patience) (done : List (Slot ℕ)) (p : Parties ℕ) → Comes way calls.WriteLock (places.WriteLook patience) done p → TableHas way 0 (λ w. intents.Load w) p
-may_look_to_write way patience done p comes = may_look way calls.WriteLock (places.WriteLook patience) done p refl comes
+pub may_look_to_write : (way : Coming ℕ) (patience : Patience) (done : List (Slot ℕ)) (p : Parties ℕ) → Comes way Call.WriteLock (RwWriterPlace.WriteLook patience) done p → TableHas way 0 (λ w. Intent.Load w) p
+may_look_to_write way patience done p comes = may_look way Call.WriteLock (RwWriterPlace.WriteLook patience) done p refl comes
 
-pub looked_to_write : (way : Coming ℕ) (found : ℕ) (p q : Parties ℕ) → TableLed way p found q → (patience : Patience) (done : List (Slot ℕ)) → Comes way calls.WriteLock (places.WriteLook patience) done p → WriteGoes (write_look patience found) done q
-looked_to_write way found p q went patience done comes = went calls.WriteLock (places.WriteLook patience) None done comes
+pub looked_to_write : (way : Coming ℕ) (found : ℕ) (p q : Parties ℕ) → TableLed way p found q → (patience : Patience) (done : List (Slot ℕ)) → Comes way Call.WriteLock (RwWriterPlace.WriteLook patience) done p → WriteGoes (write_look patience found) done q
+looked_to_write way found p q went patience done comes = went Call.WriteLock (RwWriterPlace.WriteLook patience) None done comes
 
 -- it enters
 
-pub comes_to_enter : (patience : Patience) (seen : ℕ) (done : List (Slot ℕ)) (p : Parties ℕ) → seen < 2 → WriteGoes (write_look patience seen) done p → WriteGoes (afters.At (places.Enter seen patience)) done p
-comes_to_enter patience seen done p free at = when_true calls.WriteLock (lets_writer_in seen) (afters.At (places.Enter seen patience)) (write_refused patience seen) done p (lt_true seen 2 free) at
+pub comes_to_enter : (patience : Patience) (seen : ℕ) (done : List (Slot ℕ)) (p : Parties ℕ) → seen < 2 → WriteGoes (write_look patience seen) done p → WriteGoes (After.At (RwWriterPlace.Enter seen patience)) done p
+comes_to_enter patience seen done p free at = when_true Call.WriteLock (lets_writer_in seen) (After.At (RwWriterPlace.Enter seen patience)) (write_refused patience seen) done p (lt_true seen 2 free) at
 
-pub may_enter : (patience : Patience) (seen : ℕ) (done : List (Slot ℕ)) (p : Parties ℕ) → WriteGoes (afters.At (places.Enter seen patience)) done p → (put : ℕ) → put ≡ 2 ^ 64 - 1 → TableHas Going 0 (λ w. intents.Exchange w seen put) p
-may_enter patience seen done p at put is = may_exchange Going calls.WriteLock (places.Enter seen patience) done p seen (2 ^ 64 - 1) put is refl at
+pub may_enter : (patience : Patience) (seen : ℕ) (done : List (Slot ℕ)) (p : Parties ℕ) → WriteGoes (After.At (RwWriterPlace.Enter seen patience)) done p → (put : ℕ) → put ≡ 2 ^ 64 - 1 → TableHas Going 0 (λ w. Intent.Exchange w seen put) p
+may_enter patience seen done p at put is = may_exchange Going Call.WriteLock (RwWriterPlace.Enter seen patience) done p seen (2 ^ 64 - 1) put is refl at
 
 pub enter_refused : (patience : Patience) (seen : ℕ) (done : List (Slot ℕ)) (p : Parties ℕ) → 2 ≤ seen → WriteGoes (write_look patience seen) done p → WriteGoes (write_refused patience seen) done p
-enter_refused patience seen done p held at = when_false calls.WriteLock (lets_writer_in seen) (afters.At (places.Enter seen patience)) (write_refused patience seen) done p (lt_false seen 2 held) at
+enter_refused patience seen done p held at = when_false Call.WriteLock (lets_writer_in seen) (After.At (RwWriterPlace.Enter seen patience)) (write_refused patience seen) done p (lt_false seen 2 held) at
 
-enter_so : (patience : Patience) (seen found : ℕ) (done : List (Slot ℕ)) (q : Parties ℕ) → (found == seen) ≡ true → rw_writer_grant {T = ℕ} calls.WriteLock seen (2 ^ 64 - 1) ≡ Some kinds.Write →
-    Led rw_writer_model calls.WriteLock (places.Enter seen patience) None found done q → WriteIsGranted done q
+enter_so : (patience : Patience) (seen found : ℕ) (done : List (Slot ℕ)) (q : Parties ℕ) → (found == seen) ≡ true → rw_writer_grant {T = ℕ} Call.WriteLock seen (2 ^ 64 - 1) ≡ Some HoldKind.Write →
+    Led rw_writer_model Call.WriteLock (RwWriterPlace.Enter seen patience) None found done q → WriteIsGranted done q
 enter_so patience seen found done q test grants led = rw (test, grants) at led
 
-pub entered : (patience : Patience) (seen found : ℕ) (done : List (Slot ℕ)) (p q : Parties ℕ) → seen < 2 → found ≡ seen → WriteGoes (afters.At (places.Enter seen patience)) done p → TableLed Going p found q → WriteIsGranted done q
-entered patience seen found done p q free is at went = enter_so patience seen found done q (hit found seen is) (enters seen free) (went calls.WriteLock (places.Enter seen patience) None done at)
+pub entered : (patience : Patience) (seen found : ℕ) (done : List (Slot ℕ)) (p q : Parties ℕ) → seen < 2 → found ≡ seen → WriteGoes (After.At (RwWriterPlace.Enter seen patience)) done p → TableLed Going p found q → WriteIsGranted done q
+entered patience seen found done p q free is at went = enter_so patience seen found done q (hit found seen is) (enters seen free) (went Call.WriteLock (RwWriterPlace.Enter seen patience) None done at)
 
 enter_missed_so : (patience : Patience) (seen found : ℕ) (done : List (Slot ℕ)) (q : Parties ℕ) → (found == seen) ≡ false →
-    Led rw_writer_model calls.WriteLock (places.Enter seen patience) None found done q → WriteGoes (write_refused patience found) done q
+    Led rw_writer_model Call.WriteLock (RwWriterPlace.Enter seen patience) None found done q → WriteGoes (write_refused patience found) done q
 enter_missed_so patience seen found done q test led = rw test at led
 
-pub enter_missed : (patience : Patience) (seen found : ℕ) (done : List (Slot ℕ)) (p q : Parties ℕ) → found ≢ seen → WriteGoes (afters.At (places.Enter seen patience)) done p → TableLed Going p found q → WriteGoes (write_refused patience found) done q
-enter_missed patience seen found done p q miss at went = enter_missed_so patience seen found done q (ne_eqb found seen miss) (went calls.WriteLock (places.Enter seen patience) None done at)
+pub enter_missed : (patience : Patience) (seen found : ℕ) (done : List (Slot ℕ)) (p q : Parties ℕ) → found ≢ seen → WriteGoes (After.At (RwWriterPlace.Enter seen patience)) done p → TableLed Going p found q → WriteGoes (write_refused patience found) done q
+enter_missed patience seen found done p q miss at went = enter_missed_so patience seen found done q (ne_eqb found seen miss) (went Call.WriteLock (RwWriterPlace.Enter seen patience) None done at)
 
 -- it marks
 
-comes_to_mark : (patience : Patience) (seen : ℕ) (done : List (Slot ℕ)) (p : Parties ℕ) → seen % 2 ≡ 0 → seen ≢ 2 ^ 64 - 2 → WriteGoes (marks_or_spins patience seen) done p → WriteGoes (afters.At (places.Mark seen (seen + 1) patience)) done p
-comes_to_mark patience seen done p even other at = when_true calls.WriteLock (lets_mark seen) (afters.At (places.Mark seen (seen + 1) patience)) (spins patience) done p (markable seen even other) at
+comes_to_mark : (patience : Patience) (seen : ℕ) (done : List (Slot ℕ)) (p : Parties ℕ) → seen % 2 ≡ 0 → seen ≢ 2 ^ 64 - 2 → WriteGoes (marks_or_spins patience seen) done p → WriteGoes (After.At (RwWriterPlace.Mark seen (seen + 1) patience)) done p
+comes_to_mark patience seen done p even other at = when_true Call.WriteLock (lets_mark seen) (After.At (RwWriterPlace.Mark seen (seen + 1) patience)) (spins patience) done p (markable seen even other) at
 
 pub marks_none : (patience : Patience) (seen : ℕ) (done : List (Slot ℕ)) (p : Parties ℕ) → (seen % 2 ≡ 0 → seen ≢ 2 ^ 64 - 2 → ⊥) → WriteGoes (marks_or_spins patience seen) done p → WriteGoes (spins patience) done p
-marks_none patience seen done p never at = when_false calls.WriteLock (lets_mark seen) (afters.At (places.Mark seen (seen + 1) patience)) (spins patience) done p (unmarkable seen never) at
+marks_none patience seen done p never at = when_false Call.WriteLock (lets_mark seen) (After.At (RwWriterPlace.Mark seen (seen + 1) patience)) (spins patience) done p (unmarkable seen never) at
 
-pub may_mark : (patience : Patience) (seen put : ℕ) (done : List (Slot ℕ)) (p : Parties ℕ) → seen % 2 ≡ 0 → seen ≢ 2 ^ 64 - 2 → put ≡ seen + 1 → WriteGoes (marks_or_spins patience seen) done p → TableHas Going 0 (λ w. intents.Exchange w seen put) p
-may_mark patience seen put done p even other is at = may_exchange Going calls.WriteLock (places.Mark seen (seen + 1) patience) done p seen (seen + 1) put is refl (comes_to_mark patience seen done p even other at)
+pub may_mark : (patience : Patience) (seen put : ℕ) (done : List (Slot ℕ)) (p : Parties ℕ) → seen % 2 ≡ 0 → seen ≢ 2 ^ 64 - 2 → put ≡ seen + 1 → WriteGoes (marks_or_spins patience seen) done p → TableHas Going 0 (λ w. Intent.Exchange w seen put) p
+may_mark patience seen put done p even other is at = may_exchange Going Call.WriteLock (RwWriterPlace.Mark seen (seen + 1) patience) done p seen (seen + 1) put is refl (comes_to_mark patience seen done p even other at)
 
 pub marked : (patience : Patience) (seen found : ℕ) (done : List (Slot ℕ)) (p q : Parties ℕ) → seen % 2 ≡ 0 → seen ≢ 2 ^ 64 - 2 → found ≡ seen → WriteGoes (marks_or_spins patience seen) done p → TableLed Going p found q → WriteGoes (spins patience) done q
 marked patience seen found done p q h1 h2 h3 h4 h5 = grind (arith, nat_tests, eqb-true, eqb-false)
@@ -248,169 +217,169 @@ mark_missed patience seen found done p q h1 h2 h3 h4 h5 = grind (arith, nat_test
 -- it spins, and then loads the counter and looks a last time
 
 pub spins_on : (n : ℕ) (done : List (Slot ℕ)) (p : Parties ℕ) → n < 10000 → WriteGoes (spins (spun n)) done p → ComesToWrite Going (spun (n + 1)) done p
-spins_on n done p below at = when_true calls.WriteLock (nat_lt n 10000) (afters.At (places.WriteLook (spun (n + 1)))) (afters.At (places.LoadCounter (spun n))) done p (lt_true n 10000 below) at
+spins_on n done p below at = when_true Call.WriteLock (nat_lt n 10000) (After.At (RwWriterPlace.WriteLook (spun (n + 1)))) (After.At (RwWriterPlace.LoadCounter (spun n))) done p (lt_true n 10000 below) at
 
-pub all_spun : (n : ℕ) (done : List (Slot ℕ)) (p : Parties ℕ) → n ≡ 10000 → WriteGoes (spins (spun n)) done p → WriteGoes (afters.At (places.LoadCounter (spun 10000))) done p
+pub all_spun : (n : ℕ) (done : List (Slot ℕ)) (p : Parties ℕ) → n ≡ 10000 → WriteGoes (spins (spun n)) done p → WriteGoes (After.At (RwWriterPlace.LoadCounter (spun 10000))) done p
 all_spun n done p all at = subst (λ (k : ℕ). WriteGoes (spins (spun k)) done p) all at
 
-pub may_load_count : (patience : Patience) (done : List (Slot ℕ)) (p : Parties ℕ) → WriteGoes (afters.At (places.LoadCounter patience)) done p → TableHas Going 1 (λ w. intents.Load w) p
-may_load_count patience done p at = has_step Going 1 (λ w. intents.Load w) calls.WriteLock (places.LoadCounter patience) None done p words.Counter refl refl refl at
+pub may_load_count : (patience : Patience) (done : List (Slot ℕ)) (p : Parties ℕ) → WriteGoes (After.At (RwWriterPlace.LoadCounter patience)) done p → TableHas Going 1 (λ w. Intent.Load w) p
+may_load_count patience done p at = has_step Going 1 (λ w. Intent.Load w) Call.WriteLock (RwWriterPlace.LoadCounter patience) None done p Word.Counter refl refl refl at
 
-pub counter_loaded : (found : ℕ) (p q : Parties ℕ) → TableLed Going p found q → (patience : Patience) → GoesFromTo calls.WriteLock (afters.At (places.LoadCounter patience)) (afters.At (places.LastLook found patience)) p q
-counter_loaded found p q went patience = λ done at. went calls.WriteLock (places.LoadCounter patience) None done at
+pub counter_loaded : (found : ℕ) (p q : Parties ℕ) → TableLed Going p found q → (patience : Patience) → GoesFromTo Call.WriteLock (After.At (RwWriterPlace.LoadCounter patience)) (After.At (RwWriterPlace.LastLook found patience)) p q
+counter_loaded found p q went patience = λ done at. went Call.WriteLock (RwWriterPlace.LoadCounter patience) None done at
 
-pub may_look_last : (count : ℕ) (patience : Patience) (done : List (Slot ℕ)) (p : Parties ℕ) → WriteGoes (afters.At (places.LastLook count patience)) done p → TableHas Going 0 (λ w. intents.Load w) p
-may_look_last count patience done p at = may_look Going calls.WriteLock (places.LastLook count patience) done p refl at
+pub may_look_last : (count : ℕ) (patience : Patience) (done : List (Slot ℕ)) (p : Parties ℕ) → WriteGoes (After.At (RwWriterPlace.LastLook count patience)) done p → TableHas Going 0 (λ w. Intent.Load w) p
+may_look_last count patience done p at = may_look Going Call.WriteLock (RwWriterPlace.LastLook count patience) done p refl at
 
-pub looked_last : (count found : ℕ) (p q : Parties ℕ) → TableLed Going p found q → (patience : Patience) → GoesFromTo calls.WriteLock (afters.At (places.LastLook count patience)) (last_look count patience found) p q
-looked_last count found p q went patience = λ done at. went calls.WriteLock (places.LastLook count patience) None done at
+pub looked_last : (count found : ℕ) (p q : Parties ℕ) → TableLed Going p found q → (patience : Patience) → GoesFromTo Call.WriteLock (After.At (RwWriterPlace.LastLook count patience)) (last_look count patience found) p q
+looked_last count found p q went patience = λ done at. went Call.WriteLock (RwWriterPlace.LastLook count patience) None done at
 
-pub stands : (count seen : ℕ) (patience : Patience) (done : List (Slot ℕ)) (p : Parties ℕ) → is_blocked seen ≡ true → WriteGoes (last_look count patience seen) done p → WriteGoes (afters.Waits (places.WriteLook patience) count) done p
-stands count seen patience done p blocked at = when_true calls.WriteLock (is_blocked seen) (afters.Waits (places.WriteLook patience) count) (write_look patience seen) done p blocked at
+pub stands : (count seen : ℕ) (patience : Patience) (done : List (Slot ℕ)) (p : Parties ℕ) → is_blocked seen ≡ true → WriteGoes (last_look count patience seen) done p → WriteGoes (After.Waits (RwWriterPlace.WriteLook patience) count) done p
+stands count seen patience done p blocked at = when_true Call.WriteLock (is_blocked seen) (After.Waits (RwWriterPlace.WriteLook patience) count) (write_look patience seen) done p blocked at
 
 pub goes_on : (count seen : ℕ) (patience : Patience) (done : List (Slot ℕ)) (p : Parties ℕ) → is_blocked seen ≡ false → WriteGoes (last_look count patience seen) done p → WriteGoes (write_look patience seen) done p
-goes_on count seen patience done p free at = when_false calls.WriteLock (is_blocked seen) (afters.Waits (places.WriteLook patience) count) (write_look patience seen) done p free at
+goes_on count seen patience done p free at = when_false Call.WriteLock (is_blocked seen) (After.Waits (RwWriterPlace.WriteLook patience) count) (write_look patience seen) done p free at
 
 -- its closure is asked, with the counter
 
-pub stands_to_wait : (i count : ℕ) (done : List (Slot ℕ)) (p : Parties ℕ) → i ≡ 1 → WriteGoes (afters.Waits (places.WriteLook (spun 10000)) count) done p →
-    StandsToWait rw_writer_model (words.State ∷ words.Counter ∷ []) rw_writer_handed i count p
+pub stands_to_wait : (i count : ℕ) (done : List (Slot ℕ)) (p : Parties ℕ) → i ≡ 1 → WriteGoes (After.Waits (RwWriterPlace.WriteLook (spun 10000)) count) done p →
+    StandsToWait rw_writer_model (Word.State ∷ Word.Counter ∷ []) rw_writer_handed i count p
 stands_to_wait i count done p is at = record {
-  call = calls.WriteLock;
-  place = places.WriteLook (spun 10000);
+  call = Call.WriteLock;
+  place = RwWriterPlace.WriteLook (spun 10000);
   hold = None;
   done = done;
   at = at;
-  word = subst (λ (n : ℕ). IsNamed (words.State ∷ words.Counter ∷ []) n words.Counter) (sym is) refl;
+  word = subst (λ (n : ℕ). IsNamed (Word.State ∷ Word.Counter ∷ []) n Word.Counter) (sym is) refl;
 }
 
-pub continued : (count : ℕ) (done : List (Slot ℕ)) (p : Parties ℕ) → WriteGoes (afters.Waits (places.WriteLook (spun 10000)) count) done p → ComesToWrite (Answered actions.Continue) (spun 10000) done p
-continued count done p at = record { stood = places.WriteLook (spun 10000); told = count; at = at; answered = refl }
+pub continued : (count : ℕ) (done : List (Slot ℕ)) (p : Parties ℕ) → WriteGoes (After.Waits (RwWriterPlace.WriteLook (spun 10000)) count) done p → ComesToWrite (Answered WaitAction.Continue) (spun 10000) done p
+continued count done p at = record { stood = RwWriterPlace.WriteLook (spun 10000); told = count; at = at; answered = refl }
 
-pub aborted : (count : ℕ) (done : List (Slot ℕ)) (p : Parties ℕ) → WriteGoes (afters.Waits (places.WriteLook (spun 10000)) count) done p → ComesToGiveUp done p
-aborted count done p at = record { stood = places.WriteLook (spun 10000); told = count; at = at; answered = refl }
+pub aborted : (count : ℕ) (done : List (Slot ℕ)) (p : Parties ℕ) → WriteGoes (After.Waits (RwWriterPlace.WriteLook (spun 10000)) count) done p → ComesToGiveUp done p
+aborted count done p at = record { stood = RwWriterPlace.WriteLook (spun 10000); told = count; at = at; answered = refl }
 
 -- it gives up
 
-comes_to_unmark : (seen : ℕ) (done : List (Slot ℕ)) (p : Parties ℕ) → IsMarked seen → WriteGoes (unmarks_or_leaves seen) done p → WriteGoes (afters.At (places.Unmark seen (seen - 1))) done p
-comes_to_unmark seen done p set at = when_true calls.WriteLock (is_marked seen) (afters.At (places.Unmark seen (seen - 1))) (afters.Ends answers.Interrupted) done p (marked_word seen set) at
+comes_to_unmark : (seen : ℕ) (done : List (Slot ℕ)) (p : Parties ℕ) → IsMarked seen → WriteGoes (unmarks_or_leaves seen) done p → WriteGoes (After.At (RwWriterPlace.Unmark seen (seen - 1))) done p
+comes_to_unmark seen done p set at = when_true Call.WriteLock (is_marked seen) (After.At (RwWriterPlace.Unmark seen (seen - 1))) (After.Ends Answer.Interrupted) done p (marked_word seen set) at
 
-pub leaves : (seen : ℕ) (done : List (Slot ℕ)) (p : Parties ℕ) → ¬ IsMarked seen → WriteGoes (unmarks_or_leaves seen) done p → WriteGoes (afters.Ends answers.Interrupted) done p
-leaves seen done p unset at = when_false calls.WriteLock (is_marked seen) (afters.At (places.Unmark seen (seen - 1))) (afters.Ends answers.Interrupted) done p (unmarked_word seen unset) at
+pub leaves : (seen : ℕ) (done : List (Slot ℕ)) (p : Parties ℕ) → ¬ IsMarked seen → WriteGoes (unmarks_or_leaves seen) done p → WriteGoes (After.Ends Answer.Interrupted) done p
+leaves seen done p unset at = when_false Call.WriteLock (is_marked seen) (After.At (RwWriterPlace.Unmark seen (seen - 1))) (After.Ends Answer.Interrupted) done p (unmarked_word seen unset) at
 
-pub may_unmark : (seen put : ℕ) (done : List (Slot ℕ)) (p : Parties ℕ) → IsMarked seen → put ≡ seen - 1 → WriteGoes (unmarks_or_leaves seen) done p → TableHas Going 0 (λ w. intents.Exchange w seen put) p
-may_unmark seen put done p set is at = may_exchange Going calls.WriteLock (places.Unmark seen (seen - 1)) done p seen (seen - 1) put is refl (comes_to_unmark seen done p set at)
+pub may_unmark : (seen put : ℕ) (done : List (Slot ℕ)) (p : Parties ℕ) → IsMarked seen → put ≡ seen - 1 → WriteGoes (unmarks_or_leaves seen) done p → TableHas Going 0 (λ w. Intent.Exchange w seen put) p
+may_unmark seen put done p set is at = may_exchange Going Call.WriteLock (RwWriterPlace.Unmark seen (seen - 1)) done p seen (seen - 1) put is refl (comes_to_unmark seen done p set at)
 
-pub unmarked : (seen found : ℕ) (p q : Parties ℕ) → IsMarked seen → found ≡ seen → TableLed Going p found q → GoesFromTo calls.WriteLock (unmarks_or_leaves seen) (afters.At (places.Count leavers.GivenUp)) p q
+pub unmarked : (seen found : ℕ) (p q : Parties ℕ) → IsMarked seen → found ≡ seen → TableLed Going p found q → GoesFromTo Call.WriteLock (unmarks_or_leaves seen) (After.At (RwWriterPlace.Count Leaver.GivenUp)) p q
 unmarked seen found p q h1 h2 h3 = grind (arith, nat_tests, eqb-true, eqb-false)
 
-pub unmark_missed : (seen found : ℕ) (p q : Parties ℕ) → IsMarked seen → found ≢ seen → TableLed Going p found q → GoesFromTo calls.WriteLock (unmarks_or_leaves seen) (unmarks_or_leaves found) p q
+pub unmark_missed : (seen found : ℕ) (p q : Parties ℕ) → IsMarked seen → found ≢ seen → TableLed Going p found q → GoesFromTo Call.WriteLock (unmarks_or_leaves seen) (unmarks_or_leaves found) p q
 unmark_missed seen found p q h1 h2 h3 = grind (arith, nat_tests, eqb-true, eqb-false)
 
 -- the counter's add, and the wakes
 
-pub may_count : (who : Leaver) (p : Parties ℕ) → SomeCallGoes (afters.At (places.Count who)) p → TableHas Going 1 (λ w. intents.Add w 1) p
-may_count who p is = has_step Going 1 (λ w. intents.Add w 1) is.call (places.Count who) None is.done p words.Counter refl refl refl is.at
+pub may_count : (who : Leaver) (p : Parties ℕ) → SomeCallGoes (After.At (RwWriterPlace.Count who)) p → TableHas Going 1 (λ w. Intent.Add w 1) p
+may_count who p is = has_step Going 1 (λ w. Intent.Add w 1) is.call (RwWriterPlace.Count who) None is.done p Word.Counter refl refl refl is.at
 
-pub counted : (found : ℕ) (p q : Parties ℕ) → TableLed Going p found q → (call : Call ℕ) (who : Leaver) → GoesFromTo call (afters.At (places.Count who)) (afters.At (places.WakeOne who)) p q
-counted found p q went call who = λ done at. went call (places.Count who) None done at
+pub counted : (found : ℕ) (p q : Parties ℕ) → TableLed Going p found q → (call : Call ℕ) (who : Leaver) → GoesFromTo call (After.At (RwWriterPlace.Count who)) (After.At (RwWriterPlace.WakeOne who)) p q
+counted found p q went call who = λ done at. went call (RwWriterPlace.Count who) None done at
 
-pub is_to_wake : (i : ℕ) (who : Leaver) (p : Parties ℕ) → i ≡ 1 → SomeCallGoes (afters.At (places.WakeOne who)) p → IsToWake rw_writer_model (words.State ∷ words.Counter ∷ []) rw_writer_handed i p
+pub is_to_wake : (i : ℕ) (who : Leaver) (p : Parties ℕ) → i ≡ 1 → SomeCallGoes (After.At (RwWriterPlace.WakeOne who)) p → IsToWake rw_writer_model (Word.State ∷ Word.Counter ∷ []) rw_writer_handed i p
 is_to_wake i who p is goes = record {
   call = goes.call;
-  place = places.WakeOne who;
+  place = RwWriterPlace.WakeOne who;
   hold = None;
   done = goes.done;
   at = goes.at;
-  who = wakes.One;
+  who = Wake.One;
   wakes = refl;
-  word = subst (λ (n : ℕ). IsNamed (words.State ∷ words.Counter ∷ []) n words.Counter) (sym is) refl;
+  word = subst (λ (n : ℕ). IsNamed (Word.State ∷ Word.Counter ∷ []) n Word.Counter) (sym is) refl;
 }
 
-pub is_to_wake_again : (j : ℕ) (p : Parties ℕ) → j ≡ 0 → IsToWakeBoth p → IsToWakeAgain rw_writer_model (words.State ∷ words.Counter ∷ []) rw_writer_handed j p
+pub is_to_wake_again : (j : ℕ) (p : Parties ℕ) → j ≡ 0 → IsToWakeBoth p → IsToWakeAgain rw_writer_model (Word.State ∷ Word.Counter ∷ []) rw_writer_handed j p
 is_to_wake_again j p is both = record {
   call = both.wakes.call;
-  place = places.WakeOne both.who;
+  place = RwWriterPlace.WakeOne both.who;
   hold = None;
   done = both.wakes.done;
   at = both.wakes.at;
   aside = tt;
-  later = places.WakeAll both.who;
+  later = RwWriterPlace.WakeAll both.who;
   goes_on = both.both;
-  who = wakes.All;
+  who = Wake.All;
   wakes = refl;
-  word = subst (λ (n : ℕ). IsNamed (words.State ∷ words.Counter ∷ []) n words.State) (sym is) refl;
+  word = subst (λ (n : ℕ). IsNamed (Word.State ∷ Word.Counter ∷ []) n Word.State) (sym is) refl;
 }
 
 -- who has woken all is answered so
 abbrev ended_by : Leaver → Answer ℕ
-ended_by leavers.Reader = answers.Done
-ended_by leavers.Writer = answers.Done
-ended_by leavers.GivenUp = answers.Interrupted
+ended_by Leaver.Reader = Answer.Done
+ended_by Leaver.Writer = Answer.Done
+ended_by Leaver.GivenUp = Answer.Interrupted
 
-all_woken : (who : Leaver) → woken_all {T = ℕ} who ≡ afters.Ends (ended_by who)
-all_woken leavers.Reader = refl
-all_woken leavers.Writer = refl
-all_woken leavers.GivenUp = refl
+all_woken : (who : Leaver) → woken_all {T = ℕ} who ≡ After.Ends (ended_by who)
+all_woken Leaver.Reader = refl
+all_woken Leaver.Writer = refl
+all_woken Leaver.GivenUp = refl
 
 pub both_are_over : (p : Parties ℕ) → IsToWakeBoth p → IsOverAfterTwo rw_writer_model p
 both_are_over p both = record {
   call = both.wakes.call;
-  place = places.WakeOne both.who;
+  place = RwWriterPlace.WakeOne both.who;
   hold = None;
   done = both.wakes.done;
   at = both.wakes.at;
   aside = tt;
-  later = places.WakeAll both.who;
+  later = RwWriterPlace.WakeAll both.who;
   goes_on = both.both;
   also = tt;
   answer = ended_by both.who;
   ends = all_woken both.who;
 }
 
-pub reader_is_over : (p : Parties ℕ) → SomeCallGoes (afters.At (places.WakeOne leavers.Reader)) p → IsOverAside rw_writer_model p
-reader_is_over p goes = record { call = goes.call; place = places.WakeOne leavers.Reader; hold = None; done = goes.done; at = goes.at; aside = tt; answer = answers.Done; ends = refl }
+pub reader_is_over : (p : Parties ℕ) → SomeCallGoes (After.At (RwWriterPlace.WakeOne Leaver.Reader)) p → IsOverAside rw_writer_model p
+reader_is_over p goes = record { call = goes.call; place = RwWriterPlace.WakeOne Leaver.Reader; hold = None; done = goes.done; at = goes.at; aside = tt; answer = Answer.Done; ends = refl }
 
 -- `Unlock`
 
-pub may_leave_reading : (p : Parties ℕ) → has_hold kinds.Read p ≡ true → TableHas (Continuing calls.Unlock) 0 (λ w. intents.Subtract w 2) p
-may_leave_reading p has = has_step (Continuing calls.Unlock) 0 (λ w. intents.Subtract w 2) calls.Unlock places.Release (Some kinds.Read) p.resting p words.State refl refl refl
-    (unlock_begins kinds.Read p.resting p (holding_told rw_writer_model kinds.Read p has))
+pub may_leave_reading : (p : Parties ℕ) → has_hold HoldKind.Read p ≡ true → TableHas (Continuing Call.Unlock) 0 (λ w. Intent.Subtract w 2) p
+may_leave_reading p has = has_step (Continuing Call.Unlock) 0 (λ w. Intent.Subtract w 2) Call.Unlock RwWriterPlace.Release (Some HoldKind.Read) p.resting p Word.State refl refl refl
+    (unlock_begins HoldKind.Read p.resting p (holding_told rw_writer_model HoldKind.Read p has))
 
-pub may_leave_writing : (p : Parties ℕ) → has_hold kinds.Write p ≡ true → TableHas (Continuing calls.Unlock) 0 (λ w. intents.Store w 0) p
-may_leave_writing p has = has_step (Continuing calls.Unlock) 0 (λ w. intents.Store w 0) calls.Unlock places.Release (Some kinds.Write) p.resting p words.State refl refl refl
-    (unlock_begins kinds.Write p.resting p (holding_told rw_writer_model kinds.Write p has))
+pub may_leave_writing : (p : Parties ℕ) → has_hold HoldKind.Write p ≡ true → TableHas (Continuing Call.Unlock) 0 (λ w. Intent.Store w 0) p
+may_leave_writing p has = has_step (Continuing Call.Unlock) 0 (λ w. Intent.Store w 0) Call.Unlock RwWriterPlace.Release (Some HoldKind.Write) p.resting p Word.State refl refl refl
+    (unlock_begins HoldKind.Write p.resting p (holding_told rw_writer_model HoldKind.Write p has))
 
-pub leaves_reading : (found : ℕ) (p q : Parties ℕ) → TableLed (Continuing calls.Unlock) p found q → Unlocks kinds.Read (released (Some found)) p q
-leaves_reading found p q went = λ done holding. went calls.Unlock places.Release (Some kinds.Read) done (unlock_begins kinds.Read done p holding)
+pub leaves_reading : (found : ℕ) (p q : Parties ℕ) → TableLed (Continuing Call.Unlock) p found q → Unlocks HoldKind.Read (released (Some found)) p q
+leaves_reading found p q went = λ done holding. went Call.Unlock RwWriterPlace.Release (Some HoldKind.Read) done (unlock_begins HoldKind.Read done p holding)
 
-pub leaves_writing : (found : ℕ) (p q : Parties ℕ) → TableLed (Continuing calls.Unlock) p found q → Unlocks kinds.Write (afters.At (places.Count leavers.Writer)) p q
-leaves_writing found p q went = λ done holding. went calls.Unlock places.Release (Some kinds.Write) done (unlock_begins kinds.Write done p holding)
+pub leaves_writing : (found : ℕ) (p q : Parties ℕ) → TableLed (Continuing Call.Unlock) p found q → Unlocks HoldKind.Write (After.At (RwWriterPlace.Count Leaver.Writer)) p q
+leaves_writing found p q went = λ done holding. went Call.Unlock RwWriterPlace.Release (Some HoldKind.Write) done (unlock_begins HoldKind.Write done p holding)
 
 -- the party that had this hold goes on so
 pub unlocking : (kind : HoldKind) (after : After ℕ RwWriterPlace) (p q : Parties ℕ) → has_hold kind p ≡ true → Unlocks kind after p q → SomeCallGoes after q
-unlocking kind after p q has goes = record { call = calls.Unlock; done = p.resting; at = goes p.resting (holding_told rw_writer_model kind p has) }
+unlocking kind after p q has goes = record { call = Call.Unlock; done = p.resting; at = goes p.resting (holding_told rw_writer_model kind p has) }
 
-pub last_reader : (found : ℕ) (p q : Parties ℕ) → found ≡ 3 → Unlocks kinds.Read (released (Some found)) p q → Unlocks kinds.Read (afters.At (places.Count leavers.Reader)) p q
-last_reader found p q is goes = λ done holding. when_true calls.Unlock (found == 3) (afters.At (places.Count leavers.Reader)) (afters.Ends answers.Done) done q (hit found 3 is) (goes done holding)
+pub last_reader : (found : ℕ) (p q : Parties ℕ) → found ≡ 3 → Unlocks HoldKind.Read (released (Some found)) p q → Unlocks HoldKind.Read (After.At (RwWriterPlace.Count Leaver.Reader)) p q
+last_reader found p q is goes = λ done holding. when_true Call.Unlock (found == 3) (After.At (RwWriterPlace.Count Leaver.Reader)) (After.Ends Answer.Done) done q (hit found 3 is) (goes done holding)
 
-wakes_so : (found : ℕ) (done : List (Slot ℕ)) (q : Parties ℕ) → (found == 3) ≡ true → CallGoes calls.Unlock (afters.At (places.WakeOne leavers.Reader)) done q → CallGoes calls.Unlock (unlocked kinds.Read found) done q
+wakes_so : (found : ℕ) (done : List (Slot ℕ)) (q : Parties ℕ) → (found == 3) ≡ true → CallGoes Call.Unlock (After.At (RwWriterPlace.WakeOne Leaver.Reader)) done q → CallGoes Call.Unlock (unlocked HoldKind.Read found) done q
 wakes_so found done q test at = rw test at
 
-pub wakes_writer : (found last : ℕ) (p q r : Parties ℕ) → found ≡ 3 → last ≡ found → Unlocks kinds.Read (afters.At (places.Count leavers.Reader)) p q → GoesFromTo calls.Unlock (afters.At (places.Count leavers.Reader)) (afters.At (places.WakeOne leavers.Reader)) q r →
-    Unlocks kinds.Read (unlocked kinds.Read last) p r
+pub wakes_writer : (found last : ℕ) (p q r : Parties ℕ) → found ≡ 3 → last ≡ found → Unlocks HoldKind.Read (After.At (RwWriterPlace.Count Leaver.Reader)) p q → GoesFromTo Call.Unlock (After.At (RwWriterPlace.Count Leaver.Reader)) (After.At (RwWriterPlace.WakeOne Leaver.Reader)) q r →
+    Unlocks HoldKind.Read (unlocked HoldKind.Read last) p r
 wakes_writer found last p q r is saw goes on = λ done holding. wakes_so last done r (hit last 3 (saw ∙ is)) (on done (goes done holding))
 
 -- another reader is answered
 
-leaves_so : (found : ℕ) (done : List (Slot ℕ)) (q : Parties ℕ) → (found == 3) ≡ false → CallGoes calls.Unlock (afters.Ends answers.Done) done q → CallGoes calls.Unlock (unlocked kinds.Read found) done q
+leaves_so : (found : ℕ) (done : List (Slot ℕ)) (q : Parties ℕ) → (found == 3) ≡ false → CallGoes Call.Unlock (After.Ends Answer.Done) done q → CallGoes Call.Unlock (unlocked HoldKind.Read found) done q
 leaves_so found done q test at = rw test at
 
-ends_reading : (found : ℕ) (done : List (Slot ℕ)) (q : Parties ℕ) → found ≢ 3 → CallGoes calls.Unlock (released (Some found)) done q → CallGoes calls.Unlock (afters.Ends answers.Done) done q
-ends_reading found done q other at = when_false calls.Unlock (found == 3) (afters.At (places.Count leavers.Reader)) (afters.Ends answers.Done) done q (ne_eqb found 3 other) at
+ends_reading : (found : ℕ) (done : List (Slot ℕ)) (q : Parties ℕ) → found ≢ 3 → CallGoes Call.Unlock (released (Some found)) done q → CallGoes Call.Unlock (After.Ends Answer.Done) done q
+ends_reading found done q other at = when_false Call.Unlock (found == 3) (After.At (RwWriterPlace.Count Leaver.Reader)) (After.Ends Answer.Done) done q (ne_eqb found 3 other) at
 
-pub other_reader : (found last : ℕ) (p q : Parties ℕ) → found ≢ 3 → last ≡ found → Unlocks kinds.Read (released (Some found)) p q → Unlocks kinds.Read (unlocked kinds.Read last) p q
+pub other_reader : (found last : ℕ) (p q : Parties ℕ) → found ≢ 3 → last ≡ found → Unlocks HoldKind.Read (released (Some found)) p q → Unlocks HoldKind.Read (unlocked HoldKind.Read last) p q
 other_reader found last p q other saw goes = λ done holding. leaves_so last done q (ne_eqb last 3 (λ is. other (sym saw ∙ is))) (ends_reading found done q other (goes done holding))
 
-pub other_is_over : (found : ℕ) (p q : Parties ℕ) → found ≢ 3 → has_hold kinds.Read p ≡ true → Unlocks kinds.Read (released (Some found)) p q → IsOver rw_writer_model q
-other_is_over found p q other has goes = is_over rw_writer_model calls.Unlock answers.Done None p.resting q (ends_reading found p.resting q other (goes p.resting (holding_told rw_writer_model kinds.Read p has)))
+pub other_is_over : (found : ℕ) (p q : Parties ℕ) → found ≢ 3 → has_hold HoldKind.Read p ≡ true → Unlocks HoldKind.Read (released (Some found)) p q → IsOver rw_writer_model q
+other_is_over found p q other has goes = is_over rw_writer_model Call.Unlock Answer.Done None p.resting q (ends_reading found p.resting q other (goes p.resting (holding_told rw_writer_model HoldKind.Read p has)))

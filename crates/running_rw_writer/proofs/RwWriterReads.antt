@@ -1,16 +1,6 @@
 -- What the sights and exchanges of a reader at a writer-preferring lock come to.
-use Rattle.std.proofs.Common.{◌≡◌, ◌≢◌, ◌≤◌, ℕ, ◌+◌, ◌==◌, Bool, true, false, MatchBool, inl, inr, refl, sym, ap, subst, ◌∙◌, arith}
-use Rattle.std.proofs.lemmas.Bool.{eqb-true, eqb-false}
-use Rattle.steps_events.proofs.Holds.{eqb_same}
-use Rattle.passes.specs.declared.view.View.{View}
-use Rattle.passes.specs.declared.pass.Pass.{Pass}
-use Rattle.passes.specs.Passes.{part_of, sights_of}
-use Rattle.passes.specs.Views.{looked, wrote}
-use Rattle.playing.specs.Passes.{counts_of, counted}
-use Rattle.playing.specs.Counts.{HasSeen, HasMissed, HasDone, HasOnlySeen, WasRefused}
-use Rattle.playing.proofs.Attempts.{seen_twice, moved_later, still_so}
-use Rattle.tallies.specs.declared.rw_writer.MarkedHolds.{MarkedHolds}
-use Rattle.running_rw_hold.proofs.RwTries.{last_seen, last_kept, seen_once, moved_after, overtaken}
+use Rattle.running_rw_writer.specs.Names.{View, Pass, part_of, sights_of, looked, wrote, counts_of, counted, HasSeen, HasMissed, HasDone, HasOnlySeen, WasRefused, MarkedHolds}
+use Rattle.running_rw_writer.proofs.Names.{◌≡◌, ◌≢◌, ◌≤◌, ℕ, ◌+◌, ◌==◌, Bool, true, false, MatchBool, inl, inr, refl, sym, ap, subst, ◌∙◌, arith, eqb-true, eqb-false, eqb_same, seen_twice, moved_later, still_so, last_seen, last_kept, seen_once, moved_after, overtaken}
 use Rattle.running_rw_writer.specs.RwWriterSteps.{PlayedRwWriter, IsOnly, SaysAlone, read, word_of}
 use Rattle.running_rw_writer.specs.RwWriterShown.{IsAloneWithin, IsOpen, IsShut, EntersToRead, HasEnteredToRead, HasReadAtOnce, WasTurnedAway, reads_of, writes_of}
 

@@ -1,20 +1,6 @@
 -- What a writer's sights and tries come to, one after another.
-use Rattle.std.proofs.Common.{◌≡◌, ◌≢◌, ℕ, ◌+◌, ◌-◌, ◌%◌, ◌^◌, ◌<◌, ◌≤◌, ◌==◌, ◌&&◌, not, Bool, true, false, Option, Some, None, ◌⊎◌, inl, inr, refl, sym, ap, subst, ◌∙◌, arith}
-use Rattle.std.specs.Prelude.{is_some, MatchBool}
-use mathlib.Core.Logic.{dite}
-use native.Mathlib.Decide.{ℕ_discrete}
-use Rattle.passes.specs.declared.part.Sights.{Sights}
-use Rattle.passes.specs.declared.view.View.{View}
-use Rattle.passes.specs.declared.pass.Pass.{Pass}
-use Rattle.passes.specs.Parts.{IsWhole}
-use Rattle.passes.specs.Passes.{IsSamePass, sights_of}
-use Rattle.passes.specs.Sights.{seen_instead}
-use Rattle.passes.specs.Views.{looked, wrote}
-use Rattle.playing.specs.Passes.{counts_of, counted}
-use Rattle.steps_events.proofs.Holds.{eqb_same}
-use Rattle.tallies.specs.declared.rw_writer.MarkedHolds.{MarkedHolds}
-use Rattle.tallies.specs.Held.{read_holds, write_holds}
-use Rattle.tallies.specs.RwReaderRule.{Holds}
+use Rattle.running_rw_writer.specs.Names.{is_some, MatchBool, dite, ℕ_discrete, Sights, View, Pass, IsWhole, IsSamePass, sights_of, seen_instead, looked, wrote, counts_of, counted, MarkedHolds, read_holds, write_holds, Holds}
+use Rattle.running_rw_writer.proofs.Names.{◌≡◌, ◌≢◌, ℕ, ◌+◌, ◌-◌, ◌%◌, ◌^◌, ◌<◌, ◌≤◌, ◌==◌, ◌&&◌, not, Bool, true, false, Option, Some, None, ◌⊎◌, inl, inr, refl, sym, ap, subst, ◌∙◌, arith, eqb_same}
 use Rattle.running_rw_writer.specs.RwWriterShown.{IsAloneWithin, IsShut, HasTried, HasJustSeen, HasMissedIt, MayGiveUp, HasGivenUpWriting, HasEnteredSeenFree, HasLeftReading, HasLeftWriting}
 use Rattle.running_rw_writer.specs.RwWriterSteps.{PlayedRwWriter, IsMarked, LoadedToWrite, Missed, WriterIn, flagged, written, no_more_read}
 

@@ -1,15 +1,8 @@
 -- What is unlocked goes by the kind of the hold.
-use Rattle.std.proofs.Common.{◌≡◌, sym, subst}
-use Rattle.steps_events.specs.declared.hold.HoldKind.TheVariants as kinds
-use Rattle.steps_events.specs.declared.row.After.TheVariants as afters
-use Rattle.steps_rw_writer.specs.declared.Leaver.TheVariants as leavers
-use Rattle.steps_rw_writer.specs.declared.RwWriterPlace.TheVariants as places
-use Rattle.passes.specs.Passes.{IsSamePass}
-use Rattle.playing.specs.Passes.{parties_of}
-use Rattle.running_rw_hold.specs.declared.hold.RwPass.{Ghosts}
+use Rattle.running_rw_writer.specs.Names.{HoldKind, After, Leaver, RwWriterPlace, IsSamePass, parties_of, Ghosts, RwHold}
+use Rattle.running_rw_writer.proofs.Names.{◌≡◌, sym, subst}
 use Rattle.running_rw_hold.specs.declared.hold.ReadHold.{ReadHold}
 use Rattle.running_rw_hold.specs.declared.hold.WriteHold.{WriteHold}
-use Rattle.running_rw_hold.specs.declared.hold.RwHold.{RwHold}
 use Rattle.running_rw_hold.specs.declared.hold.RwHold.TheVariants.{Read, Write}
 use Rattle.running_rw_writer.specs.declared.pass.RwWriterPass.{RwWriterPass}
 use Rattle.running_rw_writer.specs.RwWriterParties.{Unlocks, unlocked}
@@ -31,11 +24,11 @@ module _ {G : Ghosts RwWriterPass} where
   })
 
   pub played_reading : (hold : RwHold RwWriterPass G) (h : ReadHold RwWriterPass G) (p q : RwWriterPass) → hold ≡ Read h → p ≡ h.pass.now →
-      Unlocks kinds.Read (unlocked kinds.Read (sights_in q).last) (parties_of (pass_in p)) (parties_of (pass_in q)) → HasPlayedUnlock hold q
+      Unlocks HoldKind.Read (unlocked HoldKind.Read (sights_in q).last) (parties_of (pass_in p)) (parties_of (pass_in q)) → HasPlayedUnlock hold q
   played_reading hold h p q is by left = subst (λ (k : RwHold RwWriterPass G). HasPlayedUnlock k q) (sym is)
-      (subst (λ (r : RwWriterPass). Unlocks kinds.Read (unlocked kinds.Read (sights_in q).last) (parties_of (pass_in r)) (parties_of (pass_in q))) by left)
+      (subst (λ (r : RwWriterPass). Unlocks HoldKind.Read (unlocked HoldKind.Read (sights_in q).last) (parties_of (pass_in r)) (parties_of (pass_in q))) by left)
 
   pub played_writing : (hold : RwHold RwWriterPass G) (h : WriteHold RwWriterPass G) (p q : RwWriterPass) → hold ≡ Write h → p ≡ h.pass.now →
-      Unlocks kinds.Write (afters.At (places.WakeOne leavers.Writer)) (parties_of (pass_in p)) (parties_of (pass_in q)) → HasPlayedUnlock hold q
+      Unlocks HoldKind.Write (After.At (RwWriterPlace.WakeOne Leaver.Writer)) (parties_of (pass_in p)) (parties_of (pass_in q)) → HasPlayedUnlock hold q
   played_writing hold h p q is by left = subst (λ (k : RwHold RwWriterPass G). HasPlayedUnlock k q) (sym is)
-      (subst (λ (r : RwWriterPass). Unlocks kinds.Write (afters.At (places.WakeOne leavers.Writer)) (parties_of (pass_in r)) (parties_of (pass_in q))) by left)
+      (subst (λ (r : RwWriterPass). Unlocks HoldKind.Write (After.At (RwWriterPlace.WakeOne Leaver.Writer)) (parties_of (pass_in r)) (parties_of (pass_in q))) by left)

@@ -1,3 +1,4 @@
+pub mod Names
 pub mod RwWriterSteps
 pub mod RwWriterShown
 pub mod RwWriterParties

@@ -1,27 +1,8 @@
 -- What contracts see of a writer-preferring lock and its pass, and what a call changes in a pass.
-use Rattle.std.specs.Prelude.{◌≡◌, ◌≢◌, true, false, ◌⊎◌, ℕ, Option, ◌+◌, ◌-◌, ◌*◌, ◌%◌, ◌^◌, ◌<◌, ◌≤◌}
-use Rattle.passes.specs.declared.part.Part.{Part}
-use Rattle.passes.specs.declared.part.Sights.{Sights}
-use Rattle.passes.specs.declared.view.View.{View}
-use Rattle.passes.specs.declared.pass.Pass.{Pass}
-use Rattle.passes.specs.Parts.{IsWhole}
-use Rattle.passes.specs.Passes.{IsSamePass, view, part_of, sights_of}
-use Rattle.passes.specs.Views.{looked, missed, wrote}
-use Rattle.playing.specs.Plays.{HasCalled}
-use Rattle.playing.specs.Slots.{all_of}
-use Rattle.playing.specs.Passes.{parties_of, counts_of as tally_of, counted}
-use Rattle.playing.specs.Counts.{HasOnlySeen, HasMoved}
+use Rattle.running_rw_writer.specs.Names.{◌≡◌, ◌≢◌, true, false, ◌⊎◌, ℕ, Option, ◌+◌, ◌-◌, ◌*◌, ◌%◌, ◌^◌, ◌<◌, ◌≤◌, Part, Sights, View, Pass, IsWhole, IsSamePass, view, part_of, sights_of, looked, missed, wrote, HasCalled, all_of, parties_of, tally_of, counted, HasOnlySeen, HasMoved, Call, Answer, HoldKind, rw_writer_model, Ghosts, RwHold, MarkedHolds, read_holds, write_holds}
 use Rattle.playing.specs.Stages.{IsPassOf}
-use Rattle.steps_events.specs.declared.event.Call.{Call}
-use Rattle.steps_events.specs.declared.event.Answer.{Answer}
-use Rattle.steps_events.specs.declared.hold.HoldKind.{HoldKind}
-use Rattle.tallies.specs.RwWriterScript.{rw_writer_model}
-use Rattle.running_rw_hold.specs.declared.hold.RwPass.{Ghosts}
-use Rattle.running_rw_hold.specs.declared.hold.RwHold.{RwHold}
 use Rattle.running_rw_writer.specs.declared.RwLockWriterPreference.{RwLockWriterPreference}
 use Rattle.running_rw_writer.specs.declared.pass.RwWriterPass.{RwWriterPass}
-use Rattle.tallies.specs.declared.rw_writer.MarkedHolds.{MarkedHolds}
-use Rattle.tallies.specs.Held.{read_holds, write_holds}
 use Rattle.running_rw_hold.specs.RwShown.{IsReadHold, IsWriteHold, kind_of, pass_of, TurnsAway}
 use Rattle.running_rw_writer.specs.RwWriterParties.{Unlocks, unlocked, WriteGivesUp}
 use Rattle.running_rw_writer.specs.RwWriterSteps.{PlayedRwWriter, IsMarked, IsOnly, word_of, read, no_more_read, written, no_more_written, flagged}

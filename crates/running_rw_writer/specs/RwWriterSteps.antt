@@ -1,27 +1,11 @@
 -- What holds whenever the rule of a writer-preferring lock does, and what a step changes in a pass.
-use Rattle.std.specs.Prelude.{◌≡◌, ◌≢◌, ℕ, ◌+◌, ◌-◌, ◌*◌, ◌%◌, ◌^◌, ◌<◌, ◌≤◌, [], ◌∷◌, slice_index}
+use Rattle.running_rw_writer.specs.Names.{◌≡◌, ◌≢◌, ℕ, ◌+◌, ◌-◌, ◌*◌, ◌%◌, ◌^◌, ◌<◌, ◌≤◌, [], ◌∷◌, slice_index, Word, RwWriterPlace, rw_writer_table, rw_writer_model, Part, Sights, View, IsWhole, Each, seen, seen_instead, view_of, looked, missed, wrote, IsCounted, sum_of, none_played, both_played, PlaysAndCounts, IsOfARun, MarkedHolds, read_holds, write_holds, reader_in, reader_out, same_nothing, no_holds, marked, nothing_marked, both_marked, RwWriterAgrees, AreGrantsByKindIn}
 use mathlib.Core.Option.{some}
 use lib.ListN.{get_elem?}
 use Rattle.atomic_table.specs.Table.{State}
-use Rattle.steps_events.specs.declared.event.Word.TheVariants as words
-use Rattle.steps_rw_writer.specs.declared.RwWriterPlace.{RwWriterPlace}
-use Rattle.steps_rw_writer.specs.Table.{rw_writer_table}
-use Rattle.tallies.specs.RwWriterScript.{rw_writer_model}
-use Rattle.passes.specs.declared.part.Part.{Part}
-use Rattle.passes.specs.declared.part.Sights.{Sights}
-use Rattle.passes.specs.declared.view.View.{View}
-use Rattle.passes.specs.Parts.{IsWhole, Each}
-use Rattle.passes.specs.Sights.{seen, seen_instead}
-use Rattle.passes.specs.Views.{view_of, looked, missed, wrote, IsCounted, sum_of}
 use Rattle.playing.specs.declared.played.Played.{Played}
-use Rattle.playing.specs.Passes.{none_played, both_played, PlaysAndCounts, IsOfARun}
 use Rattle.tallies.specs.declared.held.Held.TheVariants.{Writing}
 use Rattle.tallies.specs.declared.rw_writer.RwWriterScript.{RwWriterScript}
-use Rattle.tallies.specs.declared.rw_writer.MarkedHolds.{MarkedHolds}
-use Rattle.tallies.specs.Held.{read_holds, write_holds, reader_in, reader_out}
-use Rattle.tallies.specs.HeldTally.{same_nothing}
-use Rattle.tallies.specs.RwReaderRule.{no_holds}
-use Rattle.tallies.specs.RwWriterRule.{marked, nothing_marked, both_marked, RwWriterAgrees, AreGrantsByKindIn}
 
 -- what a pass of a writer-preferring lock is in its model, and counts beside
 abbrev pub PlayedRwWriter : Type 0
@@ -29,7 +13,7 @@ PlayedRwWriter = Played RwWriterScript RwWriterPlace ℕ MarkedHolds
 
 -- the rule of a lock holds
 abbrev pub IsRuled : State (Unit {0}) (View PlayedRwWriter) → Type 0
-IsRuled s = IsCounted (none_played nothing_marked) (both_played both_marked) (PlaysAndCounts rw_writer_model (words.State ∷ words.Counter ∷ []) RwWriterAgrees (AreGrantsByKindIn rw_writer_table)) s
+IsRuled s = IsCounted (none_played nothing_marked) (both_played both_marked) (PlaysAndCounts rw_writer_model (Word.State ∷ Word.Counter ∷ []) RwWriterAgrees (AreGrantsByKindIn rw_writer_table)) s
 
 -- whenever it does, all passes are the parties of a run, and were granted as many holds of each kind as calls were in it
 abbrev pub GrantsAreOfARun : Type 0

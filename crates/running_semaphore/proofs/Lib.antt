@@ -1,3 +1,4 @@
+pub mod Names
 pub mod SemaphoreKeeps
 pub mod SemaphorePlays
 pub mod SemaphoreTakes

@@ -1,36 +1,15 @@
 -- What a step makes of what a pass saw and counts; and where no other pass is left, the word is what its tally comes to.
-use Rattle.std.proofs.Common.{◌≡◌, ◌≢◌, ℕ, ◌+◌, ◌-◌, ◌%◌, ◌^◌, ◌<◌, ◌≤◌, ◌==◌, Bool, true, List, [], ◌∷◌, ap, sym, subst, ◌∙◌, refl, Some, arith}
-use Rattle.std.proofs.lemmas.Bool.{ne_eqb}
-use Rattle.steps_events.specs.declared.event.Word.{Word}
-use Rattle.steps_events.specs.declared.event.Word.TheVariants as words
-use Rattle.steps_events.specs.declared.event.Call.{Call}
-use Rattle.steps_events.specs.declared.event.Call.TheVariants as calls
+use Rattle.running_semaphore.specs.Names.{Word, Call, Intent, carried_out, value_told, SemaphorePlace, semaphore_table, View, view_of, looked, missed, wrote, sum_of, Parties, sights_after, Coming, Beginning, MayStep, WentAlone, played, none_played, both_played, PlaysAndCounts, Told, SemaphoreScript, Permits, no_permits, both_permits, value_of, permits_after, ArePermitsOf, semaphore_model}
+use Rattle.running_semaphore.proofs.Names.{◌≡◌, ◌≢◌, ℕ, ◌+◌, ◌-◌, ◌%◌, ◌^◌, ◌<◌, ◌≤◌, ◌==◌, Bool, true, List, [], ◌∷◌, ap, sym, subst, ◌∙◌, refl, Some, arith, ne_eqb, some_same, eqb_same}
 use Rattle.steps_events.specs.declared.event.Act.{Act}
-use Rattle.steps_events.specs.declared.event.Act.TheVariants as acts
 use Rattle.steps_events.specs.declared.event.Event.{Event}
-use Rattle.steps_events.specs.declared.row.Intent.{Intent}
-use Rattle.steps_events.specs.declared.row.Intent.TheVariants as intents
-use Rattle.steps_events.specs.Rows.{carried_out, value_told}
 use Rattle.steps_events.specs.Past.{word_in}
 use Rattle.steps_events.specs.Integers.{u64_arithmetic}
 use Rattle.steps_events.specs.Runs.{IsPast}
-use Rattle.steps_events.proofs.Holds.{some_same, eqb_same}
-use Rattle.steps_semaphore.specs.declared.SemaphorePlace.{SemaphorePlace}
-use Rattle.steps_semaphore.specs.Table.{semaphore_table}
 use Rattle.steps_semaphore.proofs.Laws.{semaphore_tallies}
-use Rattle.passes.specs.declared.view.View.{View}
-use Rattle.passes.specs.Views.{view_of, looked, missed, wrote, sum_of}
 use Rattle.passes.specs.Objects.{HasClosed}
-use Rattle.playing.specs.Slots.{Parties}
-use Rattle.playing.specs.Sees.{sights_after}
-use Rattle.playing.specs.Plays.{Coming, Beginning, MayStep, WentAlone}
-use Rattle.playing.specs.Passes.{played, none_played, both_played, PlaysAndCounts, Told}
 use Rattle.playing.proofs.Words.{hold_at}
 use Rattle.playing.proofs.OfARun.{of_a_run}
-use Rattle.tallies.specs.declared.semaphore.SemaphoreScript.{SemaphoreScript}
-use Rattle.tallies.specs.declared.semaphore.Permits.{Permits}
-use Rattle.tallies.specs.SemaphoreRule.{no_permits, both_permits, value_of, permits_after, ArePermitsOf}
-use Rattle.tallies.specs.SemaphoreScript.{semaphore_model}
 use Rattle.running_semaphore.specs.SemaphoreSteps.{PlayedSemaphore, PermitsAreOfARun, took, gave}
 
 module _ (initial : ℕ) where
@@ -39,29 +18,29 @@ module _ (initial : ℕ) where
   abbrev After : Act ℕ → Call ℕ → View Permits → View Permits
   After act call v = view_of v.part (sights_after act v.sights) (permits_after act call v.tally)
 
-  told_so : (way : Coming ℕ) (p : Parties ℕ) (found : ℕ) (v w : View Permits) (intent : Word → Intent ℕ) (may : MayStep (semaphore_model initial) (words.State ∷ []) way 0 intent p) →
-      Told (semaphore_model initial) sights_after permits_after way p found v w → w ≡ After (carried_out (intent words.State) (λ _. found)) may.call v
+  told_so : (way : Coming ℕ) (p : Parties ℕ) (found : ℕ) (v w : View Permits) (intent : Word → Intent ℕ) (may : MayStep (semaphore_model initial) (Word.State ∷ []) way 0 intent p) →
+      Told (semaphore_model initial) sights_after permits_after way p found v w → w ≡ After (carried_out (intent Word.State) (λ _. found)) may.call v
   told_so way p found v w intent may told = told may.call may.place may.hold may.done may.comes
       ∙ ap (λ (k : Intent ℕ). After (carried_out k (λ _. found)) may.call v) (may.intends ∙ sym (ap intent may.named))
 
-  pub loads : (way : Coming ℕ) (p : Parties ℕ) (found : ℕ) (v w : View Permits) → MayStep (semaphore_model initial) (words.State ∷ []) way 0 (λ k. intents.Load k) p →
+  pub loads : (way : Coming ℕ) (p : Parties ℕ) (found : ℕ) (v w : View Permits) → MayStep (semaphore_model initial) (Word.State ∷ []) way 0 (λ k. Intent.Load k) p →
       Told (semaphore_model initial) sights_after permits_after way p found v w → w ≡ looked v found
-  loads way p found v w may told = told_so way p found v w (λ k. intents.Load k) may told
+  loads way p found v w may told = told_so way p found v w (λ k. Intent.Load k) may told
 
-  pub takes : (way : Coming ℕ) (p : Parties ℕ) (old new found : ℕ) (v w : View Permits) → MayStep (semaphore_model initial) (words.State ∷ []) way 0 (λ k. intents.Exchange k old new) p →
+  pub takes : (way : Coming ℕ) (p : Parties ℕ) (old new found : ℕ) (v w : View Permits) → MayStep (semaphore_model initial) (Word.State ∷ []) way 0 (λ k. Intent.Exchange k old new) p →
       Told (semaphore_model initial) sights_after permits_after way p found v w → found ≡ old → w ≡ wrote v (took v.tally)
-  takes way p old new found v w may told hit = told_so way p found v w (λ k. intents.Exchange k old new) may told
-      ∙ ap (λ (b : Bool). After (acts.Exchange words.State old new found b) may.call v) (subst (λ n. (n == old) ≡ true) (sym hit) (eqb_same old))
+  takes way p old new found v w may told hit = told_so way p found v w (λ k. Intent.Exchange k old new) may told
+      ∙ ap (λ (b : Bool). After (Act.Exchange Word.State old new found b) may.call v) (subst (λ n. (n == old) ≡ true) (sym hit) (eqb_same old))
 
-  pub misses : (way : Coming ℕ) (p : Parties ℕ) (old new found : ℕ) (v w : View Permits) → MayStep (semaphore_model initial) (words.State ∷ []) way 0 (λ k. intents.Exchange k old new) p →
+  pub misses : (way : Coming ℕ) (p : Parties ℕ) (old new found : ℕ) (v w : View Permits) → MayStep (semaphore_model initial) (Word.State ∷ []) way 0 (λ k. Intent.Exchange k old new) p →
       Told (semaphore_model initial) sights_after permits_after way p found v w → found ≢ old → w ≡ missed v old found
-  misses way p old new found v w may told miss = told_so way p found v w (λ k. intents.Exchange k old new) may told
-      ∙ ap (λ (b : Bool). After (acts.Exchange words.State old new found b) may.call v) (ne_eqb found old miss)
+  misses way p old new found v w may told miss = told_so way p found v w (λ k. Intent.Exchange k old new) may told
+      ∙ ap (λ (b : Bool). After (Act.Exchange Word.State old new found b) may.call v) (ne_eqb found old miss)
 
-  pub gives : (p : Parties ℕ) (n found : ℕ) (v w : View Permits) → (may : MayStep (semaphore_model initial) (words.State ∷ []) (Beginning (calls.Post n)) 0 (λ k. intents.Add k n) p) →
-      Told (semaphore_model initial) sights_after permits_after (Beginning (calls.Post n)) p found v w → w ≡ wrote v (gave n v.tally)
-  gives p n found v w may told = told_so (Beginning (calls.Post n)) p found v w (λ k. intents.Add k n) may told
-      ∙ ap (λ (call : Call ℕ). After (acts.Add words.State found ((found + n) % 2 ^ 64)) call v) (sym may.comes.0)
+  pub gives : (p : Parties ℕ) (n found : ℕ) (v w : View Permits) → (may : MayStep (semaphore_model initial) (Word.State ∷ []) (Beginning (Call.Post n)) 0 (λ k. Intent.Add k n) p) →
+      Told (semaphore_model initial) sights_after permits_after (Beginning (Call.Post n)) p found v w → w ≡ wrote v (gave n v.tally)
+  gives p n found v w may told = told_so (Beginning (Call.Post n)) p found v w (λ k. Intent.Add k n) may told
+      ∙ ap (λ (call : Call ℕ). After (Act.Add Word.State found ((found + n) % 2 ^ 64)) call v) (sym may.comes.0)
 
   -- Where no other pass is left, the word is what the tally comes to.
 
@@ -70,7 +49,7 @@ module _ (initial : ℕ) where
     pub value_is : word ≡ value_of t
     pub enough : t.taken ≤ t.given
 
-  pub leaves : initial < 2 ^ 64 → (parties : ℕ) (past : List (Event ℕ)) (t : Permits) → IsPast u64_arithmetic (semaphore_table initial) parties past → ArePermitsOf initial past t → Leaves t (word_in (semaphore_table initial) past words.State)
+  pub leaves : initial < 2 ^ 64 → (parties : ℕ) (past : List (Event ℕ)) (t : Permits) → IsPast u64_arithmetic (semaphore_table initial) parties past → ArePermitsOf initial past t → Leaves t (word_in (semaphore_table initial) past Word.State)
   leaves fits parties past t run is =
       let left = semaphore_tallies u64_arithmetic initial parties fits past run in
       record { value_is = left.0 ∙ sym (ap (λ (p : ℕ × ℕ). (p.0 - p.1) % 2 ^ 64) (λ i. (is.given i, is.taken i))); enough = omega (arith, is.given, is.taken, left.1) }
@@ -78,25 +57,25 @@ module _ (initial : ℕ) where
   -- and so do the calls find it
   module _ (fits : initial < 2 ^ 64) (t : Permits) where
     found_there : (intent : Word → Intent ℕ) (way : Coming ℕ) (p : Parties ℕ) (found : ℕ) → ((w : Word) (memory : Word → ℕ) → value_told (carried_out (intent w) memory) ≡ Some (memory w)) →
-        MayStep (semaphore_model initial) (words.State ∷ []) way 0 intent p → WentAlone (semaphore_model initial) (λ past. ArePermitsOf initial past t) way p found → Leaves t found
+        MayStep (semaphore_model initial) (Word.State ∷ []) way 0 intent p → WentAlone (semaphore_model initial) (λ past. ArePermitsOf initial past t) way p found → Leaves t found
     found_there intent way p found tells may went =
         let s = went may.call may.place may.hold may.done may.comes in
         let act : carried_out (intent may.name) (λ _. found) ≡ carried_out (intent may.name) (word_in (semaphore_table initial) s.past) =
         subst (λ (k : Intent ℕ). carried_out k (λ _. found) ≡ carried_out k (word_in (semaphore_table initial) s.past)) may.intends s.found_is in
-        let found_is : found ≡ word_in (semaphore_table initial) s.past words.State =
+        let found_is : found ≡ word_in (semaphore_table initial) s.past Word.State =
         some_same _ _ (sym (tells may.name (λ _. found)) ∙ ap value_told act ∙ tells may.name (word_in (semaphore_table initial) s.past)) ∙ sym (ap (word_in (semaphore_table initial) s.past) may.named) in
         subst (Leaves t) (sym found_is) (leaves fits s.parties s.past t s.run s.says)
 
-    pub loaded_there : (way : Coming ℕ) (p : Parties ℕ) (found : ℕ) → MayStep (semaphore_model initial) (words.State ∷ []) way 0 (λ w. intents.Load w) p → WentAlone (semaphore_model initial) (λ past. ArePermitsOf initial past t) way p found → Leaves t found
-    loaded_there way p found = found_there (λ w. intents.Load w) way p found (λ w memory. refl)
+    pub loaded_there : (way : Coming ℕ) (p : Parties ℕ) (found : ℕ) → MayStep (semaphore_model initial) (Word.State ∷ []) way 0 (λ w. Intent.Load w) p → WentAlone (semaphore_model initial) (λ past. ArePermitsOf initial past t) way p found → Leaves t found
+    loaded_there way p found = found_there (λ w. Intent.Load w) way p found (λ w memory. refl)
 
-    pub exchanged_there : (old new : ℕ) (way : Coming ℕ) (p : Parties ℕ) (found : ℕ) → MayStep (semaphore_model initial) (words.State ∷ []) way 0 (λ w. intents.Exchange w old new) p →
+    pub exchanged_there : (old new : ℕ) (way : Coming ℕ) (p : Parties ℕ) (found : ℕ) → MayStep (semaphore_model initial) (Word.State ∷ []) way 0 (λ w. Intent.Exchange w old new) p →
         WentAlone (semaphore_model initial) (λ past. ArePermitsOf initial past t) way p found → Leaves t found
-    exchanged_there old new way p found = found_there (λ w. intents.Exchange w old new) way p found (λ w memory. refl)
+    exchanged_there old new way p found = found_there (λ w. Intent.Exchange w old new) way p found (λ w memory. refl)
 
-    pub closed_there : (p : Parties ℕ) (found : ℕ) → HasClosed {S = Unit {0}} (PlaysAndCounts {M = SemaphoreScript} {Q = SemaphorePlace} (semaphore_model initial) (words.State ∷ []) (λ _ _ _. Unit {0}) (ArePermitsOf initial)) (played p t) 0 found → Leaves t found
+    pub closed_there : (p : Parties ℕ) (found : ℕ) → HasClosed {S = Unit {0}} (PlaysAndCounts {M = SemaphoreScript} {Q = SemaphorePlace} (semaphore_model initial) (Word.State ∷ []) (λ _ _ _. Unit {0}) (ArePermitsOf initial)) (played p t) 0 found → Leaves t found
     closed_there p found closed = let r = closed.rule in
-        subst (Leaves t) (sym (sym closed.here ∙ hold_at (words.State ∷ []) closed.words 0 words.State _ r.played.hold refl)) (leaves fits r.played.parties r.played.past t r.played.run r.follows)
+        subst (Leaves t) (sym (sym closed.here ∙ hold_at (Word.State ∷ []) closed.words 0 Word.State _ r.played.hold refl)) (leaves fits r.played.parties r.played.past t r.played.run r.follows)
 
 -- whenever the rule holds
 pub permits_are_of_a_run : PermitsAreOfARun
@@ -104,7 +83,7 @@ permits_are_of_a_run initial fits s r =
     let all : PlayedSemaphore = sum_of (none_played no_permits) (both_played both_permits) s.views in
     let left = leaves initial fits r.agree.played.parties r.agree.played.past all.counts r.agree.played.run r.agree.follows in
     record {
-      run = of_a_run (semaphore_model initial) (words.State ∷ []) (λ _ _ _. Unit {0}) (ArePermitsOf initial) s.words s.homes all r.agree;
+      run = of_a_run (semaphore_model initial) (Word.State ∷ []) (λ _ _ _. Unit {0}) (ArePermitsOf initial) s.words s.homes all r.agree;
       enough = left.enough;
-      word = hold_at (words.State ∷ []) s.words 0 words.State _ r.agree.played.hold refl ∙ left.value_is;
+      word = hold_at (Word.State ∷ []) s.words 0 Word.State _ r.agree.played.hold refl ∙ left.value_is;
     }

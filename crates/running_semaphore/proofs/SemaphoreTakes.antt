@@ -1,21 +1,8 @@
 -- What the looks and exchanges of a call come to that takes a permit.
-use Rattle.std.proofs.Common.{◌≡◌, ◌≢◌, ℕ, ◌-◌, ◌<◌, ◌==◌, ◌&&◌, Bool, true, false, Option, Some, None, MatchBool, inr, refl, sym, ap, subst, ◌∙◌, arith}
+use Rattle.running_semaphore.specs.Names.{View, IsWhole, WaitResult, Success, Interrupted, IfSuccess, IfInterrupted, IsSuccess, IsInterrupted, part_of, sights_of, HasLooked, LooksOnceOrMisses, looked, wrote, counts_of, counted, HasSeen, HasMissed, HasDone, HasOnlySeen, WasRefused, Permits, value_of}
+use Rattle.running_semaphore.proofs.Names.{◌≡◌, ◌≢◌, ℕ, ◌-◌, ◌<◌, ◌==◌, ◌&&◌, Bool, true, false, Option, Some, None, MatchBool, inr, refl, sym, ap, subst, ◌∙◌, arith, eqb_same, moved_later}
 use mathlib.Core.Logic.{dite}
 use native.Mathlib.Decide.{ℕ_discrete}
-use Rattle.steps_events.proofs.Holds.{eqb_same}
-use Rattle.passes.specs.declared.view.View.{View}
-use Rattle.passes.specs.Parts.{IsWhole}
-use Rattle.passes.specs.declared.wait.WaitResult.{WaitResult}
-use Rattle.passes.specs.declared.wait.WaitResult.TheVariants.{Success, Interrupted}
-use Rattle.passes.specs.Answers.{IfSuccess, IfInterrupted, IsSuccess, IsInterrupted}
-use Rattle.passes.specs.Passes.{part_of, sights_of}
-use Rattle.passes.specs.Sights.{HasLooked, LooksOnceOrMisses}
-use Rattle.passes.specs.Views.{looked, wrote}
-use Rattle.playing.specs.Passes.{counts_of, counted}
-use Rattle.playing.specs.Counts.{HasSeen, HasMissed, HasDone, HasOnlySeen, WasRefused}
-use Rattle.playing.proofs.Attempts.{moved_later}
-use Rattle.tallies.specs.declared.semaphore.Permits.{Permits}
-use Rattle.tallies.specs.SemaphoreRule.{value_of}
 use Rattle.running_semaphore.specs.SemaphoreSteps.{took}
 use Rattle.running_semaphore.specs.SemaphoreShown.{SemPass, IsEmpty, Takes, HasTaken, HasTakenAtOnce, worth_of}
 

@@ -1,3 +1,4 @@
+pub mod Names
 pub mod SemaphoreParties
 pub mod SemaphoreSteps
 pub mod SemaphoreShown

@@ -1,18 +1,7 @@
 -- The parties of the model that a pass of a semaphore is, and how their calls go.
-use Rattle.std.specs.Prelude.{ℕ, ◌-◌, Bool, List, None, MatchBool}
-use Rattle.steps_events.specs.declared.event.Call.{Call}
-use Rattle.steps_events.specs.declared.event.Call.TheVariants as calls
-use Rattle.steps_events.specs.declared.event.Answer.TheVariants as answers
+use Rattle.running_semaphore.specs.Names.{ℕ, ◌-◌, Bool, List, None, MatchBool, Call, Answer, within, refused, SemaphorePlace, try_look, look, semaphore_model, Slot, Parties, Coming, ComesBy, Leads, HasEnded}
 use Rattle.steps_events.specs.declared.patience.Patience.{Patience}
 use Rattle.steps_events.specs.declared.row.After.{After}
-use Rattle.steps_events.specs.declared.row.After.TheVariants as afters
-use Rattle.steps_events.specs.Rows.{within, refused}
-use Rattle.steps_semaphore.specs.declared.SemaphorePlace.{SemaphorePlace}
-use Rattle.steps_semaphore.specs.declared.SemaphorePlace.TheVariants as places
-use Rattle.steps_semaphore.specs.Table.{try_look, look}
-use Rattle.tallies.specs.SemaphoreScript.{semaphore_model}
-use Rattle.playing.specs.Slots.{Slot, Parties}
-use Rattle.playing.specs.Plays.{Coming, ComesBy, Leads, HasEnded}
 
 -- A call that wants a permit: a `TryWait`, or a `Wait` that has this patience.
 pub data Wanting : Type 0 where
@@ -20,17 +9,17 @@ pub data Wanting : Type 0 where
   Waiting : Patience → Wanting
 
 abbrev pub call_of : Wanting → Call ℕ
-call_of Trying = calls.TryWait
-call_of (Waiting patience) = calls.Wait
+call_of Trying = Call.TryWait
+call_of (Waiting patience) = Call.Wait
 
 -- where it looks, and where it takes a permit from what it saw
 abbrev pub look_of : Wanting → SemaphorePlace
-look_of Trying = places.TryLook
-look_of (Waiting patience) = places.Look patience
+look_of Trying = SemaphorePlace.TryLook
+look_of (Waiting patience) = SemaphorePlace.Look patience
 
 abbrev pub take_of : Wanting → ℕ → SemaphorePlace
-take_of Trying seen = places.TryTake seen (seen - 1)
-take_of (Waiting patience) seen = places.Take seen (seen - 1) patience
+take_of Trying seen = SemaphorePlace.TryTake seen (seen - 1)
+take_of (Waiting patience) seen = SemaphorePlace.Take seen (seen - 1) patience
 
 -- how it goes on by what it saw, and where that was 0
 abbrev pub once_seen : Wanting → ℕ → After ℕ SemaphorePlace
@@ -38,8 +27,8 @@ once_seen Trying seen = try_look seen
 once_seen (Waiting patience) seen = look patience seen
 
 abbrev pub once_empty : Wanting → After ℕ SemaphorePlace
-once_empty Trying = afters.Ends answers.Interrupted
-once_empty (Waiting patience) = within places.Look (refused patience 0)
+once_empty Trying = After.Ends Answer.Interrupted
+once_empty (Waiting patience) = within SemaphorePlace.Look (refused patience 0)
 
 module _ (initial : ℕ) where
   -- a call of the pass that wants a permit comes so to its look
@@ -62,7 +51,7 @@ module _ (initial : ℕ) where
 
   -- it took a permit
   abbrev pub HasOne : Wanting → List (Slot ℕ) → Parties ℕ → Type 0
-  HasOne wanting done p = HasEnded (semaphore_model initial) (call_of wanting) answers.Success None done p
+  HasOne wanting done p = HasEnded (semaphore_model initial) (call_of wanting) Answer.Success None done p
 
   -- it took a permit, or saw none
   abbrev pub HasWanted : Coming ℕ → Bool → Parties ℕ → Parties ℕ → Type 0

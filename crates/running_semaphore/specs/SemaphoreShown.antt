@@ -1,29 +1,8 @@
 -- What contracts see of a semaphore and its pass, and what a call changes in a pass.
-use Rattle.std.specs.Prelude.{◌≡◌, ℕ, ◌+◌, ◌<◌, ◌≤◌, ◌%◌, ◌^◌, None}
-use Rattle.steps_events.specs.declared.event.Call.{Call}
-use Rattle.steps_events.specs.declared.event.Call.TheVariants as calls
-use Rattle.steps_events.specs.declared.event.Answer.{Answer}
-use Rattle.steps_events.specs.declared.event.Answer.TheVariants as answers
-use Rattle.steps_events.specs.declared.event.Then.TheVariants as thens
-use Rattle.steps_semaphore.specs.declared.SemaphorePlace.{SemaphorePlace}
-use Rattle.steps_semaphore.specs.declared.SemaphorePlace.TheVariants as places
-use Rattle.tallies.specs.SemaphoreScript.{semaphore_model}
+use Rattle.running_semaphore.specs.Names.{◌≡◌, ℕ, ◌+◌, ◌<◌, ◌≤◌, ◌%◌, ◌^◌, None, Call, Answer, Then, SemaphorePlace, semaphore_model, WaitResult, Success, Interrupted, IsWhole, IsSamePass, part_of, sights_of, looked, wrote, Played, Parties, all_of, HasCalled, IsAt, parties_of, counts_of, counted, HasMoved, Permits, SemaphoreScript, value_of}
 use Rattle.passes.specs.declared.part.Part.{Part}
 use Rattle.passes.specs.declared.pass.Pass.{Pass}
-use Rattle.passes.specs.declared.wait.WaitResult.{WaitResult}
-use Rattle.passes.specs.declared.wait.WaitResult.TheVariants.{Success, Interrupted}
-use Rattle.passes.specs.Parts.{IsWhole}
-use Rattle.passes.specs.Passes.{IsSamePass, part_of, sights_of}
-use Rattle.passes.specs.Views.{looked, wrote}
-use Rattle.playing.specs.declared.played.Played.{Played}
-use Rattle.playing.specs.Slots.{Parties, all_of}
-use Rattle.playing.specs.Plays.{HasCalled, IsAt}
-use Rattle.playing.specs.Passes.{parties_of, counts_of, counted}
-use Rattle.playing.specs.Counts.{HasMoved}
 use Rattle.playing.specs.Stages.{IsPassOf, key_of}
-use Rattle.tallies.specs.declared.semaphore.Permits.{Permits}
-use Rattle.tallies.specs.declared.semaphore.SemaphoreScript.{SemaphoreScript}
-use Rattle.tallies.specs.SemaphoreRule.{value_of}
 use Rattle.running_semaphore.specs.declared.Semaphore.{Semaphore}
 use Rattle.running_semaphore.specs.SemaphoreSteps.{took}
 
@@ -81,8 +60,8 @@ pub record HasCounted (more less : ℕ) (p q : SemPass) : Type 0 where
 
 -- how the model answers a call that is answered so
 abbrev pub answer_of : {H : Type 0} → WaitResult H → Answer ℕ
-answer_of (Success h) = answers.Success
-answer_of Interrupted = answers.Interrupted
+answer_of (Success h) = Answer.Success
+answer_of Interrupted = Answer.Interrupted
 
 module _ (initial : ℕ) where
   -- There is a run of the model, which keeps the law of a semaphore of this initial value, in which a party of the pass has just been
@@ -92,11 +71,11 @@ module _ (initial : ℕ) where
 
   -- As a party that is new the pass has begun a `Post` of so many and added them, in a run that keeps the semaphore's law; and is to wake one.
   abbrev pub Posts : ℕ → Parties ℕ → Parties ℕ → Type 0
-  Posts value p q = IsAt (semaphore_model initial) (calls.Post value) places.Wake thens.GoesOn None (all_of p) q
+  Posts value p q = IsAt (semaphore_model initial) (Call.Post value) SemaphorePlace.Wake Then.GoesOn None (all_of p) q
 
   abbrev pub HasPlayedPost : ℕ → SemPass → SemPass → Type 0
   HasPlayedPost value p q = Posts value (parties_of p) (parties_of q)
 
   -- it has made a `Wait` that took a permit, and then a `Post` of one
   abbrev pub HasPlayedBoth : SemPass → SemPass → Type 0
-  HasPlayedBoth p q = (held : Parties ℕ) × HasCalled (semaphore_model initial) calls.Wait answers.Success None (parties_of p) held × Posts 1 held (parties_of q)
+  HasPlayedBoth p q = (held : Parties ℕ) × HasCalled (semaphore_model initial) Call.Wait Answer.Success None (parties_of p) held × Posts 1 held (parties_of q)

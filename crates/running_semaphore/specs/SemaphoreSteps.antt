@@ -1,16 +1,6 @@
 -- What holds whenever the rule of a semaphore does, and what a step changes in a pass.
-use Rattle.std.specs.Prelude.{◌≡◌, ℕ, ◌+◌, ◌≤◌, ◌<◌, ◌^◌, [], ◌∷◌, slice_index}
+use Rattle.running_semaphore.specs.Names.{◌≡◌, ℕ, ◌+◌, ◌≤◌, ◌<◌, ◌^◌, [], ◌∷◌, slice_index, Word, SemaphorePlace, View, sum_of, IsCounted, Played, none_played, both_played, PlaysAndCounts, IsOfARun, Permits, SemaphoreScript, permits, no_permits, both_permits, value_of, ArePermitsOf, semaphore_model}
 use Rattle.atomic_table.specs.Table.{State}
-use Rattle.steps_events.specs.declared.event.Word.TheVariants as words
-use Rattle.steps_semaphore.specs.declared.SemaphorePlace.{SemaphorePlace}
-use Rattle.passes.specs.declared.view.View.{View}
-use Rattle.passes.specs.Views.{sum_of, IsCounted}
-use Rattle.playing.specs.declared.played.Played.{Played}
-use Rattle.playing.specs.Passes.{none_played, both_played, PlaysAndCounts, IsOfARun}
-use Rattle.tallies.specs.declared.semaphore.Permits.{Permits}
-use Rattle.tallies.specs.declared.semaphore.SemaphoreScript.{SemaphoreScript}
-use Rattle.tallies.specs.SemaphoreRule.{permits, no_permits, both_permits, value_of, ArePermitsOf}
-use Rattle.tallies.specs.SemaphoreScript.{semaphore_model}
 
 -- what a pass of a semaphore is in its model, and counts beside
 abbrev pub PlayedSemaphore : Type 0
@@ -18,7 +8,7 @@ PlayedSemaphore = Played SemaphoreScript SemaphorePlace ℕ Permits
 
 -- the rule of a semaphore of this initial value holds
 abbrev pub IsRuled : ℕ → State (Unit {0}) (View PlayedSemaphore) → Type 0
-IsRuled initial s = IsCounted (none_played no_permits) (both_played both_permits) (PlaysAndCounts (semaphore_model initial) (words.State ∷ []) (λ _ _ _. Unit {0}) (ArePermitsOf initial)) s
+IsRuled initial s = IsCounted (none_played no_permits) (both_played both_permits) (PlaysAndCounts (semaphore_model initial) (Word.State ∷ []) (λ _ _ _. Unit {0}) (ArePermitsOf initial)) s
 
 -- All passes are the parties of a run whose acts gave and took what they did. No more was taken than given, and the word is what is left.
 pub record AreLeft (initial : ℕ) (s : State (Unit {0}) (View PlayedSemaphore)) : Type 0 where

@@ -1,3 +1,4 @@
+pub mod Names
 pub mod ValueKeeps
 pub mod ValueSights
 pub mod SpinPlays

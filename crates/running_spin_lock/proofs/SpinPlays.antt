@@ -1,54 +1,30 @@
 -- The steps of a spin lock are those of its table.
-use Rattle.std.proofs.Common.{◌≡◌, ◌≢◌, ◌≤◌, ◌==◌, ℕ, zero, suc, Bool, true, false, cond, refl, sym, ap, subst, ◌∙◌, List, [], ◌∷◌, Option, Some, None, inl, inr, arith}
-use Rattle.std.specs.Prelude.{MatchBool}
-use Rattle.std.proofs.lemmas.Bool.{ne_eqb}
-use Rattle.steps_events.specs.declared.event.Word.{Word}
-use Rattle.steps_events.specs.declared.event.Word.TheVariants as words
-use Rattle.steps_events.specs.declared.event.Call.{Call}
-use Rattle.steps_events.specs.declared.event.Call.TheVariants as calls
-use Rattle.steps_events.specs.declared.event.Act.{Act}
-use Rattle.steps_events.specs.declared.event.Act.TheVariants as acts
-use Rattle.steps_events.specs.declared.event.Event.{Event}
-use Rattle.steps_events.specs.declared.event.Then.{Then}
-use Rattle.steps_events.specs.declared.event.Answer.TheVariants as answers
-use Rattle.steps_events.specs.declared.hold.HoldKind.{HoldKind}
-use Rattle.steps_events.specs.declared.hold.HoldKind.TheVariants as kinds
-use Rattle.steps_events.specs.declared.row.Intent.{Intent}
-use Rattle.steps_events.specs.declared.row.Intent.TheVariants as intents
-use Rattle.steps_spin.specs.declared.SpinPlace.{SpinPlace}
-use Rattle.steps_spin.specs.declared.SpinPlace.TheVariants as places
-use Rattle.steps_events.specs.Rows.{carried_out}
-use Rattle.steps_events.specs.Past.{PendingCall, call_of}
-use Rattle.steps_spin.specs.Table.{spin_table, spin_intent}
-use Rattle.steps_spin.specs.Law.{SpinStep}
+use Rattle.running_spin_lock.specs.Names.{MatchBool, Word, Call, Act, Event, Then, Answer, HoldKind, Intent, SpinPlace, carried_out, PendingCall, call_of, spin_table, spin_intent, SpinStep, Slot, Parties, all_of, Coming, Going, Beginning, Continuing, ComesBy, IsHolding, Led, HasCalled, MayStep, IsStepAt, Went, grants_by}
+use Rattle.running_spin_lock.proofs.Names.{◌≡◌, ◌≢◌, ◌≤◌, ◌==◌, ℕ, zero, suc, Bool, true, false, cond, refl, sym, ap, subst, ◌∙◌, List, [], ◌∷◌, Option, Some, None, inl, inr, arith, ne_eqb, is_over}
 use Rattle.running_spin_lock.specs.SpinLawful.{spin_model, spin_lawful}
-use Rattle.playing.specs.Slots.{Slot, Parties, all_of}
-use Rattle.playing.specs.Plays.{Coming, Going, Beginning, Continuing, ComesBy, IsHolding, Led, HasCalled, MayStep, IsStepAt, Went}
-use Rattle.playing.specs.Sums.{grants_by}
 use Rattle.playing.specs.Turns.{IsOver}
 use Rattle.playing.proofs.Holding.{holding_told, holding_is}
-use Rattle.playing.proofs.Over.{is_over}
 use Rattle.playing.proofs.Steps.{next_step}
 use Rattle.running_spin_lock.specs.SpinParties.{IsWaiting, IsSpinning, IsGranted, HasLock, Unlocks}
 
 -- how the calls begin
 
-pub try_begins : (p : Parties ℕ) → ComesBy spin_model (Beginning calls.TryLock) calls.TryLock places.TryLock None (all_of p) p
+pub try_begins : (p : Parties ℕ) → ComesBy spin_model (Beginning Call.TryLock) Call.TryLock SpinPlace.TryLock None (all_of p) p
 try_begins p = (refl, record { may = record { begins = refl; free = refl; values = tt }; new = refl; others = refl })
 
-pub lock_begins : (call : Call ℕ) (p : Parties ℕ) → IsWaiting call → ComesBy spin_model (Beginning call) call places.Lock None (all_of p) p
-lock_begins call p (inl is) = subst (λ c. ComesBy spin_model (Beginning c) c places.Lock None (all_of p) p) (sym is) (refl, record { may = record { begins = refl; free = refl; values = tt }; new = refl; others = refl })
-lock_begins call p (inr is) = subst (λ c. ComesBy spin_model (Beginning c) c places.Lock None (all_of p) p) (sym is) (refl, record { may = record { begins = refl; free = refl; values = tt }; new = refl; others = refl })
+pub lock_begins : (call : Call ℕ) (p : Parties ℕ) → IsWaiting call → ComesBy spin_model (Beginning call) call SpinPlace.Lock None (all_of p) p
+lock_begins call p (inl is) = subst (λ c. ComesBy spin_model (Beginning c) c SpinPlace.Lock None (all_of p) p) (sym is) (refl, record { may = record { begins = refl; free = refl; values = tt }; new = refl; others = refl })
+lock_begins call p (inr is) = subst (λ c. ComesBy spin_model (Beginning c) c SpinPlace.Lock None (all_of p) p) (sym is) (refl, record { may = record { begins = refl; free = refl; values = tt }; new = refl; others = refl })
 
-pub unlock_begins : (done : List (Slot ℕ)) (p : Parties ℕ) → IsHolding spin_model kinds.Write done p → ComesBy spin_model (Continuing calls.Unlock) calls.Unlock places.Release (Some kinds.Write) done p
-unlock_begins done p holding = (refl, record { kind = kinds.Write; may = record { begins = refl; free = refl; values = tt }; kept = refl; holding = holding })
+pub unlock_begins : (done : List (Slot ℕ)) (p : Parties ℕ) → IsHolding spin_model HoldKind.Write done p → ComesBy spin_model (Continuing Call.Unlock) Call.Unlock SpinPlace.Release (Some HoldKind.Write) done p
+unlock_begins done p holding = (refl, record { kind = HoldKind.Write; may = record { begins = refl; free = refl; values = tt }; kept = refl; holding = holding })
 
 -- the swap that the table has
 
 abbrev MaySwap : Coming ℕ → Parties ℕ → Type 0
-MaySwap way p = MayStep spin_model (words.State ∷ []) way 0 (λ w. intents.Swap w 1) p
+MaySwap way p = MayStep spin_model (Word.State ∷ []) way 0 (λ w. Intent.Swap w 1) p
 
-may_swap : (way : Coming ℕ) (call : Call ℕ) (place : SpinPlace) (done : List (Slot ℕ)) (p : Parties ℕ) → ◌≡◌ {A = Intent ℕ} (spin_intent words.State place) (intents.Swap words.State 1) →
+may_swap : (way : Coming ℕ) (call : Call ℕ) (place : SpinPlace) (done : List (Slot ℕ)) (p : Parties ℕ) → ◌≡◌ {A = Intent ℕ} (spin_intent Word.State place) (Intent.Swap Word.State 1) →
     ComesBy spin_model way call place None done p → MaySwap way p
 may_swap way call place done p intends comes = record {
   call = call;
@@ -56,20 +32,20 @@ may_swap way call place done p intends comes = record {
   hold = None;
   done = done;
   comes = comes;
-  name = words.State;
+  name = Word.State;
   named = refl;
   intends = intends;
   on = refl;
 }
 
-pub may_try_lock : (p : Parties ℕ) → MaySwap (Beginning calls.TryLock) p
-may_try_lock p = may_swap _ calls.TryLock places.TryLock (all_of p) p refl (try_begins p)
+pub may_try_lock : (p : Parties ℕ) → MaySwap (Beginning Call.TryLock) p
+may_try_lock p = may_swap _ Call.TryLock SpinPlace.TryLock (all_of p) p refl (try_begins p)
 
 pub may_begin : (call : Call ℕ) (p : Parties ℕ) → IsWaiting call → MaySwap (Beginning call) p
-may_begin call p waits = may_swap _ call places.Lock (all_of p) p refl (lock_begins call p waits)
+may_begin call p waits = may_swap _ call SpinPlace.Lock (all_of p) p refl (lock_begins call p waits)
 
 pub may_spin : (call : Call ℕ) (done : List (Slot ℕ)) (p : Parties ℕ) → IsSpinning call done p → MaySwap Going p
-may_spin call done p at = may_swap Going call places.Lock done p refl at
+may_spin call done p at = may_swap Going call SpinPlace.Lock done p refl at
 
 -- it leaves a 1
 pub one_stays : (n : ℕ) → n ≢ 0 → n ≤ 1 → 1 ≡ n
@@ -78,28 +54,28 @@ one_stays (suc n) some one = omega (arith, one)
 
 -- where it leads
 
-refused : (found : ℕ) (p q : Parties ℕ) → found ≢ 0 → Led spin_model calls.TryLock places.TryLock None found (all_of p) q → HasCalled spin_model calls.TryLock answers.Interrupted None p q
+refused : (found : ℕ) (p q : Parties ℕ) → found ≢ 0 → Led spin_model Call.TryLock SpinPlace.TryLock None found (all_of p) q → HasCalled spin_model Call.TryLock Answer.Interrupted None p q
 refused zero p q miss led = absurd (miss refl)
 refused (suc n) p q miss led = rw (ne_eqb (suc n) 0 miss) at led
 
-pub try_ends : (free : Bool) (found : ℕ) (p q : Parties ℕ) → MatchBool free (found ≡ 0) (found ≢ 0) → Went spin_model (Beginning calls.TryLock) p found q →
-    MatchBool free (HasCalled spin_model calls.TryLock answers.Success (Some kinds.Write) p q) (HasCalled spin_model calls.TryLock answers.Interrupted None p q)
-try_ends true found p q hit went = subst (λ n. Led spin_model calls.TryLock places.TryLock None n (all_of p) q) hit (went calls.TryLock places.TryLock None (all_of p) (try_begins p))
-try_ends false found p q miss went = refused found p q miss (went calls.TryLock places.TryLock None (all_of p) (try_begins p))
+pub try_ends : (free : Bool) (found : ℕ) (p q : Parties ℕ) → MatchBool free (found ≡ 0) (found ≢ 0) → Went spin_model (Beginning Call.TryLock) p found q →
+    MatchBool free (HasCalled spin_model Call.TryLock Answer.Success (Some HoldKind.Write) p q) (HasCalled spin_model Call.TryLock Answer.Interrupted None p q)
+try_ends true found p q hit went = subst (λ n. Led spin_model Call.TryLock SpinPlace.TryLock None n (all_of p) q) hit (went Call.TryLock SpinPlace.TryLock None (all_of p) (try_begins p))
+try_ends false found p q miss went = refused found p q miss (went Call.TryLock SpinPlace.TryLock None (all_of p) (try_begins p))
 
-led_granted : (call : Call ℕ) (done : List (Slot ℕ)) (q : Parties ℕ) → IsWaiting call → Led spin_model call places.Lock None 0 done q → IsGranted call done q
-led_granted call done q (inl is) led = subst (λ c. IsGranted c done q) (sym is) (subst (λ c. Led spin_model c places.Lock None 0 done q) is led)
-led_granted call done q (inr is) led = subst (λ c. IsGranted c done q) (sym is) (subst (λ c. Led spin_model c places.Lock None 0 done q) is led)
+led_granted : (call : Call ℕ) (done : List (Slot ℕ)) (q : Parties ℕ) → IsWaiting call → Led spin_model call SpinPlace.Lock None 0 done q → IsGranted call done q
+led_granted call done q (inl is) led = subst (λ c. IsGranted c done q) (sym is) (subst (λ c. Led spin_model c SpinPlace.Lock None 0 done q) is led)
+led_granted call done q (inr is) led = subst (λ c. IsGranted c done q) (sym is) (subst (λ c. Led spin_model c SpinPlace.Lock None 0 done q) is led)
 
-led_on : (call : Call ℕ) (found : ℕ) (done : List (Slot ℕ)) (q : Parties ℕ) → found ≢ 0 → Led spin_model call places.Lock None found done q → IsSpinning call done q
+led_on : (call : Call ℕ) (found : ℕ) (done : List (Slot ℕ)) (q : Parties ℕ) → found ≢ 0 → Led spin_model call SpinPlace.Lock None found done q → IsSpinning call done q
 led_on call zero done q miss led = absurd (miss refl)
 led_on call (suc n) done q miss led = rw (ne_eqb (suc n) 0 miss) at led
 
 pub lock_goes : (free : Bool) (way : Coming ℕ) (call : Call ℕ) (found : ℕ) (done : List (Slot ℕ)) (p q : Parties ℕ) → IsWaiting call → MatchBool free (found ≡ 0) (found ≢ 0) →
-    Went spin_model way p found q → ComesBy spin_model way call places.Lock None done p → MatchBool free (IsGranted call done q) (IsSpinning call done q)
+    Went spin_model way p found q → ComesBy spin_model way call SpinPlace.Lock None done p → MatchBool free (IsGranted call done q) (IsSpinning call done q)
 lock_goes true way call found done p q waits hit went comes =
-    led_granted call done q waits (subst (λ n. Led spin_model call places.Lock None n done q) hit (went call places.Lock None done comes))
-lock_goes false way call found done p q waits miss went comes = led_on call found done q miss (went call places.Lock None done comes)
+    led_granted call done q waits (subst (λ n. Led spin_model call SpinPlace.Lock None n done q) hit (went call SpinPlace.Lock None done comes))
+lock_goes false way call found done p q waits miss went comes = led_on call found done q miss (went call SpinPlace.Lock None done comes)
 
 -- the first swap, and a further one
 
@@ -113,47 +89,47 @@ spin_goes free call done p q waits t at = lock_goes free Going call t.0 done p q
 
 -- who was granted the lock has it
 pub granted_has : (call : Call ℕ) (done : List (Slot ℕ)) (q : Parties ℕ) → IsGranted call done q → HasLock q
-granted_has call done q ended = holding_is spin_model kinds.Write done q ended.rests
+granted_has call done q ended = holding_is spin_model HoldKind.Write done q ended.rests
 
 -- `Unlock`
 
-pub may_unlock : (p : Parties ℕ) → HasLock p → MayStep spin_model (words.State ∷ []) (Continuing calls.Unlock) 0 (λ w. intents.Store w 0) p
+pub may_unlock : (p : Parties ℕ) → HasLock p → MayStep spin_model (Word.State ∷ []) (Continuing Call.Unlock) 0 (λ w. Intent.Store w 0) p
 may_unlock p has = record {
-  call = calls.Unlock;
-  place = places.Release;
-  hold = Some kinds.Write;
+  call = Call.Unlock;
+  place = SpinPlace.Release;
+  hold = Some HoldKind.Write;
   done = p.resting;
-  comes = unlock_begins p.resting p (holding_told spin_model kinds.Write p has);
-  name = words.State;
+  comes = unlock_begins p.resting p (holding_told spin_model HoldKind.Write p has);
+  name = Word.State;
   named = refl;
   intends = refl;
   on = refl;
 }
 
-pub unlocks : (p q : Parties ℕ) → Went spin_model (Continuing calls.Unlock) p 0 q → Unlocks p q
-unlocks p q went = λ done holding. went calls.Unlock places.Release (Some kinds.Write) done (unlock_begins done p holding)
+pub unlocks : (p q : Parties ℕ) → Went spin_model (Continuing Call.Unlock) p 0 q → Unlocks p q
+unlocks p q went = λ done holding. went Call.Unlock SpinPlace.Release (Some HoldKind.Write) done (unlock_begins done p holding)
 
 pub unlock_is_over : (p q : Parties ℕ) → HasLock p → Unlocks p q → IsOver spin_model q
-unlock_is_over p q has unlocked = is_over spin_model calls.Unlock answers.Done None p.resting q (unlocked p.resting (holding_told spin_model kinds.Write p has))
+unlock_is_over p q has unlocked = is_over spin_model Call.Unlock Answer.Done None p.resting q (unlocked p.resting (holding_told spin_model HoldKind.Write p has))
 
 -- in a run only a locking call swaps, and it takes the lock by a swap that found 0
-pub swap_grants : (call : Call ℕ) (place : SpinPlace) (hold : Option HoldKind) (past : List (Event ℕ)) (e : Event ℕ) (name : Word) (found : ℕ) → IsStepAt spin_model call place hold found past e → words.State ≡ name →
-    e.act ≡ carried_out (intents.Swap name 1) (λ _. found) → grants_by spin_table kinds.Write e.act (call_of e.party past) ≡ cond (found == 0) 1 0
+pub swap_grants : (call : Call ℕ) (place : SpinPlace) (hold : Option HoldKind) (past : List (Event ℕ)) (e : Event ℕ) (name : Word) (found : ℕ) → IsStepAt spin_model call place hold found past e → Word.State ≡ name →
+    e.act ≡ carried_out (Intent.Swap name 1) (λ _. found) → grants_by spin_table HoldKind.Write e.act (call_of e.party past) ≡ cond (found == 0) 1 0
 swap_grants call place hold past e name found step named act =
     let c : PendingCall ℕ = step.pending in
     let law = (spin_lawful step.parties (e ∷ past) step.run).law.steps in
-    let is_swap : e.act ≡ acts.Swap words.State found 1 = act ∙ ap (λ w. acts.Swap w found 1) (sym named) in
-    let next : SpinStep c.call c.own (acts.Swap words.State found 1) e.then = next_step SpinStep past e c (acts.Swap words.State found 1) is_swap refl step.under_way law in
-    subst (λ (a : Act ℕ). grants_by spin_table kinds.Write a (call_of e.party past) ≡ cond (found == 0) 1 0) (sym is_swap)
-    (subst (λ (k : Option (PendingCall ℕ)). grants_by spin_table kinds.Write (acts.Swap words.State found 1) k ≡ cond (found == 0) 1 0) (sym step.under_way) (by_call c.call c.own found e.then next))
+    let is_swap : e.act ≡ Act.Swap Word.State found 1 = act ∙ ap (λ w. Act.Swap w found 1) (sym named) in
+    let next : SpinStep c.call c.own (Act.Swap Word.State found 1) e.then = next_step SpinStep past e c (Act.Swap Word.State found 1) is_swap refl step.under_way law in
+    subst (λ (a : Act ℕ). grants_by spin_table HoldKind.Write a (call_of e.party past) ≡ cond (found == 0) 1 0) (sym is_swap)
+    (subst (λ (k : Option (PendingCall ℕ)). grants_by spin_table HoldKind.Write (Act.Swap Word.State found 1) k ≡ cond (found == 0) 1 0) (sym step.under_way) (by_call c.call c.own found e.then next))
   where
-    by_call : (called : Call ℕ) (own : List (Event ℕ)) (old : ℕ) (outcome : Then ℕ) → SpinStep called own (acts.Swap words.State old 1) outcome →
-        grants_by spin_table kinds.Write (acts.Swap words.State old 1) (Some (record { call = called; own = own })) ≡ cond (old == 0) 1 0
-    by_call calls.Lock own zero outcome next = refl
-    by_call calls.Lock own (suc n) outcome next = rw (ne_eqb (suc n) 0 (λ same. absurd (omega (arith, same)))) refl
-    by_call calls.BlockingLock own zero outcome next = refl
-    by_call calls.BlockingLock own (suc n) outcome next = rw (ne_eqb (suc n) 0 (λ same. absurd (omega (arith, same)))) refl
-    by_call calls.TryLock own zero outcome next = refl
-    by_call calls.TryLock own (suc n) outcome next = rw (ne_eqb (suc n) 0 (λ same. absurd (omega (arith, same)))) refl
-    by_call calls.Unlock own old outcome next = let same : ◌≡◌ {A = Act ℕ} (acts.Swap words.State old 1) (acts.Store words.State 0) = next.1 in absurd cc
+    by_call : (called : Call ℕ) (own : List (Event ℕ)) (old : ℕ) (outcome : Then ℕ) → SpinStep called own (Act.Swap Word.State old 1) outcome →
+        grants_by spin_table HoldKind.Write (Act.Swap Word.State old 1) (Some (record { call = called; own = own })) ≡ cond (old == 0) 1 0
+    by_call Call.Lock own zero outcome next = refl
+    by_call Call.Lock own (suc n) outcome next = rw (ne_eqb (suc n) 0 (λ same. absurd (omega (arith, same)))) refl
+    by_call Call.BlockingLock own zero outcome next = refl
+    by_call Call.BlockingLock own (suc n) outcome next = rw (ne_eqb (suc n) 0 (λ same. absurd (omega (arith, same)))) refl
+    by_call Call.TryLock own zero outcome next = refl
+    by_call Call.TryLock own (suc n) outcome next = rw (ne_eqb (suc n) 0 (λ same. absurd (omega (arith, same)))) refl
+    by_call Call.Unlock own old outcome next = let same : ◌≡◌ {A = Act ℕ} (Act.Swap Word.State old 1) (Act.Store Word.State 0) = next.1 in absurd cc
     by_call other own old outcome next = absurd next

@@ -1,6 +1,6 @@
 -- What was seen over several swaps.
-use Rattle.std.proofs.Common.{refl}
-use Rattle.passes.specs.Sights.{seen}
+use Rattle.running_spin_lock.specs.Names.{seen}
+use Rattle.running_spin_lock.proofs.Names.{refl}
 use Rattle.running_spin_lock.specs.ValueSteps.{OnlySees}
 use Rattle.running_spin_lock.specs.SpinRule.{SpinView}
 use Rattle.running_spin_lock.specs.SpinSteps.{SeesLocked}

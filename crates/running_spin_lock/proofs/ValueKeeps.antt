@@ -1,44 +1,16 @@
 -- Each step of a lock that guards a value keeps its rule, whatever model its passes play.
-use Rattle.std.proofs.Common.{◌≡◌, ◌≢◌, ℕ, zero, suc, MatchBool, ◌+◌, ◌==◌, ◌<◌, ◌≤◌, eqb, cond, List, [], ◌∷◌, get_or, set, sym, refl, ap, ◌∙◌, subst, arith, true, Option, Some, None, length-set, get_or-set_same, true-eqb}
-use Rattle.std.proofs.lemmas.Bool.{and_parts, false≢true, ne_eqb}
+use Rattle.running_spin_lock.specs.Names.{get_elem?, State, Me, opening, keeps, takes, gives, put_back, rest, Allows, Final, Seen, Sights, View, IsWhole, stale, first_view, view_of, sum_of, IsCounted, Word, Call, Act, Event, Intent, HoldKind, carried_out, call_of, IsPast, Model, Played, Coming, Continuing, IsStepAt, MayStep, Went, played, played_add_up, IsOfARun, grants_by, next_grants, Holds, no_holds, both_holds, AreGrantsIn}
+use Rattle.running_spin_lock.proofs.Names.{◌≡◌, ◌≢◌, ℕ, zero, suc, MatchBool, ◌+◌, ◌==◌, ◌<◌, ◌≤◌, eqb, cond, List, [], ◌∷◌, get_or, set, sym, refl, ap, ◌∙◌, subst, arith, true, Option, Some, None, length-set, get_or-set_same, true-eqb, and_parts, false≢true, ne_eqb, shared_first, shared_step}
 use mathlib.Core.Logic.{dite}
 use mathlib.Core.Option as maybe
 use native.Mathlib.Decide.{ℕ_discrete}
-use lib.ListN.{get_elem?}
 use Rattle.std.specs.Option.{IsSome}
-use Rattle.atomic_table.specs.Table.{State, Me, opening, keeps, takes, gives, put_back, rest, Allows, Final, Seen}
-use Rattle.passes.specs.declared.part.Sights.{Sights}
-use Rattle.passes.specs.declared.view.View.{View}
-use Rattle.passes.specs.Parts.{IsWhole}
-use Rattle.passes.specs.Sights.{stale}
-use Rattle.passes.specs.Views.{first_view, view_of, sum_of, IsCounted}
 use Rattle.passes.specs.Tallies.{IsTally}
-use Rattle.passes.proofs.Parts.{shared_first, shared_step}
 use Rattle.passes.proofs.Sums.{others, sum_at, sum_set, sum_of_two, alone}
-use Rattle.steps_events.specs.declared.event.Word.{Word}
-use Rattle.steps_events.specs.declared.event.Word.TheVariants as words
-use Rattle.steps_events.specs.declared.event.Call.{Call}
-use Rattle.steps_events.specs.declared.event.Call.TheVariants as calls
-use Rattle.steps_events.specs.declared.event.Act.{Act}
-use Rattle.steps_events.specs.declared.event.Event.{Event}
-use Rattle.steps_events.specs.declared.row.Intent.{Intent}
-use Rattle.steps_events.specs.declared.row.Intent.TheVariants as intents
-use Rattle.steps_events.specs.declared.hold.HoldKind.{HoldKind}
-use Rattle.steps_events.specs.declared.hold.HoldKind.TheVariants as kinds
-use Rattle.steps_events.specs.Rows.{carried_out}
-use Rattle.steps_events.specs.Past.{call_of}
-use Rattle.steps_events.specs.Runs.{IsPast}
-use Rattle.playing.specs.Models.{Model}
-use Rattle.playing.specs.declared.played.Played.{Played}
 use Rattle.playing.specs.Words.{effect}
-use Rattle.playing.specs.Plays.{Coming, Continuing, IsStepAt, MayStep, Went}
-use Rattle.playing.specs.Passes.{played, played_add_up, IsOfARun}
-use Rattle.playing.specs.Sums.{grants_by, next_grants}
 use Rattle.playing.proofs.Opening as opening_runs
 use Rattle.playing.proofs.OfARun.{of_a_run}
 use Rattle.playing.proofs.Updates.{makes, made_run}
-use Rattle.tallies.specs.declared.mutex.Holds.{Holds}
-use Rattle.tallies.specs.MutexRule.{no_holds, both_holds, AreGrantsIn}
 use Rattle.tallies.specs.MutexTally.{holds_add_up, grants_stay, at_zero, beside_zero}
 use Rattle.running_spin_lock.specs.ValueRule.{none_held, both_held, core_held, IsGuarding, ValueAgrees, OneHolder}
 use Rattle.running_spin_lock.specs.ValueSteps.{granted, released, Tried, Stored, is_vacant, has_vacant_slot}
@@ -46,8 +18,8 @@ use Rattle.running_spin_lock.specs.ValueSteps.{granted, released, Tried, Stored,
 -- a step of this intent grants its call where it found 0, and no other call
 abbrev pub GrantsAtZero : {P : Type 0} → Model ℕ P → (Word → Intent ℕ) → Type 0
 GrantsAtZero {P} m intent =
-    (call : Call ℕ) (place : P) (hold : Option HoldKind) (past : List (Event ℕ)) (e : Event ℕ) (name : Word) (found : ℕ) → IsStepAt m call place hold found past e → words.State ≡ name →
-    e.act ≡ carried_out (intent name) (λ _. found) → grants_by m.table kinds.Write e.act (call_of e.party past) ≡ cond (found == 0) 1 0
+    (call : Call ℕ) (place : P) (hold : Option HoldKind) (past : List (Event ℕ)) (e : Event ℕ) (name : Word) (found : ℕ) → IsStepAt m call place hold found past e → Word.State ≡ name →
+    e.act ≡ carried_out (intent name) (λ _. found) → grants_by m.table HoldKind.Write e.act (call_of e.party past) ≡ cond (found == 0) 1 0
 
 -- a try found the lock free, or not
 pub zero_or_not : (n : ℕ) → MatchBool (n == 0) (n ≡ 0) (n ≢ 0)
@@ -83,13 +55,13 @@ module _ {M Q : Type 0} where
     -- A try makes 1 of 0, and leaves a 1.
     pub tries : ((n : ℕ) (past : List (Event ℕ)) → IsPast m.arithmetic m.table n past → m.law past) → (slots id : ℕ) (see : Sights → Sights) (coming : Coming ℕ) (intent : Word → Intent ℕ) (f : ℕ → ℕ)
         (me : Me (Option T) (View (Played M Q ℕ Holds))) → ((w : Word) (n : ℕ) → effect (intent w) n ≡ f n) → f 0 ≡ 1 → ((n : ℕ) → n ≢ 0 → n ≤ 1 → f n ≡ n) → me.1 ≡ [] → 0 < me.0.part.share
-        → MayStep m (words.State ∷ []) coming 0 intent me.0.tally.parties → GrantsAtZero m intent → Allows IsKept slots id me 0 f (λ found after. Went m coming me.0.tally.parties found after.0.tally.parties × Tried see me found after)
+        → MayStep m (Word.State ∷ []) coming 0 intent me.0.tally.parties → GrantsAtZero m intent → Allows IsKept slots id me 0 f (λ found after. Went m coming me.0.tally.parties found after.0.tally.parties × Tried see me found after)
     tries lawful slots id see coming intent f me leaves grants stays none alive may granting s r wide at fits =
         let v : View (Played M Q ℕ Holds) = me.0 in let more : Played M Q ℕ Holds = the_others s.views id in let is = apart s id v r at in
         let word = is.agrees.held.word in let one = is.agrees.held.one in let long = is.agrees.held.one_word in
         let x : ℕ = get_or s.words 0 0 in let y : ℕ = f x in
         let Says : List (Event ℕ) → Type 0 = λ past. AreGrantsIn m.table past (both_holds v.tally.counts more.counts) in
-        let a = makes m (words.State ∷ []) lawful (tt, tt) coming s.words v.tally.parties more.parties 0 y x intent may (λ w. leaves w x) (λ w. refl) is.played Says
+        let a = makes m (Word.State ∷ []) lawful (tt, tt) coming s.words v.tally.parties more.parties 0 y x intent may (λ w. leaves w x) (λ w. refl) is.played Says
         (λ past e quiet so. grants_stay m.table past e (both_holds v.tally.counts more.counts) quiet so) is.follows in
         let step = granting may.call may.place may.hold a.past a.latest may.name x a.step may.named a.act_is in
         let put : get_or (set s.words 0 y) 0 0 ≡ y = get_or-set_same s.words 0 y 0 (omega (arith, long)) in
@@ -101,13 +73,13 @@ module _ {M Q : Type 0} where
           takes 0 (Some b),
           ap (λ hs. get_elem? hs 0) home.1,
           kept_again s id v w r at refl alive (set s.words 0 y) (set s.homes 0 maybe.none) (record {
-            played = made_run m (words.State ∷ []) _ _ _ _ _ _ _ _ _ _ _ _ a;
+            played = made_run m (Word.State ∷ []) _ _ _ _ _ _ _ _ _ _ _ _ a;
             agrees = record {
               held = record { one_word = length-set s.words 0 y ∙ long; word = put ∙ is_1 ∙ omega (arith, word, free); one = omega (arith, word, free) };
               home = λ off. absurd (omega (arith, off));
               out = λ _. ap (λ hs. set hs 0 maybe.none) home.1;
             };
-            follows = next_grants m.table kinds.Write a.past a.latest v.tally.counts.grants (v.tally.counts.grants + 1) more.counts.grants (omega (arith, at_zero x _ step free)) a.says;
+            follows = next_grants m.table HoldKind.Write a.past a.latest v.tally.counts.grants (v.tally.counts.grants + 1) more.counts.grants (omega (arith, at_zero x _ step free)) a.says;
           }),
           (
             a.went,
@@ -125,13 +97,13 @@ module _ {M Q : Type 0} where
           keeps,
           tt,
           kept_again s id v w r at refl alive (set s.words 0 y) s.homes (record {
-            played = made_run m (words.State ∷ []) _ _ _ _ _ _ _ _ _ _ _ _ a;
+            played = made_run m (Word.State ∷ []) _ _ _ _ _ _ _ _ _ _ _ _ a;
             agrees = record {
               held = record { one_word = length-set s.words 0 y ∙ long; word = put ∙ is_x ∙ word; one = one };
               home = is.agrees.home;
               out = is.agrees.out;
             };
-            follows = next_grants m.table kinds.Write a.past a.latest v.tally.counts.grants v.tally.counts.grants more.counts.grants (omega (arith, beside_zero x _ step held)) a.says;
+            follows = next_grants m.table HoldKind.Write a.past a.latest v.tally.counts.grants v.tally.counts.grants more.counts.grants (omega (arith, beside_zero x _ step held)) a.says;
           }),
           (
             a.went,
@@ -146,36 +118,36 @@ module _ {M Q : Type 0} where
 
     -- A store of 0 by who has the value puts it home.
     pub stores : ((n : ℕ) (past : List (Event ℕ)) → IsPast m.arithmetic m.table n past → m.law past) → (slots id : ℕ) (me : Me (Option T) (View (Played M Q ℕ Holds))) (b : T) → me.1 ≡ (0, Some b) ∷ []
-        → me.0.tally.counts.holds ≡ 1 → 0 < me.0.part.share → MayStep m (words.State ∷ []) (Continuing calls.Unlock) 0 (λ w. intents.Store w 0) me.0.tally.parties
-        → Allows IsKept slots id me 0 (λ _. 0) (λ _ after. Went m (Continuing calls.Unlock) me.0.tally.parties 0 after.0.tally.parties × Stored me after)
+        → me.0.tally.counts.holds ≡ 1 → 0 < me.0.part.share → MayStep m (Word.State ∷ []) (Continuing Call.Unlock) 0 (λ w. Intent.Store w 0) me.0.tally.parties
+        → Allows IsKept slots id me 0 (λ _. 0) (λ _ after. Went m (Continuing Call.Unlock) me.0.tally.parties 0 after.0.tally.parties × Stored me after)
     stores lawful slots id me b carries on alive may s r wide at fits =
         let v : View (Played M Q ℕ Holds) = me.0 in let more : Played M Q ℕ Holds = the_others s.views id in let is = apart s id v r at in
         let word = is.agrees.held.word in let one = is.agrees.held.one in let long = is.agrees.held.one_word in
         let Says : List (Event ℕ) → Type 0 = λ past. AreGrantsIn m.table past (both_holds v.tally.counts more.counts) in
-        let a = makes m (words.State ∷ []) lawful (tt, tt) (Continuing calls.Unlock) s.words v.tally.parties more.parties 0 0 0 (λ w. intents.Store w 0) may (λ w. refl) (λ w. refl) is.played Says
+        let a = makes m (Word.State ∷ []) lawful (tt, tt) (Continuing Call.Unlock) s.words v.tally.parties more.parties 0 0 0 (λ w. Intent.Store w 0) may (λ w. refl) (λ w. refl) is.played Says
         (λ past e quiet so. grants_stay m.table past e (both_holds v.tally.counts more.counts) quiet so) is.follows in
-        let none : grants_by m.table kinds.Write a.latest.act (call_of a.latest.party a.past) ≡ 0 = ap (λ (act : Act ℕ). grants_by m.table kinds.Write act (call_of a.latest.party a.past)) a.act_is in
+        let none : grants_by m.table HoldKind.Write a.latest.act (call_of a.latest.party a.past) ≡ 0 = ap (λ (act : Act ℕ). grants_by m.table HoldKind.Write act (call_of a.latest.party a.past)) a.act_is in
         let out = is.agrees.out (omega (arith, one, on)) in
         let w : View (Played M Q ℕ Holds) = view_of v.part (stale v.sights) (played a.after (released v.tally.counts)) in (
           w,
           gives,
           tt,
           kept_again s id v w r at refl alive (set s.words 0 0) (put_back s.homes me.1) (record {
-            played = made_run m (words.State ∷ []) _ _ _ _ _ _ _ _ _ _ _ _ a;
+            played = made_run m (Word.State ∷ []) _ _ _ _ _ _ _ _ _ _ _ _ a;
             agrees = record {
               held = record { one_word = length-set s.words 0 0 ∙ long; word = get_or-set_same s.words 0 0 0 (omega (arith, long)) ∙ omega (arith, one, on); one = omega (arith, one, on) };
               home = λ _. (b, λ i. put_back (out i) (carries i));
               out = λ on_again. absurd (omega (arith, one, on, on_again));
             };
-            follows = next_grants m.table kinds.Write a.past a.latest v.tally.counts.grants v.tally.counts.grants more.counts.grants (omega (arith, none)) a.says;
+            follows = next_grants m.table HoldKind.Write a.past a.latest v.tally.counts.grants v.tally.counts.grants more.counts.grants (omega (arith, none)) a.says;
           }),
           (a.went, record { off = (on, refl); gave = ap rest carries }),
         )
 
-    pub opens : ((n : ℕ) (past : List (Event ℕ)) → IsPast m.arithmetic m.table n past → m.law past) → 0 ≡ m.table.opening words.State → (x : T) (slots : List (Option T)) → slots ≡ Some x ∷ []
+    pub opens : ((n : ℕ) (past : List (Event ℕ)) → IsPast m.arithmetic m.table n past → m.law past) → 0 ≡ m.table.opening Word.State → (x : T) (slots : List (Option T)) → slots ≡ Some x ∷ []
         → IsKept (opening (0 ∷ []) slots (first_view none_held))
     opens lawful free x slots is = subst (λ l. IsKept (opening (0 ∷ []) l (first_view none_held))) (sym is) (record {
-      agree = opening_runs.opens m (words.State ∷ []) _ _ (0 ∷ []) _ no_holds lawful (free, tt)
+      agree = opening_runs.opens m (Word.State ∷ []) _ _ (0 ∷ []) _ no_holds lawful (free, tt)
           (record { held = record { one_word = refl; word = refl; one = omega arith }; home = λ _. (x, refl); out = λ on. absurd (omega (arith, on)) }) refl;
       shared = shared_first (first_view none_held) refl;
     })
@@ -190,7 +162,7 @@ module _ {M Q : Type 0} where
         (home.0, final.4 0 (Some home.0) (ap (λ hs. get_elem? hs 0) home.1))
 
     pub grants_are_of_a_run : (s : State (Option T) (View (Played M Q ℕ Holds))) → IsKept s → IsOfARun m (AreGrantsIn m.table) (sum_of none_held both_held s.views)
-    grants_are_of_a_run s r = of_a_run m (words.State ∷ []) IsGuarding (AreGrantsIn m.table) s.words s.homes (sum_of none_held both_held s.views) r.agree
+    grants_are_of_a_run s r = of_a_run m (Word.State ∷ []) IsGuarding (AreGrantsIn m.table) s.words s.homes (sum_of none_held both_held s.views) r.agree
 
     -- two holds would be more than one
     pub one_holder : (s : State (Option T) (View (Played M Q ℕ Holds))) → IsKept s → OneHolder T s

@@ -1,10 +1,7 @@
 -- What was seen over several tries of a lock that guards a value.
-use Rattle.std.proofs.Common.{◌≡◌, ℕ, ◌+◌, ap, refl, ◌∙◌, subst, arith}
-use Rattle.passes.specs.declared.part.Sights.{Sights}
-use Rattle.passes.specs.declared.view.View.{View}
+use Rattle.running_spin_lock.specs.Names.{Sights, View, Played, Holds}
+use Rattle.running_spin_lock.proofs.Names.{◌≡◌, ℕ, ◌+◌, ap, refl, ◌∙◌, subst, arith}
 use Rattle.passes.proofs.Attempts.{read_twice, read_and_written}
-use Rattle.playing.specs.declared.played.Played.{Played}
-use Rattle.tallies.specs.declared.mutex.Holds.{Holds}
 use Rattle.running_spin_lock.specs.ValueSteps.{granted, Locks, Sees, Enters, OnlySees}
 
 module _ {M Q : Type 0} where

@@ -1,3 +1,4 @@
+pub mod Names
 pub mod ValueRule
 pub mod ValueSteps
 pub mod SpinLawful

@@ -1,12 +1,6 @@
 -- The model that a spin lock plays.
-use Rattle.std.specs.Prelude.{ℕ, List}
-use Rattle.steps_events.specs.declared.event.Event.{Event}
+use Rattle.running_spin_lock.specs.Names.{ℕ, List, Event, Model, IsPast, SpinPlace, spin_table, KeepsSpin}
 use Rattle.steps_events.specs.Integers.{u64_arithmetic}
-use Rattle.playing.specs.Models.{Model}
-use Rattle.steps_events.specs.Runs.{IsPast}
-use Rattle.steps_spin.specs.declared.SpinPlace.{SpinPlace}
-use Rattle.steps_spin.specs.Table.{spin_table}
-use Rattle.steps_spin.specs.Law.{KeepsSpin}
 use Rattle.steps_spin.proofs.Laws.{keeps_spin}
 
 abbrev pub spin_model : Model ℕ SpinPlace

@@ -1,10 +1,6 @@
 -- What a pass of a spin lock knows, and what the rule over all of them says.
-use Rattle.std.specs.Prelude.{ℕ}
-use Rattle.passes.specs.declared.view.View.{View}
-use Rattle.steps_spin.specs.declared.SpinPlace.{SpinPlace}
+use Rattle.running_spin_lock.specs.Names.{ℕ, View, SpinPlace, Played, Holds}
 use Rattle.running_spin_lock.specs.SpinLawful.{spin_model}
-use Rattle.playing.specs.declared.played.Played.{Played}
-use Rattle.tallies.specs.declared.mutex.Holds.{Holds}
 use Rattle.running_spin_lock.specs.declared.script.SpinScript.{SpinScript}
 use Rattle.running_spin_lock.specs.ValueRule.{HasOneHolder, GrantsAreOfARunOf}
 

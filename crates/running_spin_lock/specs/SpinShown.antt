@@ -1,11 +1,7 @@
 -- What contracts see of a spin lock, its pass and its guard, and what a call changes in a pass.
-use Rattle.std.specs.Prelude.{◌≡◌, ℕ, ◌+◌, ◌<◌, ◌≤◌}
+use Rattle.running_spin_lock.specs.Names.{◌≡◌, ℕ, ◌+◌, ◌<◌, ◌≤◌, TableId, Sights, IsWhole, HasWritten}
 use Rattle.std.specs.Borrow.{GName}
-use Rattle.atomic_table.specs.Seated.{TableId}
 use Rattle.passes.specs.declared.part.Part.{Part}
-use Rattle.passes.specs.declared.part.Sights.{Sights}
-use Rattle.passes.specs.Parts.{IsWhole}
-use Rattle.passes.specs.Sights.{HasWritten}
 use Rattle.running_spin_lock.specs.declared.pass.SpinPass.{SpinPass}
 use Rattle.running_spin_lock.specs.declared.guard.SpinLockGuard.{SpinLockGuard}
 use Rattle.running_spin_lock.specs.declared.spin_lock.SpinLock.{SpinLock}

@@ -1,14 +1,6 @@
 -- What a step on the word of a spin lock changes in what a seat knows, and what the seat is in the model.
-use Rattle.std.specs.Prelude.{ℕ, Option, Some}
-use Rattle.steps_events.specs.declared.event.Call.{Call}
-use Rattle.steps_events.specs.declared.event.Answer.{Answer}
-use Rattle.steps_events.specs.declared.event.Answer.TheVariants as answers
-use Rattle.steps_events.specs.declared.hold.HoldKind.{HoldKind}
-use Rattle.steps_events.specs.declared.hold.HoldKind.TheVariants as kinds
+use Rattle.running_spin_lock.specs.Names.{ℕ, Option, Some, Call, Answer, HoldKind, seen, Parties, HasCalled}
 use Rattle.running_spin_lock.specs.SpinLawful.{spin_model}
-use Rattle.passes.specs.Sights.{seen}
-use Rattle.playing.specs.Slots.{Parties}
-use Rattle.playing.specs.Plays.{HasCalled}
 use Rattle.running_spin_lock.specs.ValueSteps.{Sees, Plays}
 use Rattle.running_spin_lock.specs.SpinRule.{SpinView}
 use Rattle.running_spin_lock.specs.SpinParties.{Unlocks}
@@ -30,4 +22,4 @@ HasPlayedUnlock v w = Unlocks v.tally.parties w.tally.parties
 
 -- the pass has made this call, which was granted, and then, as that party, an `Unlock`
 abbrev pub HasPlayedBoth : Call ℕ → SpinView → SpinView → Type 0
-HasPlayedBoth call v w = (held : Parties ℕ) × HasCalled spin_model call answers.Success (Some kinds.Write) v.tally.parties held × Unlocks held w.tally.parties
+HasPlayedBoth call v w = (held : Parties ℕ) × HasCalled spin_model call Answer.Success (Some HoldKind.Write) v.tally.parties held × Unlocks held w.tally.parties

@@ -1,16 +1,6 @@
 -- The rule over all passes of a lock that guards a value, and plays a model of one word.
-use Rattle.std.specs.Prelude.{◌≡◌, ℕ, List, [], ◌∷◌, Option, Some}
+use Rattle.running_spin_lock.specs.Names.{◌≡◌, ℕ, List, [], ◌∷◌, Option, Some, get_elem?, State, Word, View, spent_view, sum_of, IsCounted, Model, Played, none_played, both_played, core_played, PlaysAndCounts, IsOfARun, Holds, no_holds, both_holds, IsHeld, AreGrantsIn}
 use mathlib.Core.Option as maybe
-use lib.ListN.{get_elem?}
-use Rattle.atomic_table.specs.Table.{State}
-use Rattle.steps_events.specs.declared.event.Word.TheVariants as words
-use Rattle.passes.specs.declared.view.View.{View}
-use Rattle.passes.specs.Views.{spent_view, sum_of, IsCounted}
-use Rattle.playing.specs.Models.{Model}
-use Rattle.playing.specs.declared.played.Played.{Played}
-use Rattle.playing.specs.Passes.{none_played, both_played, core_played, PlaysAndCounts, IsOfARun}
-use Rattle.tallies.specs.declared.mutex.Holds.{Holds}
-use Rattle.tallies.specs.MutexRule.{no_holds, both_holds, IsHeld, AreGrantsIn}
 
 module _ {T : Type 0} where
   -- the value is in its slot
@@ -46,7 +36,7 @@ module _ {M Q : Type 0} where
 
   -- the word is that of a run of the model, in which the passes are parties and were granted as often as calls were; and the value is guarded
   abbrev pub ValueAgrees : {P T : Type 0} → Model ℕ P → List ℕ → List (maybe.Option (Option T)) → Played M Q ℕ Holds → Type 0
-  ValueAgrees m = PlaysAndCounts m (words.State ∷ []) IsGuarding (AreGrantsIn m.table)
+  ValueAgrees m = PlaysAndCounts m (Word.State ∷ []) IsGuarding (AreGrantsIn m.table)
 
   -- no two passes have a hold, and where one has, the value is out of its slot
   pub record OneHolder (T : Type 0) (s : State (Option T) (View (Played M Q ℕ Holds))) : Type 0 where

@@ -1,21 +1,6 @@
 -- What a step on the word of a lock that guards a value tells of the seat that makes it, and what several steps change in what the seat
 -- knows.
-use Rattle.std.specs.Prelude.{◌≡◌, ◌≢◌, ℕ, ◌+◌, List, [], ◌∷◌, Bool, true, false, ◌==◌, ◌&&◌, Option, Some, None, MatchBool}
-use Rattle.atomic_table.specs.Table.{Me}
-use Rattle.steps_events.specs.declared.event.Call.{Call}
-use Rattle.steps_events.specs.declared.event.Answer.{Answer}
-use Rattle.steps_events.specs.declared.hold.HoldKind.{HoldKind}
-use Rattle.passes.specs.declared.part.Sights.{Sights}
-use Rattle.passes.specs.declared.view.View.{View}
-use Rattle.passes.specs.Parts.{IsWhole}
-use Rattle.passes.specs.Sights.{HasOnlyRead, HasWritten}
-use Rattle.passes.specs.Views.{view_of, wrote}
-use Rattle.playing.specs.Models.{Model}
-use Rattle.playing.specs.declared.played.Played.{Played}
-use Rattle.playing.specs.Plays.{Coming, HasCalled, Went}
-use Rattle.playing.specs.Passes.{counted_in}
-use Rattle.tallies.specs.declared.mutex.Holds.{Holds}
-use Rattle.tallies.specs.MutexRule.{holds}
+use Rattle.running_spin_lock.specs.Names.{◌≡◌, ◌≢◌, ℕ, ◌+◌, List, [], ◌∷◌, Bool, true, false, ◌==◌, ◌&&◌, Option, Some, None, MatchBool, Me, Call, Answer, HoldKind, Sights, View, IsWhole, HasOnlyRead, HasWritten, view_of, wrote, Model, Played, Coming, HasCalled, Went, counted_in, Holds, holds}
 
 -- the hold is turned on, by a grant
 abbrev pub granted : Holds → Holds

@@ -14,6 +14,7 @@ use std::sync::Wait;
 use std::sync::atomic::{AtomicBool, AtomicU64, Ordering};
 use std::{io, thread};
 use steps_events::WaitAction;
+use tallies::WaitWord;
 
 /// What a bank pays for a coin, and what it asks. By its type the two stand two apart, so nobody ever finds one half of a refresh.
 #[derive(Clone, Copy)]
@@ -214,10 +215,11 @@ fn refresh_or_give_up<R: Wait>(
     ensures stayed { HasStayed pass.old pass.new }
 {
     let asked = AtomicU64::new(0);
-    let written = cache.with_write(
-        rt,
+    match RwLock::write(
         pass,
-        |_, _| {
+        cache,
+        rt,
+        |_: &WaitWord, _: &u64| {
             thread::yield_now();
             if asked.fetch_add(1, Ordering::SeqCst) < 2 {
                 WaitAction::Continue
@@ -227,10 +229,12 @@ fn refresh_or_give_up<R: Wait>(
         },
         wake_nobody,
         wake_nobody,
-        |kept| *kept = rate,
-    );
-    match written {
-        WaitResult::Success(()) => true,
+    ) {
+        WaitResult::Success(mut guard) => {
+            guard.change(|kept| *kept = rate);
+            RwLock::unlock_write(guard, wake_nobody, wake_nobody);
+            true
+        }
         WaitResult::Interrupted => false,
     }
 }

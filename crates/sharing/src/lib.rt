@@ -14,6 +14,7 @@ use running_mutex::condition_variable::{CondPass, ConditionVariable};
 use running_mutex::{Mutex, MutexPass};
 use running_once::{Once, OncePass};
 use running_rw_reader::{RwLockReaderPreference, RwReaderPass};
+use running_rw_value::RwLock;
 use running_rw_writer::{RwLockWriterPreference, RwWriterPass};
 use running_semaphore::{SemPass, Semaphore};
 use running_spin_lock::{SpinLock, SpinPass};
@@ -217,6 +218,29 @@ impl<A: Allocator> Shares<RwLockWriterPreference<A>> for RwWriterPass {
         of: &RwLockWriterPreference<A>,
     ) -> RwWriterPass {
         let Ok(pass) = RwWriterPass::join(one, other, of) else {
+            unreachable!()
+        };
+        pass
+    }
+}
+
+impl<T, A: Allocator> Shares<RwLock<T, A>> for RwWriterPass {
+    ghost use Rattle.running_rw_writer.specs.RwWriterShown.{part_in, pass_in, reads_of, writes_of};
+    ghost use Rattle.running_rw_value.specs.RwValueShown.{IsRwValuePass};
+
+    ghost idle = { λ lock p. IsRwValuePass lock p × (reads_of (pass_in p) ≡ 0) × (writes_of (pass_in p) ≡ 0) };
+
+    ghost part = { part_in };
+
+    fn cut(self, of: &RwLock<T, A>) -> (RwWriterPass, RwWriterPass) {
+        let Ok(parts) = self.split(of.front()) else {
+            unreachable!()
+        };
+        parts
+    }
+
+    fn mend(one: RwWriterPass, other: RwWriterPass, of: &RwLock<T, A>) -> RwWriterPass {
+        let Ok(pass) = RwWriterPass::join(one, other, of.front()) else {
             unreachable!()
         };
         pass

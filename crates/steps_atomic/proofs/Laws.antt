@@ -1,26 +1,8 @@
 -- An atomic keeps its law at every front of every run.
-use Rattle.std.proofs.Common.{◌≡◌, ℕ, refl, ◌∙◌, ap, false, List, [], ◌∷◌, Option, Some, None, inl, inr}
-use Rattle.std.specs.Prelude.{not}
-use Rattle.steps_events.specs.declared.event.Word.{Word}
-use Rattle.steps_events.specs.declared.event.Word.TheVariants as words
-use Rattle.steps_events.specs.declared.event.Call.{Call}
-use Rattle.steps_events.specs.declared.event.Answer.{Answer}
-use Rattle.steps_events.specs.declared.event.Event.{Event}
-use Rattle.steps_events.specs.declared.hold.HoldKind.{HoldKind}
-use Rattle.steps_events.specs.declared.hold.HoldKind.TheVariants as kinds
-use Rattle.steps_events.specs.Arithmetic.{Arithmetic}
-use Rattle.steps_events.specs.Past.{same_word, PendingCall, call_of, holds_of, hold_of, word_in}
-use Rattle.steps_events.specs.Moves.{Move, step_at}
-use Rattle.steps_events.specs.Rows.{outcome_of}
-use Rattle.steps_events.specs.declared.row.After.{After}
-use Rattle.steps_events.specs.declared.row.After.TheVariants as afters
-use Rattle.steps_events.specs.Runs.{IsPast}
-use Rattle.steps_events.specs.Laws.{TellsMemory, IsExclusive, HasCause, is_refusal, Lacks}
-use Rattle.steps_events.proofs.Steps.{by_move, tells_memory}
-use Rattle.steps_rw_reader.specs.Law.{CountsHolds}
+use Rattle.steps_atomic.specs.Names.{not, Word, Call, Answer, Event, HoldKind, Arithmetic, same_word, PendingCall, call_of, holds_of, hold_of, word_in, Move, step_at, outcome_of, After, IsPast, TellsMemory, IsExclusive, HasCause, is_refusal, Lacks, CountsHolds}
+use Rattle.steps_atomic.proofs.Names.{◌≡◌, ℕ, refl, ◌∙◌, ap, false, List, [], ◌∷◌, Option, Some, None, inl, inr, by_move, tells_memory}
 use Rattle.steps_rw_reader.proofs.ReaderLocks.{IsReaderLock, IsReaderIntent, reader_lock_word, reader_lock_exclusive}
 use Rattle.steps_atomic.specs.declared.AtomicPlace.{AtomicPlace}
-use Rattle.steps_atomic.specs.declared.AtomicPlace.TheVariants as places
 use Rattle.steps_atomic.specs.Law.{AtomicCause}
 use Rattle.steps_atomic.specs.Table.{atomic_grant, knows, atomic_table}
 use Rattle.steps_atomic.proofs.Places.{AtAtomic, here, knows_goes_on}
@@ -28,17 +10,17 @@ use Rattle.steps_atomic.proofs.Places.{AtAtomic, here, knows_goes_on}
 -- The lock inside is a lock of many readers or one writer.
 
 reader_intent : {T : Type 0} (z : Arithmetic T) (v : T) (place : AtomicPlace T) (c : PendingCall T) (hold : Option HoldKind) → AtAtomic z place c hold → IsReaderIntent {T = T} ((atomic_table z v).grant c.call) hold ((atomic_table z v).intent place hold)
-reader_intent z v places.Look c hold at = tt
-reader_intent {T} z v (places.Enter seen to) c hold at = (at.1, inl (at.2.0, at.2.1, ap (λ (k : Call T). atomic_grant k) at.0))
-reader_intent {T} z v (places.Take call) c hold at = (at.1, inr (refl, refl, ap (λ (k : Call T). atomic_grant k) at.0 ∙ at.2))
-reader_intent z v (places.Low call) c hold at = tt
-reader_intent z v (places.High call low) c hold at = tt
-reader_intent z v (places.Again old) c hold at = tt
-reader_intent z v (places.PutLow low high answer) c hold at = tt
-reader_intent z v (places.PutHigh high answer) c hold at = tt
-reader_intent z v (places.Leave answer) c None at = let held = at.held in absurd cc
-reader_intent z v (places.Leave answer) c (Some kinds.Read) at = (refl, refl)
-reader_intent z v (places.Leave answer) c (Some kinds.Write) at = (refl, refl)
+reader_intent z v AtomicPlace.Look c hold at = tt
+reader_intent {T} z v (AtomicPlace.Enter seen to) c hold at = (at.1, inl (at.2.0, at.2.1, ap (λ (k : Call T). atomic_grant k) at.0))
+reader_intent {T} z v (AtomicPlace.Take call) c hold at = (at.1, inr (refl, refl, ap (λ (k : Call T). atomic_grant k) at.0 ∙ at.2))
+reader_intent z v (AtomicPlace.Low call) c hold at = tt
+reader_intent z v (AtomicPlace.High call low) c hold at = tt
+reader_intent z v (AtomicPlace.Again old) c hold at = tt
+reader_intent z v (AtomicPlace.PutLow low high answer) c hold at = tt
+reader_intent z v (AtomicPlace.PutHigh high answer) c hold at = tt
+reader_intent z v (AtomicPlace.Leave answer) c None at = let held = at.held in absurd cc
+reader_intent z v (AtomicPlace.Leave answer) c (Some HoldKind.Read) at = (refl, refl)
+reader_intent z v (AtomicPlace.Leave answer) c (Some HoldKind.Write) at = (refl, refl)
 
 pub atomic_is_lock : {T : Type 0} (z : Arithmetic T) (v : T) (parties : ℕ) → IsReaderLock {T = T} z (atomic_table z v) parties
 atomic_is_lock z v parties =
@@ -50,7 +32,7 @@ atomic_is_lock z v parties =
 pub record KeepsLock {T : Type 0} (z : Arithmetic T) (v : T) (past : List (Event T)) : Type 0 where
   pub told : TellsMemory (atomic_table z v) past
   pub exclusive : IsExclusive (holds_of (atomic_table z v) past)
-  pub counts : CountsHolds (word_in (atomic_table z v) past words.State) (holds_of (atomic_table z v) past)
+  pub counts : CountsHolds (word_in (atomic_table z v) past Word.State) (holds_of (atomic_table z v) past)
 
 pub keeps_lock : {T : Type 0} (z : Arithmetic T) (v : T) (parties : ℕ) (past : List (Event T)) → IsPast z (atomic_table z v) parties past → KeepsLock z v past
 keeps_lock z v parties past run =
@@ -59,22 +41,22 @@ keeps_lock z v parties past run =
 
 -- No call is refused.
 
-goes_on : {T : Type 0} (a : After T (AtomicPlace T)) → ((answer : Answer T) → a ≡ afters.Ends answer → ⊥) → is_refusal (outcome_of a) ≡ false
-goes_on (afters.At place) on = refl
-goes_on (afters.Waits place seen) on = refl
-goes_on (afters.Chooses place old) on = refl
-goes_on (afters.Ends answer) on = absurd (on answer refl)
+goes_on : {T : Type 0} (a : After T (AtomicPlace T)) → ((answer : Answer T) → a ≡ After.Ends answer → ⊥) → is_refusal (outcome_of a) ≡ false
+goes_on (After.At place) on = refl
+goes_on (After.Waits place seen) on = refl
+goes_on (After.Chooses place old) on = refl
+goes_on (After.Ends answer) on = absurd (on answer refl)
 
 unrefused_at : {T : Type 0} (z : Arithmetic T) (v : T) (place : AtomicPlace T) (c : PendingCall T) (hold : Option HoldKind) (memory : Word → ℕ) → AtAtomic z place c hold → is_refusal (step_at (atomic_table z v) place hold memory).outcome ≡ false
-unrefused_at z v places.Look c hold memory at = refl
-unrefused_at z v (places.Enter seen to) c hold memory at = refl
-unrefused_at z v (places.Take call) c hold memory at = refl
-unrefused_at z v (places.Low call) c hold memory at = refl
-unrefused_at z v (places.High call low) c hold memory at = goes_on (knows z call (z.of_words low (memory words.High))) (λ answer is. knows_goes_on z call _ answer is)
-unrefused_at z v (places.Again old) c hold memory at = refl
-unrefused_at z v (places.PutLow low high answer) c hold memory at = refl
-unrefused_at z v (places.PutHigh high answer) c hold memory at = refl
-unrefused_at z v (places.Leave answer) c hold memory at = at.said
+unrefused_at z v AtomicPlace.Look c hold memory at = refl
+unrefused_at z v (AtomicPlace.Enter seen to) c hold memory at = refl
+unrefused_at z v (AtomicPlace.Take call) c hold memory at = refl
+unrefused_at z v (AtomicPlace.Low call) c hold memory at = refl
+unrefused_at z v (AtomicPlace.High call low) c hold memory at = goes_on (knows z call (z.of_words low (memory Word.High))) (λ answer is. knows_goes_on z call _ answer is)
+unrefused_at z v (AtomicPlace.Again old) c hold memory at = refl
+unrefused_at z v (AtomicPlace.PutLow low high answer) c hold memory at = refl
+unrefused_at z v (AtomicPlace.PutHigh high answer) c hold memory at = refl
+unrefused_at z v (AtomicPlace.Leave answer) c hold memory at = at.said
 
 pub causes : {T : Type 0} (z : Arithmetic T) (v : T) (parties : ℕ) (past : List (Event T)) → IsPast z (atomic_table z v) parties past → HasCause AtomicCause past
 causes z v parties [] run = tt
@@ -88,15 +70,15 @@ causes {T} z v parties (e ∷ past) run =
     rw unrefused tt
 
 -- The words that an atomic does not have.
-pub atomic_lacks : {T : Type 0} (z : Arithmetic T) (v : T) (word : Word) → same_word words.State word ≡ false → same_word words.Low word ≡ false → same_word words.High word ≡ false → Lacks (atomic_table z v) word
-atomic_lacks z v word state low high places.Look hold = ap not state
-atomic_lacks z v word state low high (places.Enter seen to) hold = ap not state
-atomic_lacks z v word state low high (places.Take call) hold = ap not state
-atomic_lacks z v word state low high (places.Low call) hold = ap not low
-atomic_lacks z v word state low high (places.High call told) hold = ap not high
-atomic_lacks z v word state low high (places.Again old) hold = ap not high
-atomic_lacks z v word state low high (places.PutLow l h answer) hold = ap not low
-atomic_lacks z v word state low high (places.PutHigh h answer) hold = ap not high
-atomic_lacks z v word state low high (places.Leave answer) None = ap not state
-atomic_lacks z v word state low high (places.Leave answer) (Some kinds.Read) = ap not state
-atomic_lacks z v word state low high (places.Leave answer) (Some kinds.Write) = ap not state
+pub atomic_lacks : {T : Type 0} (z : Arithmetic T) (v : T) (word : Word) → same_word Word.State word ≡ false → same_word Word.Low word ≡ false → same_word Word.High word ≡ false → Lacks (atomic_table z v) word
+atomic_lacks z v word state low high AtomicPlace.Look hold = ap not state
+atomic_lacks z v word state low high (AtomicPlace.Enter seen to) hold = ap not state
+atomic_lacks z v word state low high (AtomicPlace.Take call) hold = ap not state
+atomic_lacks z v word state low high (AtomicPlace.Low call) hold = ap not low
+atomic_lacks z v word state low high (AtomicPlace.High call told) hold = ap not high
+atomic_lacks z v word state low high (AtomicPlace.Again old) hold = ap not high
+atomic_lacks z v word state low high (AtomicPlace.PutLow l h answer) hold = ap not low
+atomic_lacks z v word state low high (AtomicPlace.PutHigh h answer) hold = ap not high
+atomic_lacks z v word state low high (AtomicPlace.Leave answer) None = ap not state
+atomic_lacks z v word state low high (AtomicPlace.Leave answer) (Some HoldKind.Read) = ap not state
+atomic_lacks z v word state low high (AtomicPlace.Leave answer) (Some HoldKind.Write) = ap not state

@@ -1,38 +1,8 @@
 -- Each step of an atomic is its call's next.
-use Rattle.std.proofs.lemmas.Bool.{eqb-false}
-use Rattle.std.proofs.lemmas.Bool.{eqb-true}
-use Rattle.std.proofs.lemmas.Bool.Decides.{nat_tests}
-use Rattle.std.proofs.Common.{◌≡◌, ℕ, ◌+◌, ◌-◌, ◌^◌, ◌==◌, refl, sym, ◌∙◌, ap, subst, Bool, true, false, cond, is_some, List, [], ◌∷◌, Option, Some, None, arith}
-use Rattle.std.specs.Prelude.{unwrap_or, MatchOption}
-use Rattle.steps_events.specs.declared.event.Word.{Word}
-use Rattle.steps_events.specs.declared.event.Word.TheVariants as words
-use Rattle.steps_events.specs.declared.event.Call.{Call}
-use Rattle.steps_events.specs.declared.event.Call.TheVariants as calls
-use Rattle.steps_events.specs.declared.event.Act.{Act}
-use Rattle.steps_events.specs.declared.event.Act.TheVariants as acts
-use Rattle.steps_events.specs.declared.event.Answer.{Answer}
-use Rattle.steps_events.specs.declared.event.Answer.TheVariants as answers
-use Rattle.steps_events.specs.declared.event.Event.{Event}
-use Rattle.steps_events.specs.declared.event.Then.{Then}
-use Rattle.steps_events.specs.declared.event.Then.TheVariants as thens
-use Rattle.steps_events.specs.declared.WaitAction.{WaitAction}
-use Rattle.steps_events.specs.declared.hold.HoldKind.{HoldKind}
-use Rattle.steps_events.specs.declared.hold.HoldKind.TheVariants as kinds
-use Rattle.steps_events.specs.Arithmetic.{Arithmetic}
-use Rattle.steps_events.specs.Rows.{carried_out, value_told, outcome_of, place_after}
-use Rattle.steps_events.specs.Past.{PendingCall, latest_outcome, event}
-use Rattle.steps_events.specs.Moves.{step_at, is_step, choose_fault}
-use Rattle.steps_events.specs.Runs.{IsPast}
-use Rattle.steps_events.specs.Sights.{last_of}
-use Rattle.steps_events.specs.NextStep.{StepsAs, seen_last}
-use Rattle.steps_events.specs.RwSteps.{open_at}
-use Rattle.steps_events.proofs.Holds.{some_same}
+use Rattle.steps_atomic.specs.Names.{unwrap_or, MatchOption, Word, Call, Act, Answer, Event, Then, WaitAction, HoldKind, Arithmetic, carried_out, value_told, outcome_of, place_after, PendingCall, latest_outcome, event, step_at, is_step, choose_fault, IsPast, last_of, StepsAs, seen_last, open_at, Releases, lets_readers_in}
+use Rattle.steps_atomic.proofs.Names.{eqb-false, eqb-true, nat_tests, ◌≡◌, ℕ, ◌+◌, ◌-◌, ◌^◌, ◌==◌, refl, sym, ◌∙◌, ap, subst, Bool, true, false, cond, is_some, List, [], ◌∷◌, Option, Some, None, arith, some_same, IsKeptFromRest, at_place_from_rest}
 use Rattle.steps_events.proofs.NextStep.{steps_follow}
-use Rattle.steps_events.proofs.Parties.{IsKeptFromRest, at_place_from_rest}
-use Rattle.steps_rw_reader.specs.Law.{Releases}
-use Rattle.steps_rw_reader.specs.Table.{lets_readers_in}
 use Rattle.steps_atomic.specs.declared.AtomicPlace.{AtomicPlace}
-use Rattle.steps_atomic.specs.declared.AtomicPlace.TheVariants as places
 use Rattle.steps_atomic.specs.Register.{act_of, compared, choice_of, low_told, acts_made}
 use Rattle.steps_atomic.specs.Table.{atomic_begins, look_at, puts, inside, knows, compares, atomic_table}
 use Rattle.steps_atomic.specs.Steps.{wants, Enters, has_entered, high_told, value_found, acts_so, reads_again, Accesses, StepUnder, AtomicStep}
@@ -51,15 +21,15 @@ abbrev Will : {T : Type 0} → Arithmetic T → PendingCall T → ℕ → Answer
 Will z c high answer = (new : _) × (acts_so z c.call c.own ≡ (answer, new)) × (high ≡ z.high new)
 
 abbrev HasDone : {T : Type 0} → Arithmetic T → AtomicPlace T → PendingCall T → Type 0
-HasDone z places.Look c = IsOutside c.own × (open_at lets_readers_in (seen_last words.State c.own) ≡ None)
-HasDone z (places.Enter seen to) c = IsOutside c.own × (open_at lets_readers_in (seen_last words.State c.own) ≡ Some seen)
-HasDone z (places.Take call) c = IsOutside c.own × (wants c.call ≡ Some kinds.Write)
-HasDone {T} z (places.Low call) c = IsInside c.own × (from : ℕ) × (to : ℕ) × (found : ℕ) × (last_of is_step c.own ≡ Some (acts.Exchange words.State from to found true))
-HasDone {T} z (places.High call low) c = IsInside c.own × (last_of is_step c.own ≡ Some (acts.Load words.Low low))
-HasDone {T} z (places.Again old) c = (has_entered c.own ≡ true) × (high : ℕ) × (last_of is_step c.own ≡ Some (acts.Load words.High high)) × (high_told c.own ≡ Some high) × (old ≡ z.of_words (low_told c.own) high)
-HasDone z (places.PutLow low high answer) c = (has_entered c.own ≡ true) × Will z c high answer × Accesses z c.call c.own (last_of is_step c.own) (acts.Store words.Low low) thens.GoesOn
-HasDone {T} z (places.PutHigh high answer) c = (has_entered c.own ≡ true) × Will z c high answer × (put : ℕ) × (last_of is_step c.own ≡ Some (acts.Store words.Low put))
-HasDone z (places.Leave answer) c = answer ≡ (acts_so z c.call c.own).0
+HasDone z AtomicPlace.Look c = IsOutside c.own × (open_at lets_readers_in (seen_last Word.State c.own) ≡ None)
+HasDone z (AtomicPlace.Enter seen to) c = IsOutside c.own × (open_at lets_readers_in (seen_last Word.State c.own) ≡ Some seen)
+HasDone z (AtomicPlace.Take call) c = IsOutside c.own × (wants c.call ≡ Some HoldKind.Write)
+HasDone {T} z (AtomicPlace.Low call) c = IsInside c.own × (from : ℕ) × (to : ℕ) × (found : ℕ) × (last_of is_step c.own ≡ Some (Act.Exchange Word.State from to found true))
+HasDone {T} z (AtomicPlace.High call low) c = IsInside c.own × (last_of is_step c.own ≡ Some (Act.Load Word.Low low))
+HasDone {T} z (AtomicPlace.Again old) c = (has_entered c.own ≡ true) × (high : ℕ) × (last_of is_step c.own ≡ Some (Act.Load Word.High high)) × (high_told c.own ≡ Some high) × (old ≡ z.of_words (low_told c.own) high)
+HasDone z (AtomicPlace.PutLow low high answer) c = (has_entered c.own ≡ true) × Will z c high answer × Accesses z c.call c.own (last_of is_step c.own) (Act.Store Word.Low low) Then.GoesOn
+HasDone {T} z (AtomicPlace.PutHigh high answer) c = (has_entered c.own ≡ true) × Will z c high answer × (put : ℕ) × (last_of is_step c.own ≡ Some (Act.Store Word.Low put))
+HasDone z (AtomicPlace.Leave answer) c = answer ≡ (acts_so z c.call c.own).0
 
 -- beside what is kept of every call
 record At {T : Type 0} (z : Arithmetic T) (place : AtomicPlace T) (c : PendingCall T) (hold : Option HoldKind) : Type 0 where
@@ -78,111 +48,111 @@ begins_so z call place h1 = grind (arith, nat_tests, eqb-true, eqb-false)
 -- Where a step leads.
 
 look_done :
-    {T : Type 0} (z : Arithmetic T) (v : ℕ) (c : PendingCall T) (next : AtomicPlace T) (b : Bool) → lets_readers_in v ≡ b → IsOutside c.own → seen_last words.State c.own ≡ Some v →
-    ◌≡◌ {A = Option (AtomicPlace T)} (Some (cond b (places.Enter v (v + 1)) places.Look)) (Some next) → HasDone z next c
+    {T : Type 0} (z : Arithmetic T) (v : ℕ) (c : PendingCall T) (next : AtomicPlace T) (b : Bool) → lets_readers_in v ≡ b → IsOutside c.own → seen_last Word.State c.own ≡ Some v →
+    ◌≡◌ {A = Option (AtomicPlace T)} (Some (cond b (AtomicPlace.Enter v (v + 1)) AtomicPlace.Look)) (Some next) → HasDone z next c
 look_done z v c next b h1 h2 h3 h4 = grind (arith, nat_tests, eqb-true, eqb-false)
 
 enter_done :
     {T : Type 0} (z : Arithmetic T) (call : Call T) (own : List (Event T)) (seen to w number : ℕ) (next : AtomicPlace T) (b : Bool) → IsOutside own →
-    ◌≡◌ {A = Option (AtomicPlace T)} (Some (cond b (places.Low calls.Load) (look_at w))) (Some next) →
-    HasDone z next (record { call = call; own = event number (acts.Exchange words.State seen to w b) thens.GoesOn ∷ own })
-enter_done z call own seen to w number next true out is = leads z (places.Low calls.Load) next _ is ((refl, out.1), seen, to, w, refl)
+    ◌≡◌ {A = Option (AtomicPlace T)} (Some (cond b (AtomicPlace.Low Call.Load) (look_at w))) (Some next) →
+    HasDone z next (record { call = call; own = event number (Act.Exchange Word.State seen to w b) Then.GoesOn ∷ own })
+enter_done z call own seen to w number next true out is = leads z (AtomicPlace.Low Call.Load) next _ is ((refl, out.1), seen, to, w, refl)
 enter_done z call own seen to w number next false out is = look_done z w _ next (lets_readers_in w) refl out refl is
 
 inside_done :
-    {T : Type 0} (z : Arithmetic T) (call : Call T) (own : List (Event T)) (from to found : ℕ) (next : AtomicPlace T) → IsInside own → last_of is_step own ≡ Some (acts.Exchange words.State from to found true) →
+    {T : Type 0} (z : Arithmetic T) (call : Call T) (own : List (Event T)) (from to found : ℕ) (next : AtomicPlace T) → IsInside own → last_of is_step own ≡ Some (Act.Exchange Word.State from to found true) →
     ◌≡◌ {A = Option (AtomicPlace T)} (Some (inside z call)) (Some next) → HasDone z next (record { call = call; own = own })
 inside_done z call own from to found next h1 h2 h3 = grind (arith, nat_tests, eqb-true, eqb-false)
 
 take_done :
-    {T : Type 0} (z : Arithmetic T) (call : Call T) (own : List (Event T)) (w number : ℕ) (next : AtomicPlace T) (b : Bool) → IsOutside own → wants call ≡ Some kinds.Write →
-    ◌≡◌ {A = Option (AtomicPlace T)} (Some (cond b (inside z call) (places.Take call))) (Some next) →
-    HasDone z next (record { call = call; own = event number (acts.Exchange words.State 0 (2 ^ 64 - 1) w b) thens.GoesOn ∷ own })
+    {T : Type 0} (z : Arithmetic T) (call : Call T) (own : List (Event T)) (w number : ℕ) (next : AtomicPlace T) (b : Bool) → IsOutside own → wants call ≡ Some HoldKind.Write →
+    ◌≡◌ {A = Option (AtomicPlace T)} (Some (cond b (inside z call) (AtomicPlace.Take call))) (Some next) →
+    HasDone z next (record { call = call; own = event number (Act.Exchange Word.State 0 (2 ^ 64 - 1) w b) Then.GoesOn ∷ own })
 take_done z call own w number next true out writes is = inside_done z call _ 0 (2 ^ 64 - 1) w next (refl, out.1) refl is
-take_done z call own w number next false out writes is = leads z (places.Take call) next _ is (out, writes)
+take_done z call own w number next false out writes is = leads z (AtomicPlace.Take call) next _ is (out, writes)
 
 -- the load of the high word, by which the old value is known
 
 module _ {T : Type 0} (z : Arithmetic T) (own : List (Event T)) (low w number : ℕ) (next : AtomicPlace T) (in_it : IsInside own) (told : low_told own ≡ low) where
   abbrev after_look : Call T → Then T → PendingCall T
-  after_look call outcome = record { call = call; own = event number (acts.Load words.High w) outcome ∷ own }
+  after_look call outcome = record { call = call; own = event number (Act.Load Word.High w) outcome ∷ own }
 
-  knew : (outcome : Then T) → value_found z (event number (acts.Load words.High w) outcome ∷ own) ≡ z.of_words low w
+  knew : (outcome : Then T) → value_found z (event number (Act.Load Word.High w) outcome ∷ own) ≡ z.of_words low w
   knew outcome = ap (λ h. z.of_words (low_told own) (unwrap_or h w)) in_it.1 ∙ ap (λ l. z.of_words l w) told
 
-  so : (call : Call T) (outcome : Then T) → acts_so z call (event number (acts.Load words.High w) outcome ∷ own) ≡ act_of z call (choice_of own) (z.of_words low w)
+  so : (call : Call T) (outcome : Then T) → acts_so z call (event number (Act.Load Word.High w) outcome ∷ own) ≡ act_of z call (choice_of own) (z.of_words low w)
   so call outcome = ap (act_of z call (choice_of own)) (knew outcome)
 
   will_put : (call : Call T) (new : T) (answer : Answer T) → act_of z call (choice_of own) (z.of_words low w) ≡ (answer, new) → reads_again call (choice_of own) ≡ false →
-      ◌≡◌ {A = Option (AtomicPlace T)} (Some (puts z new answer)) (Some next) → HasDone z next (after_look call thens.GoesOn)
+      ◌≡◌ {A = Option (AtomicPlace T)} (Some (puts z new answer)) (Some next) → HasDone z next (after_look call Then.GoesOn)
   will_put call new answer gives stores is =
-      let now : acts_so z call (event number (acts.Load words.High w) thens.GoesOn ∷ own) ≡ (answer, new) = so call thens.GoesOn ∙ gives in
-      leads z (puts z new answer) next (after_look call thens.GoesOn) is (in_it.0, (new, now, refl), rw stores (refl, ap (λ o. z.low o.1) (sym now), refl))
+      let now : acts_so z call (event number (Act.Load Word.High w) Then.GoesOn ∷ own) ≡ (answer, new) = so call Then.GoesOn ∙ gives in
+      leads z (puts z new answer) next (after_look call Then.GoesOn) is (in_it.0, (new, now, refl), rw stores (refl, ap (λ o. z.low o.1) (sym now), refl))
 
   has_acted : (call : Call T) (new : T) (answer : Answer T) → act_of z call (choice_of own) (z.of_words low w) ≡ (answer, new) →
-      ◌≡◌ {A = Option (AtomicPlace T)} (Some (places.Leave answer)) (Some next) → HasDone z next (after_look call thens.GoesOn)
-  has_acted call new answer gives is = leads z (places.Leave answer) next (after_look call thens.GoesOn) is (ap (λ o. o.0) (sym (so call thens.GoesOn ∙ gives)))
+      ◌≡◌ {A = Option (AtomicPlace T)} (Some (AtomicPlace.Leave answer)) (Some next) → HasDone z next (after_look call Then.GoesOn)
+  has_acted call new answer gives is = leads z (AtomicPlace.Leave answer) next (after_look call Then.GoesOn) is (ap (λ o. o.0) (sym (so call Then.GoesOn ∙ gives)))
 
   compares_done : (call : Call T) (new : T) (b : Bool) → act_of z call (choice_of own) (z.of_words low w) ≡ compared b (z.of_words low w) new → reads_again call (choice_of own) ≡ false →
-      ◌≡◌ {A = Option (AtomicPlace T)} (Some (compares z b (z.of_words low w) new)) (Some next) → HasDone z next (after_look call thens.GoesOn)
-  compares_done call new true gives stores is = will_put call new (answers.OkOld (z.of_words low w)) gives stores is
-  compares_done call new false gives stores is = has_acted call (z.of_words low w) (answers.ErrOld (z.of_words low w)) gives is
+      ◌≡◌ {A = Option (AtomicPlace T)} (Some (compares z b (z.of_words low w) new)) (Some next) → HasDone z next (after_look call Then.GoesOn)
+  compares_done call new true gives stores is = will_put call new (Answer.OkOld (z.of_words low w)) gives stores is
+  compares_done call new false gives stores is = has_acted call (z.of_words low w) (Answer.ErrOld (z.of_words low w)) gives is
 
   high_done : (call : Call T) → is_some (wants call) ≡ true → is_store call ≡ false → place_after (knows z call (z.of_words low w)) ≡ Some next → HasDone z next (after_look call (outcome_of (knows z call (z.of_words low w))))
-  high_done calls.Load known looks is = has_acted calls.Load _ _ refl is
-  high_done (calls.Store x) known looks is = absurd cc
-  high_done (calls.Swap x) known looks is = will_put (calls.Swap x) _ _ refl refl is
-  high_done (calls.CompareExchange c x) known looks is = compares_done (calls.CompareExchange c x) x (z.same (z.of_words low w) c) refl refl is
-  high_done (calls.CompareExchangeWeak c x) known looks is = compares_done (calls.CompareExchangeWeak c x) x (z.same (z.of_words low w) c) refl refl is
-  high_done (calls.FetchAdd x) known looks is = will_put (calls.FetchAdd x) _ _ refl refl is
-  high_done (calls.FetchSub x) known looks is = will_put (calls.FetchSub x) _ _ refl refl is
-  high_done (calls.FetchAnd x) known looks is = will_put (calls.FetchAnd x) _ _ refl refl is
-  high_done (calls.FetchOr x) known looks is = will_put (calls.FetchOr x) _ _ refl refl is
-  high_done (calls.FetchXor x) known looks is = will_put (calls.FetchXor x) _ _ refl refl is
-  high_done (calls.FetchNand x) known looks is = will_put (calls.FetchNand x) _ _ refl refl is
-  high_done (calls.FetchMax x) known looks is = will_put (calls.FetchMax x) _ _ refl refl is
-  high_done (calls.FetchMin x) known looks is = will_put (calls.FetchMin x) _ _ refl refl is
-  high_done calls.FetchUpdate known looks is =
-      leads z (places.Again (z.of_words low w)) next (after_look calls.FetchUpdate (thens.Chooses (z.of_words low w))) is (in_it.0, w, refl, rw in_it.1 refl, ap (λ l. z.of_words l w) (sym told))
+  high_done Call.Load known looks is = has_acted Call.Load _ _ refl is
+  high_done (Call.Store x) known looks is = absurd cc
+  high_done (Call.Swap x) known looks is = will_put (Call.Swap x) _ _ refl refl is
+  high_done (Call.CompareExchange c x) known looks is = compares_done (Call.CompareExchange c x) x (z.same (z.of_words low w) c) refl refl is
+  high_done (Call.CompareExchangeWeak c x) known looks is = compares_done (Call.CompareExchangeWeak c x) x (z.same (z.of_words low w) c) refl refl is
+  high_done (Call.FetchAdd x) known looks is = will_put (Call.FetchAdd x) _ _ refl refl is
+  high_done (Call.FetchSub x) known looks is = will_put (Call.FetchSub x) _ _ refl refl is
+  high_done (Call.FetchAnd x) known looks is = will_put (Call.FetchAnd x) _ _ refl refl is
+  high_done (Call.FetchOr x) known looks is = will_put (Call.FetchOr x) _ _ refl refl is
+  high_done (Call.FetchXor x) known looks is = will_put (Call.FetchXor x) _ _ refl refl is
+  high_done (Call.FetchNand x) known looks is = will_put (Call.FetchNand x) _ _ refl refl is
+  high_done (Call.FetchMax x) known looks is = will_put (Call.FetchMax x) _ _ refl refl is
+  high_done (Call.FetchMin x) known looks is = will_put (Call.FetchMin x) _ _ refl refl is
+  high_done Call.FetchUpdate known looks is =
+      leads z (AtomicPlace.Again (z.of_words low w)) next (after_look Call.FetchUpdate (Then.Chooses (z.of_words low w))) is (in_it.0, w, refl, rw in_it.1 refl, ap (λ l. z.of_words l w) (sym told))
   high_done other known looks is = absurd cc
 
 -- where its closure chose nothing a `FetchUpdate` reads once more, and so acts
 again_done :
-    {T : Type 0} (z : Arithmetic T) (old : T) (own : List (Event T)) (hold : Option HoldKind) (high w number : ℕ) (next : AtomicPlace T) → Asks z old calls.FetchUpdate own hold → high_told own ≡ Some high → old ≡ z.of_words (low_told own) high →
-    ◌≡◌ {A = Option (AtomicPlace T)} (Some (places.Leave (answers.ErrOld old))) (Some next) → HasDone z next (record { call = calls.FetchUpdate; own = event number (acts.Load words.High w) thens.GoesOn ∷ own })
+    {T : Type 0} (z : Arithmetic T) (old : T) (own : List (Event T)) (hold : Option HoldKind) (high w number : ℕ) (next : AtomicPlace T) → Asks z old Call.FetchUpdate own hold → high_told own ≡ Some high → old ≡ z.of_words (low_told own) high →
+    ◌≡◌ {A = Option (AtomicPlace T)} (Some (AtomicPlace.Leave (Answer.ErrOld old))) (Some next) → HasDone z next (record { call = Call.FetchUpdate; own = event number (Act.Load Word.High w) Then.GoesOn ∷ own })
 again_done z old own hold high w number next h1 h2 h3 h4 = grind (arith, nat_tests, eqb-true, eqb-false)
 
 steps_so :
     {T : Type 0} (z : Arithmetic T) (v : T) (place : AtomicPlace T) (c : PendingCall T) (hold : Option HoldKind) (memory : Word → ℕ) (number : ℕ) (next : AtomicPlace T) → At z place c hold →
     place_after ((atomic_table z v).after place (value_told (carried_out ((atomic_table z v).intent place hold) memory))) ≡ Some next →
     HasDone z next (record { call = c.call; own = event number (step_at (atomic_table z v) place hold memory).act (step_at (atomic_table z v) place hold memory).outcome ∷ c.own })
-steps_so z v places.Look c hold memory number next so is = look_done z (memory words.State) _ next (lets_readers_in (memory words.State)) refl so.done.0 refl is
-steps_so z v (places.Enter seen to) c hold memory number next so is = enter_done z c.call c.own seen to (memory words.State) number next (memory words.State == seen) so.done.0 is
-steps_so {T} z v (places.Take call) c hold memory number next so is =
-    let w = memory words.State in
-    subst (λ (k : Call T). wants k ≡ Some kinds.Write → HasDone z next (record { call = k; own = event number (acts.Exchange words.State 0 (2 ^ 64 - 1) w (w == 0)) thens.GoesOn ∷ c.own })) (sym so.at.0)
+steps_so z v AtomicPlace.Look c hold memory number next so is = look_done z (memory Word.State) _ next (lets_readers_in (memory Word.State)) refl so.done.0 refl is
+steps_so z v (AtomicPlace.Enter seen to) c hold memory number next so is = enter_done z c.call c.own seen to (memory Word.State) number next (memory Word.State == seen) so.done.0 is
+steps_so {T} z v (AtomicPlace.Take call) c hold memory number next so is =
+    let w = memory Word.State in
+    subst (λ (k : Call T). wants k ≡ Some HoldKind.Write → HasDone z next (record { call = k; own = event number (Act.Exchange Word.State 0 (2 ^ 64 - 1) w (w == 0)) Then.GoesOn ∷ c.own })) (sym so.at.0)
     (λ writes. take_done z call c.own w number next (w == 0) so.done.0 writes is) so.done.1
-steps_so z v (places.Low call) c hold memory number next so is = leads z (places.High call (memory words.Low)) next _ is (so.done.0, refl)
-steps_so {T} z v (places.High call low) c hold memory number next so is =
-    let w = memory words.High in
-    subst (λ (k : Call T). is_some (wants k) ≡ true → HasDone z next (record { call = k; own = event number (acts.Load words.High w) (outcome_of (knows z call (z.of_words low w))) ∷ c.own })) (sym so.at.0)
+steps_so z v (AtomicPlace.Low call) c hold memory number next so is = leads z (AtomicPlace.High call (memory Word.Low)) next _ is (so.done.0, refl)
+steps_so {T} z v (AtomicPlace.High call low) c hold memory number next so is =
+    let w = memory Word.High in
+    subst (λ (k : Call T). is_some (wants k) ≡ true → HasDone z next (record { call = k; own = event number (Act.Load Word.High w) (outcome_of (knows z call (z.of_words low w))) ∷ c.own })) (sym so.at.0)
     (λ known. high_done z c.own low w number next so.done.0 so.at.4 call known so.at.2.1 is) so.known
-steps_so {T} z v (places.Again old) c hold memory number next so is =
-    subst (λ (k : Call T). Asks z old k c.own hold → HasDone z next (record { call = k; own = event number (acts.Load words.High (memory words.High)) thens.GoesOn ∷ c.own })) (sym so.at.0)
-    (λ asks. again_done z old c.own hold so.done.1 (memory words.High) number next asks so.done.3 so.done.4 is) so.at.1
-steps_so z v (places.PutLow low high answer) c hold memory number next so is = leads z (places.PutHigh high answer) next _ is (so.done.0, so.done.1, low, refl)
-steps_so z v (places.PutHigh high answer) c hold memory number next so is = leads z (places.Leave answer) next _ is (ap (λ o. o.0) (sym so.done.1.1))
-steps_so z v (places.Leave answer) c hold memory number next so is = absurd cc
+steps_so {T} z v (AtomicPlace.Again old) c hold memory number next so is =
+    subst (λ (k : Call T). Asks z old k c.own hold → HasDone z next (record { call = k; own = event number (Act.Load Word.High (memory Word.High)) Then.GoesOn ∷ c.own })) (sym so.at.0)
+    (λ asks. again_done z old c.own hold so.done.1 (memory Word.High) number next asks so.done.3 so.done.4 is) so.at.1
+steps_so z v (AtomicPlace.PutLow low high answer) c hold memory number next so is = leads z (AtomicPlace.PutHigh high answer) next _ is (so.done.0, so.done.1, low, refl)
+steps_so z v (AtomicPlace.PutHigh high answer) c hold memory number next so is = leads z (AtomicPlace.Leave answer) next _ is (ap (λ o. o.0) (sym so.done.1.1))
+steps_so z v (AtomicPlace.Leave answer) c hold memory number next so is = absurd cc
 
 -- Where the answer of a closure leads.
 
-answers_so : {T : Type 0} (z : Arithmetic T) (place : AtomicPlace T) (c : PendingCall T) (action : WaitAction) (number : ℕ) → HasDone z place c → HasDone z place (record { call = c.call; own = event number (acts.Answered action) thens.GoesOn ∷ c.own })
+answers_so : {T : Type 0} (z : Arithmetic T) (place : AtomicPlace T) (c : PendingCall T) (action : WaitAction) (number : ℕ) → HasDone z place c → HasDone z place (record { call = c.call; own = event number (Act.Answered action) Then.GoesOn ∷ c.own })
 answers_so z place c action number h1 = grind (arith, nat_tests, eqb-true, eqb-false)
 
 -- At the other places no choice is asked for.
 chooses_so :
     {T : Type 0} (z : Arithmetic T) (v : T) (place : AtomicPlace T) (c : PendingCall T) (hold : Option HoldKind) (choice : Option T) (number : ℕ) → At z place c hold → choose_fault (latest_outcome c.own) ≡ None →
-    HasDone z ((atomic_table z v).chosen place choice) (record { call = c.call; own = event number (acts.Chosen choice) thens.GoesOn ∷ c.own })
+    HasDone z ((atomic_table z v).chosen place choice) (record { call = c.call; own = event number (Act.Chosen choice) Then.GoesOn ∷ c.own })
 chooses_so z v place c hold choice number h1 h2 = grind (arith, nat_tests, eqb-true, eqb-false)
 
 kept : {T : Type 0} (z : Arithmetic T) (v : T) → IsKeptFromRest z (atomic_table z v) HasNone (At z)
@@ -209,7 +179,7 @@ module _ {T : Type 0} (z : Arithmetic T) (call : Call T) (own : List (Event T)) 
   accesses : is_some (wants call) ≡ true → acts_made z call own ≡ 0 → has_entered own ≡ true → Accesses z call own (last_of is_step own) act outcome → AtomicStep z call own act outcome
   accesses known unmade in_it step = of_kind (wants call) known (λ k. rw unmade (rw in_it step))
 
-  leaves : is_some (wants call) ≡ true → acts_made z call own ≡ 1 → Releases (thens.Answers (acts_so z call own).0) act outcome → AtomicStep z call own act outcome
+  leaves : is_some (wants call) ≡ true → acts_made z call own ≡ 1 → Releases (Then.Answers (acts_so z call own).0) act outcome → AtomicStep z call own act outcome
   leaves known made step = of_kind (wants call) known (λ k. rw made step)
 
 next_step :

@@ -1,20 +1,5 @@
 -- What an atomic keeps at every front of every run: one writer or only readers, and it answers as one register.
-use Rattle.std.specs.Prelude.{◌≡◌, ◌≢◌, ◌<◌, ℕ, Bool, true, false, not, ◌&&◌, ◌||◌, is_some, List, [], ◌∷◌, Option, Some, None, MatchOption}
-use Rattle.steps_events.specs.declared.event.Word.TheVariants as words
-use Rattle.steps_events.specs.declared.event.Call.{Call}
-use Rattle.steps_events.specs.declared.event.Call.TheVariants as calls
-use Rattle.steps_events.specs.declared.event.Act.{Act}
-use Rattle.steps_events.specs.declared.event.Then.{Then}
-use Rattle.steps_events.specs.declared.event.Then.TheVariants as thens
-use Rattle.steps_events.specs.declared.event.Event.{Event}
-use Rattle.steps_events.specs.Arithmetic.{Arithmetic}
-use Rattle.steps_events.specs.declared.hold.HoldKind.TheVariants as kinds
-use Rattle.steps_events.specs.Past.{PendingCall, call_of, holds_of, hold_of, word_in}
-use Rattle.steps_events.specs.Sights.{acts_in}
-use Rattle.steps_events.specs.NextStep.{StepsAs}
-use Rattle.steps_events.specs.HoldCounts.{writes_in}
-use Rattle.steps_events.specs.Laws.{Keeps}
-use Rattle.steps_rw_reader.specs.Law.{CountsHolds}
+use Rattle.steps_atomic.specs.Names.{◌≡◌, ◌≢◌, ◌<◌, ℕ, Bool, true, false, not, ◌&&◌, ◌||◌, is_some, List, [], ◌∷◌, Option, Some, None, MatchOption, Word, Call, Act, Then, Event, Arithmetic, HoldKind, PendingCall, call_of, holds_of, hold_of, word_in, acts_in, StepsAs, writes_in, Keeps, CountsHolds}
 use Rattle.steps_atomic.specs.Register.{register_after, answer_of, choice_of, HasChosen, acts_made, is_data_access, is_data_write}
 use Rattle.steps_atomic.specs.Table.{atomic_table}
 use Rattle.steps_atomic.specs.Steps.{AtomicStep}
@@ -27,16 +12,16 @@ AtomicCause call party events = ⊥
 abbrev pub DataIsRegister : {T : Type 0} → Arithmetic T → T → List (Event T) → Type 0
 DataIsRegister z v past =
     writes_in (holds_of (atomic_table z v) past) ≡ 0 →
-    z.of_words (word_in (atomic_table z v) past words.Low) (word_in (atomic_table z v) past words.High) ≡ register_after z v past
+    z.of_words (word_in (atomic_table z v) past Word.Low) (word_in (atomic_table z v) past Word.High) ≡ register_after z v past
 
 -- an answer is what the register answered the call, which has acted once; and a choice closure is told the register's value
 abbrev pub AnswersAsRegister : {T : Type 0} → Arithmetic T → T → ℕ → List (Event T) → Then T → Type 0
-AnswersAsRegister z v party past (thens.Answers answer) =
+AnswersAsRegister z v party past (Then.Answers answer) =
     (answer_of z v party past ≡ Some answer) × MatchOption (call_of party past) ⊥ (λ c. (acts_made z c.call c.own ≡ 1) × HasChosen c.call (choice_of c.own))
-AnswersAsRegister z v party past (thens.Chooses old) =
-    (old ≡ register_after z v past) × MatchOption (call_of party past) ⊥ (λ c. (c.call ≡ calls.FetchUpdate) × (choice_of c.own ≡ None))
-AnswersAsRegister z v party past (thens.Waits seen) = ⊥
-AnswersAsRegister z v party past thens.GoesOn = Unit {0}
+AnswersAsRegister z v party past (Then.Chooses old) =
+    (old ≡ register_after z v past) × MatchOption (call_of party past) ⊥ (λ c. (c.call ≡ Call.FetchUpdate) × (choice_of c.own ≡ None))
+AnswersAsRegister z v party past (Then.Waits seen) = ⊥
+AnswersAsRegister z v party past Then.GoesOn = Unit {0}
 
 abbrev pub LatestAnswers : {T : Type 0} → Arithmetic T → T → List (Event T) → Type 0
 LatestAnswers z v [] = Unit {0}
@@ -57,12 +42,12 @@ RestsWithout z v past = (party : ℕ) → call_of party past ≡ None → hold_o
 
 -- the party has the lock for writing, and no other call under way has read or written a data word yet
 pub record IsAlone {T : Type 0} (z : Arithmetic T) (v : T) (party : ℕ) (past : List (Event T)) : Type 0 where
-  pub held : hold_of (atomic_table z v) party past ≡ Some kinds.Write
+  pub held : hold_of (atomic_table z v) party past ≡ Some HoldKind.Write
   pub untouched : (other : ℕ) → other ≢ party → MatchOption (call_of other past) (Unit {0}) (λ c. acts_in is_data_access c.own ≡ 0)
 
 -- a call that writes nothing
 abbrev pub is_load : {T : Type 0} → Call T → Bool
-is_load calls.Load = true
+is_load Call.Load = true
 is_load call = false
 
 abbrev pub only_reads : {T : Type 0} → Option (PendingCall T) → Bool
@@ -81,7 +66,7 @@ WritesAlone z v (e ∷ past) = accesses_to_write e.act (call_of e.party past) �
 -- What an atomic keeps beside what every object does.
 pub record AtomicLaw {T : Type 0} (z : Arithmetic T) (v : T) (past : List (Event T)) : Type 0 where
   -- the lock's word is the number of read holds, or 2^64 - 1 with one write hold and no other
-  pub counts : CountsHolds (word_in (atomic_table z v) past words.State) (holds_of (atomic_table z v) past)
+  pub counts : CountsHolds (word_in (atomic_table z v) past Word.State) (holds_of (atomic_table z v) past)
   -- while nobody has the lock for writing, the data words are the register's value
   pub held : DataIsRegister z v past
   -- the calls answer as one register does

@@ -1,3 +1,4 @@
+pub mod Names
 pub mod Register
 pub mod Table
 pub mod Steps

@@ -1,48 +1,37 @@
 -- An atomic as one register: a value, and the acts of its calls, in the order of their last data accesses.
-use Rattle.std.specs.Prelude.{◌≡◌, is_some, ℕ, Bool, true, false, ◌+◌, ◌==◌, ◌||◌, if◌then◌else◌, not, List, [], ◌∷◌, ◌++◌, Option, Some, None}
-use Rattle.steps_events.specs.declared.event.Word.TheVariants as words
-use Rattle.steps_events.specs.declared.event.Call.{Call}
-use Rattle.steps_events.specs.declared.event.Call.TheVariants as calls
-use Rattle.steps_events.specs.declared.event.Act.{Act}
-use Rattle.steps_events.specs.declared.event.Act.TheVariants as acts
-use Rattle.steps_events.specs.declared.event.Answer.{Answer}
-use Rattle.steps_events.specs.declared.event.Answer.TheVariants as answers
-use Rattle.steps_events.specs.declared.event.Event.{Event}
-use Rattle.steps_events.specs.Arithmetic.{Arithmetic}
-use Rattle.steps_events.specs.Past.{PendingCall, call_of}
-use Rattle.steps_events.specs.Sights.{is_sight, is_write}
+use Rattle.steps_atomic.specs.Names.{◌≡◌, is_some, ℕ, Bool, true, false, ◌+◌, ◌==◌, ◌||◌, if◌then◌else◌, not, List, [], ◌∷◌, ◌++◌, Option, Some, None, Word, Call, Act, Answer, Event, Arithmetic, PendingCall, call_of, is_sight, is_write}
 
 -- what an act answers, and the register's new value
 abbrev pub Outcome : Type 0 → Type 0
 Outcome T = Answer T × T
 
 abbrev pub swapped : {T : Type 0} → T → T → Outcome T
-swapped old new = (answers.Value old, new)
+swapped old new = (Answer.Value old, new)
 
 abbrev pub compared : {T : Type 0} → Bool → T → T → Outcome T
-compared same old new = if same then (answers.OkOld old, new) else (answers.ErrOld old, old)
+compared same old new = if same then (Answer.OkOld old, new) else (Answer.ErrOld old, old)
 
 abbrev pub updated : {T : Type 0} → Option (Option T) → T → Outcome T
-updated (Some (Some new)) old = (answers.OkOld old, new)
-updated other old = (answers.ErrOld old, old)
+updated (Some (Some new)) old = (Answer.OkOld old, new)
+updated other old = (Answer.ErrOld old, old)
 
 -- a call's act at a register of this value, with its choice where it was given one
 abbrev pub act_of : {T : Type 0} → Arithmetic T → Call T → Option (Option T) → T → Outcome T
-act_of z calls.Load choice old = (answers.Value old, old)
-act_of z (calls.Store x) choice old = (answers.Done, x)
-act_of z (calls.Swap x) choice old = swapped old x
-act_of z (calls.CompareExchange c x) choice old = compared (z.same old c) old x
-act_of z (calls.CompareExchangeWeak c x) choice old = compared (z.same old c) old x
-act_of z (calls.FetchAdd x) choice old = swapped old (z.add old x)
-act_of z (calls.FetchSub x) choice old = swapped old (z.subtract old x)
-act_of z (calls.FetchAnd x) choice old = swapped old (z.and old x)
-act_of z (calls.FetchOr x) choice old = swapped old (z.or old x)
-act_of z (calls.FetchXor x) choice old = swapped old (z.xor old x)
-act_of z (calls.FetchNand x) choice old = swapped old (z.inverse (z.and old x))
-act_of z (calls.FetchMax x) choice old = swapped old (z.greater old x)
-act_of z (calls.FetchMin x) choice old = swapped old (z.lesser old x)
-act_of z calls.FetchUpdate choice old = updated choice old
-act_of z other choice old = (answers.Done, old)
+act_of z Call.Load choice old = (Answer.Value old, old)
+act_of z (Call.Store x) choice old = (Answer.Done, x)
+act_of z (Call.Swap x) choice old = swapped old x
+act_of z (Call.CompareExchange c x) choice old = compared (z.same old c) old x
+act_of z (Call.CompareExchangeWeak c x) choice old = compared (z.same old c) old x
+act_of z (Call.FetchAdd x) choice old = swapped old (z.add old x)
+act_of z (Call.FetchSub x) choice old = swapped old (z.subtract old x)
+act_of z (Call.FetchAnd x) choice old = swapped old (z.and old x)
+act_of z (Call.FetchOr x) choice old = swapped old (z.or old x)
+act_of z (Call.FetchXor x) choice old = swapped old (z.xor old x)
+act_of z (Call.FetchNand x) choice old = swapped old (z.inverse (z.and old x))
+act_of z (Call.FetchMax x) choice old = swapped old (z.greater old x)
+act_of z (Call.FetchMin x) choice old = swapped old (z.lesser old x)
+act_of z Call.FetchUpdate choice old = updated choice old
+act_of z other choice old = (Answer.Done, old)
 
 -- a call at a register, with its choice where its closure was asked for one
 pub record RegisterAct (T : Type 0) : Type 0 where
@@ -55,7 +44,7 @@ plain call = record { call = call; choice = None }
 
 -- a `fetch_update` whose closure chose this
 abbrev pub update : {T : Type 0} → Option T → RegisterAct T
-update choice = record { call = calls.FetchUpdate; choice = Some choice }
+update choice = record { call = Call.FetchUpdate; choice = Some choice }
 
 -- what the register answers, and what it is then
 abbrev pub answer_to : {T : Type 0} → Arithmetic T → RegisterAct T → T → Answer T
@@ -71,7 +60,7 @@ after_acts z v (a ∷ acts) = after_acts z (value_after z a v) acts
 
 -- the choice that the call was given
 abbrev pub choice_in : {T : Type 0} → Act T → Option (Option T) → Option (Option T)
-choice_in (acts.Chosen choice) before = Some choice
+choice_in (Act.Chosen choice) before = Some choice
 choice_in other before = before
 
 abbrev pub choice_of : {T : Type 0} → List (Event T) → Option (Option T)
@@ -80,7 +69,7 @@ choice_of (e ∷ own) = choice_in e.act (choice_of own)
 
 -- the low word that the call was told
 abbrev pub low_in : {T : Type 0} → Act T → ℕ → ℕ
-low_in (acts.Load words.Low seen) before = seen
+low_in (Act.Load Word.Low seen) before = seen
 low_in other before = before
 
 abbrev pub low_told : {T : Type 0} → List (Event T) → ℕ
@@ -89,16 +78,16 @@ low_told (e ∷ own) = low_in e.act (low_told own)
 
 -- whether a load of the high word, by which the old value is known, is the call's last data access
 abbrev pub ends_at_look : {T : Type 0} → Arithmetic T → Call T → Option (Option T) → T → Bool
-ends_at_look z calls.Load choice old = true
-ends_at_look z (calls.CompareExchange c x) choice old = not (z.same old c)
-ends_at_look z (calls.CompareExchangeWeak c x) choice old = not (z.same old c)
-ends_at_look z calls.FetchUpdate (Some choice) old = true
+ends_at_look z Call.Load choice old = true
+ends_at_look z (Call.CompareExchange c x) choice old = not (z.same old c)
+ends_at_look z (Call.CompareExchangeWeak c x) choice old = not (z.same old c)
+ends_at_look z Call.FetchUpdate (Some choice) old = true
 ends_at_look z other choice old = false
 
 -- the act is the call's last data access: its store of the high word, or the load of it after which it stores nothing
 abbrev pub is_last : {T : Type 0} → Arithmetic T → PendingCall T → Act T → Bool
-is_last z c (acts.Store words.High put) = true
-is_last z c (acts.Load words.High seen) = ends_at_look z c.call (choice_of c.own) (z.of_words (low_told c.own) seen)
+is_last z c (Act.Store Word.High put) = true
+is_last z c (Act.Load Word.High seen) = ends_at_look z c.call (choice_of c.own) (z.of_words (low_told c.own) seen)
 is_last z c other = false
 
 abbrev pub acted : {T : Type 0} → Arithmetic T → Option (PendingCall T) → Act T → T → T
@@ -107,7 +96,7 @@ acted z (Some c) act old = if is_last z c act then (act_of z c.call (choice_of c
 
 -- the choice that a call acts with: only a `FetchUpdate` has one
 abbrev pub choice_for : {T : Type 0} → Call T → Option (Option T) → Option (Option T)
-choice_for calls.FetchUpdate choice = choice
+choice_for Call.FetchUpdate choice = choice
 choice_for other choice = None
 
 abbrev pub act_by : {T : Type 0} → PendingCall T → RegisterAct T
@@ -142,7 +131,7 @@ answer_of z v party (e ∷ past) =
 
 -- a `FetchUpdate` acts with its choice, and so once its closure has answered
 abbrev pub HasChosen : {T : Type 0} → Call T → Option (Option T) → Type 0
-HasChosen calls.FetchUpdate choice = is_some choice ≡ true
+HasChosen Call.FetchUpdate choice = is_some choice ≡ true
 HasChosen other choice = Unit {0}
 
 -- how often a call has acted
@@ -152,7 +141,7 @@ acts_made z call (e ∷ own) = (if is_last z (record { call = call; own = own })
 
 -- an act that writes a data word, or tells or writes one
 abbrev pub is_data_write : {T : Type 0} → Act T → Bool
-is_data_write act = is_write words.Low act || is_write words.High act
+is_data_write act = is_write Word.Low act || is_write Word.High act
 
 abbrev pub is_data_access : {T : Type 0} → Act T → Bool
-is_data_access act = is_data_write act || (is_sight words.Low act || is_sight words.High act)
+is_data_access act = is_data_write act || (is_sight Word.Low act || is_sight Word.High act)

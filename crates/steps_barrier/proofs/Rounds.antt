@@ -1,8 +1,6 @@
 -- Which round an arrival is in, and what the word tells of it.
-use Rattle.std.proofs.Common.{◌≡◌, ◌≢◌, ℕ, ◌+◌, ◌*◌, ◌/◌, ◌%◌, ◌^◌, ◌≤◌, ◌<◌, ◌==◌, refl, sym, ◌∙◌, ap, Bool, true, false, cond, add-mul, arith}
+use Rattle.steps_barrier.proofs.Names.{◌≡◌, ◌≢◌, ℕ, ◌+◌, ◌*◌, ◌/◌, ◌%◌, ◌^◌, ◌≤◌, ◌<◌, ◌==◌, refl, sym, ◌∙◌, ap, Bool, true, false, cond, add-mul, arith, eqb-true, nat_tests}
 use Rattle.std.proofs.Math.Nat.{zero-div, zero-mod}
-use Rattle.std.proofs.lemmas.Bool.{eqb-true}
-use Rattle.std.proofs.lemmas.Bool.Decides.{nat_tests}
 use Rattle.std.proofs.lemmas.Nat.{div-add-mod', div-mul-add, mod-mul-add, mod_below, le-div, mul-le}
 use Rattle.steps_barrier.specs.Rounds.{epoch_of, count_of, opened, with_arrival, CountsArrivals}
 

@@ -1,31 +1,15 @@
 -- What a barrier keeps at every front of every run: rounds of n arrivals, each of which is full before one of its calls answers `Ok`.
-use Rattle.std.specs.Prelude.{◌≡◌, ◌≢◌, ℕ, ◌+◌, ◌%◌, ◌^◌, ◌<◌, ◌==◌, ◌↔◌, nat_lt, Bool, true, false, Option, Some, None, if◌then◌else◌, List, [], ◌∷◌, MatchBool, MatchOption}
-use Rattle.steps_events.specs.declared.event.Word.TheVariants as words
-use Rattle.steps_events.specs.declared.event.Call.{Call}
-use Rattle.steps_events.specs.declared.event.Call.TheVariants as calls
-use Rattle.steps_events.specs.declared.event.Act.{Act}
-use Rattle.steps_events.specs.declared.event.Act.TheVariants as acts
-use Rattle.steps_events.specs.declared.event.Wake.TheVariants as wakes
-use Rattle.steps_events.specs.declared.event.Answer.TheVariants as answers
-use Rattle.steps_events.specs.declared.event.Then.{Then}
-use Rattle.steps_events.specs.declared.event.Then.TheVariants as thens
-use Rattle.steps_events.specs.declared.event.Event.{Event}
-use Rattle.steps_events.specs.Past.{call_of, holds_of, word_in}
-use Rattle.steps_events.specs.Moves.{is_step}
-use Rattle.steps_events.specs.Sights.{is_sight, AtLast, spins_in, last_of}
-use Rattle.steps_events.specs.NextStep.{StepsAs, seen_last, Loads, Exchanges}
-use Rattle.steps_events.specs.Asks.{SpinCount, sight_at, Waiting, WaitsAs}
-use Rattle.steps_events.specs.Laws.{Keeps}
+use Rattle.steps_barrier.specs.Names.{◌≡◌, ◌≢◌, ℕ, ◌+◌, ◌%◌, ◌^◌, ◌<◌, ◌==◌, ◌↔◌, nat_lt, Bool, true, false, Option, Some, None, if◌then◌else◌, List, [], ◌∷◌, MatchBool, MatchOption, Word, Call, Act, Wake, Answer, Then, Event, call_of, holds_of, word_in, is_step, is_sight, AtLast, spins_in, last_of, StepsAs, seen_last, Loads, Exchanges, SpinCount, sight_at, Waiting, WaitsAs, Keeps}
 use Rattle.steps_barrier.specs.Rounds.{epoch_of, count_of, with_arrival, is_arrival, arrivals_in, round_of, full_rounds, IsFull, CountsArrivals}
 use Rattle.steps_barrier.specs.Table.{barrier_table}
 
 -- `Wait`: n is 0.
 abbrev pub BarrierCause : {T : Type 0} → ℕ → Call T → ℕ → List (Event T) → Type 0
-BarrierCause n calls.Wait party events = n ≡ 0
+BarrierCause n Call.Wait party events = n ≡ 0
 BarrierCause n other party events = ⊥
 
 abbrev pub is_ok : {T : Type 0} → Then T → Bool
-is_ok (thens.Answers answers.Ok) = true
+is_ok (Then.Answers Answer.Ok) = true
 is_ok other = false
 
 -- at a barrier of 0 nobody has arrived, and the word is 0
@@ -45,12 +29,12 @@ HasArrived party past = MatchOption (call_of party past) ⊥ (λ c. 0 < arrivals
 abbrev pub LeavesByItsLook : {T : Type 0} → ℕ → List (Event T) → Type 0
 LeavesByItsLook n [] = Unit {0}
 LeavesByItsLook n (e ∷ past) =
-    is_sight words.State e.act ≡ true →
+    is_sight Word.State e.act ≡ true →
     HasArrived e.party past →
-    AtLast is_arrival (λ before. (e.then ≡ thens.Answers answers.Ok) ↔ (full_rounds n past % 2 ^ 32 ≢ round_of n (arrivals_in before) % 2 ^ 32)) e.party past
+    AtLast is_arrival (λ before. (e.then ≡ Then.Answers Answer.Ok) ↔ (full_rounds n past % 2 ^ 32 ≢ round_of n (arrivals_in before) % 2 ^ 32)) e.party past
 
 abbrev pub is_wake_of_all : {T : Type 0} → Act T → Bool
-is_wake_of_all (acts.Woke wakes.All) = true
+is_wake_of_all (Act.Woke Wake.All) = true
 is_wake_of_all act = false
 
 -- who fills a round wakes all: the latest event answers `Ok` as it does so, or the call's own arrival did not make n
@@ -62,7 +46,7 @@ FillerWakesAll n (e ∷ past) =
     (Unit {0})
 
 abbrev pub is_wake : {T : Type 0} → Act T → Bool
-is_wake (acts.Woke wake) = true
+is_wake (Act.Woke wake) = true
 is_wake act = false
 
 -- only who fills a round wakes: the latest event is a wake only where the call's own arrival made n, and then it wakes all and the call answers `Ok`
@@ -70,13 +54,13 @@ abbrev pub WakesAsFiller : {T : Type 0} → ℕ → List (Event T) → Type 0
 WakesAsFiller n [] = Unit {0}
 WakesAsFiller n (e ∷ past) =
     MatchBool (is_wake e.act)
-    ((is_wake_of_all e.act ≡ true) × (e.then ≡ thens.Answers answers.Ok) × AtLast is_arrival (λ before. arrivals_in before % n + 1 ≡ n) e.party past)
+    ((is_wake_of_all e.act ≡ true) × (e.then ≡ Then.Answers Answer.Ok) × AtLast is_arrival (λ before. arrivals_in before % n + 1 ≡ n) e.party past)
     (Unit {0})
 
 -- Exact: an event that sees the word is refused exactly where n is 0.
 abbrev pub IsExactRefusal : {T : Type 0} → ℕ → List (Event T) → Type 0
 IsExactRefusal n [] = Unit {0}
-IsExactRefusal n (e ∷ past) = is_sight words.State e.act ≡ true → ((e.then ≡ thens.Answers answers.Full) ↔ (n ≡ 0))
+IsExactRefusal n (e ∷ past) = is_sight Word.State e.act ≡ true → ((e.then ≡ Then.Answers Answer.Full) ↔ (n ≡ 0))
 
 -- a call's own events since its arrival
 abbrev pub since_arrival : {T : Type 0} → List (Event T) → List (Event T)
@@ -89,7 +73,7 @@ once_arrived counted call own = if arrivals_in own == 0 then 0 else counted (sin
 
 -- its spins: the looks after which it went on by itself
 abbrev pub looks_on : {T : Type 0} → SpinCount T
-looks_on call own = once_arrived (spins_in (is_sight words.State)) call own
+looks_on call own = once_arrived (spins_in (is_sight Word.State)) call own
 
 -- its steps of any kind after which it went on by itself
 abbrev pub steps_on : {T : Type 0} → SpinCount T
@@ -97,39 +81,39 @@ steps_on call own = once_arrived (spins_in is_step) call own
 
 -- how they wait
 abbrev pub barrier_waiting : {T : Type 0} → Waiting T
-barrier_waiting = record { spins = looks_on; goes_on = steps_on; refusing = sight_at words.State; wait = λ call own. [] }
+barrier_waiting = record { spins = looks_on; goes_on = steps_on; refusing = sight_at Word.State; wait = λ call own. [] }
 
 -- What a call does next, by its own steps so far, and how it is left by what that tells.
 
 -- a look of a call that has not arrived: where n have, it is refused
 abbrev pub looked : {T : Type 0} → ℕ → ℕ → Then T
-looked n v = if nat_lt (count_of v) n then thens.GoesOn else thens.Answers answers.Full
+looked n v = if nat_lt (count_of v) n then Then.GoesOn else Then.Answers Answer.Full
 
 -- a look of a call that arrived from v and has spun so often: at another epoch than that of its arrival it passes; else it goes on by itself until it has spun
 -- 10000 times, and then asks its closure
 abbrev pub stayed : {T : Type 0} → ℕ → ℕ → ℕ → Then T
-stayed v spins w = if epoch_of w == epoch_of v then (if nat_lt spins 10000 then thens.GoesOn else thens.Waits w) else thens.Answers answers.Ok
+stayed v spins w = if epoch_of w == epoch_of v then (if nat_lt spins 10000 then Then.GoesOn else Then.Waits w) else Then.Answers Answer.Ok
 
 -- the call that has filled its round wakes all and passes; any other that has arrived looks
 abbrev pub HasArrivedFrom : {T : Type 0} → ℕ → ℕ → ℕ → Act T → Then T → Type 0
-HasArrivedFrom n v spins act outcome = MatchBool (count_of v + 1 == n) ((act ≡ acts.Woke wakes.All) × (outcome ≡ thens.Answers answers.Ok)) (Loads words.State (stayed v spins) act outcome)
+HasArrivedFrom n v spins act outcome = MatchBool (count_of v + 1 == n) ((act ≡ Act.Woke Wake.All) × (outcome ≡ Then.Answers Answer.Ok)) (Loads Word.State (stayed v spins) act outcome)
 
 -- before that it looks, and then exchanges what it saw for one arrival more; where that failed, what it found is a look
 abbrev pub Arrives : {T : Type 0} → ℕ → Option ℕ → Act T → Then T → Type 0
-Arrives n None act outcome = Loads words.State (looked n) act outcome
-Arrives n (Some v) act outcome = Exchanges words.State v (with_arrival n v) thens.GoesOn (looked n) act outcome
+Arrives n None act outcome = Loads Word.State (looked n) act outcome
+Arrives n (Some v) act outcome = Exchanges Word.State v (with_arrival n v) Then.GoesOn (looked n) act outcome
 
 -- the value from which an exchange was
 abbrev pub from_of : {T : Type 0} → Option (Act T) → Option ℕ
-from_of (Some (acts.Exchange word from to found done)) = Some from
+from_of (Some (Act.Exchange word from to found done)) = Some from
 from_of other = None
 
 -- the next step of a `Wait`, by whether it has arrived, and by what its latest step saw; no other call has one
 abbrev pub BarrierStep : {T : Type 0} → ℕ → Call T → List (Event T) → Act T → Then T → Type 0
-BarrierStep n calls.Wait own act outcome =
+BarrierStep n Call.Wait own act outcome =
     MatchOption (from_of (last_of is_arrival own))
-    (Arrives n (seen_last words.State own) act outcome)
-    (λ v. HasArrivedFrom n v (spins_in (is_sight words.State) (since_arrival own)) act outcome)
+    (Arrives n (seen_last Word.State own) act outcome)
+    (λ v. HasArrivedFrom n v (spins_in (is_sight Word.State) (since_arrival own)) act outcome)
 BarrierStep n other own act outcome = ⊥
 
 -- What a barrier keeps beside what every object does.
@@ -137,9 +121,9 @@ pub record BarrierLaw {T : Type 0} (n : ℕ) (past : List (Event T)) : Type 0 wh
   -- nobody holds a barrier
   pub unheld : holds_of (barrier_table n) past ≡ []
   -- the word tells the rounds that are full, modulo 2 ^ 32, and the arrivals of the next one
-  pub counts : CountsArrivals n (arrivals_in past) (word_in (barrier_table n) past words.State)
+  pub counts : CountsArrivals n (arrivals_in past) (word_in (barrier_table n) past Word.State)
   -- nobody arrives at a barrier of 0, and its word stays 0
-  pub nobody : NobodyAtZero n (arrivals_in past) (word_in (barrier_table n) past words.State)
+  pub nobody : NobodyAtZero n (arrivals_in past) (word_in (barrier_table n) past Word.State)
   -- `Ok` comes after the call's own round is full
   pub passes : OkAfterFullRound n past
   -- a look of a call that has arrived answers `Ok` exactly where it sees another epoch than that of its arrival

@@ -1,3 +1,4 @@
+pub mod Names
 pub mod Rounds
 pub mod Table
 pub mod Law

@@ -1,9 +1,5 @@
 -- Rounds: what a barrier's word says of them, and which round an arrival is in.
-use Rattle.std.specs.Prelude.{◌≡◌, ◌<◌, ℕ, ◌+◌, ◌*◌, ◌/◌, ◌%◌, ◌^◌, ◌==◌, if◌then◌else◌, Bool, List}
-use Rattle.steps_events.specs.declared.event.Word.TheVariants as words
-use Rattle.steps_events.specs.declared.event.Act.{Act}
-use Rattle.steps_events.specs.declared.event.Event.{Event}
-use Rattle.steps_events.specs.Sights.{is_done_exchange, acts_in}
+use Rattle.steps_barrier.specs.Names.{◌≡◌, ◌<◌, ℕ, ◌+◌, ◌*◌, ◌/◌, ◌%◌, ◌^◌, ◌==◌, if◌then◌else◌, Bool, List, Word, Act, Event, is_done_exchange, acts_in}
 
 -- The word.
 
@@ -27,7 +23,7 @@ with_arrival n word = if count_of word + 1 == n then opened word else word + 1
 
 -- an exchange that is done
 abbrev pub is_arrival : {T : Type 0} → Act T → Bool
-is_arrival act = is_done_exchange words.State act
+is_arrival act = is_done_exchange Word.State act
 
 -- Arrivals are numbered from 0 in the order of the run, so that this is also the number of the next.
 abbrev pub arrivals_in : {T : Type 0} → List (Event T) → ℕ

@@ -1,10 +1,6 @@
 -- The waiter count and the parties that wait: each event changes both alike.
-use Rattle.std.proofs.Common.{◌≡◌, ◌≢◌, ℕ, ◌+◌, ◌-◌, ◌%◌, ◌^◌, ◌==◌, refl, sym, ◌∙◌, subst, Bool, true, false, cond, List, [], ◌∷◌, length, ◌⊎◌, inl, inr, arith}
-use Rattle.std.proofs.lemmas.Bool.Decides.{eqb_tells}
-use Rattle.steps_events.specs.declared.event.Word.TheVariants as words
-use Rattle.steps_events.specs.declared.event.Event.{Event}
-use Rattle.steps_events.specs.Past.{call_of, call_after, word_in, word_after}
-use Rattle.steps_events.proofs.Holds.{eqb_other}
+use Rattle.steps_condvar.specs.Names.{Word, Event, call_of, call_after, word_in, word_after}
+use Rattle.steps_condvar.proofs.Names.{◌≡◌, ◌≢◌, ℕ, ◌+◌, ◌-◌, ◌%◌, ◌^◌, ◌==◌, refl, sym, ◌∙◌, subst, Bool, true, false, cond, List, [], ◌∷◌, length, ◌⊎◌, inl, inr, arith, eqb_tells, eqb_other}
 use Rattle.steps_condvar.specs.Table.{condvar_table}
 use Rattle.steps_condvar.specs.Waiters.{is_count, is_counted, without, times, waiting_after, CountsWaiters}
 
@@ -50,7 +46,7 @@ none_wait = record { counts = refl; exactly = λ party. refl }
 
 pub counts_after :
     {T : Type 0} (past : List (Event T)) (e : Event T) → CountsWaiters past →
-    CountEffect (word_in condvar_table past words.Waiters) (word_after words.Waiters e.act (word_in condvar_table past words.Waiters)) (is_count e.act) (is_counted (call_of e.party past)) (is_counted (call_after e.then e (call_of e.party past))) →
+    CountEffect (word_in condvar_table past Word.Waiters) (word_after Word.Waiters e.act (word_in condvar_table past Word.Waiters)) (is_count e.act) (is_counted (call_of e.party past)) (is_counted (call_after e.then e (call_of e.party past))) →
     CountsWaiters (e ∷ past)
 counts_after {T} past e before (inl quiet) = record { counts = rw quiet.0 (quiet.1 ∙ before.counts); exactly = λ q. by_party q (eqb_tells e.party q) }
   where

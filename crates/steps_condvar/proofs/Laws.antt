@@ -1,56 +1,14 @@
 -- A condition variable keeps its law at every front of every run.
-use Rattle.std.proofs.lemmas.Bool.Decides.{nat_tests}
-use Rattle.std.proofs.Common.{◌≡◌, ◌∙◌, ℕ, ◌+◌, ◌%◌, ◌^◌, ◌==◌, ◌&&◌, refl, sym, ap, subst, Bool, true, false, cond, List, [], ◌∷◌, Option, Some, None, ◌⊎◌, inl, inr, ◌↔◌, arith}
-use Rattle.std.specs.Prelude.{IfSome, MatchBool, MatchOption, not}
-use Rattle.std.proofs.lemmas.Bool.{eqb-true, eqb-false}
-use Rattle.steps_events.specs.declared.event.Word.{Word}
-use Rattle.steps_events.specs.declared.event.Word.TheVariants as words
-use Rattle.steps_events.specs.declared.event.Wake.{Wake}
-use Rattle.steps_events.specs.declared.event.Wake.TheVariants as wakes
-use Rattle.steps_events.specs.declared.event.Call.{Call}
-use Rattle.steps_events.specs.declared.event.Call.TheVariants as calls
-use Rattle.steps_events.specs.declared.event.Act.{Act}
-use Rattle.steps_events.specs.declared.event.Act.TheVariants as acts
-use Rattle.steps_events.specs.declared.event.Answer.{Answer}
-use Rattle.steps_events.specs.declared.event.Answer.TheVariants as answers
-use Rattle.steps_events.specs.declared.event.Event.{Event}
-use Rattle.steps_events.specs.declared.event.Then.{Then}
-use Rattle.steps_events.specs.declared.event.Then.TheVariants as thens
+use Rattle.steps_condvar.specs.Names.{IfSome, MatchBool, MatchOption, not, Word, Wake, Call, Act, Answer, Event, Then, HoldKind, After, Arithmetic, carried_out, value_told, outcome_of, within, same_word, PendingCall, call_of, call_after, call_going_on, holds_of, hold_of, hold_after, word_in, word_after, event, Move, step_at, fault_at, begin_fault, IsPast, sight_of, is_sight, keeps_asking, WhereAsked, IsTold, Lacks, is_refusal, MutexPlace, mutex_intent, mutex_after, acts_of, IsLockAnswer, LockCause, answer_of, SemaphorePlace, permits_given, permits_taken, is_take, number_answered}
+use Rattle.steps_condvar.proofs.Names.{nat_tests, ◌≡◌, ◌∙◌, ℕ, ◌+◌, ◌%◌, ◌^◌, ◌==◌, ◌&&◌, refl, sym, ap, subst, Bool, true, false, cond, List, [], ◌∷◌, Option, Some, None, ◌⊎◌, inl, inr, ◌↔◌, arith, eqb-true, eqb-false, eqb_same, hold_of_same, sight_is_told, at_last_sight, at_place, fault_at_none, asked_of, waits_first, waits_as, spins_no_more, LockLeads, lock_leads, AtMutex, another, held_at_one, mutex_lacks, WaitLeads, wait_leads, wait_effect}
 use Rattle.steps_events.specs.declared.event.Input.{Input}
-use Rattle.steps_events.specs.declared.hold.HoldKind.{HoldKind}
-use Rattle.steps_events.specs.declared.hold.HoldKind.TheVariants as kinds
-use Rattle.steps_events.specs.declared.row.After.{After}
-use Rattle.steps_events.specs.declared.row.After.TheVariants as afters
-use Rattle.steps_events.specs.Arithmetic.{Arithmetic}
-use Rattle.steps_events.specs.Rows.{carried_out, value_told, outcome_of, within}
-use Rattle.steps_events.specs.Past.{same_word, PendingCall, call_of, call_after, call_going_on, holds_of, hold_of, hold_after, word_in, word_after, event}
-use Rattle.steps_events.specs.Moves.{Move, step_at, fault_at, begin_fault}
-use Rattle.steps_events.specs.Runs.{IsPast}
-use Rattle.steps_events.specs.Sights.{sight_of, is_sight, keeps_asking}
-use Rattle.steps_events.specs.Asks.{WhereAsked}
-use Rattle.steps_events.specs.Laws.{IsTold, Lacks, is_refusal}
-use Rattle.steps_events.proofs.Holds.{eqb_same, hold_of_same}
 use Rattle.steps_events.proofs.Steps.{carried_goes_on, by_move, tells_memory}
-use Rattle.steps_events.proofs.LastSights.{sight_is_told, at_last_sight}
-use Rattle.steps_events.proofs.Parties.{at_place, fault_at_none}
-use Rattle.steps_events.proofs.Asks.{asked_of, waits_first, waits_as, spins_no_more}
 use Rattle.steps_events.proofs.Locks.{IsLock, IsLockIntent, IsFreeOrHeld, lock_word, lock_exclusive, locked_at}
-use Rattle.steps_mutex.specs.declared.MutexPlace.{MutexPlace}
-use Rattle.steps_mutex.specs.declared.MutexPlace.TheVariants as locks
-use Rattle.steps_mutex.specs.Table.{mutex_intent, mutex_after}
 use Rattle.steps_mutex.specs.Law as mutex_law
-use Rattle.steps_mutex.specs.Law.{acts_of, IsLockAnswer, LockCause, answer_of}
-use Rattle.steps_mutex.proofs.LockSteps.{LockLeads, lock_leads}
 use Rattle.steps_mutex.proofs.Laws as mutex
-use Rattle.steps_mutex.proofs.Laws.{AtMutex, another, held_at_one, mutex_lacks}
-use Rattle.steps_semaphore.specs.declared.SemaphorePlace.{SemaphorePlace}
-use Rattle.steps_semaphore.specs.declared.SemaphorePlace.TheVariants as permits
-use Rattle.steps_semaphore.specs.Permits.{permits_given, permits_taken, is_take, number_answered}
 use Rattle.steps_semaphore.proofs.Permits.{Effect, Tallies, tallies_first, tallies_after, lowered}
 use Rattle.steps_semaphore.proofs.Laws.{semaphore_apart}
-use Rattle.steps_semaphore.proofs.WaitSteps.{WaitLeads, wait_leads, wait_effect}
 use Rattle.steps_condvar.specs.declared.CondvarPlace.{CondvarPlace}
-use Rattle.steps_condvar.specs.declared.CondvarPlace.TheVariants as places
 use Rattle.steps_condvar.specs.Table.{condvar_table, condvar_grant, permitted, relocked}
 use Rattle.steps_condvar.specs.Waiters.{is_count, counts_in, since_count, is_wait, is_counted, CountsWaiters}
 use Rattle.steps_condvar.specs.Law.{wake_for, count_read, amount_for, condvar_gives, condvar_value, HasAbortedSince, FoundNoPermit, FoundMutexHeld, IsSignalled, CondvarCause, IsAnswer, spins_of, gives_up, HasTried, KeepsCondvar, spins_on, refused_by, wait_of, condvar_waiting}
@@ -74,16 +32,16 @@ condvar_is_lock z parties =
 
 step_effect :
     {T : Type 0} (place : CondvarPlace) (c : PendingCall T) (hold : Option HoldKind) (memory : Word → ℕ) → AtCondvar place c hold →
-    Effect (memory words.Value) (word_after {T = T} words.Value (step_at condvar_table place hold memory).act (memory words.Value)) (condvar_gives {T = T} (step_at condvar_table place hold memory).act (Some c)) (is_take {T = T} words.Value (step_at condvar_table place hold memory).act)
+    Effect (memory Word.Value) (word_after {T = T} Word.Value (step_at condvar_table place hold memory).act (memory Word.Value)) (condvar_gives {T = T} (step_at condvar_table place hold memory).act (Some c)) (is_take {T = T} Word.Value (step_at condvar_table place hold memory).act)
 step_effect place c hold memory h1 = grind (arith, nat_tests, eqb-true, eqb-false)
 
 event_effect :
     {T : Type 0} (z : Arithmetic T) (parties : ℕ) (past : List (Event T)) (e : Event T) → IsPast z condvar_table parties (e ∷ past) →
-    Effect (word_in condvar_table past words.Value) (word_after words.Value e.act (word_in condvar_table past words.Value)) (condvar_gives e.act (call_of e.party past)) (is_take words.Value e.act)
+    Effect (word_in condvar_table past Word.Value) (word_after Word.Value e.act (word_in condvar_table past Word.Value)) (condvar_gives e.act (call_of e.party past)) (is_take Word.Value e.act)
 event_effect {T} z parties past e run =
-    let v = word_in condvar_table past words.Value in
+    let v = word_in condvar_table past Word.Value in
     by_move condvar_table (call_of e.party past) (hold_of condvar_table e.party past) (word_in condvar_table past)
-    (λ (k : Option (PendingCall T)) (m : Move T). Effect v (word_after words.Value m.act v) (condvar_gives m.act k) (is_take words.Value m.act))
+    (λ (k : Option (PendingCall T)) (m : Move T). Effect v (word_after Word.Value m.act v) (condvar_gives m.act k) (is_take Word.Value m.act))
     run.0.0 (record { act = e.act; outcome = e.then })
     (λ call _. inl (refl, refl, refl)) (λ action _. inl (refl, refl, refl)) (λ choice _. inl (refl, refl, refl))
     (λ c place _ called stage. step_effect place c (hold_of condvar_table e.party past) (word_in condvar_table past) (at_place z condvar_table parties AtCondvar condvar_kept past run.1 e.party c place called stage))
@@ -91,17 +49,17 @@ event_effect {T} z parties past e run =
 
 pub condvar_tallies :
     {T : Type 0} (z : Arithmetic T) (parties : ℕ) (past : List (Event T)) → IsPast z condvar_table parties past →
-    Tallies (word_in condvar_table past words.Value) (permits_given condvar_gives 0 past) (permits_taken words.Value past)
+    Tallies (word_in condvar_table past Word.Value) (permits_given condvar_gives 0 past) (permits_taken Word.Value past)
 condvar_tallies z parties [] run = tallies_first 0 (omega arith)
-condvar_tallies z parties (e ∷ past) run = tallies_after _ _ _ _ _ (is_take words.Value e.act) (condvar_tallies z parties past run.1) (event_effect z parties past e run)
+condvar_tallies z parties (e ∷ past) run = tallies_after _ _ _ _ _ (is_take Word.Value e.act) (condvar_tallies z parties past run.1) (event_effect z parties past e run)
 
 -- A call that saw no permit has that cause.
 no_permit :
     {T : Type 0} (z : Arithmetic T) (parties : ℕ) (past : List (Event T)) (party : ℕ) (c : PendingCall T) → IsPast z condvar_table parties past → call_of party past ≡ Some c → SawNone c.own → FoundNoPermit party past
 no_permit {T} z parties past party c run called saw =
-    at_last_sight z condvar_table parties words.Value party 0 c.call saw.before (λ before. HasAbortedSince party before × (condvar_value before ≡ 0)) front past run c.own called saw.saw
+    at_last_sight z condvar_table parties Word.Value party 0 c.call saw.before (λ before. HasAbortedSince party before × (condvar_value before ≡ 0)) front past run c.own called saw.saw
   where
-    front : (before : List (Event T)) → IsPast z condvar_table parties before → call_of party before ≡ Some (record { call = c.call; own = saw.before }) → word_in condvar_table before words.Value ≡ 0 →
+    front : (before : List (Event T)) → IsPast z condvar_table parties before → call_of party before ≡ Some (record { call = c.call; own = saw.before }) → word_in condvar_table before Word.Value ≡ 0 →
         HasAbortedSince party before × (condvar_value before ≡ 0)
     front before goes was none = (rw was saw.aborted, sym (condvar_tallies z parties before goes).0 ∙ none)
 
@@ -115,12 +73,12 @@ abbrev pub IsAskedSo : {T : Type 0} → PendingCall T → Act T → ℕ → Type
 IsAskedSo c act told = IsAskedBy c.call c.own act told
 
 pub record EventLaw {T : Type 0} (party : ℕ) (past : List (Event T)) (n : ℕ) (hold : Option HoldKind) (pending : Option (PendingCall T)) (m : Move T) : Type 0 where
-  pub count : CountEffect n (word_after words.Waiters m.act n) (is_count m.act) (is_counted pending) (is_counted (call_after m.outcome (event party m.act m.outcome) pending))
+  pub count : CountEffect n (word_after Word.Waiters m.act n) (is_count m.act) (is_counted pending) (is_counted (call_after m.outcome (event party m.act m.outcome) pending))
   pub number : number_answered m.outcome ≡ None
   pub cause : MatchBool (is_refusal m.outcome) (MatchOption pending ⊥ (λ c. CondvarCause c.call party (event party m.act m.outcome ∷ past))) (Unit {0})
   pub exact :
       MatchOption pending (Unit {0})
-      (λ c. c.call ≡ calls.TryLock → is_sight words.State m.act ≡ true → ((m.outcome ≡ thens.Answers answers.Success) ↔ (holds_of condvar_table past ≡ [])))
+      (λ c. c.call ≡ Call.TryLock → is_sight Word.State m.act ≡ true → ((m.outcome ≡ Then.Answers Answer.Success) ↔ (holds_of condvar_table past ≡ [])))
   pub answers :
       MatchOption (answer_of m.outcome) (Unit {0})
       (λ answer. MatchOption pending ⊥ (λ c. IsAnswer c.call c.own (m.act ∷ acts_of c.own) (hold_after condvar_table m.act pending hold) answer))
@@ -129,37 +87,37 @@ pub record EventLaw {T : Type 0} (party : ℕ) (past : List (Event T)) (n : ℕ)
 
 -- Whether a call is counted.
 
-counted_by : {T : Type 0} (c : PendingCall T) (n : ℕ) → c.call ≡ calls.Wait → counts_in c.own ≡ n → is_counted (Some c) ≡ (n == 1)
+counted_by : {T : Type 0} (c : PendingCall T) (n : ℕ) → c.call ≡ Call.Wait → counts_in c.own ≡ n → is_counted (Some c) ≡ (n == 1)
 counted_by c n h1 h2 = grind (arith, nat_tests, eqb-true, eqb-false)
 
 -- An event of a `Wait` that does not end it.
 
 going_law :
-    {T : Type 0} (party : ℕ) (past : List (Event T)) (n : ℕ) (hold : Option HoldKind) (c : PendingCall T) (act : Act T) (outcome : Then T) → c.call ≡ calls.Wait → answer_of outcome ≡ None →
-    CountEffect n (word_after words.Waiters act n) (is_count act) (is_counted (Some c)) (is_counted (call_going_on act (event party act outcome) (Some c))) → WhereAsked (λ k act told. IsAskedBy calls.Wait k.own act told) (Some c) act outcome →
+    {T : Type 0} (party : ℕ) (past : List (Event T)) (n : ℕ) (hold : Option HoldKind) (c : PendingCall T) (act : Act T) (outcome : Then T) → c.call ≡ Call.Wait → answer_of outcome ≡ None →
+    CountEffect n (word_after Word.Waiters act n) (is_count act) (is_counted (Some c)) (is_counted (call_going_on act (event party act outcome) (Some c))) → WhereAsked (λ k act told. IsAskedBy Call.Wait k.own act told) (Some c) act outcome →
     EventLaw party past n hold (Some c) (record { act = act; outcome = outcome })
 going_law party past n hold c act outcome h1 h2 h3 h4 = grind (arith, nat_tests, eqb-true, eqb-false)
 
 -- its step for a permit, by how it goes on
 
 still_counted :
-    {T : Type 0} (n : ℕ) (times : ℕ) (c : PendingCall T) (act : Act T) (e : Event T) → c.call ≡ calls.Wait → counts_in c.own ≡ times → is_count e.act ≡ false → is_count act ≡ false → word_after words.Waiters act n ≡ n →
+    {T : Type 0} (n : ℕ) (times : ℕ) (c : PendingCall T) (act : Act T) (e : Event T) → c.call ≡ Call.Wait → counts_in c.own ≡ times → is_count e.act ≡ false → is_count act ≡ false → word_after Word.Waiters act n ≡ n →
     call_going_on act e (Some c) ≡ Some (record { call = c.call; own = e ∷ c.own }) →
-    CountEffect n (word_after words.Waiters act n) (is_count act) (is_counted (Some c)) (is_counted (call_going_on act e (Some c)))
+    CountEffect n (word_after Word.Waiters act n) (is_count act) (is_counted (Some c)) (is_counted (call_going_on act e (Some c)))
 still_counted n times c act e h1 h2 h3 h4 h5 h6 = grind (arith, nat_tests, eqb-true, eqb-false)
 
 permit_law :
-    {T : Type 0} (party : ℕ) (past : List (Event T)) (n : ℕ) (hold : Option HoldKind) (c : PendingCall T) (act : Act T) (a : After T SemaphorePlace) → c.call ≡ calls.Wait → counts_in c.own ≡ 1 →
-    is_count act ≡ false → word_after words.Waiters act n ≡ n → ((e : Event T) → call_going_on act e (Some c) ≡ Some (record { call = c.call; own = e ∷ c.own })) → WaitLeads words.Value (since_count c.own) party act a →
+    {T : Type 0} (party : ℕ) (past : List (Event T)) (n : ℕ) (hold : Option HoldKind) (c : PendingCall T) (act : Act T) (a : After T SemaphorePlace) → c.call ≡ Call.Wait → counts_in c.own ≡ 1 →
+    is_count act ≡ false → word_after Word.Waiters act n ≡ n → ((e : Event T) → call_going_on act e (Some c) ≡ Some (record { call = c.call; own = e ∷ c.own })) → WaitLeads Word.Value (since_count c.own) party act a →
     EventLaw party past n hold (Some c) (record { act = act; outcome = outcome_of (permitted a) })
 permit_law party past n hold c act a h1 h2 h3 h4 h5 h6 = grind (arith, nat_tests, eqb-true, eqb-false)
 
 -- its lock of the mutex, by how it goes on
 
 relock_law :
-    {T : Type 0} (party : ℕ) (past : List (Event T)) (n : ℕ) (hold : Option HoldKind) (signalled : Bool) (c : PendingCall T) (w : ℕ) (done : Bool) (a : After T MutexPlace) → call_of party past ≡ Some c → c.call ≡ calls.Wait → hold ≡ None →
-    Progress c.own 2 1 1 (took signalled) → MatchBool signalled (Unit {0}) (FoundNoPermit party past) → IsFreeOrHeld w (holds_of condvar_table past) → (w == 0) ≡ done → LockLeads (since_count c.own) party w (acts.Exchange words.State 0 1 w done) a →
-    EventLaw party past n hold (Some c) (record { act = acts.Exchange words.State 0 1 w done; outcome = outcome_of (relocked signalled a) })
+    {T : Type 0} (party : ℕ) (past : List (Event T)) (n : ℕ) (hold : Option HoldKind) (signalled : Bool) (c : PendingCall T) (w : ℕ) (done : Bool) (a : After T MutexPlace) → call_of party past ≡ Some c → c.call ≡ Call.Wait → hold ≡ None →
+    Progress c.own 2 1 1 (took signalled) → MatchBool signalled (Unit {0}) (FoundNoPermit party past) → IsFreeOrHeld w (holds_of condvar_table past) → (w == 0) ≡ done → LockLeads (since_count c.own) party w (Act.Exchange Word.State 0 1 w done) a →
+    EventLaw party past n hold (Some c) (record { act = Act.Exchange Word.State 0 1 w done; outcome = outcome_of (relocked signalled a) })
 relock_law party past n hold signalled c w done a h1 h2 h3 h4 h5 h6 h7 h8 = grind (arith, nat_tests, eqb-true, eqb-false)
 
 -- An event of another call: it is not counted.
@@ -167,9 +125,9 @@ relock_law party past n hold signalled c w done a h1 h2 h3 h4 h5 h6 h7 h8 = grin
 -- of a notify
 
 notify_law :
-    {T : Type 0} (party : ℕ) (past : List (Event T)) (n : ℕ) (hold : Option HoldKind) (c : PendingCall T) (wake : Wake) (act : Act T) (ends : Bool) → c.call ≡ notify wake → is_count act ≡ false → word_after words.Waiters act n ≡ n →
-    is_sight words.State act ≡ false → ((e : Event T) → call_going_on act e (Some c) ≡ Some (record { call = c.call; own = e ∷ c.own })) →
-    EventLaw party past n hold (Some c) (record { act = act; outcome = cond ends (thens.Answers answers.Done) thens.GoesOn })
+    {T : Type 0} (party : ℕ) (past : List (Event T)) (n : ℕ) (hold : Option HoldKind) (c : PendingCall T) (wake : Wake) (act : Act T) (ends : Bool) → c.call ≡ notify wake → is_count act ≡ false → word_after Word.Waiters act n ≡ n →
+    is_sight Word.State act ≡ false → ((e : Event T) → call_going_on act e (Some c) ≡ Some (record { call = c.call; own = e ∷ c.own })) →
+    EventLaw party past n hold (Some c) (record { act = act; outcome = cond ends (Then.Answers Answer.Done) Then.GoesOn })
 notify_law party past n hold c wake act ends h1 h2 h3 h4 h5 = grind (arith, nat_tests, eqb-true, eqb-false)
 
 -- of a call of the mutex: its law there is its law here
@@ -182,25 +140,25 @@ notify_law party past n hold c wake act ends h1 h2 h3 h4 h5 = grind (arith, nat_
 
 mutex_event :
     {T : Type 0} (party : ℕ) (past : List (Event T)) (n : ℕ) (hold : Option HoldKind) (c : PendingCall T) (place : MutexPlace) (memory : Word → ℕ) → call_of party past ≡ Some c → AtMutex place c hold →
-    IsFreeOrHeld (memory words.State) (holds_of condvar_table past) → EventLaw party past n hold (Some c) (step_at condvar_table (places.Mutex place) hold memory)
+    IsFreeOrHeld (memory Word.State) (holds_of condvar_table past) → EventLaw party past n hold (Some c) (step_at condvar_table (CondvarPlace.Mutex place) hold memory)
 mutex_event party past n hold c place memory h1 h2 h3 = grind (arith, nat_tests, eqb-true, eqb-false)
 
 -- An event that is no step: the beginning of a call, and what a closure answers.
 
 begun_law :
     {T : Type 0} (party : ℕ) (past : List (Event T)) (n : ℕ) (hold : Option HoldKind) (pending : Option (PendingCall T)) (call : Call T) → begin_fault condvar_table pending hold call ≡ None →
-    EventLaw party past n hold pending (record { act = acts.Begun call; outcome = thens.GoesOn })
+    EventLaw party past n hold pending (record { act = Act.Begun call; outcome = Then.GoesOn })
 begun_law party past n hold pending call h1 = grind (arith, nat_tests, eqb-true, eqb-false)
 
 -- an act that has to do with no word
 record IsApart {T : Type 0} (act : Act T) : Type 0 where
   counts : is_count act ≡ false
-  mutex : is_sight words.State act ≡ false
+  mutex : is_sight Word.State act ≡ false
 
 apart_law :
-    {T : Type 0} (party : ℕ) (past : List (Event T)) (n : ℕ) (hold : Option HoldKind) (pending : Option (PendingCall T)) (act : Act T) → IsApart act → word_after words.Waiters act n ≡ n →
+    {T : Type 0} (party : ℕ) (past : List (Event T)) (n : ℕ) (hold : Option HoldKind) (pending : Option (PendingCall T)) (act : Act T) → IsApart act → word_after Word.Waiters act n ≡ n →
     ((c : PendingCall T) (e : Event T) → call_going_on act e (Some c) ≡ Some (record { call = c.call; own = e ∷ c.own })) → ((e : Event T) → call_going_on act e None ≡ None) →
-    EventLaw party past n hold pending (record { act = act; outcome = thens.GoesOn })
+    EventLaw party past n hold pending (record { act = act; outcome = Then.GoesOn })
 apart_law party past n hold pending act h1 h2 h3 h4 = grind (arith, nat_tests, eqb-true, eqb-false)
 
 -- Each step.
@@ -213,58 +171,58 @@ signal_cause z parties past party c false run called signal = no_permit z partie
 
 step_law :
     {T : Type 0} (z : Arithmetic T) (parties party : ℕ) (past : List (Event T)) (c : PendingCall T) (place : CondvarPlace) (hold : Option HoldKind) (memory : Word → ℕ) → IsPast z condvar_table parties past → call_of party past ≡ Some c →
-    AtCondvar place c hold → IsFreeOrHeld (memory words.State) (holds_of condvar_table past) → EventLaw party past (memory words.Waiters) hold (Some c) (step_at condvar_table place hold memory)
-step_law z parties party past c (places.Mutex place) hold memory run called at law = mutex_event party past (memory words.Waiters) hold c place memory called at law
-step_law {T} z parties party past c (places.Read wake) hold memory run called at law =
-    notify_law party past (memory words.Waiters) hold c wake (acts.Load words.Waiters (memory words.Waiters)) false at.0 refl refl refl (λ e. refl)
-step_law {T} z parties party past c (places.Post wake amount) hold memory run called at law =
-    notify_law party past (memory words.Waiters) hold c wake (step_at {T = T} condvar_table (places.Post wake amount) hold memory).act false at.0 refl refl refl (λ e. refl)
-step_law {T} z parties party past c (places.Wake wake) hold memory run called at law =
-    notify_law party past (memory words.Waiters) hold c wake (acts.Woke wake) true at.0 refl refl refl (λ e. refl)
-step_law {T} z parties party past c places.CountIn hold memory run called at law =
-    let act : Act T = (step_at condvar_table places.CountIn hold memory).act in
+    AtCondvar place c hold → IsFreeOrHeld (memory Word.State) (holds_of condvar_table past) → EventLaw party past (memory Word.Waiters) hold (Some c) (step_at condvar_table place hold memory)
+step_law z parties party past c (CondvarPlace.Mutex place) hold memory run called at law = mutex_event party past (memory Word.Waiters) hold c place memory called at law
+step_law {T} z parties party past c (CondvarPlace.Read wake) hold memory run called at law =
+    notify_law party past (memory Word.Waiters) hold c wake (Act.Load Word.Waiters (memory Word.Waiters)) false at.0 refl refl refl (λ e. refl)
+step_law {T} z parties party past c (CondvarPlace.Post wake amount) hold memory run called at law =
+    notify_law party past (memory Word.Waiters) hold c wake (step_at {T = T} condvar_table (CondvarPlace.Post wake amount) hold memory).act false at.0 refl refl refl (λ e. refl)
+step_law {T} z parties party past c (CondvarPlace.Wake wake) hold memory run called at law =
+    notify_law party past (memory Word.Waiters) hold c wake (Act.Woke wake) true at.0 refl refl refl (λ e. refl)
+step_law {T} z parties party past c CondvarPlace.CountIn hold memory run called at law =
+    let act : Act T = (step_at condvar_table CondvarPlace.CountIn hold memory).act in
     let so : Progress c.own 0 0 0 0 = at.2 in
-    let longer : PendingCall T = record { call = c.call; own = event party act thens.GoesOn ∷ c.own } in
+    let longer : PendingCall T = record { call = c.call; own = event party act Then.GoesOn ∷ c.own } in
     let now : counts_in longer.own ≡ 1 = omega (arith, so.counted) in
-    going_law party past (memory words.Waiters) hold c act thens.GoesOn at.0 refl (inr (inl (refl, refl, counted_by c 0 at.0 so.counted, counted_by longer 1 at.0 now))) tt
-step_law {T} z parties party past c (places.Release locks.Release) hold memory run called at law =
+    going_law party past (memory Word.Waiters) hold c act Then.GoesOn at.0 refl (inr (inl (refl, refl, counted_by c 0 at.0 so.counted, counted_by longer 1 at.0 now))) tt
+step_law {T} z parties party past c (CondvarPlace.Release MutexPlace.Release) hold memory run called at law =
     let so : Progress c.own 1 0 0 0 = at.2.0 in
-    going_law party past (memory words.Waiters) hold c (acts.Store words.State 0) thens.GoesOn at.0 refl
-    (still_counted (memory words.Waiters) 1 c (acts.Store words.State 0) (event party (acts.Store words.State 0) thens.GoesOn) at.0 so.counted refl refl refl refl) tt
-step_law {T} z parties party past c (places.Release locks.Wake) hold memory run called at law =
+    going_law party past (memory Word.Waiters) hold c (Act.Store Word.State 0) Then.GoesOn at.0 refl
+    (still_counted (memory Word.Waiters) 1 c (Act.Store Word.State 0) (event party (Act.Store Word.State 0) Then.GoesOn) at.0 so.counted refl refl refl refl) tt
+step_law {T} z parties party past c (CondvarPlace.Release MutexPlace.Wake) hold memory run called at law =
     let so : Progress c.own 1 1 0 0 = at.2.0 in
-    going_law party past (memory words.Waiters) hold c (acts.Woke wakes.One) thens.GoesOn at.0 refl
-    (still_counted (memory words.Waiters) 1 c (acts.Woke wakes.One) (event party (acts.Woke wakes.One) thens.GoesOn) at.0 so.counted refl refl refl refl) tt
-step_law z parties party past c (places.Release other) hold memory run called at law = absurd at.2
-step_law z parties party past c (places.Permit (permits.Look patience)) hold memory run called at law =
-    permit_law party past (memory words.Waiters) hold c _ _ at.0 at.2.counted refl refl (λ e. refl) (wait_leads words.Value (permits.Look patience) (since_count c.own) party memory at.3)
-step_law z parties party past c (places.Permit (permits.Take seen to patience)) hold memory run called at law =
-    permit_law party past (memory words.Waiters) hold c _ _ at.0 at.2.counted refl refl (λ e. refl) (wait_leads words.Value (permits.Take seen to patience) (since_count c.own) party memory at.3)
-step_law z parties party past c (places.Permit other) hold memory run called at law = absurd at.3
-step_law {T} z parties party past c (places.CountOut signalled) hold memory run called at law =
-    let act : Act T = (step_at condvar_table (places.CountOut signalled) hold memory).act in
+    going_law party past (memory Word.Waiters) hold c (Act.Woke Wake.One) Then.GoesOn at.0 refl
+    (still_counted (memory Word.Waiters) 1 c (Act.Woke Wake.One) (event party (Act.Woke Wake.One) Then.GoesOn) at.0 so.counted refl refl refl refl) tt
+step_law z parties party past c (CondvarPlace.Release other) hold memory run called at law = absurd at.2
+step_law z parties party past c (CondvarPlace.Permit (SemaphorePlace.Look patience)) hold memory run called at law =
+    permit_law party past (memory Word.Waiters) hold c _ _ at.0 at.2.counted refl refl (λ e. refl) (wait_leads Word.Value (SemaphorePlace.Look patience) (since_count c.own) party memory at.3)
+step_law z parties party past c (CondvarPlace.Permit (SemaphorePlace.Take seen to patience)) hold memory run called at law =
+    permit_law party past (memory Word.Waiters) hold c _ _ at.0 at.2.counted refl refl (λ e. refl) (wait_leads Word.Value (SemaphorePlace.Take seen to patience) (since_count c.own) party memory at.3)
+step_law z parties party past c (CondvarPlace.Permit other) hold memory run called at law = absurd at.3
+step_law {T} z parties party past c (CondvarPlace.CountOut signalled) hold memory run called at law =
+    let act : Act T = (step_at condvar_table (CondvarPlace.CountOut signalled) hold memory).act in
     let so : Progress c.own 1 1 1 (took signalled) = at.3 in
-    let longer : PendingCall T = record { call = c.call; own = event party act thens.GoesOn ∷ c.own } in
+    let longer : PendingCall T = record { call = c.call; own = event party act Then.GoesOn ∷ c.own } in
     let now : counts_in longer.own ≡ 2 = omega (arith, so.counted) in
-    going_law party past (memory words.Waiters) hold c act thens.GoesOn at.0 refl (inr (inr (refl, refl, counted_by c 1 at.0 so.counted, counted_by longer 2 at.0 now))) tt
-step_law z parties party past c (places.Relock signalled (locks.Lock patience)) hold memory run called at law =
-    let w = memory words.State in
-    relock_law party past (memory words.Waiters) hold signalled c w (w == 0) (mutex_after (locks.Lock patience) (Some w)) called at.0 at.1 at.2 (signal_cause z parties past party c signalled run called at.3) law refl
-    (lock_leads words.State patience (since_count c.own) party w at.4)
-step_law z parties party past c (places.Relock signalled other) hold memory run called at law = absurd at.4
+    going_law party past (memory Word.Waiters) hold c act Then.GoesOn at.0 refl (inr (inr (refl, refl, counted_by c 1 at.0 so.counted, counted_by longer 2 at.0 now))) tt
+step_law z parties party past c (CondvarPlace.Relock signalled (MutexPlace.Lock patience)) hold memory run called at law =
+    let w = memory Word.State in
+    relock_law party past (memory Word.Waiters) hold signalled c w (w == 0) (mutex_after (MutexPlace.Lock patience) (Some w)) called at.0 at.1 at.2 (signal_cause z parties past party c signalled run called at.3) law refl
+    (lock_leads Word.State patience (since_count c.own) party w at.4)
+step_law z parties party past c (CondvarPlace.Relock signalled other) hold memory run called at law = absurd at.4
 
 event_law :
     {T : Type 0} (z : Arithmetic T) (parties : ℕ) (past : List (Event T)) (e : Event T) → IsPast z condvar_table parties (e ∷ past) →
-    EventLaw e.party past (word_in condvar_table past words.Waiters) (hold_of condvar_table e.party past) (call_of e.party past) (record { act = e.act; outcome = e.then })
+    EventLaw e.party past (word_in condvar_table past Word.Waiters) (hold_of condvar_table e.party past) (call_of e.party past) (record { act = e.act; outcome = e.then })
 event_law {T} z parties past e run =
     let pending = call_of e.party past in
     let hold = hold_of condvar_table e.party past in
-    let n = word_in condvar_table past words.Waiters in
+    let n = word_in condvar_table past Word.Waiters in
     by_move condvar_table pending hold (word_in condvar_table past) (λ (k : Option (PendingCall T)) (m : Move T). EventLaw e.party past n hold k m)
     run.0.0 (record { act = e.act; outcome = e.then })
     (λ call is. begun_law e.party past n hold pending call (subst (λ (i : Input T). fault_at condvar_table pending hold i ≡ None) is (fault_at_none condvar_table parties past e.party run.0.0 run.0.1.allowed)))
-    (λ action _. apart_law e.party past n hold pending (acts.Answered action) (record { counts = refl; mutex = refl }) refl (λ c d. refl) (λ d. refl))
-    (λ choice _. apart_law e.party past n hold pending (acts.Chosen choice) (record { counts = refl; mutex = refl }) refl (λ c d. refl) (λ d. refl))
+    (λ action _. apart_law e.party past n hold pending (Act.Answered action) (record { counts = refl; mutex = refl }) refl (λ c d. refl) (λ d. refl))
+    (λ choice _. apart_law e.party past n hold pending (Act.Chosen choice) (record { counts = refl; mutex = refl }) refl (λ c d. refl) (λ d. refl))
     (λ c place _ called stage.
     step_law z parties e.party past c place hold (word_in condvar_table past) run.1 called (at_place z condvar_table parties AtCondvar condvar_kept past run.1 e.party c place called stage)
     (lock_word z condvar_table parties (condvar_is_lock z parties) past run.1))
@@ -292,7 +250,7 @@ keeps_condvar {T} z parties (e ∷ past) run =
     let after = condvar_tallies z parties (e ∷ past) run in
     let event = event_law z parties past e run in
     let told = tells_memory z condvar_table parties (e ∷ past) run in
-    let sees : IfSome (sight_of words.Value e.act) (λ v. v ≡ word_in condvar_table past words.Value) = told_sight words.Value e.act (word_in condvar_table past) (sight_of words.Value e.act) refl told in
+    let sees : IfSome (sight_of Word.Value e.act) (λ v. v ≡ word_in condvar_table past Word.Value) = told_sight Word.Value e.act (word_in condvar_table past) (sight_of Word.Value e.act) refl told in
     record {
       told = told;
       exclusive = lock_exclusive _ (holds_of condvar_table (e ∷ past)) (lock_word z condvar_table parties (condvar_is_lock z parties) (e ∷ past) run);
@@ -301,8 +259,8 @@ keeps_condvar {T} z parties (e ∷ past) run =
         waiters = waiters_counted z parties (e ∷ past) run;
         permits = record {
           at_most = after.1;
-          told = (subst (λ n. IfSome (sight_of words.Value e.act) (λ v. v ≡ n)) before.0 sees, rw event.number tt);
-          lowers = lowered _ _ _ _ _ (is_take words.Value e.act) before (event_effect z parties past e run);
+          told = (subst (λ n. IfSome (sight_of Word.Value e.act) (λ v. v ≡ n)) before.0 sees, rw event.number tt);
+          lowers = lowered _ _ _ _ _ (is_take Word.Value e.act) before (event_effect z parties past e run);
         };
         answers = subst (λ h. MatchOption (answer_of e.then) (Unit {0}) (λ answer. MatchOption (call_of e.party past) ⊥ (λ c. IsAnswer c.call c.own (e.act ∷ acts_of c.own) h answer)))
             (sym (hold_of_same condvar_table e.party e.act e.then past)) event.answers;
@@ -316,5 +274,5 @@ keeps_condvar {T} z parties (e ∷ past) run =
 
 -- a condition variable has no other words
 pub condvar_lacks :
-    (T : Type 0) (word : Word) → same_word words.State word ≡ false → same_word words.Waiters word ≡ false → same_word words.Value word ≡ false → Lacks {T = T} condvar_table word
+    (T : Type 0) (word : Word) → same_word Word.State word ≡ false → same_word Word.Waiters word ≡ false → same_word Word.Value word ≡ false → Lacks {T = T} condvar_table word
 condvar_lacks T word h1 h2 h3 = grind (arith, nat_tests, eqb-true, eqb-false)

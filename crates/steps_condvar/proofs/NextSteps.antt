@@ -1,48 +1,10 @@
 -- Each step of a condition variable is its call's next.
-use Rattle.std.proofs.lemmas.Bool.{eqb-false}
-use Rattle.std.proofs.lemmas.Bool.{eqb-true}
-use Rattle.std.proofs.lemmas.Bool.Decides.{nat_tests}
-use Rattle.std.proofs.Common.{◌≡◌, ℕ, ◌+◌, ◌-◌, ◌%◌, ◌^◌, ◌==◌, ◌&&◌, refl, sym, ◌∙◌, ap, subst, Bool, true, false, cond, List, [], ◌∷◌, Option, Some, None, ◌≤◌, ◌<◌, arith}
-use Rattle.std.specs.Prelude.{nat_lt, unwrap_or, MatchBool}
-use Rattle.steps_events.specs.declared.WaitAction.{WaitAction}
-use Rattle.steps_events.specs.declared.event.Word.{Word}
-use Rattle.steps_events.specs.declared.event.Word.TheVariants as words
-use Rattle.steps_events.specs.declared.event.Wake.{Wake}
-use Rattle.steps_events.specs.declared.event.Wake.TheVariants as wakes
-use Rattle.steps_events.specs.declared.event.Call.{Call}
-use Rattle.steps_events.specs.declared.event.Call.TheVariants as calls
-use Rattle.steps_events.specs.declared.event.Act.{Act}
-use Rattle.steps_events.specs.declared.event.Act.TheVariants as acts
-use Rattle.steps_events.specs.declared.event.Answer.TheVariants as answers
-use Rattle.steps_events.specs.declared.event.Event.{Event}
-use Rattle.steps_events.specs.declared.event.Then.{Then}
-use Rattle.steps_events.specs.declared.event.Then.TheVariants as thens
-use Rattle.steps_events.specs.declared.hold.HoldKind.{HoldKind}
+use Rattle.steps_condvar.specs.Names.{nat_lt, unwrap_or, MatchBool, WaitAction, Word, Wake, Call, Act, Answer, Event, Then, HoldKind, After, Arithmetic, carried_out, value_told, outcome_of, place_after, within, refused, PendingCall, event, latest_outcome, is_failure, step_at, answer_fault, choose_fault, is_step, IsPast, is_abort, keeps_asking, spins_in, StepsAs, EndsWithin, refused_waiting, step_before, Exchanges, MutexPlace, mutex_intent, mutex_after, acts_of, MutexStep, SemaphorePlace, look, is_empty_look}
+use Rattle.steps_condvar.proofs.Names.{eqb-false, eqb-true, nat_tests, ◌≡◌, ℕ, ◌+◌, ◌-◌, ◌%◌, ◌^◌, ◌==◌, ◌&&◌, refl, sym, ◌∙◌, ap, subst, Bool, true, false, cond, List, [], ◌∷◌, Option, Some, None, ◌≤◌, ◌<◌, arith, some_same, HasSpun, IsKept, AtMutex, mutex_rest, not_asked, not_chosen}
 use Rattle.steps_events.specs.declared.patience.Patience.{Patience}
-use Rattle.steps_events.specs.declared.row.After.{After}
-use Rattle.steps_events.specs.declared.row.After.TheVariants as afters
-use Rattle.steps_events.specs.Arithmetic.{Arithmetic}
-use Rattle.steps_events.specs.Rows.{carried_out, value_told, outcome_of, place_after, within, refused}
-use Rattle.steps_events.specs.Past.{PendingCall, event, latest_outcome, is_failure}
-use Rattle.steps_events.specs.Moves.{step_at, answer_fault, choose_fault, is_step}
-use Rattle.steps_events.specs.Runs.{IsPast}
-use Rattle.steps_events.specs.Sights.{is_abort, keeps_asking, spins_in}
-use Rattle.steps_events.specs.NextStep.{StepsAs, EndsWithin, refused_waiting, step_before, Exchanges}
-use Rattle.steps_events.proofs.Holds.{some_same}
-use Rattle.steps_events.proofs.Spins.{HasSpun}
 use Rattle.steps_events.proofs.NextStep.{steps_as, refused_left, Descends, ends_within}
-use Rattle.steps_events.proofs.Parties.{IsKept}
-use Rattle.steps_mutex.specs.declared.MutexPlace.{MutexPlace}
-use Rattle.steps_mutex.specs.declared.MutexPlace.TheVariants as locks
-use Rattle.steps_mutex.specs.Table.{mutex_intent, mutex_after}
-use Rattle.steps_mutex.specs.Law.{acts_of, MutexStep}
 use Rattle.steps_mutex.proofs.Laws as mutex
-use Rattle.steps_mutex.proofs.Laws.{AtMutex, mutex_rest, not_asked, not_chosen}
-use Rattle.steps_semaphore.specs.declared.SemaphorePlace.TheVariants as permits
-use Rattle.steps_semaphore.specs.Table.{look}
-use Rattle.steps_semaphore.specs.Law.{is_empty_look}
 use Rattle.steps_condvar.specs.declared.CondvarPlace.{CondvarPlace}
-use Rattle.steps_condvar.specs.declared.CondvarPlace.TheVariants as places
 use Rattle.steps_condvar.specs.Table.{condvar_begins, condvar_after, condvar_answered, condvar_table, permits_for, permitted, relocked}
 use Rattle.steps_condvar.specs.Waiters.{counts_in, since_count}
 use Rattle.steps_condvar.specs.Law.{takes_in, left_waiting, LooksForPermit, CountsOut, CountedStep, CountedNext, woken_with, NotifyNext, condvar_most, CondvarStep}
@@ -50,11 +12,11 @@ use Rattle.steps_condvar.proofs.Places.{AtCondvar, condvar_kept, within_goes_on,
 
 -- What the step at a place of a counted `Wait` is, by whether it keeps on asking and how often it has spun.
 abbrev Does : {T : Type 0} → CondvarPlace → Bool → ℕ → Act T → Then T → Type 0
-Does (places.Release locks.Release) asks spins act outcome = (act ≡ acts.Store words.State 0) × (outcome ≡ thens.GoesOn)
-Does (places.Release locks.Wake) asks spins act outcome = (act ≡ acts.Woke wakes.One) × (outcome ≡ thens.GoesOn)
-Does (places.Permit (permits.Look patience)) asks spins act outcome = LooksForPermit asks spins act outcome
-Does (places.Permit (permits.Take seen to patience)) asks spins act outcome = Exchanges words.Value seen to thens.GoesOn (left_waiting asks spins) act outcome
-Does (places.CountOut signalled) asks spins act outcome = CountsOut act outcome
+Does (CondvarPlace.Release MutexPlace.Release) asks spins act outcome = (act ≡ Act.Store Word.State 0) × (outcome ≡ Then.GoesOn)
+Does (CondvarPlace.Release MutexPlace.Wake) asks spins act outcome = (act ≡ Act.Woke Wake.One) × (outcome ≡ Then.GoesOn)
+Does (CondvarPlace.Permit (SemaphorePlace.Look patience)) asks spins act outcome = LooksForPermit asks spins act outcome
+Does (CondvarPlace.Permit (SemaphorePlace.Take seen to patience)) asks spins act outcome = Exchanges Word.Value seen to Then.GoesOn (left_waiting asks spins) act outcome
+Does (CondvarPlace.CountOut signalled) asks spins act outcome = CountsOut act outcome
 Does place asks spins act outcome = Unit {0}
 
 -- it is the next of a call with these events since it added itself
@@ -63,33 +25,33 @@ IsNextOf {T} place since =
     (act : Act T) (outcome : Then T) → Does place (keeps_asking since) (spins_in is_empty_look since) act outcome → CountedNext (keeps_asking since) (spins_in is_empty_look since) since act outcome
 
 abbrev HasSeen : {T : Type 0} → CondvarPlace → PendingCall T → Option HoldKind → Type 0
-HasSeen (places.Release locks.Release) c hold = IsNextOf (places.Release locks.Release) (since_count c.own)
-HasSeen (places.Release locks.Wake) c hold = IsNextOf (places.Release locks.Wake) (since_count c.own)
-HasSeen (places.Permit (permits.Look patience)) c hold = IsNextOf (places.Permit (permits.Look patience)) (since_count c.own)
-HasSeen (places.Permit (permits.Take seen to patience)) c hold = (latest_outcome (since_count c.own) ≡ thens.GoesOn) × IsNextOf (places.Permit (permits.Take seen to patience)) (since_count c.own)
-HasSeen (places.CountOut signalled) c hold = IsNextOf (places.CountOut signalled) (since_count c.own)
+HasSeen (CondvarPlace.Release MutexPlace.Release) c hold = IsNextOf (CondvarPlace.Release MutexPlace.Release) (since_count c.own)
+HasSeen (CondvarPlace.Release MutexPlace.Wake) c hold = IsNextOf (CondvarPlace.Release MutexPlace.Wake) (since_count c.own)
+HasSeen (CondvarPlace.Permit (SemaphorePlace.Look patience)) c hold = IsNextOf (CondvarPlace.Permit (SemaphorePlace.Look patience)) (since_count c.own)
+HasSeen (CondvarPlace.Permit (SemaphorePlace.Take seen to patience)) c hold = (latest_outcome (since_count c.own) ≡ Then.GoesOn) × IsNextOf (CondvarPlace.Permit (SemaphorePlace.Take seen to patience)) (since_count c.own)
+HasSeen (CondvarPlace.CountOut signalled) c hold = IsNextOf (CondvarPlace.CountOut signalled) (since_count c.own)
 HasSeen place c hold = Unit {0}
 
 -- Where a step of a counted `Wait` leads: P is its next.
 
 abbrev Reaches : {T : Type 0} → Bool → ℕ → (Act T → Then T → Type 0) → After T CondvarPlace → Type 0
-Reaches {T} asks spins P (afters.At place) = (act : Act T) (outcome : Then T) → Does place asks spins act outcome → P act outcome
+Reaches {T} asks spins P (After.At place) = (act : Act T) (outcome : Then T) → Does place asks spins act outcome → P act outcome
 Reaches asks spins P other = Unit {0}
 
 -- a look, by whether it saw none, whether the call keeps on asking, and whether it has spins left
 abbrev look_after : {T : Type 0} → Patience → ℕ → Bool → Bool → Bool → After T CondvarPlace
 look_after patience v gone keep left =
-    permitted (cond gone (within permits.Look (cond keep (cond left (afters.At (record { spins = patience.spins + 1; keep = patience.keep })) (afters.Waits patience 0)) (afters.Ends answers.Interrupted)))
-    (afters.At (permits.Take v (v - 1) patience)))
+    permitted (cond gone (within SemaphorePlace.Look (cond keep (cond left (After.At (record { spins = patience.spins + 1; keep = patience.keep })) (After.Waits patience 0)) (After.Ends Answer.Interrupted)))
+    (After.At (SemaphorePlace.Take v (v - 1) patience)))
 
 -- So it is kept of the call with one event more.
 
 -- where it goes on within the wait, and stands only to look again
 abbrev StaysCounted : {T : Type 0} → After T CondvarPlace → Type 0
-StaysCounted (afters.At (places.Permit (permits.Look patience))) = Unit {0}
-StaysCounted (afters.At (places.Permit (permits.Take seen to patience))) = Unit {0}
-StaysCounted (afters.At (places.CountOut signalled)) = Unit {0}
-StaysCounted (afters.Waits (places.Permit (permits.Look patience)) told) = Unit {0}
+StaysCounted (After.At (CondvarPlace.Permit (SemaphorePlace.Look patience))) = Unit {0}
+StaysCounted (After.At (CondvarPlace.Permit (SemaphorePlace.Take seen to patience))) = Unit {0}
+StaysCounted (After.At (CondvarPlace.CountOut signalled)) = Unit {0}
+StaysCounted (After.Waits (CondvarPlace.Permit (SemaphorePlace.Look patience)) told) = Unit {0}
 StaysCounted other = ⊥
 
 -- a step on the permits, of a call that asks so
@@ -108,9 +70,9 @@ begins_unseen call place hold h1 = grind (arith, nat_tests, eqb-true, eqb-false)
 
 -- the places before and after the wait for a permit owe nothing
 abbrev IsApart : CondvarPlace → Type 0
-IsApart (places.Release place) = ⊥
-IsApart (places.Permit place) = ⊥
-IsApart (places.CountOut signalled) = ⊥
+IsApart (CondvarPlace.Release place) = ⊥
+IsApart (CondvarPlace.Permit place) = ⊥
+IsApart (CondvarPlace.CountOut signalled) = ⊥
 IsApart other = Unit {0}
 
 -- a take leads on as a look does, where it failed
@@ -125,12 +87,12 @@ steps_seen place c hold left memory number next h1 h2 h3 = grind (arith, nat_tes
 
 answers_seen :
     {T : Type 0} (place : CondvarPlace) (c : PendingCall T) (hold : Option HoldKind) (action : WaitAction) (number : ℕ) → AtCondvar place c hold → HasSeen place c hold → answer_fault (latest_outcome c.own) ≡ None →
-    HasSeen {T = T} (condvar_answered place action) (record { call = c.call; own = event number (acts.Answered action) thens.GoesOn ∷ c.own }) hold
+    HasSeen {T = T} (condvar_answered place action) (record { call = c.call; own = event number (Act.Answered action) Then.GoesOn ∷ c.own }) hold
 answers_seen place c hold action number h1 h2 h3 = grind (arith, nat_tests, eqb-true, eqb-false)
 
 chooses_seen :
     {T : Type 0} (place : CondvarPlace) (c : PendingCall T) (hold : Option HoldKind) (choice : Option T) (number : ℕ) → AtCondvar place c hold → HasSeen place c hold → choose_fault (latest_outcome c.own) ≡ None →
-    HasSeen {T = T} place (record { call = c.call; own = event number (acts.Chosen choice) thens.GoesOn ∷ c.own }) hold
+    HasSeen {T = T} place (record { call = c.call; own = event number (Act.Chosen choice) Then.GoesOn ∷ c.own }) hold
 chooses_seen place c hold choice number h1 h2 h3 = grind (arith, nat_tests, eqb-true, eqb-false)
 
 abbrev IsReady : {T : Type 0} → CondvarPlace → PendingCall T → Option HoldKind → Type 0
@@ -166,10 +128,10 @@ each_steps z parties past run = steps_as z condvar_table parties IsReady Condvar
 -- A call that waits for nobody has fewer steps left at each place.
 
 abbrev rest_at : CondvarPlace → Option ℕ
-rest_at (places.Mutex place) = mutex_rest place
-rest_at (places.Read wake) = Some 3
-rest_at (places.Post wake amount) = Some 2
-rest_at (places.Wake wake) = Some 1
+rest_at (CondvarPlace.Mutex place) = mutex_rest place
+rest_at (CondvarPlace.Read wake) = Some 3
+rest_at (CondvarPlace.Post wake amount) = Some 2
+rest_at (CondvarPlace.Wake wake) = Some 1
 rest_at other = None
 
 begun_at : {T : Type 0} (call : Call T) (place : CondvarPlace) (steps : ℕ) → condvar_begins call ≡ Some place → condvar_most call ≡ Some steps → (left : ℕ) × (rest_at place ≡ Some left) × (left ≤ steps)

@@ -1,18 +1,10 @@
 -- Who waits at a condition variable: the `Wait` calls between their add to the waiter count and their subtraction from it.
-use Rattle.std.specs.Prelude.{◌≡◌, ℕ, ◌+◌, ◌%◌, ◌^◌, ◌==◌, ◌&&◌, Bool, true, false, if◌then◌else◌, List, [], ◌∷◌, length, Option, Some, None}
-use Rattle.steps_events.specs.declared.event.Word.TheVariants as words
-use Rattle.steps_events.specs.declared.event.Call.{Call}
-use Rattle.steps_events.specs.declared.event.Call.TheVariants as calls
-use Rattle.steps_events.specs.declared.event.Act.{Act}
-use Rattle.steps_events.specs.declared.event.Act.TheVariants as acts
-use Rattle.steps_events.specs.declared.event.Event.{Event}
-use Rattle.steps_events.specs.Past.{PendingCall, call_of, word_in}
-use Rattle.steps_events.specs.Sights.{acts_in}
+use Rattle.steps_condvar.specs.Names.{◌≡◌, ℕ, ◌+◌, ◌%◌, ◌^◌, ◌==◌, ◌&&◌, Bool, true, false, if◌then◌else◌, List, [], ◌∷◌, length, Option, Some, None, Word, Call, Act, Event, PendingCall, call_of, word_in, acts_in}
 use Rattle.steps_condvar.specs.Table.{condvar_table}
 
 -- an act that changes the waiter count
 abbrev pub is_count : {T : Type 0} → Act T → Bool
-is_count (acts.Add words.Waiters old put) = true
+is_count (Act.Add Word.Waiters old put) = true
 is_count act = false
 
 -- how often a call has changed it: a `Wait` adds itself, and later subtracts itself
@@ -25,7 +17,7 @@ since_count [] = []
 since_count (e ∷ own) = if is_count e.act then [] else e ∷ since_count own
 
 abbrev pub is_wait : {T : Type 0} → Call T → Bool
-is_wait calls.Wait = true
+is_wait Call.Wait = true
 is_wait call = false
 
 -- a `Wait` that has added itself, and has not subtracted itself
@@ -51,6 +43,6 @@ waiting_after (e ∷ past) =
 
 pub record CountsWaiters {T : Type 0} (past : List (Event T)) : Type 0 where
   -- the count is the number of parties that wait, modulo 2^64
-  pub counts : word_in condvar_table past words.Waiters ≡ length (waiting_after past) % 2 ^ 64
+  pub counts : word_in condvar_table past Word.Waiters ≡ length (waiting_after past) % 2 ^ 64
   -- they are those whose `Wait` is between its add and its subtraction, each once
   pub exactly : (party : ℕ) → times party (waiting_after past) ≡ (if is_counted (call_of party past) then 1 else 0)

@@ -3,12 +3,11 @@ use Rattle.std.proofs.Common.{◌≡◌, ◌≤◌, ℕ, ◌+◌, ◌-◌, refl,
 use Rattle.std.specs.Prelude.{nat_lt, MatchOption}
 use Rattle.steps_events.specs.declared.event.Act.{Act}
 use Rattle.steps_events.specs.declared.event.Event.{Event}
-use Rattle.steps_events.specs.declared.event.Answer.TheVariants as answers
+use Rattle.steps_events.specs.declared.event.Answer.{Answer}
 use Rattle.steps_events.specs.declared.event.Then.{Then}
-use Rattle.steps_events.specs.declared.event.Then.TheVariants as thens
 use Rattle.steps_events.specs.declared.hold.HoldKind.{HoldKind}
 use Rattle.steps_events.specs.declared.patience.Patience.{Patience}
-use Rattle.steps_events.specs.declared.row.After.TheVariants as afters
+use Rattle.steps_events.specs.declared.row.After.{After}
 use Rattle.steps_events.specs.Arithmetic.{Arithmetic}
 use Rattle.steps_events.specs.Rows.{refused, within, outcome_of}
 use Rattle.steps_events.specs.Tables.{Table}
@@ -22,20 +21,20 @@ use Rattle.steps_events.proofs.Parties.{IsKept, IsAtPlace, each_call}
 -- what is so of a call that asks may be told in other words
 pub asked_of :
     {T : Type 0} (P Q : PendingCall T → Act T → ℕ → Type 0) (c : PendingCall T) (act : Act T) → ((told : ℕ) → P c act told → Q c act told) → (outcome : Then T) → WhereAsked P (Some c) act outcome → WhereAsked Q (Some c) act outcome
-asked_of P Q c act maps (thens.Waits told) asked = maps told asked
-asked_of P Q c act maps thens.GoesOn asked = tt
-asked_of P Q c act maps (thens.Chooses old) asked = tt
-asked_of P Q c act maps (thens.Answers answer) asked = tt
+asked_of P Q c act maps (Then.Waits told) asked = maps told asked
+asked_of P Q c act maps Then.GoesOn asked = tt
+asked_of P Q c act maps (Then.Chooses old) asked = tt
+asked_of P Q c act maps (Then.Answers answer) asked = tt
 
 -- and so of each call
 pub asked_maps :
     {T : Type 0} (P Q : PendingCall T → Act T → ℕ → Type 0) → ((c : PendingCall T) (act : Act T) (told : ℕ) → P c act told → Q c act told) →
     (pending : Option (PendingCall T)) (act : Act T) (outcome : Then T) → WhereAsked P pending act outcome → WhereAsked Q pending act outcome
 asked_maps P Q maps (Some c) act outcome asked = asked_of P Q c act (maps c act) outcome asked
-asked_maps P Q maps None act (thens.Waits told) asked = absurd asked
-asked_maps P Q maps None act thens.GoesOn asked = tt
-asked_maps P Q maps None act (thens.Chooses old) asked = tt
-asked_maps P Q maps None act (thens.Answers answer) asked = tt
+asked_maps P Q maps None act (Then.Waits told) asked = absurd asked
+asked_maps P Q maps None act Then.GoesOn asked = tt
+asked_maps P Q maps None act (Then.Chooses old) asked = tt
+asked_maps P Q maps None act (Then.Answers answer) asked = tt
 
 -- what is so of a call where it asks, so that it waits as it should
 abbrev pub IsAskedAs : {T : Type 0} → Waiting T → PendingCall T → Act T → ℕ → Type 0
@@ -60,7 +59,7 @@ pub refused_asks :
 refused_asks {T} in_vain wrap patience seen c act Q so asked = by_tests patience.keep (nat_lt patience.spins 10000) refl refl
   where
     by_tests : (keep left : Bool) → patience.keep ≡ keep → nat_lt patience.spins 10000 ≡ left →
-        WhereAsked {T = T} Q (Some c) act (outcome_of (within wrap (cond keep (cond left (afters.At (record { spins = patience.spins + 1; keep = patience.keep })) (afters.Waits patience seen)) (afters.Ends answers.Interrupted))))
+        WhereAsked {T = T} Q (Some c) act (outcome_of (within wrap (cond keep (cond left (After.At (record { spins = patience.spins + 1; keep = patience.keep })) (After.Waits patience seen)) (After.Ends Answer.Interrupted))))
     by_tests true true keeps spins = tt
     by_tests true false keeps spins = asked (so.spun ∙ spins_spent patience.spins so.within_limit spins) (so.keeps ∙ keeps)
     by_tests false left keeps spins = tt

@@ -2,7 +2,6 @@
 use Rattle.std.proofs.Common.{◌≡◌, ℕ, zero, suc, ◌+◌, ◌<◌, ◌==◌, refl, sym, ◌∙◌, ap, subst, Bool, true, false, cond, List, [], ◌∷◌, Some, None, length, get_or, arith}
 use Rattle.std.proofs.lemmas.Bool.{eqb-true, eqb-false}
 use Rattle.steps_events.specs.declared.hold.HoldKind.{HoldKind}
-use Rattle.steps_events.specs.declared.hold.HoldKind.TheVariants as kinds
 use Rattle.steps_events.specs.Past.{Hold, hold_among, without}
 use Rattle.steps_events.specs.HoldCounts.{same_kind, holds_of_kind, reads_in, writes_in}
 use Rattle.steps_events.specs.Laws.{IsExclusive}
@@ -61,8 +60,8 @@ counted_of kind p [] had = absurd cc
 counted_of kind p (hold ∷ holds) had = by_test (counted_of kind p holds) (hold.0 == p) had
   where
     counts : (k : HoldKind) → 0 < cond (same_kind k k) 1 0 + holds_of_kind k holds
-    counts kinds.Read = omega arith
-    counts kinds.Write = omega arith
+    counts HoldKind.Read = omega arith
+    counts HoldKind.Write = omega arith
 
     by_test : (hold_among p holds ≡ Some kind → 0 < holds_of_kind kind holds) → (b : Bool) → cond b (Some hold.1) (hold_among p holds) ≡ Some kind → 0 < cond (same_kind kind hold.1) 1 0 + holds_of_kind kind holds
     by_test rest true is =
@@ -73,26 +72,26 @@ counted_of kind p (hold ∷ holds) had = by_test (counted_of kind p holds) (hold
 -- there are as many holds as holds of both kinds
 pub both_kinds : (holds : List Hold) → length holds ≡ reads_in holds + writes_in holds
 both_kinds [] = refl
-both_kinds ((p, kinds.Read) ∷ holds) = let rest = both_kinds holds in omega (arith, rest)
-both_kinds ((p, kinds.Write) ∷ holds) = let rest = both_kinds holds in omega (arith, rest)
+both_kinds ((p, HoldKind.Read) ∷ holds) = let rest = both_kinds holds in omega (arith, rest)
+both_kinds ((p, HoldKind.Write) ∷ holds) = let rest = both_kinds holds in omega (arith, rest)
 
 -- where no write hold stands, none is the only one
 pub unwritten_exclusive : (holds : List Hold) → writes_in holds ≡ 0 → IsExclusive holds
 unwritten_exclusive holds unwritten party among = absurd (omega (arith, counted_at holds among.0 among.1 among.2, unwritten))
   where
-    counted_at : (hs : List Hold) (k : ℕ) → k < length hs → ◌≡◌ {A = Hold} (get_or {A = Hold} hs k (party, kinds.Write)) (party, kinds.Write) → 0 < writes_in hs
+    counted_at : (hs : List Hold) (k : ℕ) → k < length hs → ◌≡◌ {A = Hold} (get_or {A = Hold} hs k (party, HoldKind.Write)) (party, HoldKind.Write) → 0 < writes_in hs
     counted_at [] k below is = absurd (omega arith)
     counted_at (hold ∷ hs) zero below is =
-        let is_write : hold.1 ≡ kinds.Write = ap (λ (h : Hold). h.1) is in
+        let is_write : hold.1 ≡ HoldKind.Write = ap (λ (h : Hold). h.1) is in
         rw is_write (omega arith)
     counted_at (hold ∷ hs) (suc k) below is =
         let rest = counted_at hs k (omega arith) is in
         omega (arith, rest)
 
 -- the one write hold is the only one
-pub written_exclusive : (p : ℕ) → IsExclusive ((p, kinds.Write) ∷ [])
+pub written_exclusive : (p : ℕ) → IsExclusive ((p, HoldKind.Write) ∷ [])
 written_exclusive p q among = only_is among.0 among.1 among.2
   where
-    only_is : (k : ℕ) → k < 1 → ◌≡◌ {A = Hold} (get_or {A = Hold} ((p, kinds.Write) ∷ []) k (q, kinds.Write)) (q, kinds.Write) → ◌≡◌ {A = List Hold} ((p, kinds.Write) ∷ []) ((q, kinds.Write) ∷ [])
+    only_is : (k : ℕ) → k < 1 → ◌≡◌ {A = Hold} (get_or {A = Hold} ((p, HoldKind.Write) ∷ []) k (q, HoldKind.Write)) (q, HoldKind.Write) → ◌≡◌ {A = List Hold} ((p, HoldKind.Write) ∷ []) ((q, HoldKind.Write) ∷ [])
     only_is zero below is = ap (λ (h : Hold). h ∷ []) is
     only_is (suc k) below is = absurd (omega arith)

@@ -2,10 +2,9 @@
 use Rattle.std.proofs.Common.{◌≡◌, ◌≢◌, ℕ, zero, ◌==◌, refl, sym, ◌∙◌, Bool, true, false, cond, List, [], ◌∷◌, Option, Some, None, arith}
 use Rattle.std.proofs.lemmas.Bool.{eq-eqb, eqb-true}
 use Rattle.std.proofs.lemmas.Bool.Decides.{nat_tests}
-use Rattle.steps_events.specs.declared.event.Word.TheVariants as words
+use Rattle.steps_events.specs.declared.event.Word.{Word}
 use Rattle.steps_events.specs.declared.event.Call.{Call}
 use Rattle.steps_events.specs.declared.event.Act.{Act}
-use Rattle.steps_events.specs.declared.event.Act.TheVariants as acts
 use Rattle.steps_events.specs.declared.event.Then.{Then}
 use Rattle.steps_events.specs.declared.event.Event.{Event}
 use Rattle.steps_events.specs.declared.hold.HoldKind.{HoldKind}
@@ -91,8 +90,8 @@ hold_of_other t p q act outcome past other = hold_among-stepped_other (is_releas
 
 takes_none :
     {T P : Type 0} (t : Table T P) → ((call : Call T) (from to : ℕ) → t.grant call from to ≡ None) → (act : Act T) (pending : Option (PendingCall T)) → hold_taken t act pending ≡ None
-takes_none t ungranted (acts.Exchange words.State from to found true) (Some c) = ungranted c.call from to
-takes_none t ungranted (acts.Swap words.State zero put) (Some c) = ungranted c.call 0 put
+takes_none t ungranted (Act.Exchange Word.State from to found true) (Some c) = ungranted c.call from to
+takes_none t ungranted (Act.Swap Word.State zero put) (Some c) = ungranted c.call 0 put
 takes_none t ungranted act pending = refl
 
 pub no_holds : {T P : Type 0} (t : Table T P) → ((call : Call T) (from to : ℕ) → t.grant call from to ≡ None) → (past : List (Event T)) → holds_of t past ≡ []

@@ -2,13 +2,10 @@
 use Rattle.std.proofs.Common.{◌≡◌, ℕ, ◌==◌, refl, sym, ◌∙◌, ap, subst, Bool, true, false, cond, List, [], ◌∷◌, Option, Some, None, ◌⊎◌, inl, inr}
 use Rattle.std.specs.Prelude.{MatchBool}
 use Rattle.steps_events.specs.declared.event.Word.{Word}
-use Rattle.steps_events.specs.declared.event.Word.TheVariants as words
 use Rattle.steps_events.specs.declared.event.Act.{Act}
 use Rattle.steps_events.specs.declared.event.Call.{Call}
-use Rattle.steps_events.specs.declared.event.Act.TheVariants as acts
 use Rattle.steps_events.specs.declared.event.Event.{Event}
 use Rattle.steps_events.specs.declared.event.Then.{Then}
-use Rattle.steps_events.specs.declared.event.Then.TheVariants as thens
 use Rattle.steps_events.specs.Arithmetic.{Arithmetic}
 use Rattle.steps_events.specs.Tables.{Table}
 use Rattle.steps_events.specs.Past.{PendingCall, same_word, word_after, word_in, call_of, call_after, call_going_on}
@@ -29,21 +26,21 @@ not_put true put value no_write = absurd cc
 not_put false put value no_write = refl
 
 unwritten : {T : Type 0} (word : Word) (act : Act T) (value : ℕ) → is_write word act ≡ false → word_after word act value ≡ value
-unwritten word (acts.Store w put) value no_write = not_put _ put value no_write
-unwritten word (acts.Swap w old put) value no_write = not_put _ put value no_write
-unwritten word (acts.Add w old put) value no_write = not_put _ put value no_write
-unwritten word (acts.Exchange w from to found done) value no_write = not_put _ to value no_write
+unwritten word (Act.Store w put) value no_write = not_put _ put value no_write
+unwritten word (Act.Swap w old put) value no_write = not_put _ put value no_write
+unwritten word (Act.Add w old put) value no_write = not_put _ put value no_write
+unwritten word (Act.Exchange w from to found done) value no_write = not_put _ to value no_write
 unwritten word act value no_write = refl
 
 -- What a sight told is what the word held.
 
 same_words : (a b : Word) → same_word a b ≡ true → a ≡ b
-same_words words.State words.State is = refl
-same_words words.Counter words.Counter is = refl
-same_words words.Waiters words.Waiters is = refl
-same_words words.Value words.Value is = refl
-same_words words.Low words.Low is = refl
-same_words words.High words.High is = refl
+same_words Word.State Word.State is = refl
+same_words Word.Counter Word.Counter is = refl
+same_words Word.Waiters Word.Waiters is = refl
+same_words Word.Value Word.Value is = refl
+same_words Word.Low Word.Low is = refl
+same_words Word.High Word.High is = refl
 same_words a b is = absurd cc
 
 told_here : (w word : Word) (memory : Word → ℕ) (told seen : ℕ) (b : Bool) → same_word w word ≡ b → cond b (Some told) None ≡ Some seen → told ≡ memory w → memory word ≡ seen
@@ -53,10 +50,10 @@ told_here w word memory told seen true is sees tells =
 told_here w word memory told seen false is sees tells = absurd cc
 
 pub sight_is_told : {T : Type 0} (word : Word) (act : Act T) (memory : Word → ℕ) (seen : ℕ) → sight_of word act ≡ Some seen → IsTold act memory → memory word ≡ seen
-sight_is_told word (acts.Load w told) memory seen sees tells = told_here w word memory told seen (same_word w word) refl sees tells
-sight_is_told word (acts.Swap w told put) memory seen sees tells = told_here w word memory told seen (same_word w word) refl sees tells
-sight_is_told word (acts.Add w told put) memory seen sees tells = told_here w word memory told seen (same_word w word) refl sees tells
-sight_is_told word (acts.Exchange w from to told done) memory seen sees tells = told_here w word memory told seen (same_word w word) refl sees tells.0
+sight_is_told word (Act.Load w told) memory seen sees tells = told_here w word memory told seen (same_word w word) refl sees tells
+sight_is_told word (Act.Swap w told put) memory seen sees tells = told_here w word memory told seen (same_word w word) refl sees tells
+sight_is_told word (Act.Add w told put) memory seen sees tells = told_here w word memory told seen (same_word w word) refl sees tells
+sight_is_told word (Act.Exchange w from to told done) memory seen sees tells = told_here w word memory told seen (same_word w word) refl sees tells.0
 sight_is_told word act memory seen sees tells = absurd cc
 
 -- The latest event of a call under way is the look.
@@ -67,7 +64,7 @@ some_call c d is = cc
 going_on_looks :
     {T : Type 0} (word : Word) (seen : ℕ) (act : Act T) (e : Event T) (pending : Option (PendingCall T)) (c : PendingCall T) →
     call_going_on act e pending ≡ Some c → IsLook word seen c.own → (sight_of word e.act ≡ Some seen) × (is_write word e.act ≡ false)
-going_on_looks {T} word seen (acts.Begun call) e pending c is look =
+going_on_looks {T} word seen (Act.Begun call) e pending c is look =
     let begun : PendingCall T = record { call = call; own = [] } in
     let nothing : [] ≡ c.own = ap (λ (k : PendingCall T). k.own) (some_call begun c is) in
     absurd (subst (λ (own : List (Event T)). IsLook word seen own) (sym nothing) look)
@@ -80,7 +77,7 @@ going_on_looks {T} word seen act e (Some d) c is look =
 latest_looks :
     {T : Type 0} (word : Word) (seen : ℕ) (outcome : Then T) (e : Event T) (pending : Option (PendingCall T)) (c : PendingCall T) →
     call_after outcome e pending ≡ Some c → IsLook word seen c.own → (sight_of word e.act ≡ Some seen) × (is_write word e.act ≡ false)
-latest_looks word seen (thens.Answers answer) e pending c is look = absurd cc
+latest_looks word seen (Then.Answers answer) e pending c is look = absurd cc
 latest_looks word seen other e pending c is look = going_on_looks word seen e.act e pending c is look
 
 -- The word still holds what the look told, or another party has written it since.
@@ -120,7 +117,7 @@ LastSaw word seen before (e ∷ own) = MatchBool (is_sight word e.act) ((sight_o
 longer_by :
     {T : Type 0} (act : Act T) (e : Event T) (pending : Option (PendingCall T)) (c : PendingCall T) → call_going_on act e pending ≡ Some c →
     (c.own ≡ []) ⊎ ((own : List (Event T)) × (pending ≡ Some (record { call = c.call; own = own })) × (c.own ≡ e ∷ own) × (is_beginning act ≡ false))
-longer_by {T} (acts.Begun call) e pending c is =
+longer_by {T} (Act.Begun call) e pending c is =
     let begun : PendingCall T = record { call = call; own = [] } in
     inl (sym (ap (λ (k : PendingCall T). k.own) (some_call begun c is)))
 longer_by act e None c is = absurd cc
@@ -134,7 +131,7 @@ longer_by {T} act e (Some d) c is =
 pub longer :
     {T : Type 0} (outcome : Then T) (e : Event T) (pending : Option (PendingCall T)) (c : PendingCall T) → call_after outcome e pending ≡ Some c →
     (c.own ≡ []) ⊎ ((own : List (Event T)) × (pending ≡ Some (record { call = c.call; own = own })) × (c.own ≡ e ∷ own) × (is_beginning e.act ≡ false))
-longer (thens.Answers answer) e pending c is = absurd cc
+longer (Then.Answers answer) e pending c is = absurd cc
 longer other e pending c is = longer_by e.act e pending c is
 
 -- what follows of the events before a sight from its value and from the own events before it, held at the last sight

@@ -7,10 +7,10 @@ use Rattle.steps_events.specs.declared.event.Call.{Call}
 use Rattle.steps_events.specs.declared.event.Act.{Act}
 use Rattle.steps_events.specs.declared.event.Event.{Event}
 use Rattle.steps_events.specs.declared.event.Then.{Then}
-use Rattle.steps_events.specs.declared.event.Answer.TheVariants as answers
+use Rattle.steps_events.specs.declared.event.Answer.{Answer}
 use Rattle.steps_events.specs.declared.hold.HoldKind.{HoldKind}
 use Rattle.steps_events.specs.declared.patience.Patience.{Patience}
-use Rattle.steps_events.specs.declared.row.After.TheVariants as afters
+use Rattle.steps_events.specs.declared.row.After.{After}
 use Rattle.steps_events.specs.Arithmetic.{Arithmetic}
 use Rattle.steps_events.specs.Rows.{carried_out, value_told, outcome_of, place_after, within, refused}
 use Rattle.steps_events.specs.Tables.{Table}
@@ -61,7 +61,7 @@ pub refused_left :
 refused_left {T} {P} in_vain wrap patience seen own so = by_tests patience.keep (nat_lt patience.spins 10000) refl refl
   where
     by_tests : (keep left : Bool) → patience.keep ≡ keep → nat_lt patience.spins 10000 ≡ left →
-        outcome_of {T = T} (within wrap (cond keep (cond left (afters.At (record { spins = patience.spins + 1; keep = patience.keep })) (afters.Waits patience seen)) (afters.Ends answers.Interrupted))) ≡ refused_waiting own (spins_in in_vain own) seen
+        outcome_of {T = T} (within wrap (cond keep (cond left (After.At (record { spins = patience.spins + 1; keep = patience.keep })) (After.Waits patience seen)) (After.Ends Answer.Interrupted))) ≡ refused_waiting own (spins_in in_vain own) seen
     by_tests true true keeps spins = rw (so.keeps, keeps, so.spun, spins) refl
     by_tests true false keeps spins = rw (so.keeps, keeps, so.spun, spins) refl
     by_tests false left keeps spins = rw (so.keeps, keeps) refl

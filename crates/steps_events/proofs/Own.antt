@@ -4,10 +4,8 @@ use Rattle.std.specs.Prelude.{MatchBool}
 use Rattle.std.proofs.lemmas.Bool.{eq-eqb}
 use Rattle.std.proofs.lemmas.Bool.Decides.{eqb_tells}
 use Rattle.steps_events.specs.declared.event.Act.{Act}
-use Rattle.steps_events.specs.declared.event.Act.TheVariants as acts
 use Rattle.steps_events.specs.declared.event.Event.{Event}
 use Rattle.steps_events.specs.declared.event.Then.{Then}
-use Rattle.steps_events.specs.declared.event.Then.TheVariants as thens
 use Rattle.steps_events.specs.Arithmetic.{Arithmetic}
 use Rattle.steps_events.specs.Tables.{Table}
 use Rattle.steps_events.specs.Past.{PendingCall, call_of, call_after, call_going_on, word_in}
@@ -28,12 +26,12 @@ pub call_was : {T : Type 0} (past : List (Event T)) (e : Event T) (party : ℕ) 
 call_was {T} past e party c is = by_party (eqb_tells e.party party)
   where
     by_act : e.party ≡ party → (act : Act T) → e.act ≡ act → (pending : Option (PendingCall T)) → call_of party past ≡ pending → call_going_on act e pending ≡ Some c → IsCallAfter past e party c
-    by_act mine (acts.Begun call) acted pending was made = inr (inl (mine, sym (ap (λ (k : PendingCall T). k.own) (some_same _ c made))))
+    by_act mine (Act.Begun call) acted pending was made = inr (inl (mine, sym (ap (λ (k : PendingCall T). k.own) (some_same _ c made))))
     by_act mine act acted None was made = absurd cc
     by_act mine act acted (Some before) was made = inr (inr (mine, (before, was, sym (ap (λ (k : PendingCall T). k.own) (some_same _ c made)), ap is_beginning acted)))
 
     by_outcome : e.party ≡ party → (outcome : Then T) → call_after outcome e (call_of party past) ≡ Some c → IsCallAfter past e party c
-    by_outcome mine (thens.Answers answer) made = absurd cc
+    by_outcome mine (Then.Answers answer) made = absurd cc
     by_outcome mine outcome made = by_act mine e.act refl (call_of party past) refl made
 
     by_party : (((e.party == party) ≡ true) × (e.party ≡ party)) ⊎ (((e.party == party) ≡ false) × (e.party ≢ party)) → IsCallAfter past e party c

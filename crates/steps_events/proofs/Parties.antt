@@ -6,17 +6,13 @@ use Rattle.steps_events.specs.declared.WaitAction.{WaitAction}
 use Rattle.steps_events.specs.declared.event.Word.{Word}
 use Rattle.steps_events.specs.declared.event.Call.{Call}
 use Rattle.steps_events.specs.declared.event.Act.{Act}
-use Rattle.steps_events.specs.declared.event.Act.TheVariants as acts
 use Rattle.steps_events.specs.declared.event.Answer.{Answer}
 use Rattle.steps_events.specs.declared.event.Event.{Event}
 use Rattle.steps_events.specs.declared.event.Input.{Input}
-use Rattle.steps_events.specs.declared.event.Input.TheVariants as inputs
 use Rattle.steps_events.specs.declared.event.StepFault.{StepFault}
-use Rattle.steps_events.specs.declared.event.StepFault.TheVariants as faults
-use Rattle.steps_events.specs.declared.event.Then.TheVariants as thens
+use Rattle.steps_events.specs.declared.event.Then.{Then}
 use Rattle.steps_events.specs.declared.hold.HoldKind.{HoldKind}
 use Rattle.steps_events.specs.declared.row.After.{After}
-use Rattle.steps_events.specs.declared.row.After.TheVariants as afters
 use Rattle.steps_events.specs.Arithmetic.{Arithmetic}
 use Rattle.steps_events.specs.Rows.{carried_out, value_told, outcome_of, place_after}
 use Rattle.steps_events.specs.Tables.{Table}
@@ -32,7 +28,7 @@ pub fault_at_none :
     fault_of t parties past party input ≡ None → fault_at t (call_of party past) (hold_of t party past) input ≡ None
 fault_at_none {T} t parties past party input allowed = by_test (nat_lt party parties) (fault_at t (call_of party past) (hold_of t party past) input) allowed
   where
-    by_test : (b : Bool) (fault : Option StepFault) → cond b fault (Some faults.NoParty) ≡ None → fault ≡ None
+    by_test : (b : Bool) (fault : Option StepFault) → cond b fault (Some StepFault.NoParty) ≡ None → fault ≡ None
     by_test true fault is = is
     by_test false fault is = absurd cc
 
@@ -80,7 +76,7 @@ IsKeptBySteps {T} {P} t At =
 abbrev pub IsKeptByAnswers : {T P : Type 0} → Table T P → (P → PendingCall T → Option HoldKind → Type 0) → Type 0
 IsKeptByAnswers {T} {P} t At =
     (place : P) (c : PendingCall T) (hold : Option HoldKind) (action : WaitAction) (number : ℕ) → At place c hold → answer_fault (latest_outcome c.own) ≡ None →
-    At (t.answered place action) (record { call = c.call; own = event number (acts.Answered action) thens.GoesOn ∷ c.own }) hold
+    At (t.answered place action) (record { call = c.call; own = event number (Act.Answered action) Then.GoesOn ∷ c.own }) hold
 
 -- It holds where a call begins, and each event of the call keeps it.
 pub record IsKept {T P : Type 0} (t : Table T P) (At : P → PendingCall T → Option HoldKind → Type 0) : Type 0 where
@@ -89,7 +85,7 @@ pub record IsKept {T P : Type 0} (t : Table T P) (At : P → PendingCall T → O
   pub answers : IsKeptByAnswers t At
   pub chooses :
       (place : P) (c : PendingCall T) (hold : Option HoldKind) (choice : Option T) (number : ℕ) → At place c hold → choose_fault (latest_outcome c.own) ≡ None →
-      At (t.chosen place choice) (record { call = c.call; own = event number (acts.Chosen choice) thens.GoesOn ∷ c.own }) hold
+      At (t.chosen place choice) (record { call = c.call; own = event number (Act.Chosen choice) Then.GoesOn ∷ c.own }) hold
 
 -- The same where it rests on the values that inputs bring, and on what hold a party has that has no call: it rests with such a hold before a call, and a call
 -- that ends leaves it so.
@@ -100,11 +96,11 @@ pub record IsKeptFromRest {T P : Type 0} (z : Arithmetic T) (t : Table T P) (Res
   pub steps : IsKeptBySteps t At
   pub answers : IsKeptByAnswers t At
   pub chooses :
-      (place : P) (c : PendingCall T) (hold : Option HoldKind) (choice : Option T) (number : ℕ) → At place c hold → choose_fault (latest_outcome c.own) ≡ None → InputValues z (inputs.Choose choice) →
-      At (t.chosen place choice) (record { call = c.call; own = event number (acts.Chosen choice) thens.GoesOn ∷ c.own }) hold
+      (place : P) (c : PendingCall T) (hold : Option HoldKind) (choice : Option T) (number : ℕ) → At place c hold → choose_fault (latest_outcome c.own) ≡ None → InputValues z (Input.Choose choice) →
+      At (t.chosen place choice) (record { call = c.call; own = event number (Act.Chosen choice) Then.GoesOn ∷ c.own }) hold
   pub ends :
       (place : P) (c : PendingCall T) (hold : Option HoldKind) (memory : Word → ℕ) (answer : Answer T) → At place c hold →
-      t.after place (value_told (carried_out (t.intent place hold) memory)) ≡ afters.Ends answer → Rest (hold_after t (step_at t place hold memory).act (Some c) hold)
+      t.after place (value_told (carried_out (t.intent place hold) memory)) ≡ After.Ends answer → Rest (hold_after t (step_at t place hold memory).act (Some c) hold)
 
 -- whatever hold a party has
 abbrev pub Whatever : Option HoldKind → Type 0
@@ -139,7 +135,7 @@ module _ {T P : Type 0} (z : Arithmetic T) (t : Table T P) (Rest : Option HoldKi
   begun_at (Some c) hold call values here allowed = absurd cc
   begun_at None hold call values here allowed = by_place (t.begins call) refl allowed
     where
-      by_place : (place : Option P) → t.begins call ≡ place → cond (is_some place) (hold_fault t call hold) (Some faults.OtherObject) ≡ None →
+      by_place : (place : Option P) → t.begins call ≡ place → cond (is_some place) (hold_fault t call hold) (Some StepFault.OtherObject) ≡ None →
           (place : P) × (t.begins call ≡ Some place) × At place (record { call = call; own = [] }) hold
       by_place None is none = absurd cc
       by_place (Some place) is none = (place, is, kept.begins call place hold is none values here)
@@ -170,25 +166,25 @@ module _ {T P : Type 0} (z : Arithmetic T) (t : Table T P) (Rest : Option HoldKi
       on a next is to = subst GoesOn is (stepped_on place c hold memory number next stage at goes (ap place_after is ∙ to))
 
       by_after : (a : After T P) → t.after place (value_told act) ≡ a → IsHere (call_after (outcome_of a) (event number act (outcome_of a)) (Some c)) (hold_after t act (Some c) hold)
-      by_after (afters.At next) is = on (afters.At next) next is refl
-      by_after (afters.Waits next seen) is = on (afters.Waits next seen) next is refl
-      by_after (afters.Chooses next old) is = on (afters.Chooses next old) next is refl
-      by_after (afters.Ends answer) is = kept.ends place c hold memory answer at is
+      by_after (After.At next) is = on (After.At next) next is refl
+      by_after (After.Waits next seen) is = on (After.Waits next seen) next is refl
+      by_after (After.Chooses next old) is = on (After.Chooses next old) next is refl
+      by_after (After.Ends answer) is = kept.ends place c hold memory answer at is
 
   -- a call that stands at a closure goes on from where its answer leads
   answered_at :
-      (pending : Option (PendingCall T)) (hold : Option HoldKind) (action : WaitAction) (number : ℕ) → fault_at t pending hold (inputs.Answer action) ≡ None → IsHere pending hold →
-      IsHere (call_going_on (acts.Answered action) (event number (acts.Answered action) thens.GoesOn) pending) hold
+      (pending : Option (PendingCall T)) (hold : Option HoldKind) (action : WaitAction) (number : ℕ) → fault_at t pending hold (Input.Answer action) ≡ None → IsHere pending hold →
+      IsHere (call_going_on (Act.Answered action) (event number (Act.Answered action) Then.GoesOn) pending) hold
   answered_at None hold action number allowed here = here
   answered_at (Some c) hold action number allowed here =
-      (t.answered here.0 action, ap (next_stage t (acts.Answered action)) here.1, kept.answers here.0 c hold action number here.2 allowed)
+      (t.answered here.0 action, ap (next_stage t (Act.Answered action)) here.1, kept.answers here.0 c hold action number here.2 allowed)
 
   chosen_at :
-      (pending : Option (PendingCall T)) (hold : Option HoldKind) (choice : Option T) (number : ℕ) → InputValues z (inputs.Choose choice) → fault_at t pending hold (inputs.Choose choice) ≡ None → IsHere pending hold →
-      IsHere (call_going_on (acts.Chosen choice) (event number (acts.Chosen choice) thens.GoesOn) pending) hold
+      (pending : Option (PendingCall T)) (hold : Option HoldKind) (choice : Option T) (number : ℕ) → InputValues z (Input.Choose choice) → fault_at t pending hold (Input.Choose choice) ≡ None → IsHere pending hold →
+      IsHere (call_going_on (Act.Chosen choice) (event number (Act.Chosen choice) Then.GoesOn) pending) hold
   chosen_at None hold choice number values allowed here = here
   chosen_at (Some c) hold choice number values allowed here =
-      (t.chosen here.0 choice, ap (next_stage t (acts.Chosen choice)) here.1, kept.chooses here.0 c hold choice number here.2 allowed values)
+      (t.chosen here.0 choice, ap (next_stage t (Act.Chosen choice)) here.1, kept.chooses here.0 c hold choice number here.2 allowed values)
 
   -- whatever the input
   moved_at :
@@ -206,10 +202,10 @@ module _ {T P : Type 0} (z : Arithmetic T) (t : Table T P) (Rest : Option HoldKi
       Leads : Option (PendingCall T) → Move T → Type 0
       Leads k x = IsHere k hold → IsHere (call_after x.outcome (event number x.act x.outcome) k) (hold_after t x.act k hold)
 
-      goes : (c : PendingCall T) → input ≡ inputs.Go → pending ≡ Some c → go_fault (latest_outcome c.own) ≡ None
+      goes : (c : PendingCall T) → input ≡ Input.Go → pending ≡ Some c → go_fault (latest_outcome c.own) ≡ None
       goes c is same =
-          let free : fault_at t pending hold inputs.Go ≡ None = subst (λ i. fault_at t pending hold i ≡ None) is allowed in
-          subst (λ (k : Option (PendingCall T)). fault_at t k hold inputs.Go ≡ None) same free
+          let free : fault_at t pending hold Input.Go ≡ None = subst (λ i. fault_at t pending hold i ≡ None) is allowed in
+          subst (λ (k : Option (PendingCall T)). fault_at t k hold Input.Go ≡ None) same free
 
       stepped_here : (c : PendingCall T) (place : P) → stage_of t c ≡ Some place → IsHere (Some c) hold → go_fault (latest_outcome c.own) ≡ None →
           IsHere (call_after (step_at t place hold memory).outcome (event number (step_at t place hold memory).act (step_at t place hold memory).outcome) (Some c)) (hold_after t (step_at t place hold memory).act (Some c) hold)
@@ -278,8 +274,8 @@ pub gives_event :
 gives_event {T} {P} t parties past party input have allowed none = by_input (call_of party past) (hold_of t party past) (have party) input (fault_at_none t parties past party input allowed) none
   where
     by_input : (pending : Option (PendingCall T)) (hold : Option HoldKind) → IsAtPlace t Anywhere pending hold → (i : Input T) → fault_at t pending hold i ≡ None → move_of t pending hold (word_in t past) i ≡ None → ⊥
-    by_input pending hold at (inputs.Begin call) free no_move = absurd cc
-    by_input pending hold at (inputs.Answer action) free no_move = absurd cc
-    by_input pending hold at (inputs.Choose choice) free no_move = absurd cc
-    by_input None hold at inputs.Go free no_move = absurd cc
-    by_input (Some c) hold at inputs.Go free no_move = let no : step_of t (Some at.0) hold (word_in t past) ≡ None = subst (λ (s : Option P). step_of t s hold (word_in t past) ≡ None) at.1 no_move in absurd cc
+    by_input pending hold at (Input.Begin call) free no_move = absurd cc
+    by_input pending hold at (Input.Answer action) free no_move = absurd cc
+    by_input pending hold at (Input.Choose choice) free no_move = absurd cc
+    by_input None hold at Input.Go free no_move = absurd cc
+    by_input (Some c) hold at Input.Go free no_move = let no : step_of t (Some at.0) hold (word_in t past) ≡ None = subst (λ (s : Option P). step_of t s hold (word_in t past) ≡ None) at.1 no_move in absurd cc

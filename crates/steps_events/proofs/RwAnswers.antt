@@ -1,16 +1,13 @@
 -- A lock with read and write holds answers by the hold: from its step at each place.
 use Rattle.std.proofs.Common.{◌≡◌, refl, sym, ◌∙◌, ap, subst, ℕ, Bool, true, false, cond, List, [], ◌∷◌, Option, Some, None}
-use Rattle.steps_events.specs.declared.event.Word.TheVariants as words
+use Rattle.steps_events.specs.declared.event.Word.{Word}
 use Rattle.steps_events.specs.declared.event.Call.{Call}
-use Rattle.steps_events.specs.declared.event.Call.TheVariants as calls
 use Rattle.steps_events.specs.declared.event.Act.{Act}
-use Rattle.steps_events.specs.declared.event.Act.TheVariants as acts
-use Rattle.steps_events.specs.declared.event.Answer.TheVariants as answers
+use Rattle.steps_events.specs.declared.event.Answer.{Answer}
 use Rattle.steps_events.specs.declared.event.Event.{Event}
-use Rattle.steps_events.specs.declared.event.Then.TheVariants as thens
+use Rattle.steps_events.specs.declared.event.Then.{Then}
 use Rattle.steps_events.specs.declared.hold.HoldKind.{HoldKind}
 use Rattle.steps_events.specs.declared.row.After.{After}
-use Rattle.steps_events.specs.declared.row.After.TheVariants as afters
 use Rattle.steps_events.specs.Arithmetic.{Arithmetic}
 use Rattle.steps_events.specs.Rows.{outcome_of, place_after}
 use Rattle.steps_events.specs.Tables.{Table}
@@ -28,74 +25,74 @@ wants {T} c call kind is kinds = ap (λ (k : Call T). kind_wanted k) is ∙ kind
 -- a locking call that has its hold
 pub granted :
     {T : Type 0} (HasUnlocked : List (Act T) → Type 0) (call : Call T) (done : List (Act T)) (hold : Option HoldKind) (kind : HoldKind) → kind_wanted call ≡ Some kind → hold ≡ Some kind →
-    IsRwAnswer HasUnlocked call done hold answers.Success
-granted HasUnlocked calls.Unlock done hold kind wants has = absurd cc
+    IsRwAnswer HasUnlocked call done hold Answer.Success
+granted HasUnlocked Call.Unlock done hold kind wants has = absurd cc
 granted HasUnlocked call done hold kind wants has = rw has (refl, wants)
 
 -- one that has none
 pub turned_away :
     {T : Type 0} (HasUnlocked : List (Act T) → Type 0) (call : Call T) (done : List (Act T)) (hold : Option HoldKind) (kind : HoldKind) → kind_wanted call ≡ Some kind → hold ≡ None →
-    IsRwAnswer HasUnlocked call done hold answers.Interrupted
-turned_away HasUnlocked calls.Unlock done hold kind wants none = absurd cc
+    IsRwAnswer HasUnlocked call done hold Answer.Interrupted
+turned_away HasUnlocked Call.Unlock done hold kind wants none = absurd cc
 turned_away HasUnlocked call done hold kind wants none = rw none refl
 
 -- an `Unlock` that has done what makes one
 pub unlocked :
-    {T : Type 0} (HasUnlocked : List (Act T) → Type 0) (call : Call T) (done : List (Act T)) (hold : Option HoldKind) → call ≡ calls.Unlock → hold ≡ None → HasUnlocked done →
-    IsRwAnswer HasUnlocked call done hold answers.Done
+    {T : Type 0} (HasUnlocked : List (Act T) → Type 0) (call : Call T) (done : List (Act T)) (hold : Option HoldKind) → call ≡ Call.Unlock → hold ≡ None → HasUnlocked done →
+    IsRwAnswer HasUnlocked call done hold Answer.Done
 unlocked {T} HasUnlocked call done hold unlocks none has =
-    subst (λ (k : Call T). IsRwAnswer HasUnlocked k done hold answers.Done) (sym unlocks) (refl, has, none)
+    subst (λ (k : Call T). IsRwAnswer HasUnlocked k done hold Answer.Done) (sym unlocks) (refl, has, none)
 
 -- a step that ends its call, if at all, with a refusal, and goes on to such places
 abbrev pub IsTryOn : {T P : Type 0} → (P → Type 0) → After T P → Type 0
-IsTryOn Goes (afters.At place) = Goes place
-IsTryOn Goes (afters.Waits place seen) = Goes place
-IsTryOn Goes (afters.Chooses place old) = Goes place
-IsTryOn Goes (afters.Ends answer) = answer ≡ answers.Interrupted
+IsTryOn Goes (After.At place) = Goes place
+IsTryOn Goes (After.Waits place seen) = Goes place
+IsTryOn Goes (After.Chooses place old) = Goes place
+IsTryOn Goes (After.Ends answer) = answer ≡ Answer.Interrupted
 
 -- answers by the hold, where its call is a locking call without one
 pub tries_on :
     {T P : Type 0} (HasUnlocked : List (Act T) → Type 0) (Goes : P → Type 0) (c : PendingCall T) (act : Act T) (hold : Option HoldKind) (kind : HoldKind) (a : After T P) → kind_wanted c.call ≡ Some kind → hold ≡ None → IsTryOn Goes a →
     IsAnswered HasUnlocked (Some c) act (outcome_of a) hold
-tries_on HasUnlocked Goes c act hold kind (afters.At place) wants none on = tt
-tries_on HasUnlocked Goes c act hold kind (afters.Waits place seen) wants none on = tt
-tries_on HasUnlocked Goes c act hold kind (afters.Chooses place old) wants none on = tt
-tries_on HasUnlocked Goes c act hold kind (afters.Ends answer) wants none on =
+tries_on HasUnlocked Goes c act hold kind (After.At place) wants none on = tt
+tries_on HasUnlocked Goes c act hold kind (After.Waits place seen) wants none on = tt
+tries_on HasUnlocked Goes c act hold kind (After.Chooses place old) wants none on = tt
+tries_on HasUnlocked Goes c act hold kind (After.Ends answer) wants none on =
     rw on (turned_away HasUnlocked c.call (act ∷ acts_of c.own) hold kind wants none)
 
 -- an exchange of the lock's word that takes the hold where it is done, and else goes on
 pub enters :
     {T P : Type 0} (HasUnlocked : List (Act T) → Type 0) (t : Table T P) (Goes : P → Type 0) (c : PendingCall T) (hold : Option HoldKind) (from to found : ℕ) (kind : HoldKind) (b : Bool) (a : After T P) →
     kind_wanted c.call ≡ Some kind → hold ≡ None → t.grant c.call from to ≡ Some kind → IsTryOn Goes a →
-    IsAnswered HasUnlocked (Some c) (acts.Exchange words.State from to found b) (outcome_of (cond b (afters.Ends answers.Success) a)) (hold_after t (acts.Exchange words.State from to found b) (Some c) hold)
+    IsAnswered HasUnlocked (Some c) (Act.Exchange Word.State from to found b) (outcome_of (cond b (After.Ends Answer.Success) a)) (hold_after t (Act.Exchange Word.State from to found b) (Some c) hold)
 enters HasUnlocked t Goes c hold from to found kind true a wanted free grants on =
-    granted HasUnlocked c.call _ (hold_after t (acts.Exchange words.State from to found true) (Some c) hold) kind wanted (rw grants refl)
+    granted HasUnlocked c.call _ (hold_after t (Act.Exchange Word.State from to found true) (Some c) hold) kind wanted (rw grants refl)
 enters HasUnlocked t Goes c hold from to found kind false a wanted free grants on = tries_on HasUnlocked Goes c _ hold kind a wanted free on
 
 -- What is kept of the own events of a call at its place, where a step leads.
 
 abbrev pub LeadsTo : {T P : Type 0} → (P → List (Event T) → Option HoldKind → Type 0) → List (Event T) → Option HoldKind → ℕ → Act T → After T P → Type 0
-LeadsTo At own hold number act (afters.At place) = At place (event number act thens.GoesOn ∷ own) hold
-LeadsTo At own hold number act (afters.Waits place seen) = At place (event number act (thens.Waits seen) ∷ own) hold
-LeadsTo At own hold number act (afters.Chooses place old) = At place (event number act (thens.Chooses old) ∷ own) hold
-LeadsTo At own hold number act (afters.Ends answer) = Unit {0}
+LeadsTo At own hold number act (After.At place) = At place (event number act Then.GoesOn ∷ own) hold
+LeadsTo At own hold number act (After.Waits place seen) = At place (event number act (Then.Waits seen) ∷ own) hold
+LeadsTo At own hold number act (After.Chooses place old) = At place (event number act (Then.Chooses old) ∷ own) hold
+LeadsTo At own hold number act (After.Ends answer) = Unit {0}
 
 pub leads_on :
     {T P : Type 0} (At : P → List (Event T) → Option HoldKind → Type 0) (own : List (Event T)) (hold : Option HoldKind) (number : ℕ) (act : Act T) (next : P) (a : After T P) →
     LeadsTo At own hold number act a → place_after a ≡ Some next → At next (event number act (outcome_of a) ∷ own) hold
-leads_on At own hold number act next (afters.At place) to is = let made : place ≡ next = cc in subst (λ p. At p (event number act thens.GoesOn ∷ own) hold) made to
-leads_on At own hold number act next (afters.Waits place seen) to is = let made : place ≡ next = cc in subst (λ p. At p (event number act (thens.Waits seen) ∷ own) hold) made to
-leads_on At own hold number act next (afters.Chooses place old) to is = let made : place ≡ next = cc in subst (λ p. At p (event number act (thens.Chooses old) ∷ own) hold) made to
-leads_on At own hold number act next (afters.Ends answer) to is = absurd cc
+leads_on At own hold number act next (After.At place) to is = let made : place ≡ next = cc in subst (λ p. At p (event number act Then.GoesOn ∷ own) hold) made to
+leads_on At own hold number act next (After.Waits place seen) to is = let made : place ≡ next = cc in subst (λ p. At p (event number act (Then.Waits seen) ∷ own) hold) made to
+leads_on At own hold number act next (After.Chooses place old) to is = let made : place ≡ next = cc in subst (λ p. At p (event number act (Then.Chooses old) ∷ own) hold) made to
+leads_on At own hold number act next (After.Ends answer) to is = absurd cc
 
 -- a step that tries on leads to a place of which nothing is to be kept
 pub try_leads :
     {T P : Type 0} (Goes : P → Type 0) (At : P → List (Event T) → Option HoldKind → Type 0) → ((place : P) (own : List (Event T)) (hold : Option HoldKind) → Goes place → At place own hold) →
     (own : List (Event T)) (hold : Option HoldKind) (number : ℕ) (act : Act T) (a : After T P) → IsTryOn Goes a → LeadsTo At own hold number act a
-try_leads Goes At free own hold number act (afters.At place) on = free place _ hold on
-try_leads Goes At free own hold number act (afters.Waits place seen) on = free place _ hold on
-try_leads Goes At free own hold number act (afters.Chooses place old) on = free place _ hold on
-try_leads Goes At free own hold number act (afters.Ends answer) on = tt
+try_leads Goes At free own hold number act (After.At place) on = free place _ hold on
+try_leads Goes At free own hold number act (After.Waits place seen) on = free place _ hold on
+try_leads Goes At free own hold number act (After.Chooses place old) on = free place _ hold on
+try_leads Goes At free own hold number act (After.Ends answer) on = tt
 
 -- at every front, from the step at each place
 pub answers_by_hold :

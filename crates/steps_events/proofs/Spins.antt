@@ -3,16 +3,12 @@ use Rattle.std.proofs.Common.{◌≡◌, ◌∙◌, ℕ, ◌+◌, ◌≤◌, ref
 use Rattle.std.specs.Prelude.{nat_lt, MatchBool}
 use Rattle.std.proofs.lemmas.Bool.Decides.{nat_tests}
 use Rattle.steps_events.specs.declared.WaitAction.{WaitAction}
-use Rattle.steps_events.specs.declared.WaitAction.TheVariants as actions
 use Rattle.steps_events.specs.declared.event.Act.{Act}
-use Rattle.steps_events.specs.declared.event.Act.TheVariants as acts
 use Rattle.steps_events.specs.declared.event.Event.{Event}
 use Rattle.steps_events.specs.declared.event.Then.{Then}
-use Rattle.steps_events.specs.declared.event.Then.TheVariants as thens
-use Rattle.steps_events.specs.declared.event.Answer.TheVariants as answers
+use Rattle.steps_events.specs.declared.event.Answer.{Answer}
 use Rattle.steps_events.specs.declared.patience.Patience.{Patience}
 use Rattle.steps_events.specs.declared.row.After.{After}
-use Rattle.steps_events.specs.declared.row.After.TheVariants as afters
 use Rattle.steps_events.specs.Rows.{is_continue, answered, refused, within, outcome_of, place_after}
 use Rattle.steps_events.specs.Past.{event}
 use Rattle.steps_events.specs.Moves.{answer_fault}
@@ -33,14 +29,14 @@ spins_spent n below left = grind (arith, nat_tests)
 
 -- an answer of the wait closure
 
-pub answered_keep : {T : Type 0} (keep : Bool) (action : WaitAction) (own : List (Event T)) (number : ℕ) → keeps_asking own ≡ keep → keeps_asking (event number (acts.Answered action) thens.GoesOn ∷ own) ≡ (keep && is_continue action)
-answered_keep true actions.Continue own number is = is
-answered_keep false actions.Continue own number is = is
-answered_keep true actions.Abort own number is = refl
-answered_keep false actions.Abort own number is = refl
+pub answered_keep : {T : Type 0} (keep : Bool) (action : WaitAction) (own : List (Event T)) (number : ℕ) → keeps_asking own ≡ keep → keeps_asking (event number (Act.Answered action) Then.GoesOn ∷ own) ≡ (keep && is_continue action)
+answered_keep true WaitAction.Continue own number is = is
+answered_keep false WaitAction.Continue own number is = is
+answered_keep true WaitAction.Abort own number is = refl
+answered_keep false WaitAction.Abort own number is = refl
 
 pub waits_by : {T : Type 0} (outcome : Then T) → answer_fault outcome ≡ None → stands_at_wait outcome ≡ true
-waits_by (thens.Waits seen) is = refl
+waits_by (Then.Waits seen) is = refl
 waits_by other is = absurd cc
 
 -- What one more event of the call makes of it.
@@ -58,7 +54,7 @@ passed_on in_vain patience own number act outcome so tries quiet = record { spun
 -- an answer of the wait closure
 pub answered_spun :
     {T : Type 0} (in_vain : Act T → Bool) (patience : Patience) (own : List (Event T)) (number : ℕ) (action : WaitAction) → HasSpun in_vain patience own →
-    in_vain (acts.Answered action) ≡ false → HasSpun in_vain (answered patience action) (event number (acts.Answered action) thens.GoesOn ∷ own)
+    in_vain (Act.Answered action) ≡ false → HasSpun in_vain (answered patience action) (event number (Act.Answered action) Then.GoesOn ∷ own)
 answered_spun in_vain patience own number action so tries =
     record { spun = rw tries (omega (arith, so.spun)); keeps = answered_keep patience.keep action own number so.keeps; within_limit = so.within_limit }
 
@@ -66,7 +62,7 @@ answered_spun in_vain patience own number action so tries =
 
 abbrev refused_by : {T : Type 0} → Patience → ℕ → Bool → Bool → After T Patience
 refused_by patience seen keep left =
-    cond keep (cond left (afters.At (record { spins = patience.spins + 1; keep = patience.keep })) (afters.Waits patience seen)) (afters.Ends answers.Interrupted)
+    cond keep (cond left (After.At (record { spins = patience.spins + 1; keep = patience.keep })) (After.Waits patience seen)) (After.Ends Answer.Interrupted)
 
 refused_by_leads :
     {T P : Type 0} (in_vain : Act T → Bool) (wrap : Patience → P) (patience : Patience) (seen : ℕ) (own : List (Event T)) (number : ℕ) (act : Act T) (next : P) (keep left : Bool) → HasSpun in_vain patience own →

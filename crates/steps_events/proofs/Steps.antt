@@ -4,14 +4,12 @@ use Rattle.std.specs.Prelude.{not}
 use Rattle.steps_events.specs.declared.WaitAction.{WaitAction}
 use Rattle.steps_events.specs.declared.event.Word.{Word}
 use Rattle.steps_events.specs.declared.event.Call.{Call}
-use Rattle.steps_events.specs.declared.event.Act.TheVariants as acts
+use Rattle.steps_events.specs.declared.event.Act.{Act}
 use Rattle.steps_events.specs.declared.event.Event.{Event}
 use Rattle.steps_events.specs.declared.event.Input.{Input}
-use Rattle.steps_events.specs.declared.event.Input.TheVariants as inputs
-use Rattle.steps_events.specs.declared.event.Then.TheVariants as thens
+use Rattle.steps_events.specs.declared.event.Then.{Then}
 use Rattle.steps_events.specs.declared.hold.HoldKind.{HoldKind}
 use Rattle.steps_events.specs.declared.row.Intent.{Intent}
-use Rattle.steps_events.specs.declared.row.Intent.TheVariants as intents
 use Rattle.steps_events.specs.Arithmetic.{Arithmetic}
 use Rattle.steps_events.specs.Rows.{carried_out, value_told, place_after}
 use Rattle.steps_events.specs.Tables.{Table}
@@ -23,77 +21,77 @@ use Rattle.steps_events.specs.Laws.{IsTold, TellsMemory, is_apart, Lacks}
 -- A step that is carried out.
 
 pub carried_is_step : {T : Type 0} (intent : Intent T) (memory : Word → ℕ) → is_step (carried_out intent memory) ≡ true
-carried_is_step (intents.Load word) memory = refl
-carried_is_step (intents.Store word put) memory = refl
-carried_is_step (intents.Swap word put) memory = refl
-carried_is_step (intents.Add word more) memory = refl
-carried_is_step (intents.Subtract word less) memory = refl
-carried_is_step (intents.Exchange word from to) memory = refl
-carried_is_step (intents.Wake wake) memory = refl
-carried_is_step intents.End memory = refl
-carried_is_step (intents.ReadCell value) memory = refl
+carried_is_step (Intent.Load word) memory = refl
+carried_is_step (Intent.Store word put) memory = refl
+carried_is_step (Intent.Swap word put) memory = refl
+carried_is_step (Intent.Add word more) memory = refl
+carried_is_step (Intent.Subtract word less) memory = refl
+carried_is_step (Intent.Exchange word from to) memory = refl
+carried_is_step (Intent.Wake wake) memory = refl
+carried_is_step Intent.End memory = refl
+carried_is_step (Intent.ReadCell value) memory = refl
 
 pub carried_is_told : {T : Type 0} (intent : Intent T) (memory : Word → ℕ) → IsTold (carried_out intent memory) memory
-carried_is_told (intents.Load word) memory = refl
-carried_is_told (intents.Store word put) memory = tt
-carried_is_told (intents.Swap word put) memory = refl
-carried_is_told (intents.Add word more) memory = refl
-carried_is_told (intents.Subtract word less) memory = refl
-carried_is_told (intents.Exchange word from to) memory = (refl, refl)
-carried_is_told (intents.Wake wake) memory = tt
-carried_is_told intents.End memory = tt
-carried_is_told (intents.ReadCell value) memory = tt
+carried_is_told (Intent.Load word) memory = refl
+carried_is_told (Intent.Store word put) memory = tt
+carried_is_told (Intent.Swap word put) memory = refl
+carried_is_told (Intent.Add word more) memory = refl
+carried_is_told (Intent.Subtract word less) memory = refl
+carried_is_told (Intent.Exchange word from to) memory = (refl, refl)
+carried_is_told (Intent.Wake wake) memory = tt
+carried_is_told Intent.End memory = tt
+carried_is_told (Intent.ReadCell value) memory = tt
 
 -- its call has it as an event of its own
 pub carried_goes_on :
     {T : Type 0} (intent : Intent T) (memory : Word → ℕ) (e : Event T) (c : PendingCall T) →
     call_going_on (carried_out intent memory) e (Some c) ≡ Some (record { call = c.call; own = e ∷ c.own })
-carried_goes_on (intents.Load word) memory e c = refl
-carried_goes_on (intents.Store word put) memory e c = refl
-carried_goes_on (intents.Swap word put) memory e c = refl
-carried_goes_on (intents.Add word more) memory e c = refl
-carried_goes_on (intents.Subtract word less) memory e c = refl
-carried_goes_on (intents.Exchange word from to) memory e c = refl
-carried_goes_on (intents.Wake wake) memory e c = refl
-carried_goes_on intents.End memory e c = refl
-carried_goes_on (intents.ReadCell value) memory e c = refl
+carried_goes_on (Intent.Load word) memory e c = refl
+carried_goes_on (Intent.Store word put) memory e c = refl
+carried_goes_on (Intent.Swap word put) memory e c = refl
+carried_goes_on (Intent.Add word more) memory e c = refl
+carried_goes_on (Intent.Subtract word less) memory e c = refl
+carried_goes_on (Intent.Exchange word from to) memory e c = refl
+carried_goes_on (Intent.Wake wake) memory e c = refl
+carried_goes_on Intent.End memory e c = refl
+carried_goes_on (Intent.ReadCell value) memory e c = refl
 
 -- and goes on as the row says
 pub carried_stage :
     {T P : Type 0} (t : Table T P) (place : P) (intent : Intent T) (memory : Word → ℕ) →
     stage_after t (carried_out intent memory) place ≡ place_after (t.after place (value_told (carried_out intent memory)))
-carried_stage t place (intents.Load word) memory = refl
-carried_stage t place (intents.Store word put) memory = refl
-carried_stage t place (intents.Swap word put) memory = refl
-carried_stage t place (intents.Add word more) memory = refl
-carried_stage t place (intents.Subtract word less) memory = refl
-carried_stage t place (intents.Exchange word from to) memory = refl
-carried_stage t place (intents.Wake wake) memory = refl
-carried_stage t place intents.End memory = refl
-carried_stage t place (intents.ReadCell value) memory = refl
+carried_stage t place (Intent.Load word) memory = refl
+carried_stage t place (Intent.Store word put) memory = refl
+carried_stage t place (Intent.Swap word put) memory = refl
+carried_stage t place (Intent.Add word more) memory = refl
+carried_stage t place (Intent.Subtract word less) memory = refl
+carried_stage t place (Intent.Exchange word from to) memory = refl
+carried_stage t place (Intent.Wake wake) memory = refl
+carried_stage t place Intent.End memory = refl
+carried_stage t place (Intent.ReadCell value) memory = refl
 
 -- A fact of a move, by its input: a beginning, an answer, a choice, or the step at the place of the call under way.
 pub by_move :
     {T P : Type 0} (t : Table T P) (pending : Option (PendingCall T)) (hold : Option HoldKind) (memory : Word → ℕ) (R : Option (PendingCall T) → Move T → Type 0) (input : Input T) (m : Move T) →
-    ((call : Call T) → input ≡ inputs.Begin call → R pending (record { act = acts.Begun call; outcome = thens.GoesOn })) →
-    ((action : WaitAction) → input ≡ inputs.Answer action → R pending (record { act = acts.Answered action; outcome = thens.GoesOn })) →
-    ((choice : Option T) → input ≡ inputs.Choose choice → R pending (record { act = acts.Chosen choice; outcome = thens.GoesOn })) →
-    ((c : PendingCall T) (place : P) → input ≡ inputs.Go → pending ≡ Some c → stage_of t c ≡ Some place → R (Some c) (step_at t place hold memory)) →
+    ((call : Call T) → input ≡ Input.Begin call → R pending (record { act = Act.Begun call; outcome = Then.GoesOn })) →
+    ((action : WaitAction) → input ≡ Input.Answer action → R pending (record { act = Act.Answered action; outcome = Then.GoesOn })) →
+    ((choice : Option T) → input ≡ Input.Choose choice → R pending (record { act = Act.Chosen choice; outcome = Then.GoesOn })) →
+    ((c : PendingCall T) (place : P) → input ≡ Input.Go → pending ≡ Some c → stage_of t c ≡ Some place → R (Some c) (step_at t place hold memory)) →
     move_of t pending hold memory input ≡ Some m → R pending m
-by_move {T} t pending hold memory R (inputs.Begin call) m begins answers chooses steps is =
-    let move : Move T = record { act = acts.Begun call; outcome = thens.GoesOn } in
+by_move {T} t pending hold memory R (Input.Begin call) m begins answers chooses steps is =
+    let move : Move T = record { act = Act.Begun call; outcome = Then.GoesOn } in
     let made : move ≡ m = cc in
     subst (R pending) made (begins call refl)
-by_move {T} t pending hold memory R (inputs.Answer action) m begins answers chooses steps is =
-    let move : Move T = record { act = acts.Answered action; outcome = thens.GoesOn } in
+by_move {T} t pending hold memory R (Input.Answer action) m begins answers chooses steps is =
+    let move : Move T = record { act = Act.Answered action; outcome = Then.GoesOn } in
     let made : move ≡ m = cc in
     subst (R pending) made (answers action refl)
-by_move {T} t pending hold memory R (inputs.Choose choice) m begins answers chooses steps is =
-    let move : Move T = record { act = acts.Chosen choice; outcome = thens.GoesOn } in
+by_move {T} t pending hold memory R (Input.Choose choice) m begins answers chooses steps is =
+    let move : Move T = record { act = Act.Chosen choice; outcome = Then.GoesOn } in
     let made : move ≡ m = cc in
     subst (R pending) made (chooses choice refl)
-by_move t None hold memory R inputs.Go m begins answers chooses steps is = absurd cc
-by_move {T} {P} t (Some c) hold memory R inputs.Go m begins answers chooses steps is = by_stage (stage_of t c) refl is
+by_move t None hold memory R Input.Go m begins answers chooses steps is = absurd cc
+by_move {T} {P} t (Some c) hold memory R Input.Go m begins answers chooses steps is = by_stage (stage_of t c) refl is
   where
     by_stage : (stage : Option P) → stage_of t c ≡ stage → step_of t stage hold memory ≡ Some m → R (Some c) m
     by_stage None at made = absurd cc
@@ -126,15 +124,15 @@ other_word true put value apart = absurd cc
 other_word false put value apart = refl
 
 apart_keeps : {T : Type 0} (word : Word) (intent : Intent T) (memory : Word → ℕ) (value : ℕ) → is_apart word intent ≡ true → word_after word (carried_out intent memory) value ≡ value
-apart_keeps word (intents.Load w) memory value apart = refl
-apart_keeps word (intents.Store w put) memory value apart = other_word (same_word w word) _ value apart
-apart_keeps word (intents.Swap w put) memory value apart = other_word (same_word w word) _ value apart
-apart_keeps word (intents.Add w more) memory value apart = other_word (same_word w word) _ value apart
-apart_keeps word (intents.Subtract w less) memory value apart = other_word (same_word w word) _ value apart
-apart_keeps word (intents.Exchange w from to) memory value apart = unlike (same_word w word) _ to value apart
-apart_keeps word (intents.Wake wake) memory value apart = refl
-apart_keeps word intents.End memory value apart = refl
-apart_keeps word (intents.ReadCell v) memory value apart = refl
+apart_keeps word (Intent.Load w) memory value apart = refl
+apart_keeps word (Intent.Store w put) memory value apart = other_word (same_word w word) _ value apart
+apart_keeps word (Intent.Swap w put) memory value apart = other_word (same_word w word) _ value apart
+apart_keeps word (Intent.Add w more) memory value apart = other_word (same_word w word) _ value apart
+apart_keeps word (Intent.Subtract w less) memory value apart = other_word (same_word w word) _ value apart
+apart_keeps word (Intent.Exchange w from to) memory value apart = unlike (same_word w word) _ to value apart
+apart_keeps word (Intent.Wake wake) memory value apart = refl
+apart_keeps word Intent.End memory value apart = refl
+apart_keeps word (Intent.ReadCell v) memory value apart = refl
 
 pub lacked_word : {T P : Type 0} (z : Arithmetic T) (t : Table T P) (parties : ℕ) (word : Word) → Lacks t word → (past : List (Event T)) → IsPast z t parties past → word_in t past word ≡ t.opening word
 lacked_word z t parties word lacks [] run = refl
@@ -151,8 +149,8 @@ pub form_of_move :
     move_of t pending hold memory input ≡ Some m → HasForm input m.act
 form_of_move {T} t pending hold memory input m is =
     by_move t pending hold memory (λ (k : Option (PendingCall T)) (x : Move T). HasForm input x.act) input m
-    (λ call same. subst (λ (i : Input T). HasForm i (acts.Begun call)) (sym same) refl)
-    (λ action same. subst (λ (i : Input T). HasForm i (acts.Answered action)) (sym same) refl)
-    (λ choice same. subst (λ (i : Input T). HasForm i (acts.Chosen choice)) (sym same) refl)
+    (λ call same. subst (λ (i : Input T). HasForm i (Act.Begun call)) (sym same) refl)
+    (λ action same. subst (λ (i : Input T). HasForm i (Act.Answered action)) (sym same) refl)
+    (λ choice same. subst (λ (i : Input T). HasForm i (Act.Chosen choice)) (sym same) refl)
     (λ c place same _ at. subst (λ (i : Input T). HasForm i (step_at t place hold memory).act) (sym same) (carried_is_step (t.intent place hold) memory))
     is

@@ -6,13 +6,12 @@ use Rattle.steps_events.specs.declared.event.Call.{Call}
 use Rattle.steps_events.specs.declared.event.Act.{Act}
 use Rattle.steps_events.specs.declared.event.Event.{Event}
 use Rattle.steps_events.specs.declared.event.Then.{Then}
-use Rattle.steps_events.specs.declared.event.Then.TheVariants as thens
 use Rattle.steps_events.specs.Past.{PendingCall, call_of}
 use Rattle.steps_events.specs.Sights.{sight_of, keeps_asking}
 
 -- where an act leaves its call at its wait closure, P of the call, the act and what the closure is told
 abbrev pub WhereAsked : {T : Type 0} → (PendingCall T → Act T → ℕ → Type 0) → Option (PendingCall T) → Act T → Then T → Type 0
-WhereAsked P pending act (thens.Waits told) = MatchOption pending ⊥ (λ c. P c act told)
+WhereAsked P pending act (Then.Waits told) = MatchOption pending ⊥ (λ c. P c act told)
 WhereAsked P pending act outcome = Unit {0}
 
 -- where the latest event asks a wait closure

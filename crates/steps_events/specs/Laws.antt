@@ -3,24 +3,20 @@ use Rattle.std.specs.Prelude.{◌≡◌, ◌<◌, ℕ, ◌==◌, Bool, true, fal
 use Rattle.steps_events.specs.declared.event.Word.{Word}
 use Rattle.steps_events.specs.declared.event.Call.{Call}
 use Rattle.steps_events.specs.declared.event.Act.{Act}
-use Rattle.steps_events.specs.declared.event.Act.TheVariants as acts
-use Rattle.steps_events.specs.declared.event.Answer.TheVariants as answers
+use Rattle.steps_events.specs.declared.event.Answer.{Answer}
 use Rattle.steps_events.specs.declared.event.Then.{Then}
-use Rattle.steps_events.specs.declared.event.Then.TheVariants as thens
 use Rattle.steps_events.specs.declared.event.Event.{Event}
 use Rattle.steps_events.specs.declared.hold.HoldKind.{HoldKind}
-use Rattle.steps_events.specs.declared.hold.HoldKind.TheVariants as kinds
 use Rattle.steps_events.specs.declared.row.Intent.{Intent}
-use Rattle.steps_events.specs.declared.row.Intent.TheVariants as intents
 use Rattle.steps_events.specs.Tables.{Table}
 use Rattle.steps_events.specs.Past.{Hold, same_word, call_of, holds_of, word_in}
 
 -- an act that tells a word's value tells what the memory holds there, and an exchange is done exactly where it found its `from`
 abbrev pub IsTold : {T : Type 0} → Act T → (Word → ℕ) → Type 0
-IsTold (acts.Load word seen) memory = seen ≡ memory word
-IsTold (acts.Swap word old put) memory = old ≡ memory word
-IsTold (acts.Add word old put) memory = old ≡ memory word
-IsTold (acts.Exchange word from to found done) memory = (found ≡ memory word) × (done ≡ (found == from))
+IsTold (Act.Load word seen) memory = seen ≡ memory word
+IsTold (Act.Swap word old put) memory = old ≡ memory word
+IsTold (Act.Add word old put) memory = old ≡ memory word
+IsTold (Act.Exchange word from to found done) memory = (found ≡ memory word) × (done ≡ (found == from))
 IsTold act memory = Unit {0}
 
 -- Told: so does the latest event.
@@ -30,16 +26,16 @@ TellsMemory t (e ∷ past) = IsTold e.act (word_in t past)
 
 -- Exclusive: a write hold is the only hold.
 abbrev pub IsExclusive : List Hold → Type 0
-IsExclusive holds = (party : ℕ) → Contains holds (party, kinds.Write) → holds ≡ (party, kinds.Write) ∷ []
+IsExclusive holds = (party : ℕ) → Contains holds (party, HoldKind.Write) → holds ≡ (party, HoldKind.Write) ∷ []
 
 -- some hold of the lock
 abbrev pub IsLocked : {T P : Type 0} → Table T P → List (Event T) → Type 0
 IsLocked t past = 0 < length (holds_of t past)
 
 abbrev pub is_refusal : {T : Type 0} → Then T → Bool
-is_refusal (thens.Answers answers.Interrupted) = true
-is_refusal (thens.Answers answers.InterruptedHeld) = true
-is_refusal (thens.Answers answers.Full) = true
+is_refusal (Then.Answers Answer.Interrupted) = true
+is_refusal (Then.Answers Answer.InterruptedHeld) = true
+is_refusal (Then.Answers Answer.Full) = true
 is_refusal other = false
 
 -- Cause: where the latest event refused its call, the call's cause is there, as a fact of the events up to the answer.
@@ -62,12 +58,12 @@ pub record Keeps {T P : Type 0} (t : Table T P) (Cause : Call T → ℕ → List
 
 -- a step that neither tells nor changes the word
 abbrev pub is_apart : {T : Type 0} → Word → Intent T → Bool
-is_apart word (intents.Load w) = not (same_word w word)
-is_apart word (intents.Store w put) = not (same_word w word)
-is_apart word (intents.Swap w put) = not (same_word w word)
-is_apart word (intents.Add w more) = not (same_word w word)
-is_apart word (intents.Subtract w less) = not (same_word w word)
-is_apart word (intents.Exchange w from to) = not (same_word w word)
+is_apart word (Intent.Load w) = not (same_word w word)
+is_apart word (Intent.Store w put) = not (same_word w word)
+is_apart word (Intent.Swap w put) = not (same_word w word)
+is_apart word (Intent.Add w more) = not (same_word w word)
+is_apart word (Intent.Subtract w less) = not (same_word w word)
+is_apart word (Intent.Exchange w from to) = not (same_word w word)
 is_apart word other = true
 
 -- no step of the table works on the word

@@ -4,11 +4,9 @@ use Rattle.std.specs.Prelude.{◌≡◌, ◌<◌, ℕ, nat_lt, ◌&&◌, if◌th
 use Rattle.steps_events.specs.declared.event.Call.{Call}
 use Rattle.steps_events.specs.declared.event.Word.{Word}
 use Rattle.steps_events.specs.declared.event.Act.{Act}
-use Rattle.steps_events.specs.declared.event.Act.TheVariants as acts
 use Rattle.steps_events.specs.declared.event.Event.{Event}
-use Rattle.steps_events.specs.declared.event.Answer.TheVariants as answers
+use Rattle.steps_events.specs.declared.event.Answer.{Answer}
 use Rattle.steps_events.specs.declared.event.Then.{Then}
-use Rattle.steps_events.specs.declared.event.Then.TheVariants as thens
 use Rattle.steps_events.specs.Past.{call_of}
 use Rattle.steps_events.specs.Moves.{is_step}
 use Rattle.steps_events.specs.Sights.{sight_of, keeps_asking, goes_on, acts_in, last_of}
@@ -21,7 +19,7 @@ StepsAs Next (e ∷ past) = MatchBool (is_step e.act) (MatchOption (call_of e.pa
 -- How a refused call with a wait closure is left, that has spun so often: it goes on by itself until it has spun 10000 times, and then asks its
 -- closure; once that has answered Abort it gives up.
 abbrev pub refused_waiting : {T : Type 0} → List (Event T) → ℕ → ℕ → Then T
-refused_waiting own spins told = if keeps_asking own then (if nat_lt spins 10000 then thens.GoesOn else thens.Waits told) else thens.Answers answers.Interrupted
+refused_waiting own spins told = if keeps_asking own then (if nat_lt spins 10000 then Then.GoesOn else Then.Waits told) else Then.Answers Answer.Interrupted
 
 -- The latest step of a call, if it goes on from there by itself: none where it has just begun, or has asked its closure.
 abbrev pub step_before : {T : Type 0} → List (Event T) → Option (Act T)
@@ -39,12 +37,12 @@ seen_last word own = seen_by word (last_of is_step own)
 
 -- A load of the word, and how it leaves its call by what it saw.
 abbrev pub Loads : {T : Type 0} → Word → (ℕ → Then T) → Act T → Then T → Type 0
-Loads word left (acts.Load w seen) outcome = (w ≡ word) × (outcome ≡ left seen)
+Loads word left (Act.Load w seen) outcome = (w ≡ word) × (outcome ≡ left seen)
 Loads word left act outcome = ⊥
 
 -- An exchange of the word from this value to that, and how it leaves its call: where it was done, and where it failed by what it found.
 abbrev pub Exchanges : {T : Type 0} → Word → ℕ → ℕ → Then T → (ℕ → Then T) → Act T → Then T → Type 0
-Exchanges word old new taken missed (acts.Exchange w from to found done) outcome = (w ≡ word) × (from ≡ old) × (to ≡ new) × (outcome ≡ (if done then taken else missed found))
+Exchanges word old new taken missed (Act.Exchange w from to found done) outcome = (w ≡ word) × (from ≡ old) × (to ≡ new) × (outcome ≡ (if done then taken else missed found))
 Exchanges word old new taken missed act outcome = ⊥
 
 -- How long a call may last. One that waits for nobody answers with its last step, whatever the others do: while it is under way it has made fewer than it may make

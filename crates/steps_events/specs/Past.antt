@@ -1,12 +1,9 @@
 -- What the events so far tell, newest first: the words, the call that each party has under way, the holds, and the exchanges that failed.
 use Rattle.std.specs.Prelude.{ℕ, zero, ◌+◌, Bool, true, false, ◌&&◌, ◌==◌, if◌then◌else◌, List, [], ◌∷◌, Option, Some, None}
 use Rattle.steps_events.specs.declared.event.Word.{Word}
-use Rattle.steps_events.specs.declared.event.Word.TheVariants as words
 use Rattle.steps_events.specs.declared.event.Call.{Call}
 use Rattle.steps_events.specs.declared.event.Act.{Act}
-use Rattle.steps_events.specs.declared.event.Act.TheVariants as acts
 use Rattle.steps_events.specs.declared.event.Then.{Then}
-use Rattle.steps_events.specs.declared.event.Then.TheVariants as thens
 use Rattle.steps_events.specs.declared.event.Event.{Event}
 use Rattle.steps_events.specs.declared.hold.HoldKind.{HoldKind}
 use Rattle.steps_events.specs.Tables.{Table}
@@ -14,20 +11,20 @@ use Rattle.steps_events.specs.Tables.{Table}
 -- The memory.
 
 abbrev pub same_word : Word → Word → Bool
-same_word words.State words.State = true
-same_word words.Counter words.Counter = true
-same_word words.Waiters words.Waiters = true
-same_word words.Value words.Value = true
-same_word words.Low words.Low = true
-same_word words.High words.High = true
+same_word Word.State Word.State = true
+same_word Word.Counter Word.Counter = true
+same_word Word.Waiters Word.Waiters = true
+same_word Word.Value Word.Value = true
+same_word Word.Low Word.Low = true
+same_word Word.High Word.High = true
 same_word a b = false
 
 -- what an act leaves in a word that held this value
 abbrev pub word_after : {T : Type 0} → Word → Act T → ℕ → ℕ
-word_after word (acts.Store w put) value = if same_word w word then put else value
-word_after word (acts.Swap w old put) value = if same_word w word then put else value
-word_after word (acts.Add w old put) value = if same_word w word then put else value
-word_after word (acts.Exchange w from to found done) value = if (same_word w word && done) then to else value
+word_after word (Act.Store w put) value = if same_word w word then put else value
+word_after word (Act.Swap w old put) value = if same_word w word then put else value
+word_after word (Act.Add w old put) value = if same_word w word then put else value
+word_after word (Act.Exchange w from to found done) value = if (same_word w word && done) then to else value
 word_after word other value = value
 
 -- what a word holds after the events
@@ -48,13 +45,13 @@ pub record PendingCall (T : Type 0) : Type 0 where
 
 -- the call under way of a party after an event of its own that does not end it
 abbrev pub call_going_on : {T : Type 0} → Act T → Event T → Option (PendingCall T) → Option (PendingCall T)
-call_going_on (acts.Begun call) e pending = Some (record { call = call; own = [] })
+call_going_on (Act.Begun call) e pending = Some (record { call = call; own = [] })
 call_going_on act e None = None
 call_going_on act e (Some c) = Some (record { call = c.call; own = e ∷ c.own })
 
 -- the call under way of a party after an event of its own
 abbrev pub call_after : {T : Type 0} → Then T → Event T → Option (PendingCall T) → Option (PendingCall T)
-call_after (thens.Answers answer) e pending = None
+call_after (Then.Answers answer) e pending = None
 call_after other e pending = call_going_on e.act e pending
 
 -- the call that a party has under way
@@ -64,7 +61,7 @@ call_of party (e ∷ past) = if e.party == party then call_after e.then e (call_
 
 -- how a call was left by its latest own event: by itself, before the first
 abbrev pub latest_outcome : {T : Type 0} → List (Event T) → Then T
-latest_outcome [] = thens.GoesOn
+latest_outcome [] = Then.GoesOn
 latest_outcome (e ∷ own) = e.then
 
 -- The holds.
@@ -75,14 +72,14 @@ Hold = ℕ × HoldKind
 
 -- a store or an add on the lock's word ends its party's hold
 abbrev pub is_release : {T : Type 0} → Act T → Bool
-is_release (acts.Store words.State put) = true
-is_release (acts.Add words.State old put) = true
+is_release (Act.Store Word.State put) = true
+is_release (Act.Add Word.State old put) = true
 is_release other = false
 
 -- the hold that an act of a call takes: by a done exchange of the lock's word, or a swap that found 0 there
 abbrev pub hold_taken : {T P : Type 0} → Table T P → Act T → Option (PendingCall T) → Option HoldKind
-hold_taken t (acts.Exchange words.State from to found true) (Some c) = t.grant c.call from to
-hold_taken t (acts.Swap words.State zero put) (Some c) = t.grant c.call 0 put
+hold_taken t (Act.Exchange Word.State from to found true) (Some c) = t.grant c.call from to
+hold_taken t (Act.Swap Word.State zero put) (Some c) = t.grant c.call 0 put
 hold_taken t act pending = None
 
 abbrev pub with_hold : ℕ → Option HoldKind → List Hold → List Hold
@@ -120,7 +117,7 @@ hold_after t act pending hold = if is_release act then None else hold_or (hold_t
 -- The exchanges that failed.
 
 abbrev pub is_failure : {T : Type 0} → Act T → Bool
-is_failure (acts.Exchange word from to found false) = true
+is_failure (Act.Exchange word from to found false) = true
 is_failure act = false
 
 abbrev pub failures_by : {T : Type 0} → Act T → ℕ

@@ -1,27 +1,25 @@
 -- What a call has seen and been told.
 use Rattle.std.specs.Prelude.{◌≡◌, ℕ, ◌+◌, ◌==◌, ◌&&◌, Bool, true, false, List, [], ◌∷◌, MatchBool, MatchOption, if◌then◌else◌, Option, Some, None, is_some}
-use Rattle.steps_events.specs.declared.WaitAction.TheVariants as actions
+use Rattle.steps_events.specs.declared.WaitAction.{WaitAction}
 use Rattle.steps_events.specs.declared.event.Word.{Word}
 use Rattle.steps_events.specs.declared.event.Act.{Act}
-use Rattle.steps_events.specs.declared.event.Act.TheVariants as acts
 use Rattle.steps_events.specs.declared.event.Then.{Then}
-use Rattle.steps_events.specs.declared.event.Then.TheVariants as thens
 use Rattle.steps_events.specs.declared.event.Event.{Event}
 use Rattle.steps_events.specs.Past.{same_word, call_of, is_failure}
 
 -- what an act tells that the word held: a sight of it
 abbrev pub sight_of : {T : Type 0} → Word → Act T → Option ℕ
-sight_of word (acts.Load w seen) = if same_word w word then Some seen else None
-sight_of word (acts.Swap w old put) = if same_word w word then Some old else None
-sight_of word (acts.Add w old put) = if same_word w word then Some old else None
-sight_of word (acts.Exchange w from to found done) = if same_word w word then Some found else None
+sight_of word (Act.Load w seen) = if same_word w word then Some seen else None
+sight_of word (Act.Swap w old put) = if same_word w word then Some old else None
+sight_of word (Act.Add w old put) = if same_word w word then Some old else None
+sight_of word (Act.Exchange w from to found done) = if same_word w word then Some found else None
 sight_of word other = None
 
 abbrev pub is_sight : {T : Type 0} → Word → Act T → Bool
 is_sight word act = is_some (sight_of word act)
 
 abbrev pub is_beginning : {T : Type 0} → Act T → Bool
-is_beginning (acts.Begun call) = true
+is_beginning (Act.Begun call) = true
 is_beginning other = false
 
 -- P of the events before a party's last act of a kind in its latest call; a call without such an act has none
@@ -39,7 +37,7 @@ AtLastSight word P party past = AtLast (is_sight word) P party past
 -- The answers of the wait closure.
 
 abbrev pub is_abort : {T : Type 0} → Act T → Bool
-is_abort (acts.Answered actions.Abort) = true
+is_abort (Act.Answered WaitAction.Abort) = true
 is_abort act = false
 
 -- the call goes on asking: its wait closure has not answered Abort
@@ -55,10 +53,10 @@ HasAborted party past = MatchOption (call_of party past) ⊥ (λ c. keeps_asking
 
 -- an act that puts a value into the word
 abbrev pub is_write : {T : Type 0} → Word → Act T → Bool
-is_write word (acts.Store w put) = same_word w word
-is_write word (acts.Swap w old put) = same_word w word
-is_write word (acts.Add w old put) = same_word w word
-is_write word (acts.Exchange w from to found done) = same_word w word && done
+is_write word (Act.Store w put) = same_word w word
+is_write word (Act.Swap w old put) = same_word w word
+is_write word (Act.Add w old put) = same_word w word
+is_write word (Act.Exchange w from to found done) = same_word w word && done
 is_write word other = false
 
 -- another party wrote the word since the party's last sight of it in its latest call
@@ -81,11 +79,11 @@ HasMissed word party (e ∷ past) =
 -- How often a call spun: its acts that tried in vain, and after which it went on by itself.
 
 abbrev pub goes_on : {T : Type 0} → Then T → Bool
-goes_on thens.GoesOn = true
+goes_on Then.GoesOn = true
 goes_on other = false
 
 abbrev pub stands_at_wait : {T : Type 0} → Then T → Bool
-stands_at_wait (thens.Waits seen) = true
+stands_at_wait (Then.Waits seen) = true
 stands_at_wait other = false
 
 abbrev pub spins_in : {T : Type 0} → (Act T → Bool) → List (Event T) → ℕ
@@ -98,7 +96,7 @@ stands_in [] = 0
 stands_in (e ∷ own) = (if stands_at_wait e.then then 1 else 0) + stands_in own
 
 abbrev pub is_exchange : {T : Type 0} → Act T → Bool
-is_exchange (acts.Exchange word from to found done) = true
+is_exchange (Act.Exchange word from to found done) = true
 is_exchange act = false
 
 abbrev pub exchanges_in : {T : Type 0} → List (Event T) → ℕ
@@ -109,7 +107,7 @@ exchanges_in (e ∷ own) = (if is_exchange e.act then 1 else 0) + exchanges_in o
 
 -- an exchange of the word that is done
 abbrev pub is_done_exchange : {T : Type 0} → Word → Act T → Bool
-is_done_exchange word (acts.Exchange w from to found done) = same_word w word && done
+is_done_exchange word (Act.Exchange w from to found done) = same_word w word && done
 is_done_exchange word act = false
 
 -- how many acts of a kind there are

@@ -1,13 +1,10 @@
 -- What a lazy value keeps at every front of every run: one closure runs, once, and every answer is its value, read after its end.
 use Rattle.std.specs.Prelude.{◌≡◌, ◌≤◌, ℕ, ◌==◌, Bool, true, false, List, [], ◌∷◌, Option, Some, None, MatchBool}
-use Rattle.steps_events.specs.declared.event.Word.TheVariants as words
+use Rattle.steps_events.specs.declared.event.Word.{Word}
 use Rattle.steps_events.specs.declared.event.Act.{Act}
-use Rattle.steps_events.specs.declared.event.Act.TheVariants as acts
-use Rattle.steps_events.specs.declared.event.Answer.TheVariants as answers
+use Rattle.steps_events.specs.declared.event.Answer.{Answer}
 use Rattle.steps_events.specs.declared.event.Call.{Call}
-use Rattle.steps_events.specs.declared.event.Call.TheVariants as calls
 use Rattle.steps_events.specs.declared.event.Then.{Then}
-use Rattle.steps_events.specs.declared.event.Then.TheVariants as thens
 use Rattle.steps_events.specs.declared.event.Event.{Event}
 use Rattle.steps_events.specs.Past.{holds_of, word_in}
 use Rattle.steps_events.specs.Moves.{is_step}
@@ -24,7 +21,7 @@ LazyCause call party events = ⊥
 -- The answers.
 
 abbrev pub is_read : {T : Type 0} → Act T → Bool
-is_read (acts.ReadCell value) = true
+is_read (Act.ReadCell value) = true
 is_read act = false
 
 -- the latest event reads v from the cell and answers it, where the word is 2 and the closure has ended; or its call goes on
@@ -32,15 +29,15 @@ abbrev pub AnswersWhatItReads : {T : Type 0} → T → List (Event T) → Type 0
 AnswersWhatItReads v [] = Unit {0}
 AnswersWhatItReads v (e ∷ past) =
     MatchBool (is_read e.act)
-    ((e.act ≡ acts.ReadCell v) × (e.then ≡ thens.Answers (answers.Value v)) × (word_in (lazy_table v) past words.State ≡ 2) × (ends_in past ≡ 1))
-    (e.then ≡ thens.GoesOn)
+    ((e.act ≡ Act.ReadCell v) × (e.then ≡ Then.Answers (Answer.Value v)) × (word_in (lazy_table v) past Word.State ≡ 2) × (ends_in past ≡ 1))
+    (e.then ≡ Then.GoesOn)
 
 -- The steps.
 
 -- it saw the word at 2, or put it there
 abbrev pub shows_end : {T : Type 0} → Act T → Bool
-shows_end (acts.Load words.State seen) = seen == 2
-shows_end (acts.Store words.State put) = put == 2
+shows_end (Act.Load Word.State seen) = seen == 2
+shows_end (Act.Store Word.State put) = put == 2
 shows_end act = false
 
 -- the call's latest step has shown the end
@@ -51,10 +48,10 @@ has_shown (Some before) = shows_end before
 -- The next step of a `Force`, by its own before, where the closure gives v: once a step has shown the end, a read of the cell, which answers what it reads; until then the
 -- step of a once, which never ends the call. No other call has one.
 abbrev pub LazyStep : {T : Type 0} → T → Call T → List (Event T) → Act T → Then T → Type 0
-LazyStep v calls.Force own act outcome =
+LazyStep v Call.Force own act outcome =
     MatchBool (has_shown (last_of is_step own))
-    ((act ≡ acts.ReadCell v) × (outcome ≡ thens.Answers (answers.Value v)))
-    (RunsOnce thens.GoesOn (has_tried own) (last_of is_step own) act outcome)
+    ((act ≡ Act.ReadCell v) × (outcome ≡ Then.Answers (Answer.Value v)))
+    (RunsOnce Then.GoesOn (has_tried own) (last_of is_step own) act outcome)
 LazyStep v other own act outcome = ⊥
 
 -- What a lazy value keeps beside what every object does.

@@ -1,33 +1,9 @@
 -- A mutex keeps its law at every front of every run.
 use Rattle.std.proofs.lemmas.Bool.Decides.{nat_tests}
-use Rattle.std.proofs.Common.{◌≡◌, ◌≢◌, ◌≤◌, ℕ, ◌==◌, refl, sym, ◌∙◌, ap, subst, Bool, true, false, cond, is_some, List, [], ◌∷◌, Option, Some, None, ◌↔◌, inl, inr, arith, ◌<◌}
-use Rattle.std.specs.Prelude.{MatchBool, MatchOption, not, nat_lt}
-use Rattle.std.proofs.lemmas.Bool.{eqb-true, eqb-false}
-use Rattle.steps_events.specs.declared.WaitAction.{WaitAction}
-use Rattle.steps_events.specs.declared.event.Word.{Word}
-use Rattle.steps_events.specs.declared.event.Word.TheVariants as words
-use Rattle.steps_events.specs.declared.event.Wake.TheVariants as wakes
-use Rattle.steps_events.specs.declared.event.Call.{Call}
-use Rattle.steps_events.specs.declared.event.Call.TheVariants as calls
-use Rattle.steps_events.specs.declared.event.Act.{Act}
-use Rattle.steps_events.specs.declared.event.Act.TheVariants as acts
-use Rattle.steps_events.specs.declared.event.Answer.TheVariants as answers
-use Rattle.steps_events.specs.declared.event.Event.{Event}
-use Rattle.steps_events.specs.declared.event.Then.{Then}
-use Rattle.steps_events.specs.declared.event.Then.TheVariants as thens
-use Rattle.steps_events.specs.declared.hold.HoldKind.{HoldKind}
-use Rattle.steps_events.specs.declared.hold.HoldKind.TheVariants as kinds
-use Rattle.steps_events.specs.declared.row.After.{After}
-use Rattle.steps_events.specs.declared.row.After.TheVariants as afters
+use Rattle.steps_mutex.specs.Names.{MatchBool, MatchOption, not, nat_lt, WaitAction, Word, Wake, Call, Act, Answer, Event, Then, HoldKind, After, Table, carried_out, value_told, outcome_of, place_after, Hold, same_word, PendingCall, call_of, holds_of, hold_of, hold_taken, hold_after, word_in, latest_outcome, event, Move, step_at, hold_fault, answer_fault, choose_fault, is_step, sight_of, is_sight, keeps_asking, HasAborted, spins_in, WhereAsked, Lacks, is_refusal, Patience}
+use Rattle.steps_mutex.proofs.Names.{◌≡◌, ◌≢◌, ◌≤◌, ℕ, ◌==◌, refl, sym, ◌∙◌, ap, subst, Bool, true, false, cond, is_some, List, [], ◌∷◌, Option, Some, None, ◌↔◌, inl, inr, arith, ◌<◌, eqb-true, eqb-false}
 use Rattle.steps_events.specs.Arithmetic.{Arithmetic}
-use Rattle.steps_events.specs.Tables.{Table}
-use Rattle.steps_events.specs.Rows.{carried_out, value_told, outcome_of, place_after}
-use Rattle.steps_events.specs.Past.{Hold, same_word, PendingCall, call_of, holds_of, hold_of, hold_taken, hold_after, word_in, latest_outcome, event}
-use Rattle.steps_events.specs.Moves.{Move, step_at, hold_fault, answer_fault, choose_fault, is_step}
 use Rattle.steps_events.specs.Runs.{IsPast}
-use Rattle.steps_events.specs.Sights.{sight_of, is_sight, keeps_asking, HasAborted, spins_in}
-use Rattle.steps_events.specs.Asks.{WhereAsked}
-use Rattle.steps_events.specs.Laws.{Lacks, is_refusal}
 use Rattle.steps_events.proofs.NextStep.{Descends, ends_within}
 use Rattle.steps_events.proofs.Holds.{eqb_same, hold_of_same, some_same}
 use Rattle.steps_events.proofs.Steps.{by_move, tells_memory}
@@ -35,19 +11,17 @@ use Rattle.steps_events.proofs.Parties.{IsKept, at_place}
 use Rattle.steps_events.proofs.Asks.{waits_first, waits_as, spins_no_more}
 use Rattle.steps_events.proofs.Locks.{IsLock, IsLockIntent, IsFreeOrHeld, lock_word, lock_exclusive, locked_at, free_exactly}
 use Rattle.steps_mutex.specs.declared.MutexPlace.{MutexPlace}
-use Rattle.steps_mutex.specs.declared.MutexPlace.TheVariants as places
 use Rattle.steps_mutex.specs.Table.{mutex_table, mutex_begins, mutex_intent, mutex_after, mutex_answered, is_free}
 use Rattle.steps_mutex.specs.Law.{LockCause, HasTried, answer_of, acts_of, IsLockAnswer, lock_spins, steps_on, IsLeftBy, MutexStep, KeepsMutex, mutex_most, mutex_waiting}
-use Rattle.steps_events.specs.declared.patience.Patience.{Patience}
 use Rattle.steps_mutex.proofs.LockSteps.{HasTriedSo, AtLock, lock_begins, LockLeads, lock_after, lock_leads, lock_goes_on, lock_answered, lock_chosen}
 
 -- What is kept of a call at its place.
 
 abbrev pub AtMutex : {T : Type 0} → MutexPlace → PendingCall T → Option HoldKind → Type 0
-AtMutex places.TryLock c hold = (c.call ≡ calls.TryLock) × (hold ≡ None) × (c.own ≡ [])
-AtMutex (places.Lock patience) c hold = (c.call ≡ calls.Lock) × HasTriedSo patience c.own × (hold ≡ None)
-AtMutex places.Release c hold = (c.call ≡ calls.Unlock) × (is_some hold ≡ true) × (c.own ≡ [])
-AtMutex places.Wake c hold = (c.call ≡ calls.Unlock) × (acts_of c.own ≡ acts.Store words.State 0 ∷ []) × (latest_outcome c.own ≡ thens.GoesOn) × (hold ≡ None) × (spins_in is_step c.own ≡ 1)
+AtMutex MutexPlace.TryLock c hold = (c.call ≡ Call.TryLock) × (hold ≡ None) × (c.own ≡ [])
+AtMutex (MutexPlace.Lock patience) c hold = (c.call ≡ Call.Lock) × HasTriedSo patience c.own × (hold ≡ None)
+AtMutex MutexPlace.Release c hold = (c.call ≡ Call.Unlock) × (is_some hold ≡ true) × (c.own ≡ [])
+AtMutex MutexPlace.Wake c hold = (c.call ≡ Call.Unlock) × (acts_of c.own ≡ Act.Store Word.State 0 ∷ []) × (latest_outcome c.own ≡ Then.GoesOn) × (hold ≡ None) × (spins_in is_step c.own ≡ 1)
 
 -- Where a call begins.
 
@@ -63,33 +37,33 @@ begins_at call place hold h1 h2 = grind (arith, nat_tests, eqb-true, eqb-false)
 -- an exchange after which it goes on took no hold
 pub lock_takes_none :
     {T P : Type 0} (t : Table T P) (pending : Option (PendingCall T)) (own : List (Event T)) (number w : ℕ) (done : Bool) (a : After T MutexPlace) (next : MutexPlace) → (w == 0) ≡ done →
-    LockLeads own number w (acts.Exchange words.State 0 1 w done) a → place_after a ≡ Some next → hold_taken t (acts.Exchange words.State 0 1 w done) pending ≡ None
+    LockLeads own number w (Act.Exchange Word.State 0 1 w done) a → place_after a ≡ Some next → hold_taken t (Act.Exchange Word.State 0 1 w done) pending ≡ None
 lock_takes_none t pending own number w done a next h1 h2 h3 = grind (arith, nat_tests, eqb-true, eqb-false)
 
 pub steps_at :
     {T P : Type 0} (t : Table T P) (place : MutexPlace) (c : PendingCall T) (hold : Option HoldKind) (memory : Word → ℕ) (number : ℕ) (next : MutexPlace) → AtMutex place c hold →
-    place_after {T = T} (mutex_after place (value_told {T = T} (carried_out (mutex_intent words.State place) memory))) ≡ Some next →
+    place_after {T = T} (mutex_after place (value_told {T = T} (carried_out (mutex_intent Word.State place) memory))) ≡ Some next →
     AtMutex next (record { call = c.call; own = event number (step_at mutex_table place hold memory).act (step_at mutex_table place hold memory).outcome ∷ c.own })
-    (hold_after t (carried_out {T = T} (mutex_intent words.State place) memory) (Some c) hold)
+    (hold_after t (carried_out {T = T} (mutex_intent Word.State place) memory) (Some c) hold)
 steps_at t place c hold memory number next h1 h2 = grind (arith, nat_tests, eqb-true, eqb-false)
 
 -- Where an answer leads.
 
 -- no closure is asked where the call goes on by itself
-pub not_asked : {T : Type 0} (outcome : Then T) (A : Type 0) → outcome ≡ thens.GoesOn → answer_fault outcome ≡ None → A
-not_asked {T} outcome A goes waits = let no : answer_fault {T = T} thens.GoesOn ≡ None = subst (λ (o : Then T). answer_fault o ≡ None) goes waits in absurd cc
+pub not_asked : {T : Type 0} (outcome : Then T) (A : Type 0) → outcome ≡ Then.GoesOn → answer_fault outcome ≡ None → A
+not_asked {T} outcome A goes waits = let no : answer_fault {T = T} Then.GoesOn ≡ None = subst (λ (o : Then T). answer_fault o ≡ None) goes waits in absurd cc
 
-pub not_chosen : {T : Type 0} (outcome : Then T) (A : Type 0) → outcome ≡ thens.GoesOn → choose_fault outcome ≡ None → A
-not_chosen {T} outcome A goes stands = let no : choose_fault {T = T} thens.GoesOn ≡ None = subst (λ (o : Then T). choose_fault o ≡ None) goes stands in absurd cc
+pub not_chosen : {T : Type 0} (outcome : Then T) (A : Type 0) → outcome ≡ Then.GoesOn → choose_fault outcome ≡ None → A
+not_chosen {T} outcome A goes stands = let no : choose_fault {T = T} Then.GoesOn ≡ None = subst (λ (o : Then T). choose_fault o ≡ None) goes stands in absurd cc
 
 pub answers_at :
     {T : Type 0} (place : MutexPlace) (c : PendingCall T) (hold : Option HoldKind) (action : WaitAction) (number : ℕ) → AtMutex place c hold → answer_fault (latest_outcome c.own) ≡ None →
-    AtMutex {T = T} (mutex_answered place action) (record { call = c.call; own = event number (acts.Answered action) thens.GoesOn ∷ c.own }) hold
+    AtMutex {T = T} (mutex_answered place action) (record { call = c.call; own = event number (Act.Answered action) Then.GoesOn ∷ c.own }) hold
 answers_at place c hold action number h1 h2 = grind (arith, nat_tests, eqb-true, eqb-false)
 
 pub chooses_at :
     {T : Type 0} (place : MutexPlace) (c : PendingCall T) (hold : Option HoldKind) (choice : Option T) (number : ℕ) → AtMutex place c hold → choose_fault (latest_outcome c.own) ≡ None →
-    AtMutex {T = T} place (record { call = c.call; own = event number (acts.Chosen choice) thens.GoesOn ∷ c.own }) hold
+    AtMutex {T = T} place (record { call = c.call; own = event number (Act.Chosen choice) Then.GoesOn ∷ c.own }) hold
 chooses_at place c hold choice number h1 h2 = grind (arith, nat_tests, eqb-true, eqb-false)
 
 pub mutex_kept : {T : Type 0} → IsKept {T = T} mutex_table AtMutex
@@ -103,8 +77,8 @@ spins_bounded place c hold h1 = grind (arith, nat_tests, eqb-true, eqb-false)
 
 -- a step of a mutex, where its locking calls are granted the write hold
 pub lock_intent :
-    {T : Type 0} (grant : Call T → Option HoldKind) (place : MutexPlace) (c : PendingCall T) (hold : Option HoldKind) → grant calls.Lock ≡ Some kinds.Write → grant calls.TryLock ≡ Some kinds.Write → AtMutex place c hold →
-    IsLockIntent {T = T} (grant c.call) hold (mutex_intent words.State place)
+    {T : Type 0} (grant : Call T → Option HoldKind) (place : MutexPlace) (c : PendingCall T) (hold : Option HoldKind) → grant Call.Lock ≡ Some HoldKind.Write → grant Call.TryLock ≡ Some HoldKind.Write → AtMutex place c hold →
+    IsLockIntent {T = T} (grant c.call) hold (mutex_intent Word.State place)
 lock_intent grant place c hold h1 h2 h3 = grind (arith, nat_tests, eqb-true, eqb-false)
 
 pub mutex_is_lock : {T : Type 0} (z : Arithmetic T) (parties : ℕ) → IsLock {T = T} z mutex_table parties
@@ -118,7 +92,7 @@ mutex_is_lock z parties =
 
 -- what is so of a call where it asks its wait closure
 abbrev pub IsAskedSo : {T : Type 0} → PendingCall T → Act T → ℕ → Type 0
-IsAskedSo c act told = (lock_spins c.call c.own ≡ 10000) × (sight_of words.State act ≡ Some told) × (keeps_asking c.own ≡ true)
+IsAskedSo c act told = (lock_spins c.call c.own ≡ 10000) × (sight_of Word.State act ≡ Some told) × (keeps_asking c.own ≡ true)
 
 -- a word that is not free is 1
 pub held_at_one : (w : ℕ) (holds : List Hold) → IsFreeOrHeld w holds → w ≢ 0 → w ≡ 1
@@ -129,7 +103,7 @@ pub record EventLaw {T P : Type 0} (t : Table T P) (party : ℕ) (past : List (E
   pub cause : MatchBool (is_refusal m.outcome) (MatchOption pending ⊥ (λ c. LockCause t c.call party (event party m.act m.outcome ∷ past))) (Unit {0})
   pub exact :
       MatchOption pending (Unit {0})
-      (λ c. c.call ≡ calls.TryLock → is_sight words.State m.act ≡ true → ((m.outcome ≡ thens.Answers answers.Success) ↔ (holds_of t past ≡ [])))
+      (λ c. c.call ≡ Call.TryLock → is_sight Word.State m.act ≡ true → ((m.outcome ≡ Then.Answers Answer.Success) ↔ (holds_of t past ≡ [])))
   pub answers :
       MatchOption (answer_of m.outcome) (Unit {0})
       (λ answer. MatchOption pending ⊥ (λ c. IsLockAnswer c.call (m.act ∷ acts_of c.own) (hold_after t m.act pending hold) answer))
@@ -137,13 +111,13 @@ pub record EventLaw {T P : Type 0} (t : Table T P) (party : ℕ) (past : List (E
   pub tries : MatchBool (is_refusal m.outcome) (MatchOption pending ⊥ (λ c. HasTried c.call (event party m.act m.outcome ∷ c.own))) (Unit {0})
   pub steps : MatchBool (is_step m.act) (MatchOption pending ⊥ (λ c. MutexStep c.call c.own m.act m.outcome)) (Unit {0})
 
-pub another : {T : Type 0} (one other : Call T) (A : Type 0) → one ≡ other → (one ≡ calls.TryLock → ⊥) → other ≡ calls.TryLock → A
+pub another : {T : Type 0} (one other : Call T) (A : Type 0) → one ≡ other → (one ≡ Call.TryLock → ⊥) → other ≡ Call.TryLock → A
 another one other A is not_try try = absurd (not_try (is ∙ try))
 
 -- the table's locking calls are granted the write hold
 pub record GrantsWrite {T P : Type 0} (t : Table T P) : Type 0 where
-  pub locks : t.grant calls.Lock 0 1 ≡ Some kinds.Write
-  pub tries : t.grant calls.TryLock 0 1 ≡ Some kinds.Write
+  pub locks : t.grant Call.Lock 0 1 ≡ Some HoldKind.Write
+  pub tries : t.grant Call.TryLock 0 1 ≡ Some HoldKind.Write
 
 -- each step is its call's next, also of a mutex inside another object
 pub next_step :
@@ -153,10 +127,10 @@ next_step place c hold memory h1 = grind (arith, nat_tests, eqb-true, eqb-false)
 
 pub step_law :
     {T P : Type 0} (t : Table T P) (party : ℕ) (past : List (Event T)) (c : PendingCall T) (place : MutexPlace) (hold : Option HoldKind) (memory : Word → ℕ) → GrantsWrite t → call_of party past ≡ Some c → AtMutex place c hold →
-    IsFreeOrHeld (memory words.State) (holds_of t past) → EventLaw t party past hold (Some c) (step_at mutex_table place hold memory)
+    IsFreeOrHeld (memory Word.State) (holds_of t past) → EventLaw t party past hold (Some c) (step_at mutex_table place hold memory)
 step_law t party past c place hold memory h1 h2 h3 h4 = grind (arith, nat_tests, eqb-true, eqb-false)
 
-silent : {T P : Type 0} (t : Table T P) (party : ℕ) (past : List (Event T)) (hold : Option HoldKind) (pending : Option (PendingCall T)) (act : Act T) → is_sight words.State act ≡ false → is_step act ≡ false → EventLaw t party past hold pending (record { act = act; outcome = thens.GoesOn })
+silent : {T P : Type 0} (t : Table T P) (party : ℕ) (past : List (Event T)) (hold : Option HoldKind) (pending : Option (PendingCall T)) (act : Act T) → is_sight Word.State act ≡ false → is_step act ≡ false → EventLaw t party past hold pending (record { act = act; outcome = Then.GoesOn })
 silent t party past hold pending act h1 h2 = grind (arith, nat_tests, eqb-true, eqb-false)
 
 event_law :
@@ -167,7 +141,7 @@ event_law {T} z parties past e run =
     let pending = call_of e.party past in
     by_move mutex_table pending hold (word_in mutex_table past) (λ (k : Option (PendingCall T)) (m : Move T). EventLaw mutex_table e.party past hold k m)
     run.0.0 (record { act = e.act; outcome = e.then })
-    (λ call _. silent mutex_table e.party past hold pending (acts.Begun call) refl refl) (λ action _. silent mutex_table e.party past hold pending (acts.Answered action) refl refl) (λ choice _. silent mutex_table e.party past hold pending (acts.Chosen choice) refl refl)
+    (λ call _. silent mutex_table e.party past hold pending (Act.Begun call) refl refl) (λ action _. silent mutex_table e.party past hold pending (Act.Answered action) refl refl) (λ choice _. silent mutex_table e.party past hold pending (Act.Chosen choice) refl refl)
     (λ c place _ called stage.
     step_law mutex_table e.party past c place hold (word_in mutex_table past) (record { locks = refl; tries = refl }) called (at_place z mutex_table parties AtMutex mutex_kept past run.1 e.party c place called stage)
     (lock_word z mutex_table parties (mutex_is_lock z parties) past run.1))
@@ -176,10 +150,10 @@ event_law {T} z parties past e run =
 -- and a call that waits for nobody has fewer steps left at each place
 
 abbrev pub mutex_rest : MutexPlace → Option ℕ
-mutex_rest places.TryLock = Some 1
-mutex_rest (places.Lock patience) = None
-mutex_rest places.Release = Some 2
-mutex_rest places.Wake = Some 1
+mutex_rest MutexPlace.TryLock = Some 1
+mutex_rest (MutexPlace.Lock patience) = None
+mutex_rest MutexPlace.Release = Some 2
+mutex_rest MutexPlace.Wake = Some 1
 
 mutex_begun : {T : Type 0} (call : Call T) (place : MutexPlace) (steps : ℕ) → mutex_begins call ≡ Some place → mutex_most call ≡ Some steps → (left : ℕ) × (mutex_rest place ≡ Some left) × (left ≤ steps)
 mutex_begun call place steps h1 h2 = grind (arith, nat_tests, eqb-true, eqb-false)
@@ -225,5 +199,5 @@ keeps_mutex {T} z parties (e ∷ past) run =
     }
 
 -- a mutex has no other word
-pub mutex_lacks : (T : Type 0) (word : Word) → same_word words.State word ≡ false → Lacks {T = T} mutex_table word
+pub mutex_lacks : (T : Type 0) (word : Word) → same_word Word.State word ≡ false → Lacks {T = T} mutex_table word
 mutex_lacks T word h1 = grind (arith, nat_tests, eqb-true, eqb-false)

@@ -1,33 +1,14 @@
 -- What a mutex keeps at every front of every run: one holder, what each answer means, a cause for each refusal, how often a call tries, and when it
 -- asks its wait closure.
-use Rattle.std.specs.Prelude.{◌≡◌, ℕ, ◌+◌, ◌==◌, ◌&&◌, ◌↔◌, Bool, true, false, List, [], ◌∷◌, Option, Some, None, MatchBool, MatchOption}
-use Rattle.steps_events.specs.declared.event.Word.TheVariants as words
-use Rattle.steps_events.specs.declared.event.Wake.TheVariants as wakes
-use Rattle.steps_events.specs.declared.event.Call.{Call}
-use Rattle.steps_events.specs.declared.event.Call.TheVariants as calls
-use Rattle.steps_events.specs.declared.event.Act.{Act}
-use Rattle.steps_events.specs.declared.event.Act.TheVariants as acts
-use Rattle.steps_events.specs.declared.event.Answer.{Answer}
-use Rattle.steps_events.specs.declared.event.Answer.TheVariants as answers
-use Rattle.steps_events.specs.declared.event.Then.{Then}
-use Rattle.steps_events.specs.declared.event.Then.TheVariants as thens
-use Rattle.steps_events.specs.declared.event.Event.{Event}
-use Rattle.steps_events.specs.declared.hold.HoldKind.{HoldKind}
-use Rattle.steps_events.specs.declared.hold.HoldKind.TheVariants as kinds
-use Rattle.steps_events.specs.Tables.{Table}
-use Rattle.steps_events.specs.Past.{call_of, holds_of, hold_of, is_failure, failures_in}
-use Rattle.steps_events.specs.Moves.{is_step}
-use Rattle.steps_events.specs.Sights.{is_sight, AtLastSight, HasAborted, spins_in, stands_in, exchanges_in}
+use Rattle.steps_mutex.specs.Names.{◌≡◌, ℕ, ◌+◌, ◌==◌, ◌&&◌, ◌↔◌, Bool, true, false, List, [], ◌∷◌, Option, Some, None, MatchBool, MatchOption, Word, Wake, Call, Act, Answer, Then, Event, HoldKind, Table, call_of, holds_of, hold_of, is_failure, failures_in, is_step, is_sight, AtLastSight, HasAborted, spins_in, stands_in, exchanges_in, SpinCount, sight_at, whole_call, Waiting, WaitsAs, IsLocked, is_refusal, Keeps}
 use Rattle.steps_events.specs.NextStep.{StepsAs, refused_waiting, EndsWithin}
-use Rattle.steps_events.specs.Asks.{SpinCount, sight_at, whole_call, Waiting, WaitsAs}
-use Rattle.steps_events.specs.Laws.{IsLocked, is_refusal, Keeps}
 use Rattle.steps_mutex.specs.Table.{mutex_table}
 
 -- `TryLock`: a hold stood at its last sight. `Lock`: its own closure had answered Abort before its last sight, and a hold stood at it.
 -- So it is of the mutex inside another object too.
 abbrev pub LockCause : {T P : Type 0} → Table T P → Call T → ℕ → List (Event T) → Type 0
-LockCause t calls.TryLock party events = AtLastSight words.State (IsLocked t) party events
-LockCause t calls.Lock party events = AtLastSight words.State (λ before. HasAborted party before × IsLocked t before) party events
+LockCause t Call.TryLock party events = AtLastSight Word.State (IsLocked t) party events
+LockCause t Call.Lock party events = AtLastSight Word.State (λ before. HasAborted party before × IsLocked t before) party events
 LockCause t other party events = ⊥
 
 abbrev pub MutexCause : {T : Type 0} → Call T → ℕ → List (Event T) → Type 0
@@ -39,7 +20,7 @@ HasTriedAll own = (exchanges_in own ≡ 10001 + stands_in own) × (failures_in o
 
 -- so many has a `Lock` made that gives up
 abbrev pub HasTried : {T : Type 0} → Call T → List (Event T) → Type 0
-HasTried calls.Lock own = HasTriedAll own
+HasTried Call.Lock own = HasTriedAll own
 HasTried other own = Unit {0}
 
 abbrev pub GivesUpAfterTrying : {T : Type 0} → List (Event T) → Type 0
@@ -51,12 +32,12 @@ abbrev pub IsExactGrant : {T P : Type 0} → Table T P → List (Event T) → Ty
 IsExactGrant t [] = Unit {0}
 IsExactGrant t (e ∷ past) =
     MatchOption (call_of e.party past) (Unit {0})
-    (λ c. c.call ≡ calls.TryLock → is_sight words.State e.act ≡ true → ((e.then ≡ thens.Answers answers.Success) ↔ (holds_of t past ≡ [])))
+    (λ c. c.call ≡ Call.TryLock → is_sight Word.State e.act ≡ true → ((e.then ≡ Then.Answers Answer.Success) ↔ (holds_of t past ≡ [])))
 
 -- What a call answers.
 
 abbrev pub answer_of : {T : Type 0} → Then T → Option (Answer T)
-answer_of (thens.Answers answer) = Some answer
+answer_of (Then.Answers answer) = Some answer
 answer_of other = None
 
 -- the acts of these events
@@ -67,10 +48,10 @@ acts_of (e ∷ own) = e.act ∷ acts_of own
 -- How a call ends that has made these acts, newest first, and whose party then has this hold. An `Unlock` has stored 0 and then woken one, and made no other
 -- act: `Done`, and the hold is gone. A locking call answers `Success` exactly where it has the write hold.
 abbrev pub IsLockAnswer : {T : Type 0} → Call T → List (Act T) → Option HoldKind → Answer T → Type 0
-IsLockAnswer calls.Unlock made hold answer = (answer ≡ answers.Done) × (made ≡ acts.Woke wakes.One ∷ acts.Store words.State 0 ∷ []) × (hold ≡ None)
-IsLockAnswer call made (Some kinds.Write) answer = answer ≡ answers.Success
-IsLockAnswer call made (Some kinds.Read) answer = ⊥
-IsLockAnswer call made None answer = answer ≡ answers.Interrupted
+IsLockAnswer Call.Unlock made hold answer = (answer ≡ Answer.Done) × (made ≡ Act.Woke Wake.One ∷ Act.Store Word.State 0 ∷ []) × (hold ≡ None)
+IsLockAnswer call made (Some HoldKind.Write) answer = answer ≡ Answer.Success
+IsLockAnswer call made (Some HoldKind.Read) answer = ⊥
+IsLockAnswer call made None answer = answer ≡ Answer.Interrupted
 
 -- so does the latest event, where it answers
 abbrev pub AnswersByHold : {T P : Type 0} → Table T P → List (Event T) → Type 0
@@ -83,7 +64,7 @@ AnswersByHold t (e ∷ past) =
 
 -- the spins of a `Lock` are its exchanges that failed; no other call asks
 abbrev pub lock_spins : {T : Type 0} → SpinCount T
-lock_spins calls.Lock own = spins_in is_failure own
+lock_spins Call.Lock own = spins_in is_failure own
 lock_spins other own = 0
 
 -- the steps of any kind after which a call went on by itself
@@ -92,40 +73,40 @@ steps_on call own = spins_in is_step own
 
 -- how they wait
 abbrev pub mutex_waiting : {T : Type 0} → Waiting T
-mutex_waiting = record { spins = lock_spins; goes_on = steps_on; refusing = sight_at words.State; wait = whole_call }
+mutex_waiting = record { spins = lock_spins; goes_on = steps_on; refusing = sight_at Word.State; wait = whole_call }
 
 -- What a call does next, by its own steps so far, and how it is left by what that tells.
 
 -- the exchange that takes the mutex
 abbrev pub is_lock_try : {T : Type 0} → Act T → Bool
-is_lock_try (acts.Exchange words.State from to found done) = (from == 0) && (to == 1)
+is_lock_try (Act.Exchange Word.State from to found done) = (from == 0) && (to == 1)
 is_lock_try act = false
 
 -- how a call is left whose exchange failed: a `TryLock` gives up
 abbrev pub refused_as : {T : Type 0} → Call T → List (Event T) → Then T
-refused_as calls.Lock own = refused_waiting own (spins_in is_failure own) 1
-refused_as other own = thens.Answers answers.Interrupted
+refused_as Call.Lock own = refused_waiting own (spins_in is_failure own) 1
+refused_as other own = Then.Answers Answer.Interrupted
 
 -- how an exchange leaves its call
 abbrev pub IsLeftBy : {T : Type 0} → Call T → List (Event T) → Act T → Then T → Type 0
-IsLeftBy call own act outcome = MatchBool (is_failure act) (outcome ≡ refused_as call own) (outcome ≡ thens.Answers answers.Success)
+IsLeftBy call own act outcome = MatchBool (is_failure act) (outcome ≡ refused_as call own) (outcome ≡ Then.Answers Answer.Success)
 
 -- an `Unlock` stores 0, then wakes one and is done
 abbrev pub IsUnlockStep : {T : Type 0} → List (Act T) → Act T → Then T → Type 0
-IsUnlockStep [] act outcome = (act ≡ acts.Store words.State 0) × (outcome ≡ thens.GoesOn)
-IsUnlockStep (before ∷ others) act outcome = (act ≡ acts.Woke wakes.One) × (outcome ≡ thens.Answers answers.Done)
+IsUnlockStep [] act outcome = (act ≡ Act.Store Word.State 0) × (outcome ≡ Then.GoesOn)
+IsUnlockStep (before ∷ others) act outcome = (act ≡ Act.Woke Wake.One) × (outcome ≡ Then.Answers Answer.Done)
 
 -- the next step of each call; no other has one
 abbrev pub MutexStep : {T : Type 0} → Call T → List (Event T) → Act T → Then T → Type 0
-MutexStep calls.Unlock own act outcome = IsUnlockStep (acts_of own) act outcome
-MutexStep calls.TryLock own act outcome = (own ≡ []) × (is_lock_try act ≡ true) × IsLeftBy calls.TryLock own act outcome
-MutexStep calls.Lock own act outcome = (is_lock_try act ≡ true) × IsLeftBy calls.Lock own act outcome
+MutexStep Call.Unlock own act outcome = IsUnlockStep (acts_of own) act outcome
+MutexStep Call.TryLock own act outcome = (own ≡ []) × (is_lock_try act ≡ true) × IsLeftBy Call.TryLock own act outcome
+MutexStep Call.Lock own act outcome = (is_lock_try act ≡ true) × IsLeftBy Call.Lock own act outcome
 MutexStep other own act outcome = ⊥
 
 -- how many steps a call makes that waits for nobody
 abbrev pub mutex_most : {T : Type 0} → Call T → Option ℕ
-mutex_most calls.TryLock = Some 1
-mutex_most calls.Unlock = Some 2
+mutex_most Call.TryLock = Some 1
+mutex_most Call.Unlock = Some 2
 mutex_most other = None
 
 -- What a mutex keeps beside what every object does.

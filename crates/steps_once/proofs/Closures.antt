@@ -1,25 +1,6 @@
 -- One closure, at any table whose word is a once's: a closure begins with an exchange of 0 for 1, ends in its own call, and is told by a store of 2.
-use Rattle.std.proofs.Common.{◌≡◌, ◌≢◌, ℕ, zero, ◌+◌, ◌≤◌, ◌==◌, refl, sym, ◌∙◌, ap, subst, Bool, true, false, cond, List, [], ◌∷◌, Option, Some, None, ◌⊎◌, inl, inr, ◌↔◌, arith}
-use Rattle.std.specs.Prelude.{MatchOption}
-use Rattle.std.proofs.lemmas.Bool.{eqb-true, eq-eqb}
-use Rattle.steps_events.specs.declared.event.Word.{Word}
-use Rattle.steps_events.specs.declared.event.Word.TheVariants as words
-use Rattle.steps_events.specs.declared.event.Act.{Act}
-use Rattle.steps_events.specs.declared.event.Act.TheVariants as acts
-use Rattle.steps_events.specs.declared.event.Event.{Event}
-use Rattle.steps_events.specs.declared.row.Intent.{Intent}
-use Rattle.steps_events.specs.declared.row.Intent.TheVariants as intents
-use Rattle.steps_events.specs.Arithmetic.{Arithmetic}
-use Rattle.steps_events.specs.Rows.{carried_out}
-use Rattle.steps_events.specs.Tables.{Table}
-use Rattle.steps_events.specs.Past.{PendingCall, call_of, hold_of, word_in, word_after}
-use Rattle.steps_events.specs.Moves.{Move, stage_of}
-use Rattle.steps_events.specs.Runs.{IsPast}
-use Rattle.steps_events.specs.Sights.{AtLast, last_of}
-use Rattle.steps_events.specs.Laws.{IsTold}
-use Rattle.steps_events.proofs.Holds.{some_same}
-use Rattle.steps_events.proofs.Steps.{by_move, tells_memory}
-use Rattle.steps_events.proofs.Own.{IsCallAfter, call_was, own_among, IsToldOf, own_at_last, at_last_maps}
+use Rattle.steps_once.specs.Names.{MatchOption, Word, Act, Event, Intent, Arithmetic, carried_out, Table, PendingCall, call_of, hold_of, word_in, word_after, Move, stage_of, IsPast, AtLast, last_of, IsTold}
+use Rattle.steps_once.proofs.Names.{◌≡◌, ◌≢◌, ℕ, zero, ◌+◌, ◌≤◌, ◌==◌, refl, sym, ◌∙◌, ap, subst, Bool, true, false, cond, List, [], ◌∷◌, Option, Some, None, ◌⊎◌, inl, inr, ◌↔◌, arith, eqb-true, eq-eqb, some_same, by_move, tells_memory, IsCallAfter, call_was, own_among, IsToldOf, own_at_last, at_last_maps}
 use Rattle.steps_once.specs.Closures.{is_begin, is_end, begins_in, ends_in, TellsState}
 
 -- the call's closure runs: it has begun, and not ended since
@@ -29,16 +10,16 @@ is_running (e ∷ own) = cond (is_begin e.act) true (cond (is_end e.act) false (
 
 -- what a step of such an object may do: begin the closure, as far as none has begun; end its call's own, which runs; or store 2, where its call's own has ended
 abbrev pub IsClosureIntent : {T : Type 0} → List (Event T) → Intent T → Type 0
-IsClosureIntent own (intents.Exchange words.State from to) = (from ≡ 0) × (to ≡ 1)
-IsClosureIntent own (intents.Store words.State put) = (put ≡ 2) × (1 ≤ ends_in own)
-IsClosureIntent own intents.End = is_running own ≡ true
-IsClosureIntent own (intents.Swap words.State put) = ⊥
-IsClosureIntent own (intents.Add words.State more) = ⊥
-IsClosureIntent own (intents.Subtract words.State less) = ⊥
+IsClosureIntent own (Intent.Exchange Word.State from to) = (from ≡ 0) × (to ≡ 1)
+IsClosureIntent own (Intent.Store Word.State put) = (put ≡ 2) × (1 ≤ ends_in own)
+IsClosureIntent own Intent.End = is_running own ≡ true
+IsClosureIntent own (Intent.Swap Word.State put) = ⊥
+IsClosureIntent own (Intent.Add Word.State more) = ⊥
+IsClosureIntent own (Intent.Subtract Word.State less) = ⊥
 IsClosureIntent own other = Unit {0}
 
 pub record RunsOneClosure {T P : Type 0} (z : Arithmetic T) (t : Table T P) (parties : ℕ) : Type 0 where
-  pub opens : t.opening words.State ≡ 0
+  pub opens : t.opening Word.State ≡ 0
   pub steps :
       (past : List (Event T)) (party : ℕ) (c : PendingCall T) (place : P) → IsPast z t parties past → call_of party past ≡ Some c → stage_of t c ≡ Some place →
       IsClosureIntent c.own (t.intent place (hold_of t party past))
@@ -53,26 +34,26 @@ Effect pending w word begins ends =
     ⊎ ((word ≡ 2) × (begins ≡ false) × (ends ≡ false) × MatchOption pending ⊥ (λ c. 1 ≤ ends_in c.own))))
 
 abbrev EffectOf : {T : Type 0} → Option (PendingCall T) → ℕ → Act T → Type 0
-EffectOf pending w act = Effect pending w (word_after words.State act w) (is_begin act) (is_end act)
+EffectOf pending w act = Effect pending w (word_after Word.State act w) (is_begin act) (is_end act)
 
-begin_effect : {T : Type 0} (c : PendingCall T) (w from to : ℕ) (done : Bool) → from ≡ 0 → to ≡ 1 → (w == from) ≡ done → EffectOf (Some c) w (acts.Exchange words.State from to w done)
+begin_effect : {T : Type 0} (c : PendingCall T) (w from to : ℕ) (done : Bool) → from ≡ 0 → to ≡ 1 → (w == from) ≡ done → EffectOf (Some c) w (Act.Exchange Word.State from to w done)
 begin_effect c w from to true is_from is_to found = inr (inl (eqb-true w from found ∙ is_from, is_to, refl, refl))
 begin_effect c w from to false is_from is_to found = inl (refl, refl, refl)
 
-intent_effect : {T : Type 0} (c : PendingCall T) (memory : Word → ℕ) (intent : Intent T) → IsClosureIntent c.own intent → EffectOf (Some c) (memory words.State) (carried_out intent memory)
-intent_effect c memory (intents.Exchange words.State from to) is = begin_effect c (memory words.State) from to (memory words.State == from) is.0 is.1 refl
-intent_effect c memory (intents.Store words.State put) is = inr (inr (inr (is.0, refl, refl, is.1)))
-intent_effect c memory intents.End is = inr (inr (inl (refl, refl, refl, is)))
-intent_effect c memory (intents.Swap words.State put) is = absurd is
-intent_effect c memory (intents.Add words.State more) is = absurd is
-intent_effect c memory (intents.Subtract words.State less) is = absurd is
+intent_effect : {T : Type 0} (c : PendingCall T) (memory : Word → ℕ) (intent : Intent T) → IsClosureIntent c.own intent → EffectOf (Some c) (memory Word.State) (carried_out intent memory)
+intent_effect c memory (Intent.Exchange Word.State from to) is = begin_effect c (memory Word.State) from to (memory Word.State == from) is.0 is.1 refl
+intent_effect c memory (Intent.Store Word.State put) is = inr (inr (inr (is.0, refl, refl, is.1)))
+intent_effect c memory Intent.End is = inr (inr (inl (refl, refl, refl, is)))
+intent_effect c memory (Intent.Swap Word.State put) is = absurd is
+intent_effect c memory (Intent.Add Word.State more) is = absurd is
+intent_effect c memory (Intent.Subtract Word.State less) is = absurd is
 intent_effect c memory other is = inl (refl, refl, refl)
 
 event_effect :
     {T P : Type 0} (z : Arithmetic T) (t : Table T P) (parties : ℕ) → RunsOneClosure z t parties → (past : List (Event T)) (e : Event T) → IsPast z t parties (e ∷ past) →
-    EffectOf (call_of e.party past) (word_in t past words.State) e.act
+    EffectOf (call_of e.party past) (word_in t past Word.State) e.act
 event_effect {T} z t parties one past e run =
-    by_move t (call_of e.party past) (hold_of t e.party past) (word_in t past) (λ (k : Option (PendingCall T)) (m : Move T). EffectOf k (word_in t past words.State) m.act)
+    by_move t (call_of e.party past) (hold_of t e.party past) (word_in t past) (λ (k : Option (PendingCall T)) (m : Move T). EffectOf k (word_in t past Word.State) m.act)
     run.0.0 (record { act = e.act; outcome = e.then })
     (λ call _. inl (refl, refl, refl)) (λ action _. inl (refl, refl, refl)) (λ choice _. inl (refl, refl, refl))
     (λ c place _ called stage. intent_effect c (word_in t past) (t.intent place (hold_of t e.party past)) (one.steps past e.party c place run.1 called stage))
@@ -81,10 +62,10 @@ event_effect {T} z t parties one past e run =
 -- a word that is 2 is left so
 pub stays_complete :
     {T P : Type 0} (z : Arithmetic T) (t : Table T P) (parties : ℕ) → RunsOneClosure z t parties → (past : List (Event T)) (e : Event T) → IsPast z t parties (e ∷ past) →
-    word_in t past words.State ≡ 2 → word_in t (e ∷ past) words.State ≡ 2
+    word_in t past Word.State ≡ 2 → word_in t (e ∷ past) Word.State ≡ 2
 stays_complete {T} z t parties one past e run complete = by_effect (call_of e.party past) (event_effect z t parties one past e run)
   where
-    by_effect : (pending : Option (PendingCall T)) → EffectOf pending (word_in t past words.State) e.act → word_in t (e ∷ past) words.State ≡ 2
+    by_effect : (pending : Option (PendingCall T)) → EffectOf pending (word_in t past Word.State) e.act → word_in t (e ∷ past) Word.State ≡ 2
     by_effect pending (inl quiet) = quiet.0 ∙ complete
     by_effect pending (inr (inl first)) = absurd (omega (arith, first.0, complete))
     by_effect pending (inr (inr (inl last))) = last.0 ∙ complete
@@ -173,14 +154,14 @@ own_alone past e party w word state alone mine before called runs pending (inr (
     rw (puts.1, puts.2) (omega (arith, own.0), omega (arith, own.1), own.2)
 
 pub record HasOneClosure {T P : Type 0} (t : Table T P) (past : List (Event T)) : Type 0 where
-  pub state : IsState (word_in t past words.State) (begins_in past) (ends_in past)
+  pub state : IsState (word_in t past Word.State) (begins_in past) (ends_in past)
   pub alone : RunsAlone past
 
 pub closure_front : {T P : Type 0} (z : Arithmetic T) (t : Table T P) (parties : ℕ) → RunsOneClosure z t parties → (past : List (Event T)) → IsPast z t parties past → HasOneClosure t past
 closure_front z t parties one [] run = record { state = inl (one.opens, refl, refl); alone = λ party c called runs. absurd cc }
 closure_front {T} z t parties one (e ∷ past) run = one_more (closure_front z t parties one past run.1)
   where
-    effect : EffectOf (call_of e.party past) (word_in t past words.State) e.act
+    effect : EffectOf (call_of e.party past) (word_in t past Word.State) e.act
     effect = event_effect z t parties one past e run
 
     one_more : HasOneClosure t past → HasOneClosure t (e ∷ past)
@@ -208,7 +189,7 @@ complete_ended w begins ends (inl empty) is = absurd (omega (arith, empty.0, is)
 complete_ended w begins ends (inr (inl runs)) is = absurd (omega (arith, runs.0, is))
 complete_ended w begins ends (inr (inr done)) is = done.2
 
-pub tells_state : {T P : Type 0} (t : Table T P) (past : List (Event T)) → IsState (word_in t past words.State) (begins_in past) (ends_in past) → TellsState t past
+pub tells_state : {T P : Type 0} (t : Table T P) (past : List (Event T)) → IsState (word_in t past Word.State) (begins_in past) (ends_in past) → TellsState t past
 tells_state t past state = record { begun = begun state; ended = complete_ended _ _ _ state; known = known state }
   where
     begun : {w begins ends : ℕ} → IsState w begins ends → (w ≡ 0) ↔ (begins ≡ 0)
@@ -224,15 +205,15 @@ tells_state t past state = record { begun = begun state; ended = complete_ended 
 -- A call that has missed: its exchange of 0 failed, so a closure has begun.
 
 abbrev pub is_miss : {T : Type 0} → Act T → Bool
-is_miss (acts.Exchange words.State zero to found false) = true
+is_miss (Act.Exchange Word.State zero to found false) = true
 is_miss act = false
 
 abbrev pub has_missed : {T : Type 0} → List (Event T) → Bool
 has_missed [] = false
 has_missed (e ∷ own) = cond (is_miss e.act) true (has_missed own)
 
-missed_at : {T : Type 0} (act : Act T) (memory : Word → ℕ) → IsTold act memory → is_miss act ≡ true → memory words.State ≢ 0
-missed_at (acts.Exchange words.State zero to found false) memory told missed = λ is. let no : true ≡ false = sym (eq-eqb found 0 (told.0 ∙ is)) ∙ sym told.1 in absurd cc
+missed_at : {T : Type 0} (act : Act T) (memory : Word → ℕ) → IsTold act memory → is_miss act ≡ true → memory Word.State ≢ 0
+missed_at (Act.Exchange Word.State zero to found false) memory told missed = λ is. let no : true ≡ false = sym (eq-eqb found 0 (told.0 ∙ is)) ∙ sym told.1 in absurd cc
 missed_at other memory told missed = absurd cc
 
 some_begun : (w begins ends : ℕ) → IsState w begins ends → w ≢ 0 → 1 ≤ begins

@@ -1,39 +1,13 @@
 -- A once keeps its law at every front of every run.
-use Rattle.std.proofs.lemmas.Bool.{eqb-false}
+use Rattle.steps_once.specs.Names.{IfSome, MatchBool, MatchOption, not, Word, Call, Act, Answer, Event, Then, After, Arithmetic, carried_out, value_told, outcome_of, place_after, same_word, PendingCall, call_of, hold_of, word_in, word_after, event, Move, step_at, is_step, IsPast, AtLast, last_of, StepsAs, Lacks, is_refusal}
+use Rattle.steps_once.proofs.Names.{eqb-false, ◌≡◌, ℕ, ◌≤◌, ◌==◌, refl, sym, ◌∙◌, ap, subst, Bool, true, false, cond, List, [], ◌∷◌, Option, Some, None, arith, ◌<◌, eqb-true, some_same, no_holds, exclusive_unheld, by_move, tells_memory, own_among}
 use Rattle.std.proofs.lemmas.Bool.Decides.{nat_tests}
-use Rattle.std.proofs.Common.{◌≡◌, ℕ, ◌≤◌, ◌==◌, refl, sym, ◌∙◌, ap, subst, Bool, true, false, cond, List, [], ◌∷◌, Option, Some, None, arith, ◌<◌}
-use Rattle.std.specs.Prelude.{IfSome, MatchBool, MatchOption, not}
-use Rattle.std.proofs.lemmas.Bool.{eqb-true}
 use Rattle.steps_events.specs.declared.WaitAction.{WaitAction}
-use Rattle.steps_events.specs.declared.event.Word.{Word}
-use Rattle.steps_events.specs.declared.event.Word.TheVariants as words
-use Rattle.steps_events.specs.declared.event.Call.{Call}
-use Rattle.steps_events.specs.declared.event.Call.TheVariants as calls
-use Rattle.steps_events.specs.declared.event.Act.{Act}
-use Rattle.steps_events.specs.declared.event.Act.TheVariants as acts
-use Rattle.steps_events.specs.declared.event.Answer.TheVariants as answers
-use Rattle.steps_events.specs.declared.event.Event.{Event}
-use Rattle.steps_events.specs.declared.event.Then.{Then}
-use Rattle.steps_events.specs.declared.event.Then.TheVariants as thens
 use Rattle.steps_events.specs.declared.hold.HoldKind.{HoldKind}
-use Rattle.steps_events.specs.declared.row.After.{After}
-use Rattle.steps_events.specs.declared.row.After.TheVariants as afters
-use Rattle.steps_events.specs.Arithmetic.{Arithmetic}
-use Rattle.steps_events.specs.Rows.{carried_out, value_told, outcome_of, place_after}
-use Rattle.steps_events.specs.Past.{same_word, PendingCall, call_of, hold_of, word_in, word_after, event}
-use Rattle.steps_events.specs.Moves.{Move, step_at, is_step}
-use Rattle.steps_events.specs.Runs.{IsPast}
-use Rattle.steps_events.specs.Sights.{AtLast, last_of}
-use Rattle.steps_events.specs.NextStep.{StepsAs}
-use Rattle.steps_events.specs.Laws.{Lacks, is_refusal}
-use Rattle.steps_events.proofs.Holds.{some_same, no_holds, exclusive_unheld}
-use Rattle.steps_events.proofs.Steps.{by_move, tells_memory}
 use Rattle.steps_events.proofs.Parties.{IsKept, at_place}
 use Rattle.steps_events.proofs.Asks.{both_kept}
 use Rattle.steps_events.proofs.NextStep.{steps_as, Descends, ends_within}
-use Rattle.steps_events.proofs.Own.{own_among}
 use Rattle.steps_once.specs.declared.OncePlace.{OncePlace}
-use Rattle.steps_once.specs.declared.OncePlace.TheVariants as places
 use Rattle.steps_once.specs.Table.{once_table, once_begins, once_intent, found_after, once_after}
 use Rattle.steps_once.specs.Closures.{is_begin, is_end, is_load, begins_in, ends_in}
 use Rattle.steps_once.proofs.ClosureSteps.{IsLed, look_led, stay_led, begin_led, miss_led, quiet_led, look_runs, stay_runs, begin_runs, end_runs, complete_runs}
@@ -43,11 +17,11 @@ use Rattle.steps_once.proofs.Closures.{is_running, has_missed, missed_since, IsC
 -- What is kept of a call at its place.
 
 abbrev pub AtOnce : {T : Type 0} → OncePlace → PendingCall T → Option HoldKind → Type 0
-AtOnce places.Run c hold = is_running c.own ≡ true
-AtOnce places.Complete c hold = 1 ≤ ends_in c.own
-AtOnce places.IsCompleted c hold = last_of is_step c.own ≡ None
-AtOnce places.Look c hold = last_of is_step c.own ≡ None
-AtOnce places.Stay c hold = has_missed c.own ≡ true
+AtOnce OncePlace.Run c hold = is_running c.own ≡ true
+AtOnce OncePlace.Complete c hold = 1 ≤ ends_in c.own
+AtOnce OncePlace.IsCompleted c hold = last_of is_step c.own ≡ None
+AtOnce OncePlace.Look c hold = last_of is_step c.own ≡ None
+AtOnce OncePlace.Stay c hold = has_missed c.own ≡ true
 AtOnce place c hold = Unit {0}
 
 -- Where a call begins.
@@ -56,11 +30,11 @@ AtOnce place c hold = Unit {0}
 
 -- how a call goes on after a look, by whether it saw 2
 abbrev pub seen_after : {T : Type 0} → OncePlace → Bool → After T OncePlace
-seen_after on complete = cond complete (afters.Ends answers.Done) (afters.At on)
+seen_after on complete = cond complete (After.Ends Answer.Done) (After.At on)
 
 -- and after its exchange, by whether it was done
 abbrev pub begin_after : {T : Type 0} → Bool → After T OncePlace
-begin_after done = cond done (afters.At places.Run) (afters.At places.Stay)
+begin_after done = cond done (After.At OncePlace.Run) (After.At OncePlace.Stay)
 
 -- Where an answer leads: no call of a once stands.
 
@@ -70,8 +44,8 @@ once_kept = grind (arith, nat_tests, eqb-true, eqb-false)
 -- Which call has which place.
 
 abbrev pub call_at : {T : Type 0} → OncePlace → Call T
-call_at places.IsCompleted = calls.IsCompleted
-call_at other = calls.CallOnce
+call_at OncePlace.IsCompleted = Call.IsCompleted
+call_at other = Call.CallOnce
 
 abbrev pub IsItsCall : {T : Type 0} → OncePlace → PendingCall T → Option HoldKind → Type 0
 IsItsCall place c hold = c.call ≡ call_at place
@@ -96,28 +70,28 @@ seen_leads own on next complete e h1 h2 = grind (arith, nat_tests, eqb-true, eqb
 
 -- and the exchange, by whether it was done
 begin_leads :
-    {T : Type 0} (own : List (Event T)) (w number : ℕ) (outcome : Then T) (next : OncePlace) (done : Bool) → place_after {T = T} (begin_after done) ≡ Some next → IsLed next (event number (acts.Exchange words.State 0 1 w done) outcome ∷ own)
-begin_leads {T} own w number outcome next true is = subst (λ p. IsLed {T = T} p (event number (acts.Exchange words.State 0 1 w true) outcome ∷ own)) (some_same places.Run next is) (begin_led own w number outcome)
-begin_leads {T} own w number outcome next false is = subst (λ p. IsLed {T = T} p (event number (acts.Exchange words.State 0 1 w false) outcome ∷ own)) (some_same places.Stay next is) (miss_led own w number outcome)
+    {T : Type 0} (own : List (Event T)) (w number : ℕ) (outcome : Then T) (next : OncePlace) (done : Bool) → place_after {T = T} (begin_after done) ≡ Some next → IsLed next (event number (Act.Exchange Word.State 0 1 w done) outcome ∷ own)
+begin_leads {T} own w number outcome next true is = subst (λ p. IsLed {T = T} p (event number (Act.Exchange Word.State 0 1 w true) outcome ∷ own)) (some_same OncePlace.Run next is) (begin_led own w number outcome)
+begin_leads {T} own w number outcome next false is = subst (λ p. IsLed {T = T} p (event number (Act.Exchange Word.State 0 1 w false) outcome ∷ own)) (some_same OncePlace.Stay next is) (miss_led own w number outcome)
 
 step_leads :
     {T : Type 0} (place : OncePlace) (c : PendingCall T) (hold : Option HoldKind) (memory : Word → ℕ) (number : ℕ) (next : OncePlace) → IsLed place c.own →
-    place_after {T = T} (once_after place (value_told {T = T} (carried_out (once_intent words.State place) memory))) ≡ Some next →
+    place_after {T = T} (once_after place (value_told {T = T} (carried_out (once_intent Word.State place) memory))) ≡ Some next →
     IsLed next (event number (step_at once_table place hold memory).act (step_at once_table place hold memory).outcome ∷ c.own)
-step_leads places.IsCompleted c hold memory number next led is = absurd cc
-step_leads places.Look c hold memory number next led is = seen_leads c.own places.Begin next (memory words.State == 2) _ (λ sees. look_led c.own (memory words.State) number (step_at once_table places.Look hold memory).outcome sees led.1) is
-step_leads places.Begin c hold memory number next led is = begin_leads c.own (memory words.State) number _ next (memory words.State == 0) is
-step_leads {T} places.Run c hold memory number next led is = subst (λ p. IsLed {T = T} p (event number acts.Ended thens.GoesOn ∷ c.own)) (some_same places.Complete next is) refl
-step_leads places.Complete c hold memory number next led is = absurd cc
-step_leads places.Stay c hold memory number next led is = seen_leads c.own places.Stay next (memory words.State == 2) _ (λ sees. stay_led c.own (memory words.State) number (step_at once_table places.Stay hold memory).outcome sees led.1) is
+step_leads OncePlace.IsCompleted c hold memory number next led is = absurd cc
+step_leads OncePlace.Look c hold memory number next led is = seen_leads c.own OncePlace.Begin next (memory Word.State == 2) _ (λ sees. look_led c.own (memory Word.State) number (step_at once_table OncePlace.Look hold memory).outcome sees led.1) is
+step_leads OncePlace.Begin c hold memory number next led is = begin_leads c.own (memory Word.State) number _ next (memory Word.State == 0) is
+step_leads {T} OncePlace.Run c hold memory number next led is = subst (λ p. IsLed {T = T} p (event number Act.Ended Then.GoesOn ∷ c.own)) (some_same OncePlace.Complete next is) refl
+step_leads OncePlace.Complete c hold memory number next led is = absurd cc
+step_leads OncePlace.Stay c hold memory number next led is = seen_leads c.own OncePlace.Stay next (memory Word.State == 2) _ (λ sees. stay_led c.own (memory Word.State) number (step_at once_table OncePlace.Stay hold memory).outcome sees led.1) is
 
 led_kept : {T : Type 0} → IsKept {T = T} once_table IsWhereLed
 led_kept =
     record {
       begins = λ call place hold is allowed. begins_led call place is;
       steps = λ place c hold memory number next at free is. step_leads place c hold memory number next at is;
-      answers = λ place c hold action number at stands. quiet_led place c.own (event number (acts.Answered action) thens.GoesOn) refl refl at;
-      chooses = λ place c hold choice number at stands. quiet_led place c.own (event number (acts.Chosen choice) thens.GoesOn) refl refl at;
+      answers = λ place c hold action number at stands. quiet_led place c.own (event number (Act.Answered action) Then.GoesOn) refl refl at;
+      chooses = λ place c hold choice number at stands. quiet_led place c.own (event number (Act.Chosen choice) Then.GoesOn) refl refl at;
     }
 
 -- So its step there is its next.
@@ -129,7 +103,7 @@ once_step place c hold memory h1 = grind (arith, nat_tests, eqb-true, eqb-false)
 
 -- A once runs one closure.
 
-pub closure_intent : {T : Type 0} (place : OncePlace) (c : PendingCall T) (hold : Option HoldKind) → AtOnce place c hold → IsClosureIntent {T = T} c.own (once_intent words.State place)
+pub closure_intent : {T : Type 0} (place : OncePlace) (c : PendingCall T) (hold : Option HoldKind) → AtOnce place c hold → IsClosureIntent {T = T} c.own (once_intent Word.State place)
 closure_intent place c hold h1 = grind (arith, nat_tests, eqb-true, eqb-false)
 
 runs_one : {T : Type 0} (z : Arithmetic T) (parties : ℕ) → RunsOneClosure {T = T} z once_table parties
@@ -146,17 +120,17 @@ pub record EventLaw {T : Type 0} (party : ℕ) (past : List (Event T)) (w : ℕ)
   pub own : MatchBool (is_end m.act) (AtLast is_begin (λ before. begins_in before ≡ 0) party past) (Unit {0})
   pub waits : MatchBool (is_load m.act) (MatchOption pending ⊥ (λ c. IfSome (last_of is_step c.own) (λ before. 1 ≤ begins_in past))) (Unit {0})
   pub answers : MatchBool (tells_end m.outcome) (ends_in past ≡ 1) (Unit {0})
-  pub done : MatchBool (is_done m.outcome) (word_after words.State m.act w ≡ 2) (Unit {0})
+  pub done : MatchBool (is_done m.outcome) (word_after Word.State m.act w ≡ 2) (Unit {0})
 
 -- of a load
 flag_law :
     {T : Type 0} (party : ℕ) (past : List (Event T)) (c : PendingCall T) (w : ℕ) (flag : Bool) → last_of is_step c.own ≡ None → IsState w (begins_in past) (ends_in past) → (w == 2) ≡ flag →
-    EventLaw party past w (Some c) (record { act = acts.Load words.State w; outcome = thens.Answers (answers.Flag flag) })
+    EventLaw party past w (Some c) (record { act = Act.Load Word.State w; outcome = Then.Answers (Answer.Flag flag) })
 flag_law party past c w flag h1 h2 h3 = grind (arith, nat_tests, eqb-true, eqb-false)
 
 seen_law :
     {T : Type 0} (party : ℕ) (past : List (Event T)) (c : PendingCall T) (w : ℕ) (on : OncePlace) (complete : Bool) → IfSome (last_of is_step c.own) (λ before. 1 ≤ begins_in past) → IsState w (begins_in past) (ends_in past) → (w == 2) ≡ complete →
-    EventLaw party past w (Some c) (record { act = acts.Load words.State w; outcome = outcome_of {T = T} (seen_after on complete) })
+    EventLaw party past w (Some c) (record { act = Act.Load Word.State w; outcome = outcome_of {T = T} (seen_after on complete) })
 seen_law party past c w on complete h1 h2 h3 = grind (arith, nat_tests, eqb-true, eqb-false)
 
 -- whatever its step before was
@@ -165,28 +139,28 @@ has_begun last h1 = grind (arith, nat_tests, eqb-true, eqb-false)
 
 begin_law :
     {T : Type 0} (party : ℕ) (past : List (Event T)) (c : PendingCall T) (w : ℕ) (done : Bool) →
-    EventLaw party past w (Some c) (record { act = acts.Exchange words.State 0 1 w done; outcome = outcome_of {T = T} (begin_after done) })
+    EventLaw party past w (Some c) (record { act = Act.Exchange Word.State 0 1 w done; outcome = outcome_of {T = T} (begin_after done) })
 begin_law party past c w done = grind (arith, nat_tests, eqb-true, eqb-false)
 
 step_law :
     {T : Type 0} (z : Arithmetic T) (parties party : ℕ) (past : List (Event T)) → IsPast z once_table parties past → (c : PendingCall T) → call_of party past ≡ Some c →
-    (place : OncePlace) (hold : Option HoldKind) (memory : Word → ℕ) → AtOnce place c hold → IsState (memory words.State) (begins_in past) (ends_in past) →
-    EventLaw party past (memory words.State) (Some c) (step_at once_table place hold memory)
-step_law z parties party past run c called places.IsCompleted hold memory at state = flag_law party past c (memory words.State) (memory words.State == 2) at state refl
-step_law z parties party past run c called places.Look hold memory at state = seen_law party past c (memory words.State) places.Begin (memory words.State == 2) (rw at tt) state refl
-step_law z parties party past run c called places.Begin hold memory at state = begin_law party past c (memory words.State) (memory words.State == 0)
-step_law z parties party past run c called places.Run hold memory at state =
+    (place : OncePlace) (hold : Option HoldKind) (memory : Word → ℕ) → AtOnce place c hold → IsState (memory Word.State) (begins_in past) (ends_in past) →
+    EventLaw party past (memory Word.State) (Some c) (step_at once_table place hold memory)
+step_law z parties party past run c called OncePlace.IsCompleted hold memory at state = flag_law party past c (memory Word.State) (memory Word.State == 2) at state refl
+step_law z parties party past run c called OncePlace.Look hold memory at state = seen_law party past c (memory Word.State) OncePlace.Begin (memory Word.State == 2) (rw at tt) state refl
+step_law z parties party past run c called OncePlace.Begin hold memory at state = begin_law party past c (memory Word.State) (memory Word.State == 0)
+step_law z parties party past run c called OncePlace.Run hold memory at state =
     record { cause = tt; own = own_began z once_table parties party past run c called at (at_most_one _ _ _ state).0; waits = tt; answers = tt; done = tt }
-step_law z parties party past run c called places.Complete hold memory at state =
+step_law z parties party past run c called OncePlace.Complete hold memory at state =
     record { cause = tt; own = tt; waits = tt; answers = omega (arith, at, own_among is_end past party c called, (at_most_one _ _ _ state).1); done = refl }
-step_law z parties party past run c called places.Stay hold memory at state = seen_law party past c (memory words.State) places.Stay (memory words.State == 2) (has_begun (last_of is_step c.own) (missed_since z once_table parties (runs_one z parties) past run party c called at)) state refl
+step_law z parties party past run c called OncePlace.Stay hold memory at state = seen_law party past c (memory Word.State) OncePlace.Stay (memory Word.State == 2) (has_begun (last_of is_step c.own) (missed_since z once_table parties (runs_one z parties) past run party c called at)) state refl
 
 event_law :
     {T : Type 0} (z : Arithmetic T) (parties : ℕ) (past : List (Event T)) (e : Event T) → IsPast z once_table parties (e ∷ past) →
-    EventLaw e.party past (word_in once_table past words.State) (call_of e.party past) (record { act = e.act; outcome = e.then })
+    EventLaw e.party past (word_in once_table past Word.State) (call_of e.party past) (record { act = e.act; outcome = e.then })
 event_law {T} z parties past e run =
     by_move once_table (call_of e.party past) (hold_of once_table e.party past) (word_in once_table past)
-    (λ (k : Option (PendingCall T)) (m : Move T). EventLaw e.party past (word_in once_table past words.State) k m)
+    (λ (k : Option (PendingCall T)) (m : Move T). EventLaw e.party past (word_in once_table past Word.State) k m)
     run.0.0 (record { act = e.act; outcome = e.then })
     (λ call _. record { cause = tt; own = tt; waits = tt; answers = tt; done = tt })
     (λ action _. record { cause = tt; own = tt; waits = tt; answers = tt; done = tt })
@@ -204,7 +178,7 @@ each_steps z parties past run =
 -- An `IsCompleted` has one step.
 
 abbrev once_rest : OncePlace → Option ℕ
-once_rest places.IsCompleted = Some 1
+once_rest OncePlace.IsCompleted = Some 1
 once_rest other = None
 
 once_begun : {T : Type 0} (call : Call T) (place : OncePlace) (steps : ℕ) → once_begins call ≡ Some place → once_most call ≡ Some steps → (left : ℕ) × (once_rest place ≡ Some left) × (left ≤ steps)
@@ -235,5 +209,5 @@ keeps_once z parties (e ∷ past) run =
     }
 
 -- a once has no other word
-pub once_lacks : (T : Type 0) (word : Word) → same_word words.State word ≡ false → Lacks {T = T} once_table word
+pub once_lacks : (T : Type 0) (word : Word) → same_word Word.State word ≡ false → Lacks {T = T} once_table word
 once_lacks T word h1 = grind (arith, nat_tests, eqb-true, eqb-false)

@@ -1,3 +1,4 @@
+pub mod Names
 pub mod Closures
 pub mod ClosureSteps
 pub mod Laws

@@ -1,19 +1,5 @@
 -- What a once keeps at every front of every run: one closure runs, once, and ends before any call tells of it.
-use Rattle.std.specs.Prelude.{◌≡◌, ◌≤◌, ℕ, ◌==◌, Bool, true, false, Option, Some, None, List, [], ◌∷◌, MatchBool}
-use Rattle.steps_events.specs.declared.event.Word.TheVariants as words
-use Rattle.steps_events.specs.declared.event.Act.{Act}
-use Rattle.steps_events.specs.declared.event.Act.TheVariants as acts
-use Rattle.steps_events.specs.declared.event.Answer.TheVariants as answers
-use Rattle.steps_events.specs.declared.event.Call.{Call}
-use Rattle.steps_events.specs.declared.event.Call.TheVariants as calls
-use Rattle.steps_events.specs.declared.event.Then.{Then}
-use Rattle.steps_events.specs.declared.event.Then.TheVariants as thens
-use Rattle.steps_events.specs.declared.event.Event.{Event}
-use Rattle.steps_events.specs.Past.{holds_of, word_in}
-use Rattle.steps_events.specs.Moves.{is_step}
-use Rattle.steps_events.specs.Sights.{last_of}
-use Rattle.steps_events.specs.NextStep.{StepsAs, EndsWithin}
-use Rattle.steps_events.specs.Laws.{Keeps}
+use Rattle.steps_once.specs.Names.{◌≡◌, ◌≤◌, ℕ, ◌==◌, Bool, true, false, Option, Some, None, List, [], ◌∷◌, MatchBool, Word, Act, Answer, Call, Then, Event, holds_of, word_in, is_step, last_of, StepsAs, EndsWithin, Keeps}
 use Rattle.steps_once.specs.Closures.{begins_in, ends_in, EndsItsOwn, WaitsForAnother, StaysTwo, TellsState, has_tried, RunsOnce}
 use Rattle.steps_once.specs.Table.{once_table}
 
@@ -25,26 +11,26 @@ OnceCause call party events = ⊥
 
 -- a load, whose answer is whether it saw 2
 abbrev pub AsksForTwo : {T : Type 0} → Act T → Then T → Type 0
-AsksForTwo (acts.Load words.State seen) outcome = outcome ≡ thens.Answers (answers.Flag (seen == 2))
+AsksForTwo (Act.Load Word.State seen) outcome = outcome ≡ Then.Answers (Answer.Flag (seen == 2))
 AsksForTwo act outcome = ⊥
 
 -- the next step of each call, by its own before; no other has one
 abbrev pub OnceStep : {T : Type 0} → Call T → List (Event T) → Act T → Then T → Type 0
-OnceStep calls.IsCompleted own act outcome = (last_of is_step own ≡ None) × AsksForTwo act outcome
-OnceStep calls.CallOnce own act outcome = RunsOnce (thens.Answers answers.Done) (has_tried own) (last_of is_step own) act outcome
+OnceStep Call.IsCompleted own act outcome = (last_of is_step own ≡ None) × AsksForTwo act outcome
+OnceStep Call.CallOnce own act outcome = RunsOnce (Then.Answers Answer.Done) (has_tried own) (last_of is_step own) act outcome
 OnceStep other own act outcome = ⊥
 
 -- how many steps a call makes that waits for nobody
 abbrev pub once_most : {T : Type 0} → Call T → Option ℕ
-once_most calls.IsCompleted = Some 1
+once_most Call.IsCompleted = Some 1
 once_most other = None
 
 -- The answers.
 
 -- `Done` and `true` tell that the closure has ended
 abbrev pub tells_end : {T : Type 0} → Then T → Bool
-tells_end (thens.Answers answers.Done) = true
-tells_end (thens.Answers (answers.Flag flag)) = flag
+tells_end (Then.Answers Answer.Done) = true
+tells_end (Then.Answers (Answer.Flag flag)) = flag
 tells_end other = false
 
 abbrev pub AnswersAfterEnd : {T : Type 0} → List (Event T) → Type 0
@@ -52,13 +38,13 @@ AnswersAfterEnd [] = Unit {0}
 AnswersAfterEnd (e ∷ past) = MatchBool (tells_end e.then) (ends_in past ≡ 1) (Unit {0})
 
 abbrev pub is_done : {T : Type 0} → Then T → Bool
-is_done (thens.Answers answers.Done) = true
+is_done (Then.Answers Answer.Done) = true
 is_done other = false
 
 -- the latest event answers `Done` only where it leaves the word at 2
 abbrev pub DoneAtTwo : {T : Type 0} → List (Event T) → Type 0
 DoneAtTwo [] = Unit {0}
-DoneAtTwo (e ∷ past) = MatchBool (is_done e.then) (word_in once_table (e ∷ past) words.State ≡ 2) (Unit {0})
+DoneAtTwo (e ∷ past) = MatchBool (is_done e.then) (word_in once_table (e ∷ past) Word.State ≡ 2) (Unit {0})
 
 -- What a once keeps beside what every object does.
 pub record OnceLaw {T : Type 0} (past : List (Event T)) : Type 0 where

@@ -1,28 +1,9 @@
 -- What a call of a reader-preferring lock answers: by the hold that its party has then, and an `Unlock` once it has freed and woken. And with
 -- that the whole of what such a lock keeps.
-use Rattle.std.proofs.lemmas.Bool.{eqb-false}
-use Rattle.std.proofs.lemmas.Bool.{eqb-true}
-use Rattle.std.proofs.lemmas.Bool.Decides.{nat_tests}
-use Rattle.std.proofs.Common.{◌≡◌, ℕ, List, [], ◌∷◌, Option, Some, None, arith}
-use Rattle.steps_events.specs.declared.event.Word.{Word}
-use Rattle.steps_events.specs.declared.event.Wake.TheVariants as wakes
-use Rattle.steps_events.specs.declared.event.Act.{Act}
-use Rattle.steps_events.specs.declared.event.Act.TheVariants as acts
-use Rattle.steps_events.specs.declared.event.Event.{Event}
-use Rattle.steps_events.specs.declared.event.Then.TheVariants as thens
-use Rattle.steps_events.specs.declared.hold.HoldKind.{HoldKind}
-use Rattle.steps_events.specs.declared.row.After.{After}
-use Rattle.steps_events.specs.Arithmetic.{Arithmetic}
-use Rattle.steps_events.specs.Past.{PendingCall, holds_of, hold_of, hold_after, word_in, latest_outcome}
-use Rattle.steps_events.specs.RwAnswers.{acts_of, IsAnswered, AnswersByHold}
-use Rattle.steps_events.specs.Moves.{step_at}
-use Rattle.steps_events.specs.Runs.{IsPast}
+use Rattle.steps_rw_reader.specs.Names.{Word, Wake, Act, Event, Then, HoldKind, After, Arithmetic, PendingCall, holds_of, hold_of, hold_after, word_in, latest_outcome, acts_of, IsAnswered, AnswersByHold, step_at, IsPast}
+use Rattle.steps_rw_reader.proofs.Names.{eqb-false, eqb-true, nat_tests, ◌≡◌, ℕ, List, [], ◌∷◌, Option, Some, None, arith, IsKept, at_place, waits_first, waits_as, spins_no_more, tells_memory}
 use Rattle.steps_events.proofs.RwAnswers.{IsTryOn, LeadsTo, answers_by_hold}
-use Rattle.steps_events.proofs.Parties.{IsKept, at_place}
-use Rattle.steps_events.proofs.Asks.{waits_first, waits_as, spins_no_more}
-use Rattle.steps_events.proofs.Steps.{tells_memory}
 use Rattle.steps_rw_reader.specs.declared.RwReaderPlace.{RwReaderPlace}
-use Rattle.steps_rw_reader.specs.declared.RwReaderPlace.TheVariants as places
 use Rattle.steps_rw_reader.specs.Table.{rw_reader_table}
 use Rattle.steps_rw_reader.specs.Law.{HasUnlocked, steps_in_vain, rw_reader_waiting, KeepsRwReader}
 use Rattle.steps_rw_reader.proofs.ReaderLocks.{reader_lock_word, reader_lock_exclusive}
@@ -31,8 +12,8 @@ use Rattle.steps_rw_reader.proofs.Laws.{AtRwReader, rw_reader_kept, rw_reader_is
 
 -- Before its release an `Unlock` has done nothing; before its wake, all but that, and it has no hold any more and asks nobody.
 abbrev IsLeaving : {T : Type 0} → RwReaderPlace → List (Event T) → Option HoldKind → Type 0
-IsLeaving places.Release own hold = own ≡ []
-IsLeaving places.Wake own hold = (hold ≡ None) × (latest_outcome own ≡ thens.GoesOn) × HasUnlocked (acts.Woke wakes.One ∷ acts_of own)
+IsLeaving RwReaderPlace.Release own hold = own ≡ []
+IsLeaving RwReaderPlace.Wake own hold = (hold ≡ None) × (latest_outcome own ≡ Then.GoesOn) × HasUnlocked (Act.Woke Wake.One ∷ acts_of own)
 IsLeaving other own hold = Unit {0}
 
 abbrev IsAnswering : {T : Type 0} → RwReaderPlace → PendingCall T → Option HoldKind → Type 0
@@ -41,8 +22,8 @@ IsAnswering place c hold = AtRwReader place c hold × IsLeaving place c.own hold
 -- A locking call goes on within itself, or is refused.
 
 abbrev IsEntering : RwReaderPlace → Type 0
-IsEntering places.Release = ⊥
-IsEntering places.Wake = ⊥
+IsEntering RwReaderPlace.Release = ⊥
+IsEntering RwReaderPlace.Wake = ⊥
 IsEntering other = Unit {0}
 
 abbrev TriesOn : {T : Type 0} → After T RwReaderPlace → Type 0

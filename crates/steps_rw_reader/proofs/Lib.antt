@@ -1,3 +1,4 @@
+pub mod Names
 pub mod ReaderLocks
 pub mod Laws
 pub mod NextSteps

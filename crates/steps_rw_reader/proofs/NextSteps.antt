@@ -1,27 +1,8 @@
 -- Each step of a reader-preferring lock is its call's next.
-use Rattle.std.proofs.lemmas.Bool.{eqb-false}
-use Rattle.std.proofs.lemmas.Bool.{eqb-true}
-use Rattle.std.proofs.lemmas.Bool.Decides.{nat_tests}
-use Rattle.std.proofs.Common.{◌≡◌, ℕ, refl, true, is_some, List, Option, Some, None, ◌≤◌, ◌<◌, arith}
-use Rattle.steps_events.specs.declared.WaitAction.{WaitAction}
-use Rattle.steps_events.specs.declared.event.Word.{Word}
-use Rattle.steps_events.specs.declared.event.Word.TheVariants as words
-use Rattle.steps_events.specs.declared.event.Call.{Call}
-use Rattle.steps_events.specs.declared.event.Event.{Event}
-use Rattle.steps_events.specs.declared.hold.HoldKind.{HoldKind}
-use Rattle.steps_events.specs.Arithmetic.{Arithmetic}
-use Rattle.steps_events.specs.Rows.{place_after}
-use Rattle.steps_events.specs.Past.{PendingCall}
-use Rattle.steps_events.specs.Moves.{step_at, is_step}
-use Rattle.steps_events.specs.Runs.{IsPast}
-use Rattle.steps_events.specs.Sights.{last_of}
-use Rattle.steps_events.specs.NextStep.{StepsAs, seen_last, EndsWithin}
-use Rattle.steps_events.specs.RwSteps.{open_at}
-use Rattle.steps_events.proofs.Asks.{both_kept}
+use Rattle.steps_rw_reader.specs.Names.{WaitAction, Word, Call, Event, HoldKind, Arithmetic, place_after, PendingCall, step_at, is_step, IsPast, last_of, StepsAs, seen_last, EndsWithin, open_at}
+use Rattle.steps_rw_reader.proofs.Names.{eqb-false, eqb-true, nat_tests, ◌≡◌, ℕ, refl, true, is_some, List, Option, Some, None, ◌≤◌, ◌<◌, arith, both_kept, IsKept}
 use Rattle.steps_events.proofs.NextStep.{steps_as, Descends, ends_within}
-use Rattle.steps_events.proofs.Parties.{IsKept}
 use Rattle.steps_rw_reader.specs.declared.RwReaderPlace.{RwReaderPlace}
-use Rattle.steps_rw_reader.specs.declared.RwReaderPlace.TheVariants as places
 use Rattle.steps_rw_reader.specs.Table.{lets_readers_in, rw_reader_table, rw_reader_begins, rw_reader_after, rw_reader_answered}
 use Rattle.steps_rw_reader.specs.Law.{rw_reader_most, RwReaderStep}
 use Rattle.steps_rw_reader.proofs.Laws.{AtRwReader, rw_reader_kept}
@@ -29,14 +10,14 @@ use Rattle.steps_rw_reader.proofs.Laws.{AtRwReader, rw_reader_kept}
 -- What the latest step of a call told, at each place.
 
 abbrev HasSeen : {T : Type 0} → RwReaderPlace → PendingCall T → Option HoldKind → Type 0
-HasSeen places.TryReadLook c hold = last_of is_step c.own ≡ None
-HasSeen (places.TryRead seen to) c hold = open_at lets_readers_in (seen_last words.State c.own) ≡ Some seen
-HasSeen (places.ReadLook patience) c hold = open_at lets_readers_in (seen_last words.State c.own) ≡ None
-HasSeen (places.Read seen to patience) c hold = open_at lets_readers_in (seen_last words.State c.own) ≡ Some seen
-HasSeen places.TryWrite c hold = last_of is_step c.own ≡ None
-HasSeen (places.Write patience) c hold = Unit {0}
-HasSeen places.Release c hold = last_of is_step c.own ≡ None
-HasSeen places.Wake c hold = is_some (last_of is_step c.own) ≡ true
+HasSeen RwReaderPlace.TryReadLook c hold = last_of is_step c.own ≡ None
+HasSeen (RwReaderPlace.TryRead seen to) c hold = open_at lets_readers_in (seen_last Word.State c.own) ≡ Some seen
+HasSeen (RwReaderPlace.ReadLook patience) c hold = open_at lets_readers_in (seen_last Word.State c.own) ≡ None
+HasSeen (RwReaderPlace.Read seen to patience) c hold = open_at lets_readers_in (seen_last Word.State c.own) ≡ Some seen
+HasSeen RwReaderPlace.TryWrite c hold = last_of is_step c.own ≡ None
+HasSeen (RwReaderPlace.Write patience) c hold = Unit {0}
+HasSeen RwReaderPlace.Release c hold = last_of is_step c.own ≡ None
+HasSeen RwReaderPlace.Wake c hold = is_some (last_of is_step c.own) ≡ true
 
 -- where a refused call goes on
 
@@ -63,11 +44,11 @@ each_steps z parties past run =
 -- A call that waits for nobody has fewer steps left at each place.
 
 abbrev rest_at : RwReaderPlace → Option ℕ
-rest_at places.TryReadLook = Some 2
-rest_at (places.TryRead seen to) = Some 1
-rest_at places.TryWrite = Some 1
-rest_at places.Release = Some 2
-rest_at places.Wake = Some 1
+rest_at RwReaderPlace.TryReadLook = Some 2
+rest_at (RwReaderPlace.TryRead seen to) = Some 1
+rest_at RwReaderPlace.TryWrite = Some 1
+rest_at RwReaderPlace.Release = Some 2
+rest_at RwReaderPlace.Wake = Some 1
 rest_at other = None
 
 begun_at : {T : Type 0} (call : Call T) (place : RwReaderPlace) (steps : ℕ) → rw_reader_begins call ≡ Some place → rw_reader_most call ≡ Some steps → (left : ℕ) × (rest_at place ≡ Some left) × (left ≤ steps)

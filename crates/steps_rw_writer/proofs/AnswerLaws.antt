@@ -1,30 +1,8 @@
 -- What a call of a writer-preferring lock answers: by the hold that its party has then, and an `Unlock` once it has freed, counted and woken.
-use Rattle.std.proofs.lemmas.Bool.Decides.{nat_tests}
-use Rattle.std.proofs.Common.{◌≡◌, ℕ, ◌+◌, ◌-◌, ◌%◌, ◌^◌, List, [], ◌∷◌, Option, Some, None, arith}
-use Rattle.std.proofs.lemmas.Bool.{eqb-true, eqb-false}
-use Rattle.steps_events.specs.declared.WaitAction.{WaitAction}
-use Rattle.steps_events.specs.declared.event.Word.{Word}
-use Rattle.steps_events.specs.declared.event.Word.TheVariants as words
-use Rattle.steps_events.specs.declared.event.Wake.TheVariants as wakes
-use Rattle.steps_events.specs.declared.event.Call.{Call}
-use Rattle.steps_events.specs.declared.event.Act.{Act}
-use Rattle.steps_events.specs.declared.event.Act.TheVariants as acts
-use Rattle.steps_events.specs.declared.event.Event.{Event}
-use Rattle.steps_events.specs.declared.event.Then.TheVariants as thens
-use Rattle.steps_events.specs.declared.hold.HoldKind.{HoldKind}
-use Rattle.steps_events.specs.declared.row.After.{After}
-use Rattle.steps_events.specs.Arithmetic.{Arithmetic}
-use Rattle.steps_events.specs.Rows.{carried_out, value_told}
-use Rattle.steps_events.specs.Past.{PendingCall, hold_of, hold_after, word_in, latest_outcome, event}
-use Rattle.steps_events.specs.RwAnswers.{acts_of, IsAnswered, AnswersByHold}
-use Rattle.steps_events.specs.Moves.{step_at, answer_fault, choose_fault}
-use Rattle.steps_events.specs.Runs.{IsPast}
-use Rattle.steps_events.proofs.RwAnswers.{LeadsTo, leads_on, answers_by_hold}
-use Rattle.steps_events.proofs.Parties.{IsKept, at_place}
+use Rattle.steps_rw_writer.specs.Names.{WaitAction, Word, Wake, Call, Act, Event, Then, HoldKind, After, Arithmetic, carried_out, value_told, PendingCall, hold_of, hold_after, word_in, latest_outcome, event, acts_of, IsAnswered, AnswersByHold, step_at, answer_fault, choose_fault, IsPast}
+use Rattle.steps_rw_writer.proofs.Names.{nat_tests, ◌≡◌, ℕ, ◌+◌, ◌-◌, ◌%◌, ◌^◌, List, [], ◌∷◌, Option, Some, None, arith, eqb-true, eqb-false, LeadsTo, leads_on, answers_by_hold, IsKept, at_place}
 use Rattle.steps_rw_writer.specs.declared.Leaver.{Leaver}
-use Rattle.steps_rw_writer.specs.declared.Leaver.TheVariants as leavers
 use Rattle.steps_rw_writer.specs.declared.RwWriterPlace.{RwWriterPlace}
-use Rattle.steps_rw_writer.specs.declared.RwWriterPlace.TheVariants as places
 use Rattle.steps_rw_writer.specs.Table.{rw_writer_table, rw_writer_begins, rw_writer_answered}
 use Rattle.steps_rw_writer.specs.Law.{HasUnlocked}
 use Rattle.steps_rw_writer.proofs.PlaceLaws.{AtRwWriter, rw_writer_kept}
@@ -32,23 +10,23 @@ use Rattle.steps_rw_writer.proofs.PlaceLaws.{AtRwWriter, rw_writer_kept}
 -- What a call that leaves has done, newest first.
 
 abbrev pub HasFreed : {T : Type 0} → Leaver → List (Act T) → Type 0
-HasFreed leavers.Reader done = done ≡ acts.Add words.State 3 ((3 + (2 ^ 64 - 2)) % 2 ^ 64) ∷ []
-HasFreed leavers.Writer done = done ≡ acts.Store words.State 0 ∷ []
-HasFreed leavers.GivenUp done = Unit {0}
+HasFreed Leaver.Reader done = done ≡ Act.Add Word.State 3 ((3 + (2 ^ 64 - 2)) % 2 ^ 64) ∷ []
+HasFreed Leaver.Writer done = done ≡ Act.Store Word.State 0 ∷ []
+HasFreed Leaver.GivenUp done = Unit {0}
 
 abbrev pub HasCounted : {T : Type 0} → Leaver → List (Act T) → Type 0
-HasCounted {T} who done = (count : ℕ) × (before : List (Act T)) × HasFreed who before × (done ≡ acts.Add words.Counter count ((count + 1) % 2 ^ 64) ∷ before)
+HasCounted {T} who done = (count : ℕ) × (before : List (Act T)) × HasFreed who before × (done ≡ Act.Add Word.Counter count ((count + 1) % 2 ^ 64) ∷ before)
 
 abbrev pub HasWokenOne : {T : Type 0} → Leaver → List (Act T) → Type 0
-HasWokenOne leavers.Reader done = ⊥
-HasWokenOne {T} who done = (before : List (Act T)) × HasCounted who before × (done ≡ acts.Woke wakes.One ∷ before)
+HasWokenOne Leaver.Reader done = ⊥
+HasWokenOne {T} who done = (before : List (Act T)) × HasCounted who before × (done ≡ Act.Woke Wake.One ∷ before)
 
 -- and at each place where it leaves it has no hold any more, and asks nobody
 abbrev pub IsLeaving : {T : Type 0} → RwWriterPlace → List (Event T) → Option HoldKind → Type 0
-IsLeaving places.Release own hold = own ≡ []
-IsLeaving (places.Count who) own hold = (hold ≡ None) × (latest_outcome own ≡ thens.GoesOn) × HasFreed who (acts_of own)
-IsLeaving (places.WakeOne who) own hold = (hold ≡ None) × (latest_outcome own ≡ thens.GoesOn) × HasCounted who (acts_of own)
-IsLeaving (places.WakeAll who) own hold = (hold ≡ None) × (latest_outcome own ≡ thens.GoesOn) × HasWokenOne who (acts_of own)
+IsLeaving RwWriterPlace.Release own hold = own ≡ []
+IsLeaving (RwWriterPlace.Count who) own hold = (hold ≡ None) × (latest_outcome own ≡ Then.GoesOn) × HasFreed who (acts_of own)
+IsLeaving (RwWriterPlace.WakeOne who) own hold = (hold ≡ None) × (latest_outcome own ≡ Then.GoesOn) × HasCounted who (acts_of own)
+IsLeaving (RwWriterPlace.WakeAll who) own hold = (hold ≡ None) × (latest_outcome own ≡ Then.GoesOn) × HasWokenOne who (acts_of own)
 IsLeaving other own hold = Unit {0}
 
 abbrev pub IsAnswering : {T : Type 0} → RwWriterPlace → PendingCall T → Option HoldKind → Type 0
@@ -76,12 +54,12 @@ begins_leaving call place hold h1 = grind (arith, nat_tests, eqb-true, eqb-false
 
 answered_leaving :
     {T : Type 0} (place : RwWriterPlace) (own : List (Event T)) (hold : Option HoldKind) (action : WaitAction) (number : ℕ) → IsLeaving place own hold → answer_fault (latest_outcome own) ≡ None →
-    IsLeaving (rw_writer_answered place action) (event number (acts.Answered action) thens.GoesOn ∷ own) hold
+    IsLeaving (rw_writer_answered place action) (event number (Act.Answered action) Then.GoesOn ∷ own) hold
 answered_leaving place own hold action number h1 h2 = grind (arith, nat_tests, eqb-true, eqb-false)
 
 chosen_leaving :
     {T : Type 0} (place : RwWriterPlace) (own : List (Event T)) (hold : Option HoldKind) (choice : Option T) (number : ℕ) → IsLeaving place own hold → choose_fault (latest_outcome own) ≡ None →
-    IsLeaving place (event number (acts.Chosen choice) thens.GoesOn ∷ own) hold
+    IsLeaving place (event number (Act.Chosen choice) Then.GoesOn ∷ own) hold
 chosen_leaving place own hold choice number h1 h2 = grind (arith, nat_tests, eqb-true, eqb-false)
 
 pub answering_kept : {T : Type 0} → IsKept {T = T} rw_writer_table IsAnswering

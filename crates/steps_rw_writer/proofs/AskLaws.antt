@@ -1,18 +1,8 @@
 -- No call of a writer-preferring lock spins more than 10000 times.
-use Rattle.std.proofs.Common.{◌≡◌, ℕ, ◌≤◌, sym, subst, true, false, List, [], ◌∷◌, Option, arith}
-use Rattle.steps_events.specs.declared.event.Call.{Call}
-use Rattle.steps_events.specs.declared.event.Call.TheVariants as calls
-use Rattle.steps_events.specs.declared.event.Event.{Event}
-use Rattle.steps_events.specs.declared.hold.HoldKind.{HoldKind}
-use Rattle.steps_events.specs.Arithmetic.{Arithmetic}
-use Rattle.steps_events.specs.Past.{PendingCall}
-use Rattle.steps_events.specs.Runs.{IsPast}
-use Rattle.steps_events.specs.Asks.{SpinsNoMore}
-use Rattle.steps_events.proofs.Asks.{spins_no_more, last_try_bounded, both_kept}
+use Rattle.steps_rw_writer.specs.Names.{Call, Event, HoldKind, Arithmetic, PendingCall, IsPast, SpinsNoMore}
+use Rattle.steps_rw_writer.proofs.Names.{◌≡◌, ℕ, ◌≤◌, sym, subst, true, false, List, [], ◌∷◌, Option, arith, spins_no_more, last_try_bounded, both_kept}
 use Rattle.steps_rw_writer.specs.declared.Leaver.{Leaver}
-use Rattle.steps_rw_writer.specs.declared.Leaver.TheVariants as leavers
 use Rattle.steps_rw_writer.specs.declared.RwWriterPlace.{RwWriterPlace}
-use Rattle.steps_rw_writer.specs.declared.RwWriterPlace.TheVariants as places
 use Rattle.steps_rw_writer.specs.Table.{rw_writer_table}
 use Rattle.steps_rw_writer.specs.Law.{write_spins_in, spins_on}
 use Rattle.steps_rw_writer.proofs.PlaceLaws.{AtRwWriter, IsLeaver, rw_writer_kept}
@@ -26,36 +16,36 @@ settled_fewer [] most bounded = bounded
 settled_fewer (e ∷ own) most bounded = omega (arith, bounded)
 
 -- of a writer that tries
-tries_bounded : {T : Type 0} (c : PendingCall T) → c.call ≡ calls.WriteLock → write_spins_in true c.own ≤ 10000 → spins_on c.call c.own ≤ 10000
+tries_bounded : {T : Type 0} (c : PendingCall T) → c.call ≡ Call.WriteLock → write_spins_in true c.own ≤ 10000 → spins_on c.call c.own ≤ 10000
 tries_bounded {T} c write bounded = subst (λ (k : Call T). spins_on k c.own ≤ 10000) (sym write) (last_try_bounded c.own (write_spins_in true c.own) bounded)
 
 -- of one that gives up
-gives_up_bounded : {T : Type 0} (c : PendingCall T) → c.call ≡ calls.WriteLock → GivesUp c.own → spins_on c.call c.own ≤ 10000
+gives_up_bounded : {T : Type 0} (c : PendingCall T) → c.call ≡ Call.WriteLock → GivesUp c.own → spins_on c.call c.own ≤ 10000
 gives_up_bounded {T} c write gave =
     let settled : write_spins_in true c.own ≤ 10001 = settled_fewer c.own 10001 gave.1 in
     subst (λ (k : Call T). spins_on k c.own ≤ 10000) (sym write) (rw gave.0 (omega (arith, settled)))
 
 leaver_bounded : {T : Type 0} (who : Leaver) (c : PendingCall T) → IsLeaver who c → Leaves who c.own → spins_on c.call c.own ≤ 10000
-leaver_bounded {T} leavers.Reader c is leaves = subst (λ (k : Call T). spins_on k c.own ≤ 10000) (sym is) (omega arith)
-leaver_bounded {T} leavers.Writer c is leaves = subst (λ (k : Call T). spins_on k c.own ≤ 10000) (sym is) (omega arith)
-leaver_bounded leavers.GivenUp c is leaves = gives_up_bounded c is.0 leaves
+leaver_bounded {T} Leaver.Reader c is leaves = subst (λ (k : Call T). spins_on k c.own ≤ 10000) (sym is) (omega arith)
+leaver_bounded {T} Leaver.Writer c is leaves = subst (λ (k : Call T). spins_on k c.own ≤ 10000) (sym is) (omega arith)
+leaver_bounded Leaver.GivenUp c is leaves = gives_up_bounded c is.0 leaves
 
 spins_bounded : {T : Type 0} (place : RwWriterPlace) (c : PendingCall T) (hold : Option HoldKind) → AtRwWriter place c hold × HasSpunAt place c hold → spins_on c.call c.own ≤ 10000
-spins_bounded {T} places.TryReadLook c hold at = subst (λ (k : Call T). spins_on k c.own ≤ 10000) (sym at.0.0) (omega arith)
-spins_bounded {T} (places.TryRead seen to) c hold at = subst (λ (k : Call T). spins_on k c.own ≤ 10000) (sym at.0.0) (omega arith)
-spins_bounded {T} (places.ReadLook patience) c hold at = subst (λ (k : Call T). spins_on k c.own ≤ 10000) (sym at.0.0) (omega (arith, at.1.1.spun, at.1.1.within_limit))
-spins_bounded {T} (places.Read seen to patience) c hold at = subst (λ (k : Call T). spins_on k c.own ≤ 10000) (sym at.0.0) (omega (arith, at.1.1.spun, at.1.1.within_limit))
-spins_bounded {T} places.TryWrite c hold at = subst (λ (k : Call T). spins_on k c.own ≤ 10000) (sym at.0.0) (omega arith)
-spins_bounded (places.WriteLook patience) c hold at = tries_bounded c at.0.0 (settled_fewer c.own 10000 (omega (arith, at.1.1.0, at.1.1.1)))
-spins_bounded (places.Enter seen patience) c hold at = tries_bounded c at.0.0 (settled_fewer c.own 10000 (omega (arith, at.1.1.0, at.1.1.1)))
-spins_bounded (places.Mark seen to patience) c hold at = tries_bounded c at.0.0 (settled_fewer c.own 10000 (omega (arith, at.1.1.0, at.1.1.1)))
-spins_bounded (places.Unmark seen to) c hold at = gives_up_bounded c at.0.0 at.1.1
-spins_bounded (places.LoadCounter patience) c hold at = tries_bounded c at.0.0 (omega (arith, at.1.1.0))
-spins_bounded (places.LastLook count patience) c hold at = tries_bounded c at.0.0 (settled_fewer c.own 10000 (omega (arith, at.1.1.0)))
-spins_bounded {T} places.Release c hold at = subst (λ (k : Call T). spins_on k c.own ≤ 10000) (sym at.0.0) (omega arith)
-spins_bounded (places.Count who) c hold at = leaver_bounded who c at.0 at.1
-spins_bounded (places.WakeOne who) c hold at = leaver_bounded who c at.0 at.1
-spins_bounded (places.WakeAll who) c hold at = leaver_bounded who c at.0 at.1
+spins_bounded {T} RwWriterPlace.TryReadLook c hold at = subst (λ (k : Call T). spins_on k c.own ≤ 10000) (sym at.0.0) (omega arith)
+spins_bounded {T} (RwWriterPlace.TryRead seen to) c hold at = subst (λ (k : Call T). spins_on k c.own ≤ 10000) (sym at.0.0) (omega arith)
+spins_bounded {T} (RwWriterPlace.ReadLook patience) c hold at = subst (λ (k : Call T). spins_on k c.own ≤ 10000) (sym at.0.0) (omega (arith, at.1.1.spun, at.1.1.within_limit))
+spins_bounded {T} (RwWriterPlace.Read seen to patience) c hold at = subst (λ (k : Call T). spins_on k c.own ≤ 10000) (sym at.0.0) (omega (arith, at.1.1.spun, at.1.1.within_limit))
+spins_bounded {T} RwWriterPlace.TryWrite c hold at = subst (λ (k : Call T). spins_on k c.own ≤ 10000) (sym at.0.0) (omega arith)
+spins_bounded (RwWriterPlace.WriteLook patience) c hold at = tries_bounded c at.0.0 (settled_fewer c.own 10000 (omega (arith, at.1.1.0, at.1.1.1)))
+spins_bounded (RwWriterPlace.Enter seen patience) c hold at = tries_bounded c at.0.0 (settled_fewer c.own 10000 (omega (arith, at.1.1.0, at.1.1.1)))
+spins_bounded (RwWriterPlace.Mark seen to patience) c hold at = tries_bounded c at.0.0 (settled_fewer c.own 10000 (omega (arith, at.1.1.0, at.1.1.1)))
+spins_bounded (RwWriterPlace.Unmark seen to) c hold at = gives_up_bounded c at.0.0 at.1.1
+spins_bounded (RwWriterPlace.LoadCounter patience) c hold at = tries_bounded c at.0.0 (omega (arith, at.1.1.0))
+spins_bounded (RwWriterPlace.LastLook count patience) c hold at = tries_bounded c at.0.0 (settled_fewer c.own 10000 (omega (arith, at.1.1.0)))
+spins_bounded {T} RwWriterPlace.Release c hold at = subst (λ (k : Call T). spins_on k c.own ≤ 10000) (sym at.0.0) (omega arith)
+spins_bounded (RwWriterPlace.Count who) c hold at = leaver_bounded who c at.0 at.1
+spins_bounded (RwWriterPlace.WakeOne who) c hold at = leaver_bounded who c at.0 at.1
+spins_bounded (RwWriterPlace.WakeAll who) c hold at = leaver_bounded who c at.0 at.1
 
 pub spins_at_most : {T : Type 0} (z : Arithmetic T) (parties : ℕ) (past : List (Event T)) → IsPast z rw_writer_table parties past → SpinsNoMore spins_on past
 spins_at_most z parties past run =

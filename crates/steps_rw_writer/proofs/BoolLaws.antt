@@ -1,8 +1,5 @@
 -- What tests say that were made of the same value, or of two.
-use Rattle.std.proofs.lemmas.Bool.{eqb-false}
-use Rattle.std.proofs.lemmas.Bool.{eqb-true}
-use Rattle.std.proofs.lemmas.Bool.Decides.{nat_tests}
-use Rattle.std.proofs.Common.{◌≡◌, sym, ◌∙◌, Bool, true, false, cond, ◌||◌, arith}
+use Rattle.steps_rw_writer.proofs.Names.{eqb-false, eqb-true, nat_tests, ◌≡◌, sym, ◌∙◌, Bool, true, false, cond, ◌||◌, arith}
 
 pub clash : {A : Type 0} (b : Bool) → b ≡ true → b ≡ false → A
 clash b is also = let no : true ≡ false = sym is ∙ also in absurd cc

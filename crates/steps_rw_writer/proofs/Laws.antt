@@ -1,32 +1,7 @@
 -- A writer-preferring lock keeps its law at every front of every run.
-use Rattle.std.proofs.lemmas.Bool.{eqb-false}
-use Rattle.std.proofs.lemmas.Bool.{eqb-true}
-use Rattle.std.proofs.lemmas.Bool.Decides.{nat_tests}
-use Rattle.std.proofs.Common.{◌≡◌, ◌≢◌, ℕ, ◌==◌, refl, sym, ◌∙◌, ap, subst, Bool, true, false, cond, is_some, List, [], ◌∷◌, Option, Some, None, ◌⊎◌, inl, inr, arith}
-use Rattle.std.specs.Prelude.{MatchOption}
-use Rattle.std.proofs.lemmas.Bool.Decides.{eqb_tells}
-use Rattle.steps_events.specs.declared.WaitAction.{WaitAction}
-use Rattle.steps_events.specs.declared.event.Word.{Word}
-use Rattle.steps_events.specs.declared.event.Word.TheVariants as words
-use Rattle.steps_events.specs.declared.event.Call.TheVariants as calls
-use Rattle.steps_events.specs.declared.event.Act.{Act}
-use Rattle.steps_events.specs.declared.event.Act.TheVariants as acts
-use Rattle.steps_events.specs.declared.event.Event.{Event}
-use Rattle.steps_events.specs.declared.hold.HoldKind.{HoldKind}
-use Rattle.steps_events.specs.declared.row.After.{After}
-use Rattle.steps_events.specs.declared.row.After.TheVariants as afters
-use Rattle.steps_events.specs.Arithmetic.{Arithmetic}
-use Rattle.steps_events.specs.Rows.{carried_out, value_told, place_after}
-use Rattle.steps_events.specs.Past.{same_word, PendingCall, call_of, call_after, Hold, holds_of, hold_of, word_in, word_after, event}
-use Rattle.steps_events.specs.Moves.{Move, step_at, stage_of}
-use Rattle.steps_events.specs.Runs.{IsPast}
-use Rattle.steps_events.specs.Laws.{Lacks}
-use Rattle.steps_events.proofs.Holds.{call_of_same, call_of_other}
-use Rattle.steps_events.proofs.Locks.{holds_after}
-use Rattle.steps_events.proofs.Steps.{by_move}
-use Rattle.steps_events.proofs.Parties.{fault_at_none}
+use Rattle.steps_rw_writer.specs.Names.{MatchOption, WaitAction, Word, Call, Act, Event, HoldKind, After, Arithmetic, carried_out, value_told, place_after, same_word, PendingCall, call_of, call_after, Hold, holds_of, hold_of, word_in, word_after, event, Move, step_at, stage_of, IsPast, Lacks}
+use Rattle.steps_rw_writer.proofs.Names.{eqb-false, eqb-true, nat_tests, ◌≡◌, ◌≢◌, ℕ, ◌==◌, refl, sym, ◌∙◌, ap, subst, Bool, true, false, cond, is_some, List, [], ◌∷◌, Option, Some, None, ◌⊎◌, inl, inr, arith, eqb_tells, call_of_same, call_of_other, holds_after, by_move, fault_at_none}
 use Rattle.steps_rw_writer.specs.declared.RwWriterPlace.{RwWriterPlace}
-use Rattle.steps_rw_writer.specs.declared.RwWriterPlace.TheVariants as places
 use Rattle.steps_rw_writer.specs.Table.{is_marked, is_mark, rw_writer_table, rw_writer_answered}
 use Rattle.steps_rw_writer.specs.Marks.{is_writing, setter_after, setter_of, sets_mark, has_marked}
 use Rattle.steps_rw_writer.specs.Law.{CountsHolds, IsSetter, SetterIsUnderWay}
@@ -38,13 +13,13 @@ use Rattle.steps_rw_writer.proofs.PlaceLaws.{AtRwWriter, writer_intent, here}
 
 pub event_keeps :
     {T : Type 0} (z : Arithmetic T) (parties : ℕ) (past : List (Event T)) (e : Event T) → IsPast z rw_writer_table parties (e ∷ past) →
-    IsKeptWord (word_in rw_writer_table past words.State) (holds_of rw_writer_table past) (is_some (setter_of past)) →
-    Keeps (holds_of rw_writer_table past) (is_some (setter_of past)) (word_in rw_writer_table (e ∷ past) words.State) (holds_of rw_writer_table (e ∷ past)) (is_some (setter_of (e ∷ past)))
+    IsKeptWord (word_in rw_writer_table past Word.State) (holds_of rw_writer_table past) (is_some (setter_of past)) →
+    Keeps (holds_of rw_writer_table past) (is_some (setter_of past)) (word_in rw_writer_table (e ∷ past) Word.State) (holds_of rw_writer_table (e ∷ past)) (is_some (setter_of (e ∷ past)))
 event_keeps {T} z parties past e run before =
-    let same = unchanged (word_in rw_writer_table past words.State) (holds_of rw_writer_table past) (is_some (setter_of past)) before in
+    let same = unchanged (word_in rw_writer_table past Word.State) (holds_of rw_writer_table past) (is_some (setter_of past)) before in
     by_move rw_writer_table (call_of e.party past) (hold_of rw_writer_table e.party past) (word_in rw_writer_table past)
     (λ (k : Option (PendingCall T)) (x : Move T).
-    Keeps (holds_of rw_writer_table past) (is_some (setter_of past)) (word_after words.State x.act (word_in rw_writer_table past words.State)) (holds_after rw_writer_table e.party k x.act (holds_of rw_writer_table past))
+    Keeps (holds_of rw_writer_table past) (is_some (setter_of past)) (word_after Word.State x.act (word_in rw_writer_table past Word.State)) (holds_after rw_writer_table e.party k x.act (holds_of rw_writer_table past))
     (is_some (setter_after e.party x.act k (setter_of past))))
     run.0.0 (record { act = e.act; outcome = e.then }) (λ call _. same) (λ action _. same) (λ choice _. same)
     (λ c place _ called stage.
@@ -54,7 +29,7 @@ event_keeps {T} z parties past e run before =
 
 pub writer_lock_word :
     {T : Type 0} (z : Arithmetic T) (parties : ℕ) (past : List (Event T)) → IsPast z rw_writer_table parties past →
-    IsKeptWord (word_in rw_writer_table past words.State) (holds_of rw_writer_table past) (is_some (setter_of past))
+    IsKeptWord (word_in rw_writer_table past Word.State) (holds_of rw_writer_table past) (is_some (setter_of past))
 writer_lock_word z parties [] run = nobody
 writer_lock_word z parties (e ∷ past) run = (event_keeps z parties past e run (writer_lock_word z parties past run.1)).kept
 
@@ -68,19 +43,19 @@ marked_at past w holds law set = marked_word w holds (subst (λ m. CountsHolds w
 -- Who set the mark last is under way, and at a place from where it takes its mark away before it ends.
 
 abbrev pub is_live : RwWriterPlace → Bool
-is_live (places.WriteLook patience) = true
-is_live (places.Enter seen patience) = true
-is_live (places.Mark seen to patience) = true
-is_live (places.Unmark seen to) = true
-is_live (places.LoadCounter patience) = true
-is_live (places.LastLook count patience) = true
+is_live (RwWriterPlace.WriteLook patience) = true
+is_live (RwWriterPlace.Enter seen patience) = true
+is_live (RwWriterPlace.Mark seen to patience) = true
+is_live (RwWriterPlace.Unmark seen to) = true
+is_live (RwWriterPlace.LoadCounter patience) = true
+is_live (RwWriterPlace.LastLook count patience) = true
 is_live place = false
 
 abbrev IsLiveAfter : {T : Type 0} → After T RwWriterPlace → Type 0
-IsLiveAfter (afters.At place) = is_live place ≡ true
-IsLiveAfter (afters.Waits place seen) = is_live place ≡ true
-IsLiveAfter (afters.Chooses place old) = is_live place ≡ true
-IsLiveAfter (afters.Ends answer) = ⊥
+IsLiveAfter (After.At place) = is_live place ≡ true
+IsLiveAfter (After.Waits place seen) = is_live place ≡ true
+IsLiveAfter (After.Chooses place old) = is_live place ≡ true
+IsLiveAfter (After.Ends answer) = ⊥
 
 -- while the mark is set, a writer that gives up takes it away
 
@@ -101,7 +76,7 @@ other_by false marks r p setter other is = is
 -- the mark of another is as it was
 setter_other : {T : Type 0} (r p : ℕ) (act : Act T) (pending : Option (PendingCall T)) (setter : Option ℕ) → p ≢ r → setter_after r act pending setter ≡ Some p → setter ≡ Some p
 unfolding setter_by
-setter_other r p (acts.Exchange words.State from to found true) (Some c) setter other is = other_by (is_writing c.call) (is_mark from to) r p setter other is
+setter_other r p (Act.Exchange Word.State from to found true) (Some c) setter other is = other_by (is_writing c.call) (is_mark from to) r p setter other is
 setter_other r p act pending setter other is = is
 
 new_by : (writes marks : Bool) (r : ℕ) (setter : Option ℕ) → setter_by writes marks r setter ≡ Some r → (setter ≡ Some r) ⊎ (marks ≡ true)
@@ -113,7 +88,7 @@ new_by false marks r setter is = inl is
 -- one's own was set before, or by this act
 setter_new : {T : Type 0} (r : ℕ) (act : Act T) (pending : Option (PendingCall T)) (setter : Option ℕ) → setter_after r act pending setter ≡ Some r → (setter ≡ Some r) ⊎ (sets_mark act ≡ true)
 unfolding setter_by
-setter_new r (acts.Exchange words.State from to found true) (Some c) setter is = new_by (is_writing c.call) (is_mark from to) r setter is
+setter_new r (Act.Exchange Word.State from to found true) (Some c) setter is = new_by (is_writing c.call) (is_mark from to) r setter is
 setter_new r act pending setter is = inl is
 
 -- the exchange of a writing call for anything but one more takes the mark away
@@ -123,7 +98,7 @@ setter_new r act pending setter is = inl is
 -- at a place that is not live nothing sets the mark
 
 step_live :
-    {T : Type 0} (r : ℕ) (place : RwWriterPlace) (c : PendingCall T) (hold : Option HoldKind) (memory : Word → ℕ) (setter : Option ℕ) → AtRwWriter place c hold → (setter ≡ Some r → is_live place ≡ true) → (setter ≡ Some r → is_marked (memory words.State) ≡ true) →
+    {T : Type 0} (r : ℕ) (place : RwWriterPlace) (c : PendingCall T) (hold : Option HoldKind) (memory : Word → ℕ) (setter : Option ℕ) → AtRwWriter place c hold → (setter ≡ Some r → is_live place ≡ true) → (setter ≡ Some r → is_marked (memory Word.State) ≡ true) →
     setter_after r (step_at rw_writer_table place hold memory).act (Some c) setter ≡ Some r → IsLiveAfter {T = T} (rw_writer_table.after place (value_told {T = T} (carried_out (rw_writer_table.intent place hold) memory)))
 step_live r place c hold memory setter h1 h2 h3 h4 = grind (arith, nat_tests, eqb-true, eqb-false)
 
@@ -188,7 +163,7 @@ own_setter {T} z parties past e run before set =
         stepped_setter e.party c place hold memory stage
         (λ d is. marked_by act d c (setter_of past ≡ Some e.party) is (λ set_before. (fact_here (HasSet {T = T}) c place stage (was set_before)).marked) (setter_new e.party act (Some c) (setter_of past) sets))
         (step_live e.party place c hold memory (setter_of past) (here z parties past run.1 e.party c place called stage) (λ set_before. (fact_here (HasSet {T = T}) c place stage (was set_before)).live)
-        (λ set_before. marked_at past (memory words.State) (holds_of rw_writer_table past) word.counts (ap is_some set_before)) sets)
+        (λ set_before. marked_at past (memory Word.State) (holds_of rw_writer_table past) word.counts (ap is_some set_before)) sets)
 
 setter_at : {T : Type 0} (z : Arithmetic T) (parties : ℕ) (past : List (Event T)) → IsPast z rw_writer_table parties past → (p : ℕ) → setter_of past ≡ Some p → SetterAt (call_of p past)
 setter_at z parties [] run p is = absurd cc
@@ -204,7 +179,7 @@ setter_at {T} z parties (e ∷ past) run p is = by_party (setter_at z parties pa
         let was : SetterAt (call_of p past) = before p (setter_other e.party p e.act (call_of e.party past) (setter_of past) apart is) in
         subst (λ (k : Option (PendingCall T)). SetterAt k) (sym (call_of_other e.party p e.act e.then past apart)) was
 
-live_calls : {T : Type 0} (place : RwWriterPlace) (c : PendingCall T) (hold : Option HoldKind) → is_live place ≡ true → AtRwWriter place c hold → c.call ≡ calls.WriteLock
+live_calls : {T : Type 0} (place : RwWriterPlace) (c : PendingCall T) (hold : Option HoldKind) → is_live place ≡ true → AtRwWriter place c hold → c.call ≡ Call.WriteLock
 live_calls place c hold h1 h2 = grind (arith, nat_tests, eqb-true, eqb-false)
 
 pub setter_is_under_way : {T : Type 0} (z : Arithmetic T) (parties : ℕ) (past : List (Event T)) → IsPast z rw_writer_table parties past → SetterIsUnderWay past
@@ -214,9 +189,9 @@ setter_is_under_way {T} z parties past run = by_setter (setter_of past) refl
     by_setter None is = tt
     by_setter (Some p) is =
         let setter = setter_at z parties past run p is in
-        let writes : setter.call.call ≡ calls.WriteLock = live_calls setter.place setter.call (hold_of rw_writer_table p past) setter.fact.live (here z parties past run p setter.call setter.place setter.under_way setter.stage) in
+        let writes : setter.call.call ≡ Call.WriteLock = live_calls setter.place setter.call (hold_of rw_writer_table p past) setter.fact.live (here z parties past run p setter.call setter.place setter.under_way setter.stage) in
         rw setter.under_way (writes, setter.fact.marked)
 
 -- a writer-preferring lock has no words but its own and its wake counter
-pub rw_writer_lacks : (T : Type 0) (word : Word) → same_word words.State word ≡ false → same_word words.Counter word ≡ false → Lacks {T = T} rw_writer_table word
+pub rw_writer_lacks : (T : Type 0) (word : Word) → same_word Word.State word ≡ false → same_word Word.Counter word ≡ false → Lacks {T = T} rw_writer_table word
 rw_writer_lacks T word h1 h2 = grind (arith, nat_tests, eqb-true, eqb-false)

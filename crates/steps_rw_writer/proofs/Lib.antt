@@ -1,3 +1,4 @@
+pub mod Names
 pub mod BoolLaws
 pub mod WordLaws
 pub mod LookLaws

@@ -1,22 +1,17 @@
 -- Where a writer goes on after a look: what holds of each place there, and of giving up, holds wherever the look leads.
-use Rattle.std.proofs.Common.{ℕ, ◌+◌, ◌-◌}
-use Rattle.std.specs.Prelude.{nat_lt}
-use Rattle.steps_events.specs.declared.event.Answer.TheVariants as answers
-use Rattle.steps_events.specs.declared.patience.Patience.{Patience}
-use Rattle.steps_events.specs.declared.row.After.{After}
-use Rattle.steps_events.specs.declared.row.After.TheVariants as afters
+use Rattle.steps_rw_writer.specs.Names.{nat_lt, Answer, Patience, After}
+use Rattle.steps_rw_writer.proofs.Names.{ℕ, ◌+◌, ◌-◌}
 use Rattle.steps_rw_writer.specs.declared.RwWriterPlace.{RwWriterPlace}
-use Rattle.steps_rw_writer.specs.declared.RwWriterPlace.TheVariants as places
 use Rattle.steps_rw_writer.specs.Table.{lets_writer_in, lets_mark, is_marked, is_blocked, spins, marks_or_spins, unmarks_or_leaves, write_refused, write_look, last_look}
 use Rattle.steps_rw_writer.proofs.BoolLaws.{either}
 
 pub record HoldsOn {T : Type 0} (Holds : After T RwWriterPlace → Type 0) : Type 0 where
-  pub looks : (patience : Patience) → Holds (afters.At (places.WriteLook patience))
-  pub loads : (patience : Patience) → Holds (afters.At (places.LoadCounter patience))
-  pub marks : (v to : ℕ) (patience : Patience) → Holds (afters.At (places.Mark v to patience))
-  pub unmarks : (v to : ℕ) → Holds (afters.At (places.Unmark v to))
-  pub enters : (v : ℕ) (patience : Patience) → Holds (afters.At (places.Enter v patience))
-  pub leaves : Holds (afters.Ends answers.Interrupted)
+  pub looks : (patience : Patience) → Holds (After.At (RwWriterPlace.WriteLook patience))
+  pub loads : (patience : Patience) → Holds (After.At (RwWriterPlace.LoadCounter patience))
+  pub marks : (v to : ℕ) (patience : Patience) → Holds (After.At (RwWriterPlace.Mark v to patience))
+  pub unmarks : (v to : ℕ) → Holds (After.At (RwWriterPlace.Unmark v to))
+  pub enters : (v : ℕ) (patience : Patience) → Holds (After.At (RwWriterPlace.Enter v patience))
+  pub leaves : Holds (After.Ends Answer.Interrupted)
 
 pub of_spins : {T : Type 0} (Holds : After T RwWriterPlace → Type 0) → HoldsOn Holds → (patience : Patience) → Holds (spins patience)
 of_spins Holds on patience = either Holds (nat_lt patience.spins 10000) _ _ (on.looks _) (on.loads patience)
@@ -35,5 +30,5 @@ of_look Holds on patience v = either Holds (lets_writer_in v) _ _ (on.enters v p
 
 -- after the last look it may also stand
 pub of_last_look :
-    {T : Type 0} (Holds : After T RwWriterPlace → Type 0) → HoldsOn Holds → (count : ℕ) (patience : Patience) (v : ℕ) → Holds (afters.Waits (places.WriteLook patience) count) → Holds (last_look count patience v)
+    {T : Type 0} (Holds : After T RwWriterPlace → Type 0) → HoldsOn Holds → (count : ℕ) (patience : Patience) (v : ℕ) → Holds (After.Waits (RwWriterPlace.WriteLook patience) count) → Holds (last_look count patience v)
 of_last_look Holds on count patience v stands = either Holds (is_blocked v) _ _ stands (of_look Holds on patience v)

@@ -1,23 +1,6 @@
 -- A writer stands only where the lock is blocked.
-use Rattle.std.proofs.lemmas.Bool.{eqb-false}
-use Rattle.std.proofs.lemmas.Bool.{eqb-true}
-use Rattle.std.proofs.lemmas.Bool.Decides.{nat_tests}
-use Rattle.std.proofs.Common.{◌≡◌, ℕ, refl, ◌∙◌, Bool, true, false, List, ◌∷◌, Option, Some, ◌⊎◌, arith}
-use Rattle.std.specs.Prelude.{MatchBool, MatchOption}
-use Rattle.steps_events.specs.declared.event.Word.{Word}
-use Rattle.steps_events.specs.declared.event.Word.TheVariants as words
-use Rattle.steps_events.specs.declared.event.Call.TheVariants as calls
-use Rattle.steps_events.specs.declared.event.Act.{Act}
-use Rattle.steps_events.specs.declared.event.Event.{Event}
-use Rattle.steps_events.specs.declared.hold.HoldKind.{HoldKind}
-use Rattle.steps_events.specs.declared.row.After.{After}
-use Rattle.steps_events.specs.Arithmetic.{Arithmetic}
-use Rattle.steps_events.specs.Rows.{value_told, outcome_of}
-use Rattle.steps_events.specs.Past.{PendingCall, call_of, hold_of, word_in}
-use Rattle.steps_events.specs.Moves.{Move, step_at, stage_of}
-use Rattle.steps_events.specs.Runs.{IsPast}
-use Rattle.steps_events.specs.Sights.{is_sight, stands_at_wait}
-use Rattle.steps_events.proofs.Steps.{by_move}
+use Rattle.steps_rw_writer.specs.Names.{MatchBool, MatchOption, Word, Call, Act, Event, HoldKind, After, Arithmetic, value_told, outcome_of, PendingCall, call_of, hold_of, word_in, Move, step_at, stage_of, IsPast, is_sight, stands_at_wait}
+use Rattle.steps_rw_writer.proofs.Names.{eqb-false, eqb-true, nat_tests, ◌≡◌, ℕ, refl, ◌∙◌, Bool, true, false, List, ◌∷◌, Option, Some, ◌⊎◌, arith, by_move}
 use Rattle.steps_rw_writer.specs.declared.RwWriterPlace.{RwWriterPlace}
 use Rattle.steps_rw_writer.specs.Table.{is_blocked, rw_writer_table}
 use Rattle.steps_rw_writer.specs.Debts.{is_blocked_after}
@@ -29,12 +12,12 @@ use Rattle.steps_rw_writer.proofs.DebtLaws.{IsPlain, LoadsCount, StandsNow, writ
 
 -- what the law says of a move of the party
 abbrev StandsBy : {T : Type 0} → Bool → Option (PendingCall T) → Move T → Type 0
-StandsBy blocked pending x = MatchBool (stands_at_wait x.outcome) (MatchOption pending ⊥ (λ c. c.call ≡ calls.WriteLock → (is_sight words.State x.act ≡ true) × (blocked ≡ true))) (Unit {0})
+StandsBy blocked pending x = MatchBool (stands_at_wait x.outcome) (MatchOption pending ⊥ (λ c. c.call ≡ Call.WriteLock → (is_sight Word.State x.act ≡ true) × (blocked ≡ true))) (Unit {0})
 
 -- of all that a writer does only its last look stands
 step_stands :
     {T : Type 0} (counter w : ℕ) (place : RwWriterPlace) (act : Act T) (a : After T RwWriterPlace) → IsPlain a ⊎ (LoadsCount counter act a ⊎ StandsNow w place act a) → stands_at_wait (outcome_of a) ≡ true →
-    (is_sight words.State act ≡ true) × (is_blocked w ≡ true)
+    (is_sight Word.State act ≡ true) × (is_blocked w ≡ true)
 step_stands counter w place act a h1 h2 = grind (arith, nat_tests, eqb-true, eqb-false)
 
 pub event_stands : {T : Type 0} (z : Arithmetic T) (parties : ℕ) (past : List (Event T)) (e : Event T) → IsPast z rw_writer_table parties (e ∷ past) → StandsWhereBlocked (e ∷ past)
@@ -60,11 +43,11 @@ event_stands {T} z parties past e run =
         a : After T RwWriterPlace
         a = rw_writer_table.after place (value_told act)
 
-        seen : stands_at_wait (outcome_of a) ≡ true → c.call ≡ calls.WriteLock → (is_sight words.State act ≡ true) × (is_blocked_after past ≡ true)
+        seen : stands_at_wait (outcome_of a) ≡ true → c.call ≡ Call.WriteLock → (is_sight Word.State act ≡ true) × (is_blocked_after past ≡ true)
         seen stands writes =
-            let so = step_stands (memory words.Counter) (memory words.State) place act a (write_step place c hold memory (here z parties past run.1 e.party c place called stage) writes) stands in
+            let so = step_stands (memory Word.Counter) (memory Word.State) place act a (write_step place c hold memory (here z parties past run.1 e.party c place called stage) writes) stands in
             (so.0, blocked_at z parties past run.1 ∙ so.1)
 
-        by_test : (b : Bool) → stands_at_wait (outcome_of a) ≡ b → MatchBool b (c.call ≡ calls.WriteLock → (is_sight words.State act ≡ true) × (is_blocked_after past ≡ true)) (Unit {0})
+        by_test : (b : Bool) → stands_at_wait (outcome_of a) ≡ b → MatchBool b (c.call ≡ Call.WriteLock → (is_sight Word.State act ≡ true) × (is_blocked_after past ≡ true)) (Unit {0})
         by_test true stands = seen stands
         by_test false stands = tt

@@ -1,35 +1,8 @@
 -- How often a call of a writer-preferring lock has spun, at each of its places.
-use Rattle.std.proofs.lemmas.Bool.{eqb-false}
-use Rattle.std.proofs.lemmas.Bool.{eqb-true}
-use Rattle.std.proofs.lemmas.Bool.Decides.{nat_tests}
-use Rattle.std.proofs.Common.{◌≡◌, ℕ, ◌-◌, ◌^◌, ◌≤◌, Bool, true, false, List, [], ◌∷◌, Option, Some, None, arith}
-use Rattle.steps_events.specs.declared.WaitAction.{WaitAction}
-use Rattle.steps_events.specs.declared.event.Word.{Word}
-use Rattle.steps_events.specs.declared.event.Word.TheVariants as words
-use Rattle.steps_events.specs.declared.event.Call.{Call}
-use Rattle.steps_events.specs.declared.event.Call.TheVariants as calls
-use Rattle.steps_events.specs.declared.event.Act.{Act}
-use Rattle.steps_events.specs.declared.event.Act.TheVariants as acts
-use Rattle.steps_events.specs.declared.event.Event.{Event}
-use Rattle.steps_events.specs.declared.event.Then.TheVariants as thens
-use Rattle.steps_events.specs.declared.hold.HoldKind.{HoldKind}
-use Rattle.steps_events.specs.declared.patience.Patience.{Patience}
-use Rattle.steps_events.specs.declared.row.After.{After}
-use Rattle.steps_events.specs.declared.row.After.TheVariants as afters
-use Rattle.steps_events.specs.Arithmetic.{Arithmetic}
-use Rattle.steps_events.specs.Rows.{carried_out, value_told, outcome_of, place_after}
-use Rattle.steps_events.specs.Past.{PendingCall, call_of, hold_of, word_in, latest_outcome, event}
-use Rattle.steps_events.specs.Moves.{Move, step_at, hold_fault, answer_fault, choose_fault, stage_of}
-use Rattle.steps_events.specs.Runs.{IsPast}
-use Rattle.steps_events.specs.Sights.{keeps_asking, last_of}
-use Rattle.steps_events.specs.Asks.{WhereAsked}
-use Rattle.steps_events.proofs.Spins.{HasSpun}
-use Rattle.steps_events.proofs.Steps.{by_move}
-use Rattle.steps_events.proofs.Parties.{IsKept, at_place}
+use Rattle.steps_rw_writer.specs.Names.{WaitAction, Word, Call, Act, Event, Then, HoldKind, Patience, After, Arithmetic, carried_out, value_told, outcome_of, place_after, PendingCall, call_of, hold_of, word_in, latest_outcome, event, Move, step_at, hold_fault, answer_fault, choose_fault, stage_of, IsPast, keeps_asking, last_of, WhereAsked}
+use Rattle.steps_rw_writer.proofs.Names.{eqb-false, eqb-true, nat_tests, ◌≡◌, ℕ, ◌-◌, ◌^◌, ◌≤◌, Bool, true, false, List, [], ◌∷◌, Option, Some, None, arith, HasSpun, by_move, IsKept, at_place}
 use Rattle.steps_rw_writer.specs.declared.Leaver.{Leaver}
-use Rattle.steps_rw_writer.specs.declared.Leaver.TheVariants as leavers
 use Rattle.steps_rw_writer.specs.declared.RwWriterPlace.{RwWriterPlace}
-use Rattle.steps_rw_writer.specs.declared.RwWriterPlace.TheVariants as places
 use Rattle.steps_rw_writer.specs.Table.{is_mark, rw_writer_table, rw_writer_begins, rw_writer_answered}
 use Rattle.steps_rw_writer.specs.Debts.{loads_count}
 use Rattle.steps_rw_writer.specs.Law.{is_read_in_vain, write_spins_in, spins_of, told_by}
@@ -44,28 +17,28 @@ Spun patience own = (write_spins_in false own ≡ patience.spins) × (patience.s
 -- of one that has all its spins behind it, and asks next
 abbrev pub AllSpun : {T : Type 0} → Bool → Patience → List (Event T) → Type 0
 AllSpun loads_next patience own =
-    (write_spins_in loads_next own ≡ 10000) × (patience.spins ≡ 10000) × (latest_outcome own ≡ thens.GoesOn) × (keeps_asking own ≡ true) × (patience.keep ≡ true)
+    (write_spins_in loads_next own ≡ 10000) × (patience.spins ≡ 10000) × (latest_outcome own ≡ Then.GoesOn) × (keeps_asking own ≡ true) × (patience.keep ≡ true)
 
 -- of one that gives up: its last try may have been in vain too
 abbrev pub GivesUp : {T : Type 0} → List (Event T) → Type 0
 GivesUp own = (keeps_asking own ≡ false) × (write_spins_in false own ≤ 10001)
 
 abbrev pub Leaves : {T : Type 0} → Leaver → List (Event T) → Type 0
-Leaves leavers.GivenUp own = GivesUp own
+Leaves Leaver.GivenUp own = GivesUp own
 Leaves other own = Unit {0}
 
 abbrev pub HasSpunAt : {T : Type 0} → RwWriterPlace → PendingCall T → Option HoldKind → Type 0
-HasSpunAt (places.ReadLook patience) c hold = (c.call ≡ calls.ReadLock) × HasSpun is_read_in_vain patience c.own
-HasSpunAt (places.Read seen to patience) c hold = (c.call ≡ calls.ReadLock) × HasSpun is_read_in_vain patience c.own × (latest_outcome c.own ≡ thens.GoesOn)
-HasSpunAt (places.WriteLook patience) c hold = (c.call ≡ calls.WriteLock) × Spun patience c.own
-HasSpunAt (places.Enter seen patience) c hold = (c.call ≡ calls.WriteLock) × Spun patience c.own × (is_mark seen (2 ^ 64 - 1) ≡ false) × (latest_outcome c.own ≡ thens.GoesOn)
-HasSpunAt (places.Mark seen to patience) c hold = (c.call ≡ calls.WriteLock) × Spun patience c.own × (is_mark seen to ≡ true) × (latest_outcome c.own ≡ thens.GoesOn) × (patience.keep ≡ true)
-HasSpunAt (places.Unmark seen to) c hold = (c.call ≡ calls.WriteLock) × GivesUp c.own × Clears seen to
-HasSpunAt (places.LoadCounter patience) c hold = (c.call ≡ calls.WriteLock) × AllSpun true patience c.own
-HasSpunAt (places.LastLook count patience) c hold = (c.call ≡ calls.WriteLock) × AllSpun false patience c.own × (last_of loads_count c.own ≡ Some (acts.Load words.Counter count))
-HasSpunAt (places.Count who) c hold = Leaves who c.own
-HasSpunAt (places.WakeOne who) c hold = Leaves who c.own
-HasSpunAt (places.WakeAll who) c hold = Leaves who c.own
+HasSpunAt (RwWriterPlace.ReadLook patience) c hold = (c.call ≡ Call.ReadLock) × HasSpun is_read_in_vain patience c.own
+HasSpunAt (RwWriterPlace.Read seen to patience) c hold = (c.call ≡ Call.ReadLock) × HasSpun is_read_in_vain patience c.own × (latest_outcome c.own ≡ Then.GoesOn)
+HasSpunAt (RwWriterPlace.WriteLook patience) c hold = (c.call ≡ Call.WriteLock) × Spun patience c.own
+HasSpunAt (RwWriterPlace.Enter seen patience) c hold = (c.call ≡ Call.WriteLock) × Spun patience c.own × (is_mark seen (2 ^ 64 - 1) ≡ false) × (latest_outcome c.own ≡ Then.GoesOn)
+HasSpunAt (RwWriterPlace.Mark seen to patience) c hold = (c.call ≡ Call.WriteLock) × Spun patience c.own × (is_mark seen to ≡ true) × (latest_outcome c.own ≡ Then.GoesOn) × (patience.keep ≡ true)
+HasSpunAt (RwWriterPlace.Unmark seen to) c hold = (c.call ≡ Call.WriteLock) × GivesUp c.own × Clears seen to
+HasSpunAt (RwWriterPlace.LoadCounter patience) c hold = (c.call ≡ Call.WriteLock) × AllSpun true patience c.own
+HasSpunAt (RwWriterPlace.LastLook count patience) c hold = (c.call ≡ Call.WriteLock) × AllSpun false patience c.own × (last_of loads_count c.own ≡ Some (Act.Load Word.Counter count))
+HasSpunAt (RwWriterPlace.Count who) c hold = Leaves who c.own
+HasSpunAt (RwWriterPlace.WakeOne who) c hold = Leaves who c.own
+HasSpunAt (RwWriterPlace.WakeAll who) c hold = Leaves who c.own
 HasSpunAt place c hold = Unit {0}
 
 -- what is so of a call where it asks its wait closure
@@ -74,10 +47,10 @@ IsAskedSo c act told = (spins_of c.call c.own ≡ 10000) × (told_by c.call c.ow
 
 -- what is kept where a step leads, and when it asks
 abbrev SpunAfter : {T : Type 0} → PendingCall T → Option HoldKind → ℕ → Act T → After T RwWriterPlace → Type 0
-SpunAfter c hold number act (afters.At place) = HasSpunAt place (grown c (event number act thens.GoesOn)) hold
-SpunAfter c hold number act (afters.Waits place told) = HasSpunAt place (grown c (event number act (thens.Waits told))) hold × IsAskedSo c act told
-SpunAfter c hold number act (afters.Chooses place old) = HasSpunAt place (grown c (event number act (thens.Chooses old))) hold
-SpunAfter c hold number act (afters.Ends answer) = Unit {0}
+SpunAfter c hold number act (After.At place) = HasSpunAt place (grown c (event number act Then.GoesOn)) hold
+SpunAfter c hold number act (After.Waits place told) = HasSpunAt place (grown c (event number act (Then.Waits told))) hold × IsAskedSo c act told
+SpunAfter c hold number act (After.Chooses place old) = HasSpunAt place (grown c (event number act (Then.Chooses old))) hold
+SpunAfter c hold number act (After.Ends answer) = Unit {0}
 
 spun_on :
     {T : Type 0} (c : PendingCall T) (hold : Option HoldKind) (number : ℕ) (act : Act T) (next : RwWriterPlace) (a : After T RwWriterPlace) → SpunAfter c hold number act a → place_after a ≡ Some next →
@@ -118,12 +91,12 @@ step_spun place c hold left memory number h1 = grind (arith, nat_tests, eqb-true
 
 answers_spun :
     {T : Type 0} (place : RwWriterPlace) (c : PendingCall T) (hold : Option HoldKind) (action : WaitAction) (number : ℕ) → HasSpunAt place c hold → answer_fault (latest_outcome c.own) ≡ None →
-    HasSpunAt {T = T} (rw_writer_answered place action) (record { call = c.call; own = event number (acts.Answered action) thens.GoesOn ∷ c.own }) hold
+    HasSpunAt {T = T} (rw_writer_answered place action) (record { call = c.call; own = event number (Act.Answered action) Then.GoesOn ∷ c.own }) hold
 answers_spun place c hold action number h1 h2 = grind (arith, nat_tests, eqb-true, eqb-false)
 
 chooses_spun :
     {T : Type 0} (place : RwWriterPlace) (c : PendingCall T) (hold : Option HoldKind) (choice : Option T) (number : ℕ) → HasSpunAt place c hold → choose_fault (latest_outcome c.own) ≡ None →
-    HasSpunAt {T = T} place (record { call = c.call; own = event number (acts.Chosen choice) thens.GoesOn ∷ c.own }) hold
+    HasSpunAt {T = T} place (record { call = c.call; own = event number (Act.Chosen choice) Then.GoesOn ∷ c.own }) hold
 chooses_spun place c hold choice number h1 h2 = grind (arith, nat_tests, eqb-true, eqb-false)
 
 pub spun_kept : {T : Type 0} → IsKept {T = T} rw_writer_table HasSpunAt

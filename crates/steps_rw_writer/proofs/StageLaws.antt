@@ -1,24 +1,6 @@
 -- A fact of the place where a call under way is, and of its own events: that the next event of the call leads on to such a place.
-use Rattle.std.proofs.lemmas.Bool.{eqb-false}
-use Rattle.std.proofs.lemmas.Bool.{eqb-true}
-use Rattle.std.proofs.lemmas.Bool.Decides.{nat_tests}
-use Rattle.std.proofs.Common.{◌≡◌, refl, ◌∙◌, ap, ℕ, List, ◌∷◌, Option, Some, None, arith}
-use Rattle.steps_events.specs.declared.WaitAction.{WaitAction}
-use Rattle.steps_events.specs.declared.event.Act.{Act}
-use Rattle.steps_events.specs.declared.event.Act.TheVariants as acts
-use Rattle.steps_events.specs.declared.event.Call.{Call}
-use Rattle.steps_events.specs.declared.event.Event.{Event}
-use Rattle.steps_events.specs.declared.event.Input.{Input}
-use Rattle.steps_events.specs.declared.event.Input.TheVariants as inputs
-use Rattle.steps_events.specs.declared.event.Then.TheVariants as thens
-use Rattle.steps_events.specs.declared.event.Word.{Word}
-use Rattle.steps_events.specs.declared.hold.HoldKind.{HoldKind}
-use Rattle.steps_events.specs.declared.row.After.{After}
-use Rattle.steps_events.specs.declared.row.After.TheVariants as afters
-use Rattle.steps_events.specs.Rows.{carried_out, value_told, outcome_of, place_after}
-use Rattle.steps_events.specs.Past.{PendingCall, call_after, call_going_on, event}
-use Rattle.steps_events.specs.Moves.{step_at, stage_of, next_stage, fault_at}
-use Rattle.steps_events.proofs.Steps.{carried_goes_on, carried_stage}
+use Rattle.steps_rw_writer.specs.Names.{WaitAction, Act, Call, Event, Input, Then, Word, HoldKind, After, carried_out, value_told, outcome_of, place_after, PendingCall, call_after, call_going_on, event, step_at, stage_of, next_stage, fault_at}
+use Rattle.steps_rw_writer.proofs.Names.{eqb-false, eqb-true, nat_tests, ◌≡◌, refl, ◌∙◌, ap, ℕ, List, ◌∷◌, Option, Some, None, arith, carried_goes_on, carried_stage}
 use Rattle.steps_rw_writer.specs.declared.RwWriterPlace.{RwWriterPlace}
 use Rattle.steps_rw_writer.specs.Table.{rw_writer_table, rw_writer_answered}
 
@@ -43,28 +25,28 @@ fact_here Fact c place h1 h2 = grind (arith, nat_tests, eqb-true, eqb-false)
 -- a party with a call under way begins none
 pub begins_none :
     {T : Type 0} (pending : Option (PendingCall T)) (c : PendingCall T) (hold : Option HoldKind) (call : Call T) (input : Input T) →
-    pending ≡ Some c → fault_at rw_writer_table pending hold input ≡ None → input ≡ inputs.Begin call → ⊥
+    pending ≡ Some c → fault_at rw_writer_table pending hold input ≡ None → input ≡ Input.Begin call → ⊥
 begins_none pending c hold call input h1 h2 h3 = grind (arith, nat_tests, eqb-true, eqb-false)
 
 -- after an answer of a closure
 pub answered_at :
     {T : Type 0} (Fact : RwWriterPlace → List (Event T) → Type 0) (r : ℕ) (action : WaitAction) (pending : Option (PendingCall T)) →
     ((place : RwWriterPlace) (own : List (Event T)) (e : Event T) → Fact place own → Fact (rw_writer_answered place action) (e ∷ own)) →
-    IsAt Fact pending → IsAt Fact (call_going_on (acts.Answered action) (event r (acts.Answered action) thens.GoesOn) pending)
+    IsAt Fact pending → IsAt Fact (call_going_on (Act.Answered action) (event r (Act.Answered action) Then.GoesOn) pending)
 answered_at {T} Fact r action pending keeps at =
-    let e : Event T = event r (acts.Answered action) thens.GoesOn in
+    let e : Event T = event r (Act.Answered action) Then.GoesOn in
     record {
       call = record { call = at.call.call; own = e ∷ at.call.own };
-      under_way = ap (call_going_on (acts.Answered action) e) at.under_way;
+      under_way = ap (call_going_on (Act.Answered action) e) at.under_way;
       place = rw_writer_answered at.place action;
-      stage = ap (next_stage {T = T} rw_writer_table (acts.Answered action)) at.stage;
+      stage = ap (next_stage {T = T} rw_writer_table (Act.Answered action)) at.stage;
       fact = keeps at.place at.call.own e at.fact;
     }
 
 pub chosen_at :
     {T : Type 0} (Fact : RwWriterPlace → List (Event T) → Type 0) (r : ℕ) (choice : Option T) (pending : Option (PendingCall T)) →
     ((place : RwWriterPlace) (own : List (Event T)) (e : Event T) → Fact place own → Fact place (e ∷ own)) →
-    IsAt Fact pending → IsAt Fact (call_going_on (acts.Chosen choice) (event r (acts.Chosen choice) thens.GoesOn) pending)
+    IsAt Fact pending → IsAt Fact (call_going_on (Act.Chosen choice) (event r (Act.Chosen choice) Then.GoesOn) pending)
 chosen_at Fact r choice pending h1 h2 = grind (arith, nat_tests, eqb-true, eqb-false)
 
 -- after a step that leads on to a place, or that stands before it
@@ -90,7 +72,7 @@ stepped_at {T} Fact r c place next hold memory stage to holds = by_after (rw_wri
         }
 
     by_after : (a : After T RwWriterPlace) → rw_writer_table.after place (value_told act) ≡ a → place_after a ≡ Some next → IsAt Fact (call_after (outcome_of a) (event r act (outcome_of a)) (Some c))
-    by_after (afters.At at) is leads = on (afters.At at) is leads
-    by_after (afters.Waits at seen) is leads = on (afters.Waits at seen) is leads
-    by_after (afters.Chooses at old) is leads = on (afters.Chooses at old) is leads
-    by_after (afters.Ends answer) is leads = absurd cc
+    by_after (After.At at) is leads = on (After.At at) is leads
+    by_after (After.Waits at seen) is leads = on (After.Waits at seen) is leads
+    by_after (After.Chooses at old) is leads = on (After.Chooses at old) is leads
+    by_after (After.Ends answer) is leads = absurd cc

@@ -1,39 +1,8 @@
 -- Readers are woken: whoever makes the word even owes a wake of all until it has called it.
-use Rattle.std.proofs.lemmas.Bool.{eqb-false}
-use Rattle.std.proofs.lemmas.Bool.Decides.{nat_tests}
-use Rattle.std.proofs.Common.{◌≡◌, ◌≢◌, ℕ, ◌==◌, refl, sym, ◌∙◌, ap, subst, Bool, true, false, cond, ◌&&◌, ◌||◌, List, [], ◌∷◌, Option, Some, None, ◌⊎◌, inl, inr, arith}
-use Rattle.std.specs.Prelude.{nat_lt, not}
-use Rattle.std.proofs.lemmas.Bool.{eqb-true, eq-eqb}
-use Rattle.std.proofs.lemmas.Bool.Decides.{eqb_tells}
-use Rattle.steps_events.specs.declared.WaitAction.{WaitAction}
-use Rattle.steps_events.specs.declared.event.Word.{Word}
-use Rattle.steps_events.specs.declared.event.Word.TheVariants as words
-use Rattle.steps_events.specs.declared.event.Call.{Call}
-use Rattle.steps_events.specs.declared.event.Call.TheVariants as calls
-use Rattle.steps_events.specs.declared.event.Act.{Act}
-use Rattle.steps_events.specs.declared.event.Act.TheVariants as acts
-use Rattle.steps_events.specs.declared.event.Event.{Event}
-use Rattle.steps_events.specs.declared.event.Input.TheVariants as inputs
-use Rattle.steps_events.specs.declared.event.Then.{Then}
-use Rattle.steps_events.specs.declared.event.Then.TheVariants as thens
-use Rattle.steps_events.specs.declared.hold.HoldKind.{HoldKind}
-use Rattle.steps_events.specs.declared.row.After.{After}
-use Rattle.steps_events.specs.declared.row.After.TheVariants as afters
-use Rattle.steps_events.specs.Arithmetic.{Arithmetic}
-use Rattle.steps_events.specs.Rows.{carried_out, value_told, outcome_of, place_after}
-use Rattle.steps_events.specs.Past.{PendingCall, call_of, call_after, call_going_on, Hold, holds_of, hold_of, word_in, word_after, event, latest_outcome}
-use Rattle.steps_events.specs.HoldCounts.{writes_in}
-use Rattle.steps_events.specs.Sights.{is_beginning}
-use Rattle.steps_events.specs.Moves.{Move, step_at, stage_of}
-use Rattle.steps_events.specs.Runs.{IsPast}
-use Rattle.steps_events.proofs.Holds.{call_of_same, call_of_other}
-use Rattle.steps_events.proofs.Steps.{by_move}
-use Rattle.steps_events.proofs.Parties.{fault_at_none}
-use Rattle.steps_events.proofs.LastSights.{longer}
+use Rattle.steps_rw_writer.specs.Names.{nat_lt, not, WaitAction, Word, Call, Act, Event, Input, Then, HoldKind, After, Arithmetic, carried_out, value_told, outcome_of, place_after, PendingCall, call_of, call_after, call_going_on, Hold, holds_of, hold_of, word_in, word_after, event, latest_outcome, writes_in, is_beginning, Move, step_at, stage_of, IsPast}
+use Rattle.steps_rw_writer.proofs.Names.{eqb-false, nat_tests, ◌≡◌, ◌≢◌, ℕ, ◌==◌, refl, sym, ◌∙◌, ap, subst, Bool, true, false, cond, ◌&&◌, ◌||◌, List, [], ◌∷◌, Option, Some, None, ◌⊎◌, inl, inr, arith, eqb-true, eq-eqb, eqb_tells, call_of_same, call_of_other, by_move, fault_at_none, longer}
 use Rattle.steps_rw_writer.specs.declared.Leaver.{Leaver}
-use Rattle.steps_rw_writer.specs.declared.Leaver.TheVariants as leavers
 use Rattle.steps_rw_writer.specs.declared.RwWriterPlace.{RwWriterPlace}
-use Rattle.steps_rw_writer.specs.declared.RwWriterPlace.TheVariants as places
 use Rattle.steps_rw_writer.specs.Table.{is_odd, rw_writer_table, rw_writer_answered}
 use Rattle.steps_rw_writer.specs.Marks.{is_marked_after}
 use Rattle.steps_rw_writer.specs.Law.{CountsHolds}
@@ -48,34 +17,34 @@ use Rattle.steps_rw_writer.proofs.Laws.{writer_lock_word}
 word_evens : (w : ℕ) (holds : List Hold) (marked : Bool) → CountsHolds w holds marked → not (nat_lt 0 (writes_in holds) || marked) ≡ not (is_odd w)
 word_evens w holds marked h1 = grind (arith, nat_tests, eqb-true, eqb-false)
 
-even_at : {T : Type 0} (z : Arithmetic T) (parties : ℕ) (past : List (Event T)) → IsPast z rw_writer_table parties past → is_even_after past ≡ not (is_odd (word_in rw_writer_table past words.State))
-even_at z parties past run = word_evens (word_in rw_writer_table past words.State) (holds_of rw_writer_table past) (is_marked_after past) (writer_lock_word z parties past run).counts
+even_at : {T : Type 0} (z : Arithmetic T) (parties : ℕ) (past : List (Event T)) → IsPast z rw_writer_table parties past → is_even_after past ≡ not (is_odd (word_in rw_writer_table past Word.State))
+even_at z parties past run = word_evens (word_in rw_writer_table past Word.State) (holds_of rw_writer_table past) (is_marked_after past) (writer_lock_word z parties past run).counts
 
 -- an event makes the word even
 abbrev Evens : {T : Type 0} → ℕ → Act T → Type 0
-Evens w act = (is_odd w ≡ true) × (is_odd (word_after words.State act w) ≡ false)
+Evens w act = (is_odd w ≡ true) × (is_odd (word_after Word.State act w) ≡ false)
 
 -- who leaves and wakes all
 abbrev WakesAll : Leaver → Type 0
-WakesAll leavers.Reader = ⊥
-WakesAll leavers.Writer = Unit {0}
-WakesAll leavers.GivenUp = Unit {0}
+WakesAll Leaver.Reader = ⊥
+WakesAll Leaver.Writer = Unit {0}
+WakesAll Leaver.GivenUp = Unit {0}
 
 -- on the way to the wake of all
 abbrev IsWaking : RwWriterPlace → Type 0
-IsWaking (places.Count who) = WakesAll who
-IsWaking (places.WakeOne who) = WakesAll who
-IsWaking (places.WakeAll who) = WakesAll who
+IsWaking (RwWriterPlace.Count who) = WakesAll who
+IsWaking (RwWriterPlace.WakeOne who) = WakesAll who
+IsWaking (RwWriterPlace.WakeAll who) = WakesAll who
 IsWaking place = ⊥
 
 pub record LeadsToWake {T : Type 0} (act : Act T) (a : After T RwWriterPlace) : Type 0 where
   pub next : RwWriterPlace
-  pub leads : a ≡ afters.At next
+  pub leads : a ≡ After.At next
   pub waking : IsWaking next
   pub is_before : wakes_all act ≡ false
 
 evens :
-    {T : Type 0} (place : RwWriterPlace) (c : PendingCall T) (hold : Option HoldKind) (memory : Word → ℕ) → AtRwWriter place c hold → Evens (memory words.State) (step_at {T = T} rw_writer_table place hold memory).act →
+    {T : Type 0} (place : RwWriterPlace) (c : PendingCall T) (hold : Option HoldKind) (memory : Word → ℕ) → AtRwWriter place c hold → Evens (memory Word.State) (step_at {T = T} rw_writer_table place hold memory).act →
     LeadsToWake (step_at {T = T} rw_writer_table place hold memory).act (rw_writer_table.after place (value_told {T = T} (carried_out (rw_writer_table.intent place hold) memory)))
 evens place c hold memory h1 h2 = grind (arith, nat_tests, eqb-true, eqb-false)
 
@@ -102,7 +71,7 @@ stepped_owes {T} r c place hold memory stage led =
 
 -- what an event leaves of a party that owes, or has just made the word even: it owes on, and has not answered, unless it woke all
 own_owes :
-    {T : Type 0} (z : Arithmetic T) (parties : ℕ) (past : List (Event T)) (e : Event T) → IsPast z rw_writer_table parties (e ∷ past) → OwesWakeAt (call_of e.party past) ⊎ Evens (word_in rw_writer_table past words.State) e.act →
+    {T : Type 0} (z : Arithmetic T) (parties : ℕ) (past : List (Event T)) (e : Event T) → IsPast z rw_writer_table parties (e ∷ past) → OwesWakeAt (call_of e.party past) ⊎ Evens (word_in rw_writer_table past Word.State) e.act →
     (wakes_all e.act ≡ true) ⊎ (OwesWakeAt (call_after e.then e (call_of e.party past)) × (is_answer e.then ≡ false) × (wakes_all e.act ≡ false))
 own_owes {T} z parties past e run why =
     by_move rw_writer_table (call_of e.party past) (hold_of rw_writer_table e.party past) (word_in rw_writer_table past)
@@ -115,18 +84,18 @@ own_owes {T} z parties past e run why =
     run.0.1.moved why
   where
     w : ℕ
-    w = word_in rw_writer_table past words.State
+    w = word_in rw_writer_table past Word.State
 
-    begun : (call : Call T) → run.0.0 ≡ inputs.Begin call → OwesWakeAt (call_of e.party past) ⊎ Evens w (acts.Begun call) →
-        (wakes_all (acts.Begun call) ≡ true) ⊎ (OwesWakeAt (call_going_on (acts.Begun call) (event e.party (acts.Begun call) thens.GoesOn) (call_of e.party past)) × (false ≡ false) × (false ≡ false))
+    begun : (call : Call T) → run.0.0 ≡ Input.Begin call → OwesWakeAt (call_of e.party past) ⊎ Evens w (Act.Begun call) →
+        (wakes_all (Act.Begun call) ≡ true) ⊎ (OwesWakeAt (call_going_on (Act.Begun call) (event e.party (Act.Begun call) Then.GoesOn) (call_of e.party past)) × (false ≡ false) × (false ≡ false))
     begun call is (inl owes) = absurd (begins_none (call_of e.party past) owes.call (hold_of rw_writer_table e.party past) call run.0.0 owes.under_way (fault_at_none rw_writer_table parties past e.party run.0.0 run.0.1.allowed) is)
     begun call is (inr so) = clash (is_odd w) so.0 so.1
 
-    answered : (action : WaitAction) → OwesWakeAt (call_of e.party past) ⊎ Evens {T = T} w (acts.Answered action) → OwesWakeAt (call_going_on (acts.Answered action) (event e.party (acts.Answered action) thens.GoesOn) (call_of e.party past))
+    answered : (action : WaitAction) → OwesWakeAt (call_of e.party past) ⊎ Evens {T = T} w (Act.Answered action) → OwesWakeAt (call_going_on (Act.Answered action) (event e.party (Act.Answered action) Then.GoesOn) (call_of e.party past))
     answered action (inl owes) = answered_at (λ (place : RwWriterPlace) (own : List (Event T)). IsWaking place) e.party action (call_of e.party past) (λ place own d waking. answered_waking place action waking) owes
     answered action (inr so) = clash (is_odd w) so.0 so.1
 
-    chosen : (choice : Option T) → OwesWakeAt (call_of e.party past) ⊎ Evens w (acts.Chosen choice) → OwesWakeAt (call_going_on (acts.Chosen choice) (event e.party (acts.Chosen choice) thens.GoesOn) (call_of e.party past))
+    chosen : (choice : Option T) → OwesWakeAt (call_of e.party past) ⊎ Evens w (Act.Chosen choice) → OwesWakeAt (call_going_on (Act.Chosen choice) (event e.party (Act.Chosen choice) Then.GoesOn) (call_of e.party past))
     chosen choice (inl owes) = chosen_at (λ (place : RwWriterPlace) (own : List (Event T)). IsWaking place) e.party choice (call_of e.party past) (λ place own d waking. waking) owes
     chosen choice (inr so) = clash (is_odd w) so.0 so.1
 
@@ -159,11 +128,11 @@ flipped a b h1 h2 = grind (arith, nat_tests, eqb-true, eqb-false)
 flipped_back : (a b : Bool) → a ≡ not b → a ≡ false → b ≡ true
 flipped_back a b h1 h2 = grind (arith, nat_tests, eqb-true, eqb-false)
 
-evens_word : {T : Type 0} (z : Arithmetic T) (parties : ℕ) (past : List (Event T)) (e : Event T) → IsPast z rw_writer_table parties (e ∷ past) → makes_even e past ≡ true → Evens (word_in rw_writer_table past words.State) e.act
+evens_word : {T : Type 0} (z : Arithmetic T) (parties : ℕ) (past : List (Event T)) (e : Event T) → IsPast z rw_writer_table parties (e ∷ past) → makes_even e past ≡ true → Evens (word_in rw_writer_table past Word.State) e.act
 evens_word z parties past e run makes =
     let so = both (is_even_after past) (is_even_after (e ∷ past)) makes in (
-      flipped_back (is_even_after past) (is_odd (word_in rw_writer_table past words.State)) (even_at z parties past run.1) so.0,
-      flipped (is_even_after (e ∷ past)) (is_odd (word_in rw_writer_table (e ∷ past) words.State)) (even_at z parties (e ∷ past) run) so.1,
+      flipped_back (is_even_after past) (is_odd (word_in rw_writer_table past Word.State)) (even_at z parties past run.1) so.0,
+      flipped (is_even_after (e ∷ past)) (is_odd (word_in rw_writer_table (e ∷ past) Word.State)) (even_at z parties (e ∷ past) run) so.1,
     )
 
 owes_wake_at : {T : Type 0} (z : Arithmetic T) (parties : ℕ) (past : List (Event T)) → IsPast z rw_writer_table parties past → (q : ℕ) → owes_wake q past ≡ true → OwesWakeAt (call_of q past)
@@ -179,7 +148,7 @@ owes_wake_at {T} z parties (e ∷ past) run q owes = by_party (owes_wake_at z pa
     mine : Before → e.party ≡ q → after_own ≡ true → OwesWakeAt (call_of q (e ∷ past))
     mine before is owed = on (neither (is_answer e.then) (wakes_all e.act) (cond (makes_even e past) true (owes_wake q past)) owed)
       where
-        why : Before → e.party ≡ q → (makes_even e past ≡ true) ⊎ (owes_wake q past ≡ true) → OwesWakeAt (call_of e.party past) ⊎ Evens (word_in rw_writer_table past words.State) e.act
+        why : Before → e.party ≡ q → (makes_even e past ≡ true) ⊎ (owes_wake q past ≡ true) → OwesWakeAt (call_of e.party past) ⊎ Evens (word_in rw_writer_table past Word.State) e.act
         why earlier same (inl makes) = inr (evens_word z parties past e run makes)
         why earlier same (inr owed_before) = inl (subst (λ p. OwesWakeAt (call_of p past)) (sym same) (earlier q owed_before))
 
@@ -233,12 +202,12 @@ evener_law {T} z parties (e ∷ past) run evener is = by_makes (evener_law z par
     fresh makes (inr owes) silent = made_now (e.party == e.party) (is_answer e.then) (wakes_all e.act) (makes_even e past) (owes_wake e.party past) (eq-eqb e.party e.party refl) owes.1 silent makes
 
     -- a wake changes no word
-    silent_evens : (b : Bool) → wakes_all e.act ≡ b → Evens (word_in rw_writer_table past words.State) e.act → wakes_all e.act ≡ false
+    silent_evens : (b : Bool) → wakes_all e.act ≡ b → Evens (word_in rw_writer_table past Word.State) e.act → wakes_all e.act ≡ false
     silent_evens false woke so = woke
     silent_evens true woke so = by_act e.act woke so
       where
-        by_act : (act : Act T) → wakes_all act ≡ true → Evens (word_in rw_writer_table past words.State) act → wakes_all e.act ≡ false
-        by_act (acts.Woke wake) is_wake evens_so = clash (is_odd (word_in rw_writer_table past words.State)) evens_so.0 evens_so.1
+        by_act : (act : Act T) → wakes_all act ≡ true → Evens (word_in rw_writer_table past Word.State) act → wakes_all e.act ≡ false
+        by_act (Act.Woke wake) is_wake evens_so = clash (is_odd (word_in rw_writer_table past Word.State)) evens_so.0 evens_so.1
         by_act act is_wake evens_so = absurd cc
 
     by_wake : (ev : Evener) → (b : Bool) → wakes_all e.act ≡ b → (e.party == ev.party) ≡ true → IsEvener past ev → IsEvener (e ∷ past) (record { party = ev.party; woke = ev.woke || ((e.party == ev.party) && wakes_all e.act) })
@@ -275,23 +244,23 @@ evener_law {T} z parties (e ∷ past) run evener is = by_makes (evener_law z par
 -- Where a reader stood that saw an odd word, the word is odd, or somebody has made it even since.
 
 read_step :
-    {T : Type 0} (place : RwWriterPlace) (c : PendingCall T) (hold : Option HoldKind) (memory : Word → ℕ) (seen : ℕ) → AtRwWriter place c hold → c.call ≡ calls.ReadLock → (step_at {T = T} rw_writer_table place hold memory).outcome ≡ thens.Waits seen →
-    (memory words.State ≡ seen) × (word_after words.State (step_at {T = T} rw_writer_table place hold memory).act (memory words.State) ≡ memory words.State)
+    {T : Type 0} (place : RwWriterPlace) (c : PendingCall T) (hold : Option HoldKind) (memory : Word → ℕ) (seen : ℕ) → AtRwWriter place c hold → c.call ≡ Call.ReadLock → (step_at {T = T} rw_writer_table place hold memory).outcome ≡ Then.Waits seen →
+    (memory Word.State ≡ seen) × (word_after Word.State (step_at {T = T} rw_writer_table place hold memory).act (memory Word.State) ≡ memory Word.State)
 read_step place c hold memory seen h1 h2 h3 = grind (arith, nat_tests, eqb-true, eqb-false)
 
 own_reads :
-    {T : Type 0} (z : Arithmetic T) (parties seen : ℕ) (past : List (Event T)) (e : Event T) → IsPast z rw_writer_table parties (e ∷ past) → (c : PendingCall T) → call_of e.party past ≡ Some c → c.call ≡ calls.ReadLock → e.then ≡ thens.Waits seen →
-    (word_in rw_writer_table past words.State ≡ seen) × (word_in rw_writer_table (e ∷ past) words.State ≡ word_in rw_writer_table past words.State)
+    {T : Type 0} (z : Arithmetic T) (parties seen : ℕ) (past : List (Event T)) (e : Event T) → IsPast z rw_writer_table parties (e ∷ past) → (c : PendingCall T) → call_of e.party past ≡ Some c → c.call ≡ Call.ReadLock → e.then ≡ Then.Waits seen →
+    (word_in rw_writer_table past Word.State ≡ seen) × (word_in rw_writer_table (e ∷ past) Word.State ≡ word_in rw_writer_table past Word.State)
 own_reads {T} z parties seen past e run c called reads waits =
     by_move rw_writer_table (call_of e.party past) (hold_of rw_writer_table e.party past) (word_in rw_writer_table past)
-    (λ (k : Option (PendingCall T)) (x : Move T). k ≡ Some c → x.outcome ≡ thens.Waits seen → (word_in rw_writer_table past words.State ≡ seen) × (word_after words.State x.act (word_in rw_writer_table past words.State) ≡ word_in rw_writer_table past words.State))
+    (λ (k : Option (PendingCall T)) (x : Move T). k ≡ Some c → x.outcome ≡ Then.Waits seen → (word_in rw_writer_table past Word.State ≡ seen) × (word_after Word.State x.act (word_in rw_writer_table past Word.State) ≡ word_in rw_writer_table past Word.State))
     run.0.0 (record { act = e.act; outcome = e.then }) (λ call _ is stands. absurd cc) (λ action _ is stands. absurd cc) (λ choice _ is stands. absurd cc)
     (λ d place _ here_called stage is stands.
-    read_step place d (hold_of rw_writer_table e.party past) (word_in rw_writer_table past) seen (here z parties past run.1 e.party d place here_called stage) (subst (λ (k : PendingCall T). k.call ≡ calls.ReadLock) (sym (same_call d c is)) reads) stands)
+    read_step place d (hold_of rw_writer_table e.party past) (word_in rw_writer_table past) seen (here z parties past run.1 e.party d place here_called stage) (subst (λ (k : PendingCall T). k.call ≡ Call.ReadLock) (sym (same_call d c is)) reads) stands)
     run.0.1.moved called waits
 
 abbrev WasEvened : {T : Type 0} → List (Event T) → Type 0
-WasEvened past = (is_odd (word_in rw_writer_table past words.State) ≡ true) ⊎ ((evener : Evener) × (evener_of past ≡ Some evener))
+WasEvened past = (is_odd (word_in rw_writer_table past Word.State) ≡ true) ⊎ ((evener : Evener) × (evener_of past ≡ Some evener))
 
 still_evened : {T : Type 0} (z : Arithmetic T) (parties : ℕ) (past : List (Event T)) (e : Event T) → IsPast z rw_writer_table parties (e ∷ past) → WasEvened past → WasEvened (e ∷ past)
 still_evened {T} z parties past e run (inr was) = by_makes (makes_even e past) refl
@@ -299,15 +268,15 @@ still_evened {T} z parties past e run (inr was) = by_makes (makes_even e past) r
     by_makes : (b : Bool) → makes_even e past ≡ b → WasEvened (e ∷ past)
     by_makes true makes = inr (record { party = e.party; woke = false }, rw makes refl)
     by_makes false makes = inr (record { party = was.0.party; woke = was.0.woke || ((e.party == was.0.party) && wakes_all e.act) }, rw (makes, was.1) refl)
-still_evened {T} z parties past e run (inl odd) = by_word (is_odd (word_in rw_writer_table (e ∷ past) words.State)) refl
+still_evened {T} z parties past e run (inl odd) = by_word (is_odd (word_in rw_writer_table (e ∷ past) Word.State)) refl
   where
     turned : (a b odd_before odd_after : Bool) → a ≡ not odd_before → b ≡ not odd_after → odd_before ≡ true → odd_after ≡ false → (not a && b) ≡ true
     turned a b odd_before odd_after p q r s = rw (p, q, r, s) refl
 
-    by_word : (b : Bool) → is_odd (word_in rw_writer_table (e ∷ past) words.State) ≡ b → WasEvened (e ∷ past)
+    by_word : (b : Bool) → is_odd (word_in rw_writer_table (e ∷ past) Word.State) ≡ b → WasEvened (e ∷ past)
     by_word true is = inl is
     by_word false is =
-        let makes : makes_even e past ≡ true = turned (is_even_after past) (is_even_after (e ∷ past)) (is_odd (word_in rw_writer_table past words.State)) (is_odd (word_in rw_writer_table (e ∷ past) words.State)) (even_at z parties past run.1) (even_at z parties (e ∷ past) run) odd is in
+        let makes : makes_even e past ≡ true = turned (is_even_after past) (is_even_after (e ∷ past)) (is_odd (word_in rw_writer_table past Word.State)) (is_odd (word_in rw_writer_table (e ∷ past) Word.State)) (even_at z parties past run.1) (even_at z parties (e ∷ past) run) odd is in
         inr (record { party = e.party; woke = false }, rw makes refl)
 
 evened : {T : Type 0} (z : Arithmetic T) (parties : ℕ) (past : List (Event T)) → IsPast z rw_writer_table parties past → (party seen : ℕ) → ReaderStands party seen past → is_odd seen ≡ true → WasEvened past
@@ -315,9 +284,9 @@ evened z parties [] run party seen stands odd = let nothing = stands.under_way i
 evened {T} z parties (e ∷ past) run party seen stands odd = by_party (evened z parties past run.1 party seen) (eqb_tells e.party party)
   where
     mine : e.party ≡ party → (stands.call.own ≡ []) ⊎ ((own : List (Event T)) × (call_of e.party past ≡ Some (record { call = stands.call.call; own = own })) × (stands.call.own ≡ e ∷ own) × (is_beginning e.act ≡ false)) → WasEvened (e ∷ past)
-    mine is (inl nothing) = let no : ◌≡◌ {A = Then T} thens.GoesOn (thens.Waits seen) = subst (λ (o : List (Event T)). latest_outcome o ≡ thens.Waits seen) nothing stands.stands in absurd cc
+    mine is (inl nothing) = let no : ◌≡◌ {A = Then T} Then.GoesOn (Then.Waits seen) = subst (λ (o : List (Event T)). latest_outcome o ≡ Then.Waits seen) nothing stands.stands in absurd cc
     mine is (inr more) =
-        let waits : e.then ≡ thens.Waits seen = subst (λ (o : List (Event T)). latest_outcome o ≡ thens.Waits seen) more.2 stands.stands in
+        let waits : e.then ≡ Then.Waits seen = subst (λ (o : List (Event T)). latest_outcome o ≡ Then.Waits seen) more.2 stands.stands in
         let told = own_reads z parties seen past e run (record { call = stands.call.call; own = more.0 }) more.1 stands.reads waits in
         inl (ap is_odd (told.1 ∙ told.0) ∙ odd)
 
@@ -333,5 +302,5 @@ pub readers_are_woken : {T : Type 0} (z : Arithmetic T) (parties : ℕ) (past : 
 readers_are_woken {T} z parties past run party seen stands odd even = by_evened (evened z parties past run party seen stands odd)
   where
     by_evened : WasEvened past → (evener : Evener) × (evener_of past ≡ Some evener) × ((evener.woke ≡ true) ⊎ (owes_wake evener.party past ≡ true))
-    by_evened (inl still) = clash (is_odd (word_in rw_writer_table past words.State)) still (flipped (is_even_after past) (is_odd (word_in rw_writer_table past words.State)) (even_at z parties past run) even)
+    by_evened (inl still) = clash (is_odd (word_in rw_writer_table past Word.State)) still (flipped (is_even_after past) (is_odd (word_in rw_writer_table past Word.State)) (even_at z parties past run) even)
     by_evened (inr was) = (was.0, was.1, evener_law z parties past run was.0 was.1)

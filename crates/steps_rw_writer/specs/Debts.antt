@@ -1,17 +1,5 @@
--- Who owes what: a party whose event freed the lock for a waiting writer has still to count it.
-use Rattle.std.specs.Prelude.{◌≡◌, ℕ, ◌+◌, ◌%◌, ◌<◌, ◌^◌, ◌==◌, nat_lt, Bool, true, false, not, ◌&&◌, ◌||◌, if◌then◌else◌, List, [], ◌∷◌, Option, Some, None, ◌⊎◌}
-use Rattle.steps_events.specs.declared.event.Word.TheVariants as words
-use Rattle.steps_events.specs.declared.event.Call.TheVariants as calls
-use Rattle.steps_events.specs.declared.event.Act.{Act}
-use Rattle.steps_events.specs.declared.event.Act.TheVariants as acts
-use Rattle.steps_events.specs.declared.event.Then.{Then}
-use Rattle.steps_events.specs.declared.event.Then.TheVariants as thens
-use Rattle.steps_events.specs.declared.event.Event.{Event}
-use Rattle.steps_events.specs.declared.event.Wake.TheVariants as wakes
-use Rattle.steps_events.specs.Past.{Hold, PendingCall, call_of, holds_of, word_in, latest_outcome}
-use Rattle.steps_events.specs.HoldCounts.{reads_in, writes_in}
-use Rattle.steps_events.specs.Moves.{is_step}
-use Rattle.steps_events.specs.Sights.{acts_in}
+-- Who owes what: a party whose event unblocked the lock has still to add to the counter, and one that made the word even to wake all.
+use Rattle.steps_rw_writer.specs.Names.{◌≡◌, ℕ, ◌+◌, ◌%◌, ◌<◌, ◌^◌, ◌==◌, nat_lt, Bool, true, false, not, ◌&&◌, ◌||◌, if◌then◌else◌, List, [], ◌∷◌, Option, Some, None, ◌⊎◌, Word, Call, Act, Then, Event, Wake, Hold, PendingCall, call_of, holds_of, word_in, latest_outcome, reads_in, writes_in, is_step, acts_in}
 use Rattle.steps_rw_writer.specs.Table.{rw_writer_table}
 use Rattle.steps_rw_writer.specs.Marks.{is_marked_after}
 
@@ -24,20 +12,20 @@ abbrev pub is_blocked_after : {T : Type 0} → List (Event T) → Bool
 is_blocked_after past = blocks (holds_of rw_writer_table past) (is_marked_after past)
 
 abbrev pub is_answer : {T : Type 0} → Then T → Bool
-is_answer (thens.Answers answer) = true
+is_answer (Then.Answers answer) = true
 is_answer other = false
 
 abbrev pub adds_count : {T : Type 0} → Act T → Bool
-adds_count (acts.Add words.Counter old put) = true
+adds_count (Act.Add Word.Counter old put) = true
 adds_count act = false
 
 abbrev pub loads_count : {T : Type 0} → Act T → Bool
-loads_count (acts.Load words.Counter seen) = true
+loads_count (Act.Load Word.Counter seen) = true
 loads_count act = false
 
 -- the counter is the number of adds on it so far, modulo 2 ^ 64
 abbrev pub CounterCountsAdds : {T : Type 0} → List (Event T) → Type 0
-CounterCountsAdds past = word_in rw_writer_table past words.Counter ≡ acts_in adds_count past % 2 ^ 64
+CounterCountsAdds past = word_in rw_writer_table past Word.Counter ≡ acts_in adds_count past % 2 ^ 64
 
 -- A party owes a counter step from its event that ended that the lock was blocked, until its next add on the counter; no longer than its
 -- call lasts.
@@ -58,14 +46,14 @@ counts_since_load party (e ∷ past) =
 pub record StandsWith {T : Type 0} (party count : ℕ) (past : List (Event T)) : Type 0 where
   pub call : PendingCall T
   pub under_way : call_of party past ≡ Some call
-  pub writes : call.call ≡ calls.WriteLock
-  pub stands : latest_outcome call.own ≡ thens.Waits count
+  pub writes : call.call ≡ Call.WriteLock
+  pub stands : latest_outcome call.own ≡ Then.Waits count
 
 -- No count is lost: while a writer stands, and fewer than 2 ^ 64 adds came on the counter since it loaded it, some party owes a counter
 -- step wherever the counter is what it loaded and the lock is not blocked.
 abbrev pub NoCountIsLost : {T : Type 0} → List (Event T) → Type 0
 NoCountIsLost past =
-    (party count : ℕ) → StandsWith party count past → counts_since_load party past < 2 ^ 64 → word_in rw_writer_table past words.Counter ≡ count → is_blocked_after past ≡ false →
+    (party count : ℕ) → StandsWith party count past → counts_since_load party past < 2 ^ 64 → word_in rw_writer_table past Word.Counter ≡ count → is_blocked_after past ≡ false →
     (q : ℕ) × (owes_count q past ≡ true)
 
 -- A debt is paid at once: the next step of a party that owes a counter step is its add. So no party stands, ends or goes round that owes one.
@@ -84,7 +72,7 @@ abbrev pub makes_even : {T : Type 0} → Event T → List (Event T) → Bool
 makes_even e past = not (is_even_after past) && is_even_after (e ∷ past)
 
 abbrev pub wakes_all : {T : Type 0} → Act T → Bool
-wakes_all (acts.Woke wakes.All) = true
+wakes_all (Act.Woke Wake.All) = true
 wakes_all act = false
 
 -- A party owes a wake of all from its event that made the word even until it has made it; no longer than its call lasts.
@@ -112,8 +100,8 @@ evener_of (e ∷ past) = if makes_even e past then Some (record { party = e.part
 pub record ReaderStands {T : Type 0} (party seen : ℕ) (past : List (Event T)) : Type 0 where
   pub call : PendingCall T
   pub under_way : call_of party past ≡ Some call
-  pub reads : call.call ≡ calls.ReadLock
-  pub stands : latest_outcome call.own ≡ thens.Waits seen
+  pub reads : call.call ≡ Call.ReadLock
+  pub stands : latest_outcome call.own ≡ Then.Waits seen
 
 -- Readers are woken: while a reader stands that saw an odd word, and the word is even again, the party that made it even last has called
 -- its wake of all since, or still owes it.

@@ -1,26 +1,6 @@
 -- What a writer-preferring lock keeps at every front of every run: one writer or only readers, which its word counts beside the mark; a mark
 -- of a call that is under way, which keeps readers out; a cause for each refusal; and when a wait closure is asked, and what it is told.
-use Rattle.std.specs.Prelude.{◌≡◌, ◌≢◌, ℕ, ◌+◌, ◌*◌, ◌-◌, ◌%◌, ◌^◌, ◌<◌, ◌==◌, nat_lt, ◌↔◌, ◌⊎◌, ◌&&◌, ◌||◌, not, Bool, true, false, if◌then◌else◌, List, [], ◌∷◌, Option, Some, None, MatchBool, MatchOption}
-use Rattle.steps_events.specs.declared.event.Word.TheVariants as words
-use Rattle.steps_events.specs.declared.event.Wake.TheVariants as wakes
-use Rattle.steps_events.specs.declared.event.Call.{Call}
-use Rattle.steps_events.specs.declared.event.Call.TheVariants as calls
-use Rattle.steps_events.specs.declared.event.Act.{Act}
-use Rattle.steps_events.specs.declared.event.Act.TheVariants as acts
-use Rattle.steps_events.specs.declared.event.Answer.TheVariants as answers
-use Rattle.steps_events.specs.declared.event.Then.{Then}
-use Rattle.steps_events.specs.declared.event.Then.TheVariants as thens
-use Rattle.steps_events.specs.declared.event.Event.{Event}
-use Rattle.steps_events.specs.declared.hold.HoldKind.TheVariants as kinds
-use Rattle.steps_events.specs.Past.{Hold, call_of, holds_of, word_in, is_failure}
-use Rattle.steps_events.specs.HoldCounts.{reads_in, writes_in}
-use Rattle.steps_events.specs.RwAnswers.{acts_of, AnswersByHold}
-use Rattle.steps_events.specs.Moves.{is_step}
-use Rattle.steps_events.specs.Sights.{is_sight, is_beginning, AtLastSight, HasAborted, HasMissed, OtherWroteSinceSight, sight_of, goes_on, stands_at_wait, spins_in, last_of, keeps_asking}
-use Rattle.steps_events.specs.NextStep.{StepsAs, refused_waiting, EndsWithin, step_before, Loads, Exchanges}
-use Rattle.steps_events.specs.RwSteps.{gives_up, reader_looked, ReadsIn, WritesIn}
-use Rattle.steps_events.specs.Asks.{SpinCount, but_last_try, Refusing, whole_call, Waiting, WaitsAs}
-use Rattle.steps_events.specs.Laws.{IsLocked, Keeps}
+use Rattle.steps_rw_writer.specs.Names.{◌≡◌, ◌≢◌, ℕ, ◌+◌, ◌*◌, ◌-◌, ◌%◌, ◌^◌, ◌<◌, ◌==◌, nat_lt, ◌↔◌, ◌⊎◌, ◌&&◌, ◌||◌, not, Bool, true, false, if◌then◌else◌, List, [], ◌∷◌, Option, Some, None, MatchBool, MatchOption, Word, Wake, Call, Act, Answer, Then, Event, HoldKind, Hold, call_of, holds_of, word_in, is_failure, reads_in, writes_in, acts_of, AnswersByHold, is_step, is_sight, is_beginning, AtLastSight, HasAborted, HasMissed, OtherWroteSinceSight, sight_of, goes_on, stands_at_wait, spins_in, last_of, keeps_asking, StepsAs, refused_waiting, EndsWithin, step_before, Loads, Exchanges, gives_up, reader_looked, ReadsIn, WritesIn, SpinCount, but_last_try, Refusing, whole_call, Waiting, WaitsAs, IsLocked, Keeps}
 use Rattle.steps_rw_writer.specs.Table.{rw_writer_table}
 use Rattle.steps_rw_writer.specs.Marks.{is_one_more, setter_of, is_marked_after, has_marked}
 use Rattle.steps_rw_writer.specs.Debts.{loads_count, is_blocked_after, NoCountIsLost, PaysNext, ReadersAreWoken, CounterCountsAdds}
@@ -55,7 +35,7 @@ pub record IsRead (w : ℕ) (holds : List Hold) (marked : Bool) : Type 0 where
 pub record IsWritten (w : ℕ) (holds : List Hold) (marked : Bool) : Type 0 where
   pub is_full : w ≡ 2 ^ 64 - 1
   pub writer : ℕ
-  pub alone : holds ≡ (writer, kinds.Write) ∷ []
+  pub alone : holds ≡ (writer, HoldKind.Write) ∷ []
   pub unmarked : marked ≡ false
 
 abbrev pub CountsHolds : ℕ → List Hold → Bool → Type 0
@@ -65,7 +45,7 @@ CountsHolds w holds marked = IsRead w holds marked ⊎ IsWritten w holds marked
 
 -- the call under way of the party has set the mark
 abbrev pub IsSetter : {T : Type 0} → ℕ → List (Event T) → Type 0
-IsSetter party past = MatchOption (call_of party past) ⊥ (λ c. (c.call ≡ calls.WriteLock) × (has_marked c.own ≡ true))
+IsSetter party past = MatchOption (call_of party past) ⊥ (λ c. (c.call ≡ Call.WriteLock) × (has_marked c.own ≡ true))
 
 -- where the mark is set, the call that set it last is under way
 abbrev pub SetterIsUnderWay : {T : Type 0} → List (Event T) → Type 0
@@ -97,7 +77,7 @@ abbrev pub HasMissedAfterAbort : {T : Type 0} → ℕ → List (Event T) → Typ
 HasMissedAfterAbort party [] = ⊥
 HasMissedAfterAbort party (e ∷ past) =
     MatchBool (e.party == party)
-    (MatchBool (is_sight words.State e.act && is_failure e.act) (HasAborted party past × OtherWroteSinceSight words.State party past)
+    (MatchBool (is_sight Word.State e.act && is_failure e.act) (HasAborted party past × OtherWroteSinceSight Word.State party past)
     (MatchBool (is_beginning e.act) ⊥ (HasMissedAfterAbort party past)))
     (HasMissedAfterAbort party past)
 
@@ -105,11 +85,11 @@ HasMissedAfterAbort party (e ∷ past) =
 -- of these, after its own closure had answered Abort. `TryWriteLock`: a hold stood at its last sight, or the mark was set. `WriteLock`: its
 -- own closure had answered Abort, and after that a hold stood at its last sight, or it missed.
 abbrev pub RwWriterCause : {T : Type 0} → Call T → ℕ → List (Event T) → Type 0
-RwWriterCause calls.TryReadLock party events = AtLastSight words.State IsShut party events ⊎ HasMissed words.State party events
-RwWriterCause calls.ReadLock party events = AtLastSight words.State (λ before. HasAborted party before × IsShut before) party events
-RwWriterCause calls.TryWriteLock party events = AtLastSight words.State IsTaken party events
-RwWriterCause calls.WriteLock party events =
-    AtLastSight words.State (λ before. HasAborted party before × IsLocked rw_writer_table before) party events ⊎ HasMissedAfterAbort party events
+RwWriterCause Call.TryReadLock party events = AtLastSight Word.State IsShut party events ⊎ HasMissed Word.State party events
+RwWriterCause Call.ReadLock party events = AtLastSight Word.State (λ before. HasAborted party before × IsShut before) party events
+RwWriterCause Call.TryWriteLock party events = AtLastSight Word.State IsTaken party events
+RwWriterCause Call.WriteLock party events =
+    AtLastSight Word.State (λ before. HasAborted party before × IsLocked rw_writer_table before) party events ⊎ HasMissedAfterAbort party events
 RwWriterCause other party events = ⊥
 
 -- Exact: the event in which a `TryWriteLock` sees the word grants the lock exactly where there was no hold before it, and the mark was not set.
@@ -117,15 +97,15 @@ abbrev pub IsExactGrant : {T : Type 0} → List (Event T) → Type 0
 IsExactGrant [] = Unit {0}
 IsExactGrant (e ∷ past) =
     MatchOption (call_of e.party past) (Unit {0})
-    (λ c. c.call ≡ calls.TryWriteLock → is_sight words.State e.act ≡ true →
-    ((e.then ≡ thens.Answers answers.Success) ↔ ((holds_of rw_writer_table past ≡ []) × (is_marked_after past ≡ false))))
+    (λ c. c.call ≡ Call.TryWriteLock → is_sight Word.State e.act ≡ true →
+    ((e.then ≡ Then.Answers Answer.Success) ↔ ((holds_of rw_writer_table past ≡ []) × (is_marked_after past ≡ false))))
 
 -- How often a call tries before its wait closure is asked.
 
 -- a reader's look in vain: no reader may enter
 abbrev pub is_read_in_vain : {T : Type 0} → Act T → Bool
-is_read_in_vain (acts.Load words.State seen) = not (may_read seen)
-is_read_in_vain (acts.Exchange words.State from to found false) = not (may_read found)
+is_read_in_vain (Act.Load Word.State seen) = not (may_read seen)
+is_read_in_vain (Act.Exchange Word.State from to found false) = not (may_read found)
 is_read_in_vain act = false
 
 -- the writer may neither enter nor set the mark
@@ -135,8 +115,8 @@ leaves_no_move word = not (may_write word || may_mark word)
 -- A writer's try in vain: a look at which it has no move; a mark that it has set; an exchange to enter that failed, where it may not set the
 -- mark. A mark that failed is not counted, but what it found is a look.
 abbrev pub is_write_in_vain : {T : Type 0} → Act T → Bool
-is_write_in_vain (acts.Load words.State seen) = leaves_no_move seen
-is_write_in_vain (acts.Exchange words.State from to found done) =
+is_write_in_vain (Act.Load Word.State seen) = leaves_no_move seen
+is_write_in_vain (Act.Exchange Word.State from to found done) =
     if is_one_more from to then (done || leaves_no_move found) else ((to == 2 ^ 64 - 1) && not done && not (may_mark found))
 is_write_in_vain act = false
 
@@ -148,26 +128,26 @@ write_spins_in loads_next (e ∷ own) =
 
 -- how often the call has spun; no call but a `ReadLock` or a `WriteLock` spins
 abbrev pub spins_of : {T : Type 0} → SpinCount T
-spins_of calls.ReadLock own = spins_in is_read_in_vain own
-spins_of calls.WriteLock own = write_spins_in false own
+spins_of Call.ReadLock own = spins_in is_read_in_vain own
+spins_of Call.WriteLock own = write_spins_in false own
 spins_of call own = 0
 
 -- What a reader tries in vain and then goes on by itself; of a writer the tries in vain but those after which it loads the counter, and but the last
 -- of one that gives up, after which it takes the mark away.
 abbrev pub spins_on : {T : Type 0} → SpinCount T
-spins_on calls.ReadLock own = spins_in is_read_in_vain own
-spins_on calls.WriteLock own = but_last_try own (write_spins_in true own)
+spins_on Call.ReadLock own = spins_in is_read_in_vain own
+spins_on Call.WriteLock own = but_last_try own (write_spins_in true own)
 spins_on call own = 0
 
 -- What a wait closure is told: of a reader what its latest act saw of the word, of a writer the count that it loaded last.
 
 abbrev pub count_told : {T : Type 0} → Option (Act T) → Option ℕ
 count_told None = None
-count_told (Some act) = sight_of words.Counter act
+count_told (Some act) = sight_of Word.Counter act
 
 abbrev pub told_by : {T : Type 0} → Refusing T
-told_by calls.ReadLock own act = sight_of words.State act
-told_by calls.WriteLock own act = count_told (last_of loads_count own)
+told_by Call.ReadLock own act = sight_of Word.State act
+told_by Call.WriteLock own act = count_told (last_of loads_count own)
 told_by call own act = None
 
 -- how they wait
@@ -181,7 +161,7 @@ abbrev pub StandsWhereBlocked : {T : Type 0} → List (Event T) → Type 0
 StandsWhereBlocked [] = Unit {0}
 StandsWhereBlocked (e ∷ past) =
     MatchBool (stands_at_wait e.then)
-    (MatchOption (call_of e.party past) ⊥ (λ c. c.call ≡ calls.WriteLock → (is_sight words.State e.act ≡ true) × (is_blocked_after past ≡ true)))
+    (MatchOption (call_of e.party past) ⊥ (λ c. c.call ≡ Call.WriteLock → (is_sight Word.State e.act ≡ true) × (is_blocked_after past ≡ true)))
     (Unit {0})
 
 -- What a call answers.
@@ -189,10 +169,10 @@ StandsWhereBlocked (e ∷ past) =
 -- What an `Unlock` has done once it ends, newest first. A reader's: it has subtracted 2 from the word; where it found 3, it has then counted,
 -- and woken one. The writer's: it has stored 0, then counted, then woken one, then all.
 abbrev pub HasUnlocked : {T : Type 0} → List (Act T) → Type 0
-HasUnlocked (acts.Add words.State old put ∷ []) = (old ≢ 3) × (put ≡ (old + (2 ^ 64 - 2)) % 2 ^ 64)
-HasUnlocked (acts.Woke wakes.One ∷ acts.Add words.Counter count next ∷ acts.Add words.State old put ∷ []) =
+HasUnlocked (Act.Add Word.State old put ∷ []) = (old ≢ 3) × (put ≡ (old + (2 ^ 64 - 2)) % 2 ^ 64)
+HasUnlocked (Act.Woke Wake.One ∷ Act.Add Word.Counter count next ∷ Act.Add Word.State old put ∷ []) =
     (old ≡ 3) × (put ≡ (old + (2 ^ 64 - 2)) % 2 ^ 64) × (next ≡ (count + 1) % 2 ^ 64)
-HasUnlocked (acts.Woke wakes.All ∷ acts.Woke wakes.One ∷ acts.Add words.Counter count next ∷ acts.Store words.State put ∷ []) = (put ≡ 0) × (next ≡ (count + 1) % 2 ^ 64)
+HasUnlocked (Act.Woke Wake.All ∷ Act.Woke Wake.One ∷ Act.Add Word.Counter count next ∷ Act.Store Word.State put ∷ []) = (put ≡ 0) × (next ≡ (count + 1) % 2 ^ 64)
 HasUnlocked done = ⊥
 
 -- What a call does next, by its own steps so far, and how it is left by what that tells.
@@ -203,38 +183,38 @@ reader_waits own v = refused_waiting own (spins_in is_read_in_vain own) v
 
 -- How what it saw leaves a writer. One that gives up goes on only to take the mark away.
 abbrev pub left_unmarking : {T : Type 0} → ℕ → Then T
-left_unmarking v = if has_mark v then thens.GoesOn else thens.Answers answers.Interrupted
+left_unmarking v = if has_mark v then Then.GoesOn else Then.Answers Answer.Interrupted
 
 -- one that may not enter goes on as long as it keeps on asking
 abbrev pub left_refused : {T : Type 0} → Bool → ℕ → Then T
-left_refused asks v = if asks then thens.GoesOn else left_unmarking v
+left_refused asks v = if asks then Then.GoesOn else left_unmarking v
 
 -- after a look it goes on also where it may enter
 abbrev pub left_looking : {T : Type 0} → Bool → ℕ → Then T
-left_looking asks v = if may_write v then thens.GoesOn else left_refused asks v
+left_looking asks v = if may_write v then Then.GoesOn else left_refused asks v
 
 -- and after its last look it stands where the lock is blocked, and is told the count
 abbrev pub left_last : {T : Type 0} → Bool → ℕ → ℕ → Then T
-left_last asks count v = if has_block v then thens.Waits count else left_looking asks v
+left_last asks count v = if has_block v then Then.Waits count else left_looking asks v
 
 abbrev pub goes_on_anyway : {T : Type 0} → ℕ → Then T
-goes_on_anyway v = thens.GoesOn
+goes_on_anyway v = Then.GoesOn
 
 -- What a writer does. It looks;
 abbrev pub LooksToWrite : {T : Type 0} → Bool → Act T → Then T → Type 0
-LooksToWrite asks act outcome = Loads words.State (left_looking asks) act outcome
+LooksToWrite asks act outcome = Loads Word.State (left_looking asks) act outcome
 
 -- or spins, which is to look again, and after 10000 spins to load the counter;
 abbrev pub SpinsOrLoads : {T : Type 0} → Bool → ℕ → Act T → Then T → Type 0
-SpinsOrLoads asks spins act outcome = MatchBool (nat_lt spins 10000) (LooksToWrite asks act outcome) (Loads words.Counter goes_on_anyway act outcome)
+SpinsOrLoads asks spins act outcome = MatchBool (nat_lt spins 10000) (LooksToWrite asks act outcome) (Loads Word.Counter goes_on_anyway act outcome)
 
 -- or sets the mark where it may, and else spins;
 abbrev pub MarksAt : {T : Type 0} → Bool → ℕ → ℕ → Act T → Then T → Type 0
-MarksAt asks spins v act outcome = MatchBool (may_mark v) (Exchanges words.State v (v + 1) thens.GoesOn (left_looking asks) act outcome) (SpinsOrLoads asks spins act outcome)
+MarksAt asks spins v act outcome = MatchBool (may_mark v) (Exchanges Word.State v (v + 1) Then.GoesOn (left_looking asks) act outcome) (SpinsOrLoads asks spins act outcome)
 
 -- or takes the mark away where one is set;
 abbrev pub UnmarksAt : {T : Type 0} → ℕ → Act T → Then T → Type 0
-UnmarksAt v act outcome = MatchBool (has_mark v) (Exchanges words.State v (v - 1) thens.GoesOn left_unmarking act outcome) ⊥
+UnmarksAt v act outcome = MatchBool (has_mark v) (Exchanges Word.State v (v - 1) Then.GoesOn left_unmarking act outcome) ⊥
 
 -- where it may not enter it marks or spins as long as it keeps on asking, and then unmarks
 abbrev pub RefusedAt : {T : Type 0} → Bool → ℕ → ℕ → Act T → Then T → Type 0
@@ -246,7 +226,7 @@ LookedAt asks spins v act outcome = MatchBool (may_write v) (WritesIn v (left_re
 
 -- the counter's add
 abbrev pub CountsOne : {T : Type 0} → Act T → Then T → Type 0
-CountsOne (acts.Add words.Counter old put) outcome = (put ≡ (old + 1) % 2 ^ 64) × (outcome ≡ thens.GoesOn)
+CountsOne (Act.Add Word.Counter old put) outcome = (put ≡ (old + 1) % 2 ^ 64) × (outcome ≡ Then.GoesOn)
 CountsOne act outcome = ⊥
 
 -- After an exchange. One that set the mark: it spins. One that took it away: it counts. One that failed: to enter, it is refused by what it found; to set the mark,
@@ -261,51 +241,51 @@ ExchangedFrom asks spins from to found false act outcome =
 -- exchange; and of one that has taken the mark away the counter's add, a wake of one, and a wake of all.
 abbrev pub WriterStep : {T : Type 0} → Bool → ℕ → Option (Act T) → Act T → Then T → Type 0
 WriterStep asks spins None act outcome = LooksToWrite asks act outcome
-WriterStep asks spins (Some (acts.Load words.Counter count)) act outcome = Loads words.State (left_last asks count) act outcome
-WriterStep asks spins (Some (acts.Load word v)) act outcome = LookedAt asks spins v act outcome
-WriterStep asks spins (Some (acts.Exchange word from to found done)) act outcome = ExchangedFrom asks spins from to found done act outcome
-WriterStep asks spins (Some (acts.Add word old put)) act outcome = (act ≡ acts.Woke wakes.One) × (outcome ≡ thens.GoesOn)
-WriterStep asks spins (Some (acts.Woke wake)) act outcome = (act ≡ acts.Woke wakes.All) × (outcome ≡ thens.Answers answers.Interrupted)
+WriterStep asks spins (Some (Act.Load Word.Counter count)) act outcome = Loads Word.State (left_last asks count) act outcome
+WriterStep asks spins (Some (Act.Load word v)) act outcome = LookedAt asks spins v act outcome
+WriterStep asks spins (Some (Act.Exchange word from to found done)) act outcome = ExchangedFrom asks spins from to found done act outcome
+WriterStep asks spins (Some (Act.Add word old put)) act outcome = (act ≡ Act.Woke Wake.One) × (outcome ≡ Then.GoesOn)
+WriterStep asks spins (Some (Act.Woke wake)) act outcome = (act ≡ Act.Woke Wake.All) × (outcome ≡ Then.Answers Answer.Interrupted)
 WriterStep asks spins (Some other) act outcome = ⊥
 
 -- a release takes 2 from the word, which ends the call unless it was 3, or stores 0
 abbrev pub Releases : {T : Type 0} → Act T → Then T → Type 0
-Releases (acts.Add words.State old put) outcome = (put ≡ (old + (2 ^ 64 - 2)) % 2 ^ 64) × (outcome ≡ (if old == 3 then thens.GoesOn else thens.Answers answers.Done))
-Releases (acts.Store words.State put) outcome = (put ≡ 0) × (outcome ≡ thens.GoesOn)
+Releases (Act.Add Word.State old put) outcome = (put ≡ (old + (2 ^ 64 - 2)) % 2 ^ 64) × (outcome ≡ (if old == 3 then Then.GoesOn else Then.Answers Answer.Done))
+Releases (Act.Store Word.State put) outcome = (put ≡ 0) × (outcome ≡ Then.GoesOn)
 Releases act outcome = ⊥
 
 -- the wake of one ends the call of a reader; after that of the writer's comes that of all
 abbrev pub after_wake : {T : Type 0} → List (Act T) → Then T
-after_wake (acts.Store word put ∷ before) = thens.GoesOn
-after_wake before = thens.Answers answers.Done
+after_wake (Act.Store word put ∷ before) = Then.GoesOn
+after_wake before = Then.Answers Answer.Done
 
 -- an `Unlock` releases, counts, wakes one, and wakes all
 abbrev pub UnlockStep : {T : Type 0} → List (Act T) → Act T → Then T → Type 0
 UnlockStep [] act outcome = Releases act outcome
-UnlockStep (acts.Add words.Counter old put ∷ before) act outcome = (act ≡ acts.Woke wakes.One) × (outcome ≡ after_wake before)
-UnlockStep (acts.Woke wake ∷ before) act outcome = (act ≡ acts.Woke wakes.All) × (outcome ≡ thens.Answers answers.Done)
+UnlockStep (Act.Add Word.Counter old put ∷ before) act outcome = (act ≡ Act.Woke Wake.One) × (outcome ≡ after_wake before)
+UnlockStep (Act.Woke wake ∷ before) act outcome = (act ≡ Act.Woke Wake.All) × (outcome ≡ Then.Answers Answer.Done)
 UnlockStep (released ∷ before) act outcome = CountsOne act outcome
 
 -- the next step of each call; no other has one
 abbrev pub RwWriterStep : {T : Type 0} → Call T → List (Event T) → Act T → Then T → Type 0
-RwWriterStep calls.TryReadLock own act outcome = ReadsIn may_read 2 gives_up gives_up own act outcome
-RwWriterStep calls.ReadLock own act outcome = ReadsIn may_read 2 (reader_waits own) (reader_looked may_read (reader_waits own)) own act outcome
-RwWriterStep calls.TryWriteLock own act outcome = (last_of is_step own ≡ None) × WritesIn 0 gives_up act outcome
-RwWriterStep calls.WriteLock own act outcome = WriterStep (keeps_asking own) (write_spins_in true own) (step_before own) act outcome
-RwWriterStep calls.Unlock own act outcome = UnlockStep (acts_of own) act outcome
+RwWriterStep Call.TryReadLock own act outcome = ReadsIn may_read 2 gives_up gives_up own act outcome
+RwWriterStep Call.ReadLock own act outcome = ReadsIn may_read 2 (reader_waits own) (reader_looked may_read (reader_waits own)) own act outcome
+RwWriterStep Call.TryWriteLock own act outcome = (last_of is_step own ≡ None) × WritesIn 0 gives_up act outcome
+RwWriterStep Call.WriteLock own act outcome = WriterStep (keeps_asking own) (write_spins_in true own) (step_before own) act outcome
+RwWriterStep Call.Unlock own act outcome = UnlockStep (acts_of own) act outcome
 RwWriterStep other own act outcome = ⊥
 
 -- how many steps a call makes that waits for nobody
 abbrev pub rw_writer_most : {T : Type 0} → Call T → Option ℕ
-rw_writer_most calls.TryReadLock = Some 2
-rw_writer_most calls.TryWriteLock = Some 1
-rw_writer_most calls.Unlock = Some 4
+rw_writer_most Call.TryReadLock = Some 2
+rw_writer_most Call.TryWriteLock = Some 1
+rw_writer_most Call.Unlock = Some 4
 rw_writer_most other = None
 
 -- What a writer-preferring lock keeps beside what every object does.
 pub record RwWriterLaw {T : Type 0} (past : List (Event T)) : Type 0 where
   -- the word is twice the number of read holds and the mark, or 2^64 - 1 with one write hold and no other
-  pub counts : CountsHolds (word_in rw_writer_table past words.State) (holds_of rw_writer_table past) (is_marked_after past)
+  pub counts : CountsHolds (word_in rw_writer_table past Word.State) (holds_of rw_writer_table past) (is_marked_after past)
   -- the mark is of a call that is under way
   pub mark : SetterIsUnderWay past
   -- and no read hold is granted while it is set
@@ -320,9 +300,9 @@ pub record RwWriterLaw {T : Type 0} (past : List (Event T)) : Type 0 where
   pub stands : StandsWhereBlocked past
   -- the counter is the number of adds on it so far, modulo 2 ^ 64
   pub adds : CounterCountsAdds past
-  -- while a writer stands, whoever frees the lock owes a counter step until it has made it
+  -- while a writer stands that was told what the counter is, some party owes a counter step wherever the lock is not blocked
   pub counted : NoCountIsLost past
-  -- and makes it in its next step
+  -- and a party that owes one makes it in its next step
   pub pays : PaysNext past
   -- while a reader stands that saw an odd word, whoever makes the word even owes a wake of all until it has made it
   pub woken : ReadersAreWoken past

@@ -1,16 +1,9 @@
 -- The mark: a waiting writer sets it, and while it is set no reader enters.
-use Rattle.std.specs.Prelude.{ℕ, ◌+◌, ◌==◌, Bool, true, false, ◌&&◌, if◌then◌else◌, List, [], ◌∷◌, Option, Some, None, is_some}
-use Rattle.steps_events.specs.declared.event.Word.TheVariants as words
-use Rattle.steps_events.specs.declared.event.Call.{Call}
-use Rattle.steps_events.specs.declared.event.Call.TheVariants as calls
-use Rattle.steps_events.specs.declared.event.Act.{Act}
-use Rattle.steps_events.specs.declared.event.Act.TheVariants as acts
-use Rattle.steps_events.specs.declared.event.Event.{Event}
-use Rattle.steps_events.specs.Past.{PendingCall, call_of}
+use Rattle.steps_rw_writer.specs.Names.{ℕ, ◌+◌, ◌==◌, Bool, true, false, ◌&&◌, if◌then◌else◌, List, [], ◌∷◌, Option, Some, None, is_some, Word, Call, Act, Event, PendingCall, call_of}
 
 abbrev pub is_writing : {T : Type 0} → Call T → Bool
-is_writing calls.WriteLock = true
-is_writing calls.TryWriteLock = true
+is_writing Call.WriteLock = true
+is_writing Call.TryWriteLock = true
 is_writing call = false
 
 abbrev pub is_one_more : ℕ → ℕ → Bool
@@ -19,7 +12,7 @@ is_one_more from to = to == from + 1
 -- Who set the mark, after an act of a party: a writing call's done exchange for one more sets it; each other done exchange of a writing
 -- call takes it away, as the writer's entering does.
 abbrev pub setter_after : {T : Type 0} → ℕ → Act T → Option (PendingCall T) → Option ℕ → Option ℕ
-setter_after party (acts.Exchange words.State from to found true) (Some c) setter =
+setter_after party (Act.Exchange Word.State from to found true) (Some c) setter =
     if is_writing c.call then (if is_one_more from to then Some party else None) else setter
 setter_after party act pending setter = setter
 
@@ -33,7 +26,7 @@ is_marked_after past = is_some (setter_of past)
 
 -- an event that sets the mark
 abbrev pub sets_mark : {T : Type 0} → Act T → Bool
-sets_mark (acts.Exchange words.State from to found done) = done && is_one_more from to
+sets_mark (Act.Exchange Word.State from to found done) = done && is_one_more from to
 sets_mark act = false
 
 -- the call has set the mark

@@ -1,40 +1,16 @@
 -- A semaphore keeps its law at every front of every run.
-use Rattle.std.proofs.Common.{◌≡◌, ℕ, ◌+◌, ◌-◌, ◌≤◌, ◌<◌, ◌%◌, ◌^◌, ◌==◌, refl, sym, ◌∙◌, ap, subst, Bool, true, false, cond, List, [], ◌∷◌, Option, Some, None, inl, inr, arith}
-use Rattle.std.specs.Prelude.{IfSome, MatchBool, MatchOption, not, is_some, nat_lt, ◌&&◌}
+use Rattle.steps_semaphore.specs.Names.{IfSome, MatchBool, MatchOption, not, is_some, nat_lt, ◌&&◌, Wake, Patience, WaitAction, Word, Call, Act, Answer, Event, Then, After, carried_out, value_told, outcome_of, place_after, within, same_word, PendingCall, call_of, hold_of, word_in, word_after, latest_outcome, event, Move, step_at, answer_fault, is_step, sight_of, is_sight, keeps_asking, HasAborted, last_of, WhereAsked, is_apart, Lacks, is_refusal}
+use Rattle.steps_semaphore.proofs.Names.{◌≡◌, ℕ, ◌+◌, ◌-◌, ◌≤◌, ◌<◌, ◌%◌, ◌^◌, ◌==◌, refl, sym, ◌∙◌, ap, subst, Bool, true, false, cond, List, [], ◌∷◌, Option, Some, None, inl, inr, arith, eqb-true, eqb-false, begun_spun, HasSpun}
 use Rattle.std.proofs.lemmas.Bool.Decides.{nat_tests}
-use Rattle.steps_events.specs.declared.event.Wake.TheVariants as wakes
-use Rattle.steps_events.specs.declared.patience.Patience.{Patience}
-use Rattle.std.proofs.lemmas.Bool.{eqb-true, eqb-false}
-use Rattle.steps_events.specs.declared.WaitAction.{WaitAction}
-use Rattle.steps_events.specs.declared.event.Word.{Word}
-use Rattle.steps_events.specs.declared.event.Word.TheVariants as words
-use Rattle.steps_events.specs.declared.event.Call.{Call}
-use Rattle.steps_events.specs.declared.event.Call.TheVariants as calls
-use Rattle.steps_events.specs.declared.event.Act.{Act}
-use Rattle.steps_events.specs.declared.event.Act.TheVariants as acts
-use Rattle.steps_events.specs.declared.event.Answer.TheVariants as answers
-use Rattle.steps_events.specs.declared.event.Event.{Event}
-use Rattle.steps_events.specs.declared.event.Then.{Then}
-use Rattle.steps_events.specs.declared.event.Then.TheVariants as thens
 use Rattle.steps_events.specs.declared.hold.HoldKind.{HoldKind}
-use Rattle.steps_events.specs.declared.row.After.{After}
-use Rattle.steps_events.specs.declared.row.After.TheVariants as afters
 use Rattle.steps_events.specs.Arithmetic.{Arithmetic}
-use Rattle.steps_events.specs.Rows.{carried_out, value_told, outcome_of, place_after, within}
-use Rattle.steps_events.specs.Past.{same_word, PendingCall, call_of, hold_of, word_in, word_after, latest_outcome, event}
-use Rattle.steps_events.specs.Moves.{Move, step_at, answer_fault, is_step}
 use Rattle.steps_events.specs.Runs.{IsPast}
-use Rattle.steps_events.specs.Sights.{sight_of, is_sight, keeps_asking, HasAborted, last_of}
-use Rattle.steps_events.specs.Asks.{WhereAsked}
-use Rattle.steps_events.specs.Laws.{is_apart, Lacks, is_refusal}
 use Rattle.steps_events.proofs.NextStep.{Descends, ends_within}
 use Rattle.steps_events.proofs.Holds.{some_same, eqb_same, no_holds, exclusive_unheld}
 use Rattle.steps_events.proofs.Steps.{by_move, tells_memory}
-use Rattle.steps_events.proofs.Spins.{begun_spun, HasSpun}
 use Rattle.steps_events.proofs.Parties.{IsKept, at_place}
 use Rattle.steps_events.proofs.Asks.{waits_first, waits_as, spins_no_more}
 use Rattle.steps_semaphore.specs.declared.SemaphorePlace.{SemaphorePlace}
-use Rattle.steps_semaphore.specs.declared.SemaphorePlace.TheVariants as places
 use Rattle.steps_semaphore.specs.Table.{semaphore_table, semaphore_begins, semaphore_intent, semaphore_after, semaphore_answered}
 use Rattle.steps_semaphore.specs.Permits.{permits_given, permits_taken, is_take, number_answered}
 use Rattle.steps_semaphore.specs.Law.{permits_posted, semaphore_gives, semaphore_value, SemaphoreCause, is_empty_look, wait_spins, permits_seen, look_of, refused_as, IsLeftBy, IsPostStep, SemaphoreStep, KeepsSemaphore, semaphore_most, semaphore_waiting}
@@ -44,13 +20,13 @@ use Rattle.steps_semaphore.proofs.WaitSteps.{one_less, AtWait, WaitLeads, wait_l
 -- What is kept of a call at its place.
 
 abbrev pub AtSemaphore : {T : Type 0} → SemaphorePlace → PendingCall T → Option HoldKind → Type 0
-AtSemaphore places.Value c hold = (c.call ≡ calls.Value) × (last_of is_step c.own ≡ None)
-AtSemaphore (places.Post n) c hold = (c.call ≡ calls.Post n) × (last_of is_step c.own ≡ None)
-AtSemaphore places.Wake c hold = (n : ℕ) × (c.call ≡ calls.Post n) × (is_some (last_of is_step c.own) ≡ true)
-AtSemaphore places.TryLook c hold = (c.call ≡ calls.TryWait) × (permits_seen c.own ≡ 0)
-AtSemaphore (places.TryTake seen to) c hold = (c.call ≡ calls.TryWait) × (seen ≡ to + 1) × (permits_seen c.own ≡ seen)
-AtSemaphore (places.Look patience) c hold = (c.call ≡ calls.Wait) × AtWait (places.Look patience) c.own × (permits_seen c.own ≡ 0)
-AtSemaphore (places.Take seen to patience) c hold = (c.call ≡ calls.Wait) × AtWait (places.Take seen to patience) c.own × (permits_seen c.own ≡ seen)
+AtSemaphore SemaphorePlace.Value c hold = (c.call ≡ Call.Value) × (last_of is_step c.own ≡ None)
+AtSemaphore (SemaphorePlace.Post n) c hold = (c.call ≡ Call.Post n) × (last_of is_step c.own ≡ None)
+AtSemaphore SemaphorePlace.Wake c hold = (n : ℕ) × (c.call ≡ Call.Post n) × (is_some (last_of is_step c.own) ≡ true)
+AtSemaphore SemaphorePlace.TryLook c hold = (c.call ≡ Call.TryWait) × (permits_seen c.own ≡ 0)
+AtSemaphore (SemaphorePlace.TryTake seen to) c hold = (c.call ≡ Call.TryWait) × (seen ≡ to + 1) × (permits_seen c.own ≡ seen)
+AtSemaphore (SemaphorePlace.Look patience) c hold = (c.call ≡ Call.Wait) × AtWait (SemaphorePlace.Look patience) c.own × (permits_seen c.own ≡ 0)
+AtSemaphore (SemaphorePlace.Take seen to patience) c hold = (c.call ≡ Call.Wait) × AtWait (SemaphorePlace.Take seen to patience) c.own × (permits_seen c.own ≡ seen)
 
 -- Where a call begins.
 
@@ -58,19 +34,19 @@ AtSemaphore (places.Take seen to patience) c hold = (c.call ≡ calls.Wait) × A
 
 -- how `TryWait` goes on after a look, by whether it saw 0
 abbrev try_after : {T : Type 0} → ℕ → Bool → After T SemaphorePlace
-try_after v gone = cond gone (afters.Ends answers.Interrupted) (afters.At (places.TryTake v (v - 1)))
+try_after v gone = cond gone (After.Ends Answer.Interrupted) (After.At (SemaphorePlace.TryTake v (v - 1)))
 
 -- a call that waits for a permit
 abbrev SeenAt : SemaphorePlace → ℕ → Type 0
-SeenAt (places.Look patience) v = v ≡ 0
-SeenAt (places.Take seen to patience) v = v ≡ seen
+SeenAt (SemaphorePlace.Look patience) v = v ≡ 0
+SeenAt (SemaphorePlace.Take seen to patience) v = v ≡ seen
 SeenAt other v = Unit {0}
 
 -- after a look of a `Wait`, by three tests
 abbrev looked : {T : Type 0} → Patience → ℕ → Bool → Bool → Bool → After T SemaphorePlace
 looked patience v gone keep left =
-    cond gone (within places.Look (cond keep (cond left (afters.At (record { spins = patience.spins + 1; keep = patience.keep })) (afters.Waits patience 0)) (afters.Ends answers.Interrupted)))
-    (afters.At (places.Take v (v - 1) patience))
+    cond gone (within SemaphorePlace.Look (cond keep (cond left (After.At (record { spins = patience.spins + 1; keep = patience.keep })) (After.Waits patience 0)) (After.Ends Answer.Interrupted)))
+    (After.At (SemaphorePlace.Take v (v - 1) patience))
 
 -- after an exchange of a `Wait`, by whether it was done
 
@@ -89,11 +65,11 @@ spins_bounded place c hold h1 = grind (arith, nat_tests, eqb-true, eqb-false)
 
 -- what is so of a call where it asks its wait closure
 abbrev IsAskedSo : {T : Type 0} → PendingCall T → Act T → ℕ → Type 0
-IsAskedSo c act told = (wait_spins c.call c.own ≡ 10000) × (sight_of words.State act ≡ Some told) × (keeps_asking c.own ≡ true)
+IsAskedSo c act told = (wait_spins c.call c.own ≡ 10000) × (sight_of Word.State act ≡ Some told) × (keeps_asking c.own ≡ true)
 
 pub record EventLaw {T : Type 0} (initial party : ℕ) (past : List (Event T)) (pending : Option (PendingCall T)) (w : ℕ) (m : Move T) : Type 0 where
-  pub effect : Effect w (word_after words.State m.act w) (semaphore_gives m.act pending) (is_take words.State m.act)
-  pub told : IfSome (sight_of words.State m.act) (λ v. v ≡ w)
+  pub effect : Effect w (word_after Word.State m.act w) (semaphore_gives m.act pending) (is_take Word.State m.act)
+  pub told : IfSome (sight_of Word.State m.act) (λ v. v ≡ w)
   pub answered : IfSome (number_answered m.outcome) (λ v. v ≡ w)
   pub cause : MatchBool (is_refusal m.outcome) (MatchOption pending ⊥ (λ c. SemaphoreCause initial c.call party (event party m.act m.outcome ∷ past))) (Unit {0})
   pub asks : WhereAsked IsAskedSo pending m.act m.outcome
@@ -113,15 +89,15 @@ pub record LookLaw {T : Type 0} (initial party : ℕ) (past : List (Event T)) (c
 
 step_law :
     {T : Type 0} (initial party : ℕ) (past : List (Event T)) (c : PendingCall T) (place : SemaphorePlace) (hold : Option HoldKind) (memory : Word → ℕ) → call_of party past ≡ Some c → AtSemaphore place c hold →
-    memory words.State ≡ semaphore_value initial past → EventLaw initial party past (Some c) (memory words.State) (step_at (semaphore_table initial) place hold memory)
+    memory Word.State ≡ semaphore_value initial past → EventLaw initial party past (Some c) (memory Word.State) (step_at (semaphore_table initial) place hold memory)
 step_law initial party past c place hold memory h1 h2 h3 = grind (arith, nat_tests, eqb-true, eqb-false)
 
 event_law :
-    {T : Type 0} (z : Arithmetic T) (initial parties : ℕ) (past : List (Event T)) (e : Event T) → IsPast z (semaphore_table initial) parties (e ∷ past) → word_in (semaphore_table initial) past words.State ≡ semaphore_value initial past →
-    EventLaw initial e.party past (call_of e.party past) (word_in (semaphore_table initial) past words.State) (record { act = e.act; outcome = e.then })
+    {T : Type 0} (z : Arithmetic T) (initial parties : ℕ) (past : List (Event T)) (e : Event T) → IsPast z (semaphore_table initial) parties (e ∷ past) → word_in (semaphore_table initial) past Word.State ≡ semaphore_value initial past →
+    EventLaw initial e.party past (call_of e.party past) (word_in (semaphore_table initial) past Word.State) (record { act = e.act; outcome = e.then })
 event_law {T} z initial parties past e run law =
     by_move (semaphore_table initial) (call_of e.party past) (hold_of (semaphore_table initial) e.party past) (word_in (semaphore_table initial) past)
-    (λ (k : Option (PendingCall T)) (m : Move T). EventLaw initial e.party past k (word_in (semaphore_table initial) past words.State) m)
+    (λ (k : Option (PendingCall T)) (m : Move T). EventLaw initial e.party past k (word_in (semaphore_table initial) past Word.State) m)
     run.0.0 (record { act = e.act; outcome = e.then })
     (λ call _. record { effect = inl (refl, refl, refl); told = tt; answered = tt; cause = tt; asks = tt; steps = tt })
     (λ action _. record { effect = inl (refl, refl, refl); told = tt; answered = tt; cause = tt; asks = tt; steps = tt })
@@ -135,18 +111,18 @@ event_law {T} z initial parties past e run law =
 
 pub semaphore_tallies :
     {T : Type 0} (z : Arithmetic T) (initial parties : ℕ) → initial < 2 ^ 64 → (past : List (Event T)) → IsPast z (semaphore_table initial) parties past →
-    Tallies (word_in (semaphore_table initial) past words.State) (permits_given semaphore_gives initial past) (permits_taken words.State past)
+    Tallies (word_in (semaphore_table initial) past Word.State) (permits_given semaphore_gives initial past) (permits_taken Word.State past)
 semaphore_tallies z initial parties fits [] run = tallies_first initial fits
 semaphore_tallies z initial parties fits (e ∷ past) run =
     let before = semaphore_tallies z initial parties fits past run.1 in
-    tallies_after _ _ _ _ _ (is_take words.State e.act) before (event_law z initial parties past e run before.0).effect
+    tallies_after _ _ _ _ _ (is_take Word.State e.act) before (event_law z initial parties past e run before.0).effect
 
 -- A call that waits for nobody has fewer steps left at each place.
 
 abbrev semaphore_rest : SemaphorePlace → Option ℕ
-semaphore_rest places.Value = Some 1
-semaphore_rest (places.Post n) = Some 2
-semaphore_rest places.Wake = Some 1
+semaphore_rest SemaphorePlace.Value = Some 1
+semaphore_rest (SemaphorePlace.Post n) = Some 2
+semaphore_rest SemaphorePlace.Wake = Some 1
 semaphore_rest other = None
 
 semaphore_begun : {T : Type 0} (call : Call T) (place : SemaphorePlace) (steps : ℕ) → semaphore_begins call ≡ Some place → semaphore_most call ≡ Some steps → (left : ℕ) × (semaphore_rest place ≡ Some left) × (left ≤ steps)
@@ -182,7 +158,7 @@ keeps_semaphore z initial parties (e ∷ past) fits run =
         permits = record {
           at_most = after.1;
           told = (rw before.0 at event.told, rw before.0 at event.answered);
-          lowers = lowered _ _ _ _ _ (is_take words.State e.act) before event.effect;
+          lowers = lowered _ _ _ _ _ (is_take Word.State e.act) before event.effect;
         };
         waits = waits_as semaphore_waiting past e event.asks (spins_no_more z (semaphore_table initial) parties AtSemaphore wait_spins (semaphore_kept initial) spins_bounded (e ∷ past) run);
         steps = event.steps;
@@ -194,5 +170,5 @@ keeps_semaphore z initial parties (e ∷ past) fits run =
 pub semaphore_apart : (T : Type 0) (own word : Word) → same_word own word ≡ false → (place : SemaphorePlace) → is_apart {T = T} word (semaphore_intent own place) ≡ true
 semaphore_apart T own word h1 place = grind (arith, nat_tests, eqb-true, eqb-false)
 
-pub semaphore_lacks : (T : Type 0) (initial : ℕ) (word : Word) → same_word words.State word ≡ false → Lacks {T = T} (semaphore_table initial) word
-semaphore_lacks T initial word other place hold = semaphore_apart T words.State word other place
+pub semaphore_lacks : (T : Type 0) (initial : ℕ) (word : Word) → same_word Word.State word ≡ false → Lacks {T = T} (semaphore_table initial) word
+semaphore_lacks T initial word other place hold = semaphore_apart T Word.State word other place

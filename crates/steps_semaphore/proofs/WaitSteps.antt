@@ -1,63 +1,44 @@
 -- What each step of a `Wait` for a permit leads to, at any word, by the events that the call has made for it alone: so it serves a wait inside another
 -- call too.
-use Rattle.std.proofs.Common.{◌≡◌, ◌≢◌, ◌∙◌, ℕ, ◌+◌, ◌-◌, ◌==◌, ◌&&◌, refl, subst, Bool, true, false, cond, List, ◌∷◌, Option, Some, None, inl, inr, arith}
-use Rattle.std.specs.Prelude.{nat_lt}
-use Rattle.std.proofs.lemmas.Bool.{eqb-true, eqb-false}
-use Rattle.steps_events.specs.declared.WaitAction.{WaitAction}
-use Rattle.steps_events.specs.declared.event.Word.{Word}
-use Rattle.steps_events.specs.declared.event.Word.TheVariants as words
-use Rattle.steps_events.specs.declared.event.Act.{Act}
-use Rattle.steps_events.specs.declared.event.Act.TheVariants as acts
-use Rattle.steps_events.specs.declared.event.Answer.TheVariants as answers
-use Rattle.steps_events.specs.declared.event.Event.{Event}
-use Rattle.steps_events.specs.declared.event.Then.{Then}
-use Rattle.steps_events.specs.declared.event.Then.TheVariants as thens
-use Rattle.steps_events.specs.declared.patience.Patience.{Patience}
-use Rattle.steps_events.specs.declared.row.After.{After}
-use Rattle.steps_events.specs.declared.row.After.TheVariants as afters
-use Rattle.steps_events.specs.Rows.{carried_out, value_told, outcome_of, place_after, within}
-use Rattle.steps_events.specs.Past.{same_word, word_after, latest_outcome, event}
-use Rattle.steps_events.specs.Moves.{answer_fault}
-use Rattle.steps_events.specs.Sights.{sight_of, is_abort, keeps_asking, spins_in}
-use Rattle.steps_events.proofs.Spins.{HasSpun, spins_left, spins_spent, answered_keep}
+use Rattle.steps_semaphore.specs.Names.{nat_lt, WaitAction, Word, Act, Answer, Event, Then, Patience, After, carried_out, value_told, outcome_of, place_after, within, same_word, word_after, latest_outcome, event, answer_fault, sight_of, is_abort, keeps_asking, spins_in}
+use Rattle.steps_semaphore.proofs.Names.{◌≡◌, ◌≢◌, ◌∙◌, ℕ, ◌+◌, ◌-◌, ◌==◌, ◌&&◌, refl, subst, Bool, true, false, cond, List, ◌∷◌, Option, Some, None, inl, inr, arith, eqb-true, eqb-false, HasSpun, spins_left, spins_spent, answered_keep}
 use Rattle.steps_semaphore.specs.declared.SemaphorePlace.{SemaphorePlace}
-use Rattle.steps_semaphore.specs.declared.SemaphorePlace.TheVariants as places
 use Rattle.steps_semaphore.specs.Table.{semaphore_intent, semaphore_after, semaphore_answered}
 use Rattle.steps_semaphore.specs.Permits.{is_take}
 use Rattle.steps_semaphore.specs.Law.{is_empty_look}
 use Rattle.steps_semaphore.proofs.Permits.{Effect}
 
 pub same_itself : (word : Word) → same_word word word ≡ true
-same_itself words.State = refl
-same_itself words.Counter = refl
-same_itself words.Waiters = refl
-same_itself words.Value = refl
-same_itself words.Low = refl
-same_itself words.High = refl
+same_itself Word.State = refl
+same_itself Word.Counter = refl
+same_itself Word.Waiters = refl
+same_itself Word.Value = refl
+same_itself Word.Low = refl
+same_itself Word.High = refl
 
 pub one_less : (v : ℕ) → v ≢ 0 → v ≡ (v - 1) + 1
 one_less v other = omega arith
 
 -- the events of a call that waits for a permit
 abbrev pub AtWait : {T : Type 0} → SemaphorePlace → List (Event T) → Type 0
-AtWait (places.Look patience) own = HasSpun is_empty_look patience own
-AtWait (places.Take seen to patience) own = HasSpun is_empty_look patience own × (seen ≡ to + 1) × (latest_outcome own ≡ thens.GoesOn)
+AtWait (SemaphorePlace.Look patience) own = HasSpun is_empty_look patience own
+AtWait (SemaphorePlace.Take seen to patience) own = HasSpun is_empty_look patience own × (seen ≡ to + 1) × (latest_outcome own ≡ Then.GoesOn)
 AtWait other own = ⊥
 
 -- How a call goes on after a step on the word: it tries again, or stands after 10000 spins, where it still asks, and is told what it saw; where it succeeds it has taken a permit, and where it
 -- gives up it saw none, after its closure answered Abort.
 abbrev pub WaitLeads : {T : Type 0} → Word → List (Event T) → ℕ → Act T → After T SemaphorePlace → Type 0
-WaitLeads word own number act (afters.At next) = AtWait next (event number act thens.GoesOn ∷ own) × (is_take word act ≡ false)
-WaitLeads word own number act (afters.Waits next seen) = AtWait next (event number act (thens.Waits seen) ∷ own) × (is_take word act ≡ false) × (spins_in is_empty_look own ≡ 10000) × (keeps_asking own ≡ true) × (sight_of word act ≡ Some seen)
-WaitLeads word own number act (afters.Ends answers.Success) = is_take word act ≡ true
-WaitLeads word own number act (afters.Ends answers.Interrupted) = (sight_of word act ≡ Some 0) × (is_take word act ≡ false) × (keeps_asking own ≡ false)
+WaitLeads word own number act (After.At next) = AtWait next (event number act Then.GoesOn ∷ own) × (is_take word act ≡ false)
+WaitLeads word own number act (After.Waits next seen) = AtWait next (event number act (Then.Waits seen) ∷ own) × (is_take word act ≡ false) × (spins_in is_empty_look own ≡ 10000) × (keeps_asking own ≡ true) × (sight_of word act ≡ Some seen)
+WaitLeads word own number act (After.Ends Answer.Success) = is_take word act ≡ true
+WaitLeads word own number act (After.Ends Answer.Interrupted) = (sight_of word act ≡ Some 0) × (is_take word act ≡ false) × (keeps_asking own ≡ false)
 WaitLeads word own number act other = ⊥
 
 -- after a look, by three tests: it saw 0, it keeps on asking, it has spins left
 abbrev wait_after : {T : Type 0} → Patience → ℕ → Bool → Bool → Bool → After T SemaphorePlace
 wait_after patience v gone keep left =
-    cond gone (within places.Look (cond keep (cond left (afters.At (record { spins = patience.spins + 1; keep = patience.keep })) (afters.Waits patience 0)) (afters.Ends answers.Interrupted)))
-    (afters.At (places.Take v (v - 1) patience))
+    cond gone (within SemaphorePlace.Look (cond keep (cond left (After.At (record { spins = patience.spins + 1; keep = patience.keep })) (After.Waits patience 0)) (After.Ends Answer.Interrupted)))
+    (After.At (SemaphorePlace.Take v (v - 1) patience))
 
 -- a look: an act that told the value, and took nothing
 record IsLookAt {T : Type 0} (word : Word) (v : ℕ) (act : Act T) : Type 0 where
@@ -86,31 +67,31 @@ look_leads word patience own number v act so look = look_leads_by word patience 
 -- an exchange from the value seen, by whether it was done
 take_leads :
     {T : Type 0} (word : Word) (patience : Patience) (own : List (Event T)) (number seen to v : ℕ) (done : Bool) → HasSpun is_empty_look patience own →
-    WaitLeads word own number (acts.Exchange word seen to v done) (cond done (afters.Ends answers.Success) (wait_after patience v (v == 0) patience.keep (nat_lt patience.spins 10000)))
+    WaitLeads word own number (Act.Exchange word seen to v done) (cond done (After.Ends Answer.Success) (wait_after patience v (v == 0) patience.keep (nat_lt patience.spins 10000)))
 take_leads word patience own number seen to v true so = rw (same_itself word) refl
 take_leads word patience own number seen to v false so =
-    look_leads word patience own number v (acts.Exchange word seen to v false) so (record { sees = rw (same_itself word) refl; takes = rw (same_itself word) refl; quiet = refl; empty = refl })
+    look_leads word patience own number v (Act.Exchange word seen to v false) so (record { sees = rw (same_itself word) refl; takes = rw (same_itself word) refl; quiet = refl; empty = refl })
 
 pub wait_leads :
     {T : Type 0} (word : Word) (place : SemaphorePlace) (own : List (Event T)) (number : ℕ) (memory : Word → ℕ) → AtWait place own →
     WaitLeads {T = T} word own number (carried_out (semaphore_intent word place) memory) (semaphore_after place (value_told {T = T} (carried_out (semaphore_intent word place) memory)))
-wait_leads word (places.Look patience) own number memory at =
-    look_leads word patience own number (memory word) (acts.Load word (memory word)) at (record { sees = rw (same_itself word) refl; takes = refl; quiet = refl; empty = refl })
-wait_leads word (places.Take seen to patience) own number memory at = take_leads word patience own number seen to (memory word) (memory word == seen) at.0
+wait_leads word (SemaphorePlace.Look patience) own number memory at =
+    look_leads word patience own number (memory word) (Act.Load word (memory word)) at (record { sees = rw (same_itself word) refl; takes = refl; quiet = refl; empty = refl })
+wait_leads word (SemaphorePlace.Take seen to patience) own number memory at = take_leads word patience own number seen to (memory word) (memory word == seen) at.0
 wait_leads word other own number memory at = absurd at
 
 -- where the call goes on, it waits for a permit still
 pub wait_goes_on :
     {T : Type 0} (word : Word) (own : List (Event T)) (number : ℕ) (act : Act T) (a : After T SemaphorePlace) (next : SemaphorePlace) → WaitLeads word own number act a → place_after a ≡ Some next →
     AtWait next (event number act (outcome_of a) ∷ own)
-wait_goes_on {T} word own number act (afters.At place) next leads is =
+wait_goes_on {T} word own number act (After.At place) next leads is =
     let made : place ≡ next = cc in
-    subst (λ p. AtWait {T = T} p (event number act thens.GoesOn ∷ own)) made leads.0
-wait_goes_on {T} word own number act (afters.Waits place seen) next leads is =
+    subst (λ p. AtWait {T = T} p (event number act Then.GoesOn ∷ own)) made leads.0
+wait_goes_on {T} word own number act (After.Waits place seen) next leads is =
     let made : place ≡ next = cc in
-    subst (λ p. AtWait {T = T} p (event number act (thens.Waits seen) ∷ own)) made leads.0
-wait_goes_on word own number act (afters.Chooses place old) next leads is = absurd leads
-wait_goes_on word own number act (afters.Ends answer) next leads is = absurd cc
+    subst (λ p. AtWait {T = T} p (event number act (Then.Waits seen) ∷ own)) made leads.0
+wait_goes_on word own number act (After.Chooses place old) next leads is = absurd leads
+wait_goes_on word own number act (After.Ends answer) next leads is = absurd cc
 
 -- what a step does to the word: nothing, or it takes a permit where the word is not 0
 
@@ -123,24 +104,24 @@ taken_of word v seen to false less is = rw (same_itself word) (inl (refl, refl, 
 pub wait_effect :
     {T : Type 0} (word : Word) (place : SemaphorePlace) (own : List (Event T)) (memory : Word → ℕ) → AtWait place own →
     Effect (memory word) (word_after {T = T} word (carried_out (semaphore_intent word place) memory) (memory word)) 0 (is_take {T = T} word (carried_out (semaphore_intent word place) memory))
-wait_effect word (places.Look patience) own memory at = inl (refl, refl, refl)
-wait_effect word (places.Take seen to patience) own memory at = taken_of word (memory word) seen to (memory word == seen) at.1 refl
+wait_effect word (SemaphorePlace.Look patience) own memory at = inl (refl, refl, refl)
+wait_effect word (SemaphorePlace.Take seen to patience) own memory at = taken_of word (memory word) seen to (memory word == seen) at.1 refl
 wait_effect word other own memory at = absurd at
 
 -- an answer of its closure
 pub wait_answered :
     {T : Type 0} (place : SemaphorePlace) (own : List (Event T)) (number : ℕ) (action : WaitAction) → AtWait place own → answer_fault (latest_outcome own) ≡ None →
-    AtWait {T = T} (semaphore_answered place action) (event number (acts.Answered action) thens.GoesOn ∷ own)
-wait_answered (places.Look patience) own number action at waits =
+    AtWait {T = T} (semaphore_answered place action) (event number (Act.Answered action) Then.GoesOn ∷ own)
+wait_answered (SemaphorePlace.Look patience) own number action at waits =
     record { spun = omega (arith, at.spun); keeps = answered_keep patience.keep action own number at.keeps; within_limit = at.within_limit }
-wait_answered {T} (places.Take seen to patience) own number action at waits =
-    let no : answer_fault {T = T} thens.GoesOn ≡ None = subst (λ (o : Then T). answer_fault o ≡ None) at.2 waits in absurd cc
+wait_answered {T} (SemaphorePlace.Take seen to patience) own number action at waits =
+    let no : answer_fault {T = T} Then.GoesOn ≡ None = subst (λ (o : Then T). answer_fault o ≡ None) at.2 waits in absurd cc
 wait_answered other own number action at waits = absurd at
 
 pub wait_chosen :
     {T : Type 0} (place : SemaphorePlace) (own : List (Event T)) (number : ℕ) (choice : Option T) → AtWait place own →
-    AtWait {T = T} place (event number (acts.Chosen choice) thens.GoesOn ∷ own)
-wait_chosen (places.Look patience) own number choice at = record { spun = omega (arith, at.spun); keeps = at.keeps; within_limit = at.within_limit }
-wait_chosen (places.Take seen to patience) own number choice at =
+    AtWait {T = T} place (event number (Act.Chosen choice) Then.GoesOn ∷ own)
+wait_chosen (SemaphorePlace.Look patience) own number choice at = record { spun = omega (arith, at.spun); keeps = at.keeps; within_limit = at.within_limit }
+wait_chosen (SemaphorePlace.Take seen to patience) own number choice at =
     (record { spun = omega (arith, at.0.spun); keeps = at.0.keeps; within_limit = at.0.within_limit }, at.1, refl)
 wait_chosen other own number choice at = absurd at

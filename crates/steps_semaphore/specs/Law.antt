@@ -1,46 +1,31 @@
 -- What a semaphore keeps at every front of every run: its permits, a cause for each refusal, and when a call asks its wait closure.
-use Rattle.std.specs.Prelude.{◌≡◌, ℕ, ◌+◌, ◌-◌, ◌%◌, ◌^◌, ◌==◌, ◌&&◌, Bool, true, false, if◌then◌else◌, List, [], Option, Some, None, unwrap_or, MatchBool}
-use Rattle.steps_events.specs.declared.event.Word.TheVariants as words
-use Rattle.steps_events.specs.declared.event.Call.{Call}
-use Rattle.steps_events.specs.declared.event.Call.TheVariants as calls
-use Rattle.steps_events.specs.declared.event.Act.{Act}
-use Rattle.steps_events.specs.declared.event.Act.TheVariants as acts
-use Rattle.steps_events.specs.declared.event.Event.{Event}
-use Rattle.steps_events.specs.declared.event.Wake.TheVariants as wakes
-use Rattle.steps_events.specs.declared.event.Answer.TheVariants as answers
-use Rattle.steps_events.specs.declared.event.Then.{Then}
-use Rattle.steps_events.specs.declared.event.Then.TheVariants as thens
-use Rattle.steps_events.specs.Past.{PendingCall, holds_of}
-use Rattle.steps_events.specs.Moves.{is_step}
-use Rattle.steps_events.specs.Sights.{AtLastSight, HasAborted, spins_in, last_of}
+use Rattle.steps_semaphore.specs.Names.{◌≡◌, ℕ, ◌+◌, ◌-◌, ◌%◌, ◌^◌, ◌==◌, ◌&&◌, Bool, true, false, if◌then◌else◌, List, [], Option, Some, None, unwrap_or, MatchBool, Word, Call, Act, Event, Wake, Answer, Then, PendingCall, holds_of, is_step, AtLastSight, HasAborted, spins_in, last_of, SpinCount, sight_at, whole_call, Waiting, WaitsAs, Keeps}
 use Rattle.steps_events.specs.NextStep.{StepsAs, refused_waiting, EndsWithin}
-use Rattle.steps_events.specs.Asks.{SpinCount, sight_at, whole_call, Waiting, WaitsAs}
-use Rattle.steps_events.specs.Laws.{Keeps}
 use Rattle.steps_semaphore.specs.Table.{semaphore_table}
 use Rattle.steps_semaphore.specs.Permits.{permits, KeepsPermits}
 
 abbrev pub permits_posted : {T : Type 0} → Call T → ℕ
-permits_posted (calls.Post n) = n
+permits_posted (Call.Post n) = n
 permits_posted other = 0
 
 -- the add of a `Post` gives its amount
 abbrev pub semaphore_gives : {T : Type 0} → Act T → Option (PendingCall T) → ℕ
-semaphore_gives (acts.Add words.State old put) (Some c) = permits_posted c.call
+semaphore_gives (Act.Add Word.State old put) (Some c) = permits_posted c.call
 semaphore_gives act pending = 0
 
 abbrev pub semaphore_value : {T : Type 0} → ℕ → List (Event T) → ℕ
-semaphore_value initial past = permits words.State semaphore_gives initial past
+semaphore_value initial past = permits Word.State semaphore_gives initial past
 
 -- `TryWait`: the value was 0 at its last sight. `Wait`: its own closure had answered Abort before its last sight, and the value was 0 at it.
 abbrev pub SemaphoreCause : {T : Type 0} → ℕ → Call T → ℕ → List (Event T) → Type 0
-SemaphoreCause initial calls.TryWait party events = AtLastSight words.State (λ before. semaphore_value initial before ≡ 0) party events
-SemaphoreCause initial calls.Wait party events = AtLastSight words.State (λ before. HasAborted party before × (semaphore_value initial before ≡ 0)) party events
+SemaphoreCause initial Call.TryWait party events = AtLastSight Word.State (λ before. semaphore_value initial before ≡ 0) party events
+SemaphoreCause initial Call.Wait party events = AtLastSight Word.State (λ before. HasAborted party before × (semaphore_value initial before ≡ 0)) party events
 SemaphoreCause initial other party events = ⊥
 
 -- a look: the value that a load or a failed exchange told
 abbrev pub look_of : {T : Type 0} → Act T → Option ℕ
-look_of (acts.Load word seen) = Some seen
-look_of (acts.Exchange word from to found false) = Some found
+look_of (Act.Load word seen) = Some seen
+look_of (Act.Exchange word from to found false) = Some found
 look_of act = None
 
 abbrev pub is_zero : Option ℕ → Bool
@@ -53,12 +38,12 @@ is_empty_look act = is_zero (look_of act)
 
 -- the spins of a `Wait`; no other call spins, nor asks
 abbrev pub wait_spins : {T : Type 0} → SpinCount T
-wait_spins calls.Wait own = spins_in is_empty_look own
+wait_spins Call.Wait own = spins_in is_empty_look own
 wait_spins other own = 0
 
 -- how they wait
 abbrev pub semaphore_waiting : {T : Type 0} → Waiting T
-semaphore_waiting = record { spins = wait_spins; goes_on = wait_spins; refusing = sight_at words.State; wait = whole_call }
+semaphore_waiting = record { spins = wait_spins; goes_on = wait_spins; refusing = sight_at Word.State; wait = whole_call }
 
 -- What a call does next, by its own steps so far, and how it is left by what that tells.
 
@@ -73,12 +58,12 @@ permits_seen own = unwrap_or (seen_by (last_of is_step own)) 0
 
 -- a load of the permits
 abbrev pub is_load : {T : Type 0} → Act T → Bool
-is_load (acts.Load words.State seen) = true
+is_load (Act.Load Word.State seen) = true
 is_load act = false
 
 -- an exchange of this value for one permit less
 abbrev pub is_take_from : {T : Type 0} → ℕ → Act T → Bool
-is_take_from v (acts.Exchange words.State from to found done) = (from == v) && (to == v - 1)
+is_take_from v (Act.Exchange Word.State from to found done) = (from == v) && (to == v - 1)
 is_take_from v act = false
 
 -- a load where the latest step saw no permit, else an exchange that takes one from the value seen
@@ -87,28 +72,28 @@ is_look_or_take v act = if v == 0 then is_load act else is_take_from v act
 
 -- how a call that saw 0 is left
 abbrev pub refused_as : {T : Type 0} → Call T → List (Event T) → Then T
-refused_as calls.Wait own = refused_waiting own (spins_in is_empty_look own) 0
-refused_as other own = thens.Answers answers.Interrupted
+refused_as Call.Wait own = refused_waiting own (spins_in is_empty_look own) 0
+refused_as other own = Then.Answers Answer.Interrupted
 
 -- how a call is left by what its step saw: nothing, where it took a permit
 abbrev pub IsLeftBy : {T : Type 0} → Call T → List (Event T) → Option ℕ → Then T → Type 0
-IsLeftBy call own None outcome = outcome ≡ thens.Answers answers.Success
-IsLeftBy call own (Some v) outcome = MatchBool (v == 0) (outcome ≡ refused_as call own) (outcome ≡ thens.GoesOn)
+IsLeftBy call own None outcome = outcome ≡ Then.Answers Answer.Success
+IsLeftBy call own (Some v) outcome = MatchBool (v == 0) (outcome ≡ refused_as call own) (outcome ≡ Then.GoesOn)
 
 -- a load whose value is the answer
 abbrev pub ReadsValue : {T : Type 0} → Act T → Then T → Type 0
-ReadsValue (acts.Load words.State v) outcome = outcome ≡ thens.Answers (answers.Number v)
+ReadsValue (Act.Load Word.State v) outcome = outcome ≡ Then.Answers (Answer.Number v)
 ReadsValue act outcome = ⊥
 
 -- an add of so many permits, after which the call goes on
 abbrev pub AddsPermits : {T : Type 0} → ℕ → Act T → Then T → Type 0
-AddsPermits n (acts.Add words.State old put) outcome = (put ≡ (old + n) % 2 ^ 64) × (outcome ≡ thens.GoesOn)
+AddsPermits n (Act.Add Word.State old put) outcome = (put ≡ (old + n) % 2 ^ 64) × (outcome ≡ Then.GoesOn)
 AddsPermits n act outcome = ⊥
 
 -- a `Post` adds, then wakes one and is done
 abbrev pub IsPostStep : {T : Type 0} → ℕ → Option (Act T) → Act T → Then T → Type 0
 IsPostStep n None act outcome = AddsPermits n act outcome
-IsPostStep n (Some before) act outcome = (act ≡ acts.Woke wakes.One) × (outcome ≡ thens.Answers answers.Done)
+IsPostStep n (Some before) act outcome = (act ≡ Act.Woke Wake.One) × (outcome ≡ Then.Answers Answer.Done)
 
 -- a call that wants a permit looks where it saw none last, and else takes one from what it saw
 abbrev pub WantsPermit : {T : Type 0} → Call T → List (Event T) → Act T → Then T → Type 0
@@ -116,16 +101,16 @@ WantsPermit call own act outcome = (is_look_or_take (permits_seen own) act ≡ t
 
 -- the next step of each call; no other has one
 abbrev pub SemaphoreStep : {T : Type 0} → Call T → List (Event T) → Act T → Then T → Type 0
-SemaphoreStep calls.Value own act outcome = (last_of is_step own ≡ None) × ReadsValue act outcome
-SemaphoreStep (calls.Post n) own act outcome = IsPostStep n (last_of is_step own) act outcome
-SemaphoreStep calls.TryWait own act outcome = WantsPermit calls.TryWait own act outcome
-SemaphoreStep calls.Wait own act outcome = WantsPermit calls.Wait own act outcome
+SemaphoreStep Call.Value own act outcome = (last_of is_step own ≡ None) × ReadsValue act outcome
+SemaphoreStep (Call.Post n) own act outcome = IsPostStep n (last_of is_step own) act outcome
+SemaphoreStep Call.TryWait own act outcome = WantsPermit Call.TryWait own act outcome
+SemaphoreStep Call.Wait own act outcome = WantsPermit Call.Wait own act outcome
 SemaphoreStep other own act outcome = ⊥
 
 -- how many steps a call makes that waits for nobody; a `TryWait` may see permits, and miss them, again and again
 abbrev pub semaphore_most : {T : Type 0} → Call T → Option ℕ
-semaphore_most calls.Value = Some 1
-semaphore_most (calls.Post n) = Some 2
+semaphore_most Call.Value = Some 1
+semaphore_most (Call.Post n) = Some 2
 semaphore_most other = None
 
 -- What a semaphore keeps beside what every object does.
@@ -133,7 +118,7 @@ pub record SemaphoreLaw {T : Type 0} (initial : ℕ) (past : List (Event T)) : T
   -- nobody holds a semaphore
   pub unheld : holds_of (semaphore_table initial) past ≡ []
   -- no more permits are taken than given, and each value that is told is what was given less what was taken
-  pub permits : KeepsPermits words.State semaphore_gives initial past
+  pub permits : KeepsPermits Word.State semaphore_gives initial past
   -- a `Wait` asks its closure after 10000 spins, which are looks that saw no permit, and tells it the value seen
   pub waits : WaitsAs semaphore_waiting past
   -- each step is the one that follows what its call saw last, and leaves it by what it tells

@@ -1,14 +1,5 @@
 -- Permits: what was given and what was taken at a word, as plain whole numbers without a limit.
-use Rattle.std.specs.Prelude.{◌≡◌, ◌≤◌, ℕ, ◌+◌, ◌-◌, ◌%◌, ◌^◌, Bool, false, ◌&&◌, if◌then◌else◌, List, [], ◌∷◌, Option, Some, None, IfSome, MatchBool}
-use Rattle.steps_events.specs.declared.event.Word.{Word}
-use Rattle.steps_events.specs.declared.event.Act.{Act}
-use Rattle.steps_events.specs.declared.event.Act.TheVariants as acts
-use Rattle.steps_events.specs.declared.event.Answer.TheVariants as answers
-use Rattle.steps_events.specs.declared.event.Then.{Then}
-use Rattle.steps_events.specs.declared.event.Then.TheVariants as thens
-use Rattle.steps_events.specs.declared.event.Event.{Event}
-use Rattle.steps_events.specs.Past.{PendingCall, same_word, call_of}
-use Rattle.steps_events.specs.Sights.{sight_of}
+use Rattle.steps_semaphore.specs.Names.{◌≡◌, ◌≤◌, ℕ, ◌+◌, ◌-◌, ◌%◌, ◌^◌, Bool, false, ◌&&◌, if◌then◌else◌, List, [], ◌∷◌, Option, Some, None, IfSome, MatchBool, Word, Act, Answer, Then, Event, PendingCall, same_word, call_of, sight_of}
 
 -- how many permits an act of a call gives
 abbrev pub Giving : Type 0 → Type 0
@@ -21,7 +12,7 @@ permits_given gives initial (e ∷ past) = gives e.act (call_of e.party past) + 
 
 -- an exchange of the word that is done takes one permit
 abbrev pub is_take : {T : Type 0} → Word → Act T → Bool
-is_take word (acts.Exchange w from to found done) = same_word w word && done
+is_take word (Act.Exchange w from to found done) = same_word w word && done
 is_take word act = false
 
 -- the permits taken
@@ -34,7 +25,7 @@ abbrev pub permits : {T : Type 0} → Word → Giving T → ℕ → List (Event 
 permits word gives initial past = (permits_given gives initial past - permits_taken word past) % 2 ^ 64
 
 abbrev pub number_answered : {T : Type 0} → Then T → Option ℕ
-number_answered (thens.Answers (answers.Number n)) = Some n
+number_answered (Then.Answers (Answer.Number n)) = Some n
 number_answered other = None
 
 -- the latest event told the value before it

@@ -1,15 +1,12 @@
 -- What a spin lock keeps at every front of every run: one holder, who has the lock after each answer, and that a call which waits only spins.
 use Rattle.std.specs.Prelude.{◌≡◌, ◌≤◌, ℕ, ◌==◌, Bool, true, false, if◌then◌else◌, List, [], ◌∷◌, Option, Some, None, length, MatchBool, MatchOption}
-use Rattle.steps_events.specs.declared.event.Word.TheVariants as words
+use Rattle.steps_events.specs.declared.event.Word.{Word}
 use Rattle.steps_events.specs.declared.event.Act.{Act}
-use Rattle.steps_events.specs.declared.event.Act.TheVariants as acts
-use Rattle.steps_events.specs.declared.event.Answer.TheVariants as answers
+use Rattle.steps_events.specs.declared.event.Answer.{Answer}
 use Rattle.steps_events.specs.declared.event.Call.{Call}
-use Rattle.steps_events.specs.declared.event.Call.TheVariants as calls
 use Rattle.steps_events.specs.declared.event.Then.{Then}
-use Rattle.steps_events.specs.declared.event.Then.TheVariants as thens
 use Rattle.steps_events.specs.declared.event.Event.{Event}
-use Rattle.steps_events.specs.declared.hold.HoldKind.TheVariants as kinds
+use Rattle.steps_events.specs.declared.hold.HoldKind.{HoldKind}
 use Rattle.steps_events.specs.Past.{Hold, call_of, holds_of, word_in}
 use Rattle.steps_events.specs.Moves.{is_step}
 use Rattle.steps_events.specs.Sights.{AtLastSight}
@@ -19,7 +16,7 @@ use Rattle.steps_spin.specs.Table.{spin_table}
 
 -- `TryLock`: a hold stood at its last sight, which is its swap. No other call is refused.
 abbrev pub SpinCause : {T : Type 0} → Call T → ℕ → List (Event T) → Type 0
-SpinCause calls.TryLock party events = AtLastSight words.State (IsLocked spin_table) party events
+SpinCause Call.TryLock party events = AtLastSight Word.State (IsLocked spin_table) party events
 SpinCause other party events = ⊥
 
 -- How a step leaves its call.
@@ -31,10 +28,10 @@ is_unheld (hold ∷ holds) = false
 
 -- by whether nobody held the lock: each locking call then has it; else `TryLock` gives up, and the others go on; `Unlock` is done
 abbrev pub IsLeft : {T : Type 0} → Call T → Bool → Then T → Type 0
-IsLeft calls.TryLock free outcome = outcome ≡ thens.Answers (if free then answers.Success else answers.Interrupted)
-IsLeft calls.Lock free outcome = outcome ≡ (if free then thens.Answers answers.Success else thens.GoesOn)
-IsLeft calls.BlockingLock free outcome = outcome ≡ (if free then thens.Answers answers.Success else thens.GoesOn)
-IsLeft calls.Unlock free outcome = outcome ≡ thens.Answers answers.Done
+IsLeft Call.TryLock free outcome = outcome ≡ Then.Answers (if free then Answer.Success else Answer.Interrupted)
+IsLeft Call.Lock free outcome = outcome ≡ (if free then Then.Answers Answer.Success else Then.GoesOn)
+IsLeft Call.BlockingLock free outcome = outcome ≡ (if free then Then.Answers Answer.Success else Then.GoesOn)
+IsLeft Call.Unlock free outcome = outcome ≡ Then.Answers Answer.Done
 IsLeft other free outcome = ⊥
 
 -- so the latest event leaves its call, if it is a step
@@ -47,27 +44,27 @@ LeavesByHolds (e ∷ past) =
 
 -- a swap of 1 into the word: it leaves a call that found 0 with the lock, and any other so
 abbrev pub SwapsOne : {T : Type 0} → Then T → Act T → Then T → Type 0
-SwapsOne refused (acts.Swap words.State old put) outcome = (put ≡ 1) × (outcome ≡ (if old == 0 then thens.Answers answers.Success else refused))
+SwapsOne refused (Act.Swap Word.State old put) outcome = (put ≡ 1) × (outcome ≡ (if old == 0 then Then.Answers Answer.Success else refused))
 SwapsOne refused act outcome = ⊥
 
 -- The next step of each call; no other has one. `TryLock` swaps once, `Lock` and `BlockingLock` until they found 0, and `Unlock` stores 0.
 abbrev pub SpinStep : {T : Type 0} → Call T → List (Event T) → Act T → Then T → Type 0
-SpinStep calls.TryLock own act outcome = (own ≡ []) × SwapsOne (thens.Answers answers.Interrupted) act outcome
-SpinStep calls.Lock own act outcome = SwapsOne thens.GoesOn act outcome
-SpinStep calls.BlockingLock own act outcome = SwapsOne thens.GoesOn act outcome
-SpinStep calls.Unlock own act outcome = (own ≡ []) × (act ≡ acts.Store words.State 0) × (outcome ≡ thens.Answers answers.Done)
+SpinStep Call.TryLock own act outcome = (own ≡ []) × SwapsOne (Then.Answers Answer.Interrupted) act outcome
+SpinStep Call.Lock own act outcome = SwapsOne Then.GoesOn act outcome
+SpinStep Call.BlockingLock own act outcome = SwapsOne Then.GoesOn act outcome
+SpinStep Call.Unlock own act outcome = (own ≡ []) × (act ≡ Act.Store Word.State 0) × (outcome ≡ Then.Answers Answer.Done)
 SpinStep other own act outcome = ⊥
 
 -- how many steps a call makes that waits for nobody
 abbrev pub spin_most : {T : Type 0} → Call T → Option ℕ
-spin_most calls.TryLock = Some 1
-spin_most calls.Unlock = Some 1
+spin_most Call.TryLock = Some 1
+spin_most Call.Unlock = Some 1
 spin_most other = None
 
 -- Who has the lock: `Success` takes it from nobody, `Done` gives it back, and nothing else changes who has it.
 abbrev pub IsHandedOn : {T : Type 0} → ℕ → Then T → List Hold → List Hold → Type 0
-IsHandedOn party (thens.Answers answers.Success) before holds = (before ≡ []) × (holds ≡ (party, kinds.Write) ∷ [])
-IsHandedOn party (thens.Answers answers.Done) before holds = (before ≡ (party, kinds.Write) ∷ []) × (holds ≡ [])
+IsHandedOn party (Then.Answers Answer.Success) before holds = (before ≡ []) × (holds ≡ (party, HoldKind.Write) ∷ [])
+IsHandedOn party (Then.Answers Answer.Done) before holds = (before ≡ (party, HoldKind.Write) ∷ []) × (holds ≡ [])
 IsHandedOn party other before holds = holds ≡ before
 
 abbrev pub HandsOn : {T : Type 0} → List (Event T) → Type 0
@@ -76,8 +73,8 @@ HandsOn (e ∷ past) = IsHandedOn e.party e.then (holds_of spin_table past) (hol
 
 -- The word counts the holds.
 pub record CountsHolds {T : Type 0} (past : List (Event T)) : Type 0 where
-  pub counted : word_in spin_table past words.State ≡ length (holds_of spin_table past)
-  pub most : word_in spin_table past words.State ≤ 1
+  pub counted : word_in spin_table past Word.State ≡ length (holds_of spin_table past)
+  pub most : word_in spin_table past Word.State ≤ 1
 
 -- What a spin lock keeps beside what every object does.
 pub record SpinLaw {T : Type 0} (past : List (Event T)) : Type 0 where

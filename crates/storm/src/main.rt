@@ -13,6 +13,7 @@ mod mutex;
 mod platform;
 mod queue;
 mod rwreader;
+mod rwvalue;
 mod rwwriter;
 mod semaphore;
 mod tally;
@@ -26,6 +27,7 @@ use iceoryx2_pal_concurrency_sync::strategy::rwlock::{
 };
 use iceoryx2_pal_concurrency_sync::strategy::semaphore::Semaphore;
 use platform::{AtSleepers, Impatient, OnTheWord, Platform};
+use running_rw_value::RwLock;
 use std::alloc::{AllocError, Global};
 use std::io;
 use std::io::Read;
@@ -67,7 +69,7 @@ fn read_turns(rt: &HostRuntime) -> io::Result<Option<u64>> {
 /// What the storm at each object came to.
 #[derive(Drop)]
 struct Outcomes {
-    all: [Outcome; 7],
+    all: [Outcome; 8],
 }
 
 /// A storm at each object, one after the other.
@@ -95,6 +97,7 @@ fn storms<B: Platform + Sync + Drop, R: Threads + Wait + Clock + Sync>(
             8,
             turns,
         )?,
+        storm::<RwLock<u64>, _, B, R>(rt, alloc, "value that many read", how, 8, turns)?,
         storm::<Semaphore, _, B, R>(rt, alloc, "semaphore of 3", how, 8, turns)?,
         storm::<ForFour, _, B, R>(rt, alloc, "barrier for 4", how, 4, turns)?,
         storm::<Stock, _, B, R>(

@@ -135,6 +135,14 @@ impl Tally {
         }
     }
 
+    /// Looks at both numbers and at a third that is changed with them, by one who holds the lock.
+    pub fn look_beside(&self, third: u64) {
+        self.look();
+        if self.one.load(ORDER) != third {
+            self.saw_torn();
+        }
+    }
+
     /// Changes both, by one who holds the lock alone.
     pub fn change(&self) {
         self.look();

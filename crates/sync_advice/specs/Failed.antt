@@ -1,5 +1,5 @@
 -- Why a run of a program ended early, and what would be right.
-use Rattle.std.specs.Prelude.{◌≡◌, ℕ, List, Option, None, IfSome}
+use Rattle.std.specs.Prelude.{◌≡◌, ℕ, List, None, IfSome}
 use Rattle.sync_lines.specs.declared.fault.FaultyLine.{FaultyLine}
 use Rattle.sync_lines.specs.declared.fault.RunFault.{RunFault}
 use Rattle.sync_lines.specs.declared.fault.RunFault.TheVariants as runs

@@ -1,2 +1,3 @@
 pub mod Advice
 pub mod Failed
+pub mod Question

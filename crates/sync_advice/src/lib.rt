@@ -6,6 +6,7 @@
 
 mod failed;
 mod objects;
+pub mod question;
 mod repeat;
 mod sentence;
 

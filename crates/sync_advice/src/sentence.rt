@@ -32,7 +32,7 @@ fn add_names(out: &mut Vec<u8>, calls: &[Call<()>]) -> Result<(), AllocError>
 }
 
 /// Adds words, and then the names of all calls of the object.
-fn list_calls(out: &mut Vec<u8>, words: &[u8], object: Object<()>) -> Result<(), AllocError>
+pub fn list_calls(out: &mut Vec<u8>, words: &[u8], object: Object<()>) -> Result<(), AllocError>
     ensures { OnOk result (out.new.items ≡ out.old.items ++ (words.now ++ meaning.listed (listed_calls object))) }
 {
     out.extend_from_slice(words)?;
@@ -57,7 +57,7 @@ fn refuse_name(out: &mut Vec<u8>, object: Object<()>, name: &[u8]) -> Result<(),
 }
 
 /// Whether a word begins as a comment does in many languages.
-fn is_comment(word: &[u8]) -> bool
+pub fn is_comment(word: &[u8]) -> bool
     ensures { result ≡ meaning.is_comment word.now }
 {
     match word.first() {
@@ -67,7 +67,7 @@ fn is_comment(word: &[u8]) -> bool
 }
 
 /// Whether the first line begins with a byte-order mark.
-fn is_marked(line: &[u8]) -> bool
+pub fn is_marked(line: &[u8]) -> bool
     ensures { result ≡ meaning.is_marked line.now }
 {
     line.len() >= 3 && line[0] == 0xef && line[1] == 0xbb && line[2] == 0xbf
@@ -85,7 +85,7 @@ fn of_verb(out: &mut Vec<u8>, object: Object<()>, name: &[u8]) -> Result<(), All
 }
 
 /// Whether a word is no number at all.
-fn is_no_number(word: &[u8]) -> bool
+pub fn is_no_number(word: &[u8]) -> bool
     ensures { result ≡ meaning.is_no_number word.now }
 {
     number_within(0, u64::MAX, word).is_err()
@@ -201,7 +201,7 @@ fn add_opening(out: &mut Vec<u8>, object: Object<()>, name: &[u8]) -> Result<(),
 }
 
 /// Of a first line that names this object, by this name.
-fn of_first_line(
+pub fn of_first_line(
     out: &mut Vec<u8>,
     object: Object<()>,
     name: &[u8],
@@ -252,7 +252,7 @@ fn of_line(
 }
 
 /// The first word of a line. Empty where it has none.
-fn first_word(line: &[u8]) -> &[u8]
+pub fn first_word(line: &[u8]) -> &[u8]
     ensures { result.now ≡ meaning.first_word (words_of line.now) }
 {
     match next_word(line) {

@@ -1,6 +1,6 @@
 -- What a picture is, as bytes.
 use Rattle.std.specs.Prelude.{◌≡◌, ℕ, List, ◌++◌, map, codes, string_bytes}
-use Rattle.markup.specs.declared.name.Tag.TheVariants as tags
+use Rattle.markup.specs.declared.name.Tag.{Tag}
 use Rattle.markup.specs.Tree.{IsElement}
 use Rattle.steps_events.specs.Arithmetic.{Arithmetic}
 use Rattle.sync_lines.specs.Lexer.{lines_of}
@@ -13,7 +13,7 @@ use Rattle.sync_story.specs.Title.{title_words}
 
 -- an `svg` element with all that is in it, in which the groups have these titles, and then the end of the line
 abbrev pub IsPicture : List (List ℕ) → List ℕ → Type 0
-IsPicture titles bytes = (element : List ℕ) × (bytes ≡ element ++ codes "\n") × ∥ IsElement tags.Svg titles element ∥₁
+IsPicture titles bytes = (element : List ℕ) × (bytes ≡ element ++ codes "\n") × ∥ IsElement Tag.Svg titles element ∥₁
 
 -- the titles of a story's steps
 abbrev pub step_titles : {T : Type 0} → List (Step T) → List (List ℕ)

@@ -1,10 +1,14 @@
 //! Explores every schedule of a program, read from standard input. With an argument it tells meanwhile how far it has come.
+//!
+//! A fault is told on standard error in one line; of a fault of the question its line follows, and a sentence that says what would be right
+//! there.
 #![tactic(auto)]
 
 mod progress;
 
 use progress::Progress;
 use std::env;
+use std::io::Write;
 use std::process::ExitCode;
 use sync_client::run::run;
 
@@ -16,8 +20,12 @@ fn main(rt: HostRuntime) -> ExitCode {
     let mut progress = Progress::new(&rt, shows);
     match run(rt.alloc(), &mut rt.stdin(), &mut rt.stdout(), &mut progress) {
         Ok(verdict) => ExitCode::from(verdict.status()),
-        Err(fault) => {
+        Err(unanswered) => {
+            let fault = unanswered.fault;
             let _ = eprintln!(rt; "{fault}");
+            if let Some(advice) = &unanswered.advice {
+                let _ = rt.stderr().write_all(advice);
+            }
             ExitCode::from(fault.status())
         }
     }

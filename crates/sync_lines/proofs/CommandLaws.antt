@@ -1,19 +1,11 @@
 -- What a line asks brings values of the text's type.
-use Rattle.std.proofs.Common.{◌≡◌, ◌<◌, ℕ, ◌-◌, ◌^◌, Bool, true, false, cond, List, [], ◌∷◌, Option, Some, None, Result, Ok, refl, subst, arith}
-use Rattle.std.specs.Str.{bytes_eq}
-use Rattle.steps_events.specs.declared.event.Call.{Call}
-use Rattle.steps_events.specs.declared.event.Call.TheVariants as calls
-use Rattle.steps_events.specs.declared.event.Input.TheVariants as inputs
-use Rattle.steps_events.specs.declared.event.Object.{Object}
-use Rattle.steps_events.specs.Arithmetic.{Arithmetic, IsValue}
+use Rattle.sync_lines.specs.Names.{bytes_eq, Call, Input, Object, Arithmetic, IsValue}
+use Rattle.sync_lines.proofs.Names.{◌≡◌, ◌<◌, ℕ, ◌-◌, ◌^◌, Bool, true, false, cond, List, [], ◌∷◌, Option, Some, None, Result, Ok, refl, subst, arith}
 use Rattle.steps_events.specs.Moves.{CallValues, InputValues}
 use Rattle.sync_lines.specs.declared.command.Command.{Command}
 use Rattle.sync_lines.specs.declared.command.Form.{Form}
-use Rattle.sync_lines.specs.declared.command.Form.TheVariants as forms
 use Rattle.sync_lines.specs.declared.command.Task.{Task}
-use Rattle.sync_lines.specs.declared.command.Task.TheVariants as tasks
 use Rattle.sync_lines.specs.declared.command.Values.{Values}
-use Rattle.sync_lines.specs.declared.command.Values.TheVariants as values
 use Rattle.sync_lines.specs.declared.fault.LineFault.{LineFault}
 use Rattle.sync_lines.specs.Fault.{◌>>=◌}
 use Rattle.sync_lines.specs.Call.{calls_of, named}
@@ -25,16 +17,16 @@ use Rattle.sync_lines.proofs.FaultLaws.{ok_is, bind_ok}
 
 module _ {T : Type 0} (z : Arithmetic T) (numerals : Numerals T) (reads : ReadsValues z numerals) where
   abbrev pub HasValues : Task T → Type 0
-  HasValues (tasks.Give input) = InputValues z input
-  HasValues (tasks.Go n) = Unit {0}
-  HasValues (tasks.Run limit) = Unit {0}
+  HasValues (Task.Give input) = InputValues z input
+  HasValues (Task.Go n) = Unit {0}
+  HasValues (Task.Run limit) = Unit {0}
 
   abbrev MakesValues : Result (Task T) LineFault → Type 0
   MakesValues r = (t : Task T) → r ≡ Ok t → HasValues t
 
   -- a verb that asks a task without a number asks one with values
   abbrev FormValues : Form T → Type 0
-  FormValues (forms.Alone task) = HasValues task
+  FormValues (Form.Alone task) = HasValues task
   FormValues other = Unit {0}
 
   abbrev RowValues : List (List ℕ × Form T) → Type 0
@@ -68,70 +60,70 @@ module _ {T : Type 0} (z : Arithmetic T) (numerals : Numerals T) (reads : ReadsV
   only_both read (word ∷ other ∷ more ∷ words) x e = absurd cc
 
   steps_make : (words : List (List ℕ)) → MakesValues (steps_asked words)
-  steps_make [] t e = subst HasValues (ok_is (tasks.Go 1) t e) tt
-  steps_make (word ∷ words) t e = let b = bind_ok (only_number 1 100000 (word ∷ words)) (λ n. Ok (tasks.Go n)) t e in subst HasValues (ok_is (tasks.Go b.0) t b.2) tt
+  steps_make [] t e = subst HasValues (ok_is (Task.Go 1) t e) tt
+  steps_make (word ∷ words) t e = let b = bind_ok (only_number 1 100000 (word ∷ words)) (λ n. Ok (Task.Go n)) t e in subst HasValues (ok_is (Task.Go b.0) t b.2) tt
 
   form_makes : (form : Form T) (words : List (List ℕ)) → FormValues form → MakesValues (task_by numerals form words)
-  form_makes (forms.Alone task) words h t e = let b = bind_ok (nothing words) (λ _. Ok task) t e in subst HasValues (ok_is task t b.2) h
-  form_makes forms.Steps words h t e = steps_make words t e
-  form_makes forms.Choice words h t e =
-      let b = bind_ok (only numerals.value_of words) (λ v. Ok (tasks.Give (inputs.Choose (Some v)))) t e in
+  form_makes (Form.Alone task) words h t e = let b = bind_ok (nothing words) (λ _. Ok task) t e in subst HasValues (ok_is task t b.2) h
+  form_makes Form.Steps words h t e = steps_make words t e
+  form_makes Form.Choice words h t e =
+      let b = bind_ok (only numerals.value_of words) (λ v. Ok (Task.Give (Input.Choose (Some v)))) t e in
       let word = only_one numerals.value_of words b.0 b.1 in
-      subst HasValues (ok_is (tasks.Give (inputs.Choose (Some b.0))) t b.2) (reads word.0 b.0 word.1)
+      subst HasValues (ok_is (Task.Give (Input.Choose (Some b.0))) t b.2) (reads word.0 b.0 word.1)
 
   -- a call that is read brings values of the type
   abbrev MakesCall : Result (Call T) LineFault → Type 0
   MakesCall r = (c : Call T) → r ≡ Ok c → CallValues z c
 
   alone_values : (call : Call Unit) → CallValues z (alone {T = T} call)
-  alone_values calls.Lock = tt
-  alone_values calls.TryLock = tt
-  alone_values calls.BlockingLock = tt
-  alone_values calls.Unlock = tt
-  alone_values calls.Value = tt
-  alone_values calls.Wait = tt
-  alone_values calls.TryWait = tt
-  alone_values calls.ReadLock = tt
-  alone_values calls.TryReadLock = tt
-  alone_values calls.WriteLock = tt
-  alone_values calls.TryWriteLock = tt
-  alone_values calls.NotifyOne = tt
-  alone_values calls.NotifyAll = tt
-  alone_values calls.CallOnce = tt
-  alone_values calls.IsCompleted = tt
-  alone_values calls.Force = tt
-  alone_values calls.Load = tt
+  alone_values Call.Lock = tt
+  alone_values Call.TryLock = tt
+  alone_values Call.BlockingLock = tt
+  alone_values Call.Unlock = tt
+  alone_values Call.Value = tt
+  alone_values Call.Wait = tt
+  alone_values Call.TryWait = tt
+  alone_values Call.ReadLock = tt
+  alone_values Call.TryReadLock = tt
+  alone_values Call.WriteLock = tt
+  alone_values Call.TryWriteLock = tt
+  alone_values Call.NotifyOne = tt
+  alone_values Call.NotifyAll = tt
+  alone_values Call.CallOnce = tt
+  alone_values Call.IsCompleted = tt
+  alone_values Call.Force = tt
+  alone_values Call.Load = tt
   alone_values call = tt
 
   one_values : (call : Call Unit) (v : T) → IsValue z v → CallValues z (with_one call v)
-  one_values (calls.Store _) v is = is
-  one_values (calls.Swap _) v is = is
-  one_values (calls.FetchAdd _) v is = is
-  one_values (calls.FetchSub _) v is = is
-  one_values (calls.FetchAnd _) v is = is
-  one_values (calls.FetchOr _) v is = is
-  one_values (calls.FetchXor _) v is = is
-  one_values (calls.FetchNand _) v is = is
-  one_values (calls.FetchMax _) v is = is
+  one_values (Call.Store _) v is = is
+  one_values (Call.Swap _) v is = is
+  one_values (Call.FetchAdd _) v is = is
+  one_values (Call.FetchSub _) v is = is
+  one_values (Call.FetchAnd _) v is = is
+  one_values (Call.FetchOr _) v is = is
+  one_values (Call.FetchXor _) v is = is
+  one_values (Call.FetchNand _) v is = is
+  one_values (Call.FetchMax _) v is = is
   one_values call v is = is
 
   two_values : (call : Call Unit) (v w : T) → IsValue z v → IsValue z w → CallValues z (with_two call v w)
-  two_values (calls.CompareExchange _ _) v w is also = (is, also)
+  two_values (Call.CompareExchange _ _) v w is also = (is, also)
   two_values call v w is also = (is, also)
 
   these_make : (call : Call Unit) (these : Values) (words : List (List ℕ)) → MakesCall (with_these numerals call these words)
-  these_make call values.Nothing words c e = let b = bind_ok (nothing words) (λ _. Ok (alone call)) c e in subst (CallValues z) (ok_is (alone call) c b.2) (alone_values call)
-  these_make call values.Permits words c e =
-      let b = bind_ok (only_number 0 (2 ^ 64 - 1) words) (λ n. Ok (calls.Post n)) c e in
+  these_make call Values.Nothing words c e = let b = bind_ok (nothing words) (λ _. Ok (alone call)) c e in subst (CallValues z) (ok_is (alone call) c b.2) (alone_values call)
+  these_make call Values.Permits words c e =
+      let b = bind_ok (only_number 0 (2 ^ 64 - 1) words) (λ n. Ok (Call.Post n)) c e in
       let word = only_one (number_within 0 (2 ^ 64 - 1)) words b.0 b.1 in
       let least = number_at_most 0 (2 ^ 64 - 1) b.0 word.0 word.1 in
       let below : b.0 < 2 ^ 64 = omega arith in
-      subst (CallValues z) (ok_is (calls.Post b.0) c b.2) below
-  these_make call values.One words c e =
+      subst (CallValues z) (ok_is (Call.Post b.0) c b.2) below
+  these_make call Values.One words c e =
       let b = bind_ok (only numerals.value_of words) (λ v. Ok (with_one call v)) c e in
       let word = only_one numerals.value_of words b.0 b.1 in
       subst (CallValues z) (ok_is (with_one call b.0) c b.2) (one_values call b.0 (reads word.0 b.0 word.1))
-  these_make call values.Two words c e =
+  these_make call Values.Two words c e =
       let b = bind_ok (only_two numerals.value_of words) (λ vs. Ok (with_two call vs.0 vs.1)) c e in
       let both = only_both numerals.value_of words b.0 b.1 in
       subst (CallValues z) (ok_is (with_two call b.0.0 b.0.1) c b.2) (two_values call b.0.0 b.0.1 (reads both.0 b.0.0 both.2) (reads both.1 b.0.1 both.3))
@@ -139,8 +131,8 @@ module _ {T : Type 0} (z : Arithmetic T) (numerals : Numerals T) (reads : ReadsV
   named_makes : (call : Option (Call Unit)) (words : List (List ℕ)) → MakesValues (call_if numerals call words)
   named_makes None words t e = absurd cc
   named_makes (Some call) words t e =
-      let b = bind_ok (with_values numerals call words) (λ begun. Ok (tasks.Give (inputs.Begin begun))) t e in
-      subst HasValues (ok_is (tasks.Give (inputs.Begin b.0)) t b.2) (these_make call (values_of call) words b.0 b.1)
+      let b = bind_ok (with_values numerals call words) (λ begun. Ok (Task.Give (Input.Begin begun))) t e in
+      subst HasValues (ok_is (Task.Give (Input.Begin b.0)) t b.2) (these_make call (values_of call) words b.0 b.1)
 
   asked_makes : (form : Option (Form T)) (call : Option (Call Unit)) (words : List (List ℕ)) → ((found : Form T) → form ≡ Some found → FormValues found) → MakesValues (task_if numerals form call words)
   asked_makes (Some form) call words h = form_makes form words (h form refl)

@@ -1,5 +1,5 @@
 -- Steps that may fail with a fault of a line.
-use Rattle.std.proofs.Common.{◌≡◌, Result, Ok, Err, refl}
+use Rattle.sync_lines.proofs.Names.{◌≡◌, Result, Ok, Err, refl}
 use Rattle.sync_lines.specs.declared.fault.LineFault.{LineFault}
 use Rattle.sync_lines.specs.Fault.{◌>>=◌}
 

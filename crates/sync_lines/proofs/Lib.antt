@@ -1,3 +1,4 @@
+pub mod Names
 pub mod LexerLaws
 pub mod FaultLaws
 pub mod CommandLaws

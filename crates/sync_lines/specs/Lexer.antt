@@ -1,9 +1,6 @@
 -- The lines of a text, the words of a line, and the numbers that words write.
-use Rattle.std.specs.Prelude.{ℕ, ℤ, pos, neg_ℤ, ◌+◌, ◌*◌, ◌-◌, Bool, true, false, ◌&&◌, ◌||◌, ◌==◌, nat_le, nat_lt, if◌then◌else◌, List, [], ◌∷◌, Option, Some, None, Result, Ok, Err}
-use Rattle.std.specs.Char.{is_ascii_digit}
-use Rattle.steps_events.specs.Integers.{fits_signed}
+use Rattle.sync_lines.specs.Names.{ℕ, ℤ, pos, neg_ℤ, ◌+◌, ◌*◌, ◌-◌, Bool, true, false, ◌&&◌, ◌||◌, ◌==◌, nat_le, nat_lt, if◌then◌else◌, List, [], ◌∷◌, Option, Some, None, Result, Ok, Err, is_ascii_digit, fits_signed}
 use Rattle.sync_lines.specs.declared.fault.LineFault.{LineFault}
-use Rattle.sync_lines.specs.declared.fault.LineFault.TheVariants as faults
 use Rattle.sync_lines.specs.Fault.{◌>>=◌}
 use denote.Ref.{Bor}
 
@@ -77,8 +74,8 @@ number_of [] = None
 number_of (byte ∷ bytes) = number_from 0 (byte ∷ bytes)
 
 abbrev pub in_range : ℕ → ℕ → Option ℕ → Result ℕ LineFault
-in_range low high None = Err faults.BadNumber
-in_range low high (Some n) = if (nat_le low n && nat_le n high) then Ok n else Err faults.BadNumber
+in_range low high None = Err LineFault.BadNumber
+in_range low high (Some n) = if (nat_le low n && nat_le n high) then Ok n else Err LineFault.BadNumber
 
 -- the number of a word, in a range
 abbrev pub number_within : ℕ → ℕ → List ℕ → Result ℕ LineFault
@@ -107,7 +104,7 @@ fitting_signed wide None = None
 fitting_signed wide (Some v) = if fits_signed wide v then Some v else None
 
 abbrev pub or_bad_number : {A : Type 0} → Option A → Result A LineFault
-or_bad_number None = Err faults.BadNumber
+or_bad_number None = Err LineFault.BadNumber
 or_bad_number (Some x) = Ok x
 
 -- the number of a word, where it is one of the signed type
@@ -119,13 +116,13 @@ signed_within wide word = or_bad_number (fitting_signed wide (signed_of word))
 -- no word
 abbrev pub nothing : List (List ℕ) → Result (Unit {0}) LineFault
 nothing [] = Ok tt
-nothing (word ∷ words) = Err faults.BadLine
+nothing (word ∷ words) = Err LineFault.BadLine
 
 -- one word, which is read so
 abbrev pub only : {A : Type 0} → (List ℕ → Result A LineFault) → List (List ℕ) → Result A LineFault
-only read [] = Err faults.BadLine
+only read [] = Err LineFault.BadLine
 only read (word ∷ []) = read word
-only read (word ∷ other ∷ words) = Err faults.BadLine
+only read (word ∷ other ∷ words) = Err LineFault.BadLine
 
 -- one word, and it is a number in a range
 abbrev pub only_number : ℕ → ℕ → List (List ℕ) → Result ℕ LineFault
@@ -133,7 +130,7 @@ only_number low high words = only (number_within low high) words
 
 -- two words, which are read so
 abbrev pub only_two : {A : Type 0} → (List ℕ → Result A LineFault) → List (List ℕ) → Result (A × A) LineFault
-only_two read [] = Err faults.BadLine
-only_two read (word ∷ []) = Err faults.BadLine
+only_two read [] = Err LineFault.BadLine
+only_two read (word ∷ []) = Err LineFault.BadLine
 only_two read (word ∷ other ∷ []) = read word >>= λ first. read other >>= λ second. Ok (first, second)
-only_two read (word ∷ other ∷ more ∷ words) = Err faults.BadLine
+only_two read (word ∷ other ∷ more ∷ words) = Err LineFault.BadLine

@@ -1,3 +1,4 @@
+pub mod Names
 pub mod Fault
 pub mod Lexer
 pub mod Numerals

@@ -4,14 +4,10 @@ use Rattle.std.proofs.lemmas.Bool.{leb-true, ltb-true}
 use Rattle.std.proofs.lemmas.Bool.Decides.{nat_tests}
 use Rattle.std.proofs.lemmas.Fmt.{decimal_by_steps_wide}
 use Rattle.std.proofs.Math.Facts.{sfits_to_z}
-use Rattle.std.specs.Prelude.{ℤ, pos, negsuc}
-use Rattle.std.specs.Char.{is_ascii_digit}
-use Rattle.std.specs.Fmt.{decimal, signed_decimal}
+use Rattle.sync_lines.specs.Names.{ℤ, pos, negsuc, is_ascii_digit, decimal, signed_decimal, IsValue, span, high_bits, joined, arithmetic_of, unsigned, signed, width_of, fits_signed}
 use Rattle.std.specs.Int.{cast_unsigned, cast_signed}
 use Rattle.std.specs.Int.RustNames.{FitsSigned}
 use Rattle.std.specs.Int.Signed.{mag}
-use Rattle.steps_events.specs.Arithmetic.{IsValue}
-use Rattle.steps_events.specs.Integers.{span, high_bits, joined, arithmetic_of, unsigned, signed, width_of, fits_signed}
 use Rattle.steps_events.specs.IntegerLaws.{unsigned_value, signed_value}
 use Rattle.sync_lines.specs.declared.fault.LineFault.{LineFault}
 use Rattle.sync_lines.specs.Lexer.{in_range, number_from, number_of, number_within, with_sign, signed_of, fitting_signed, or_bad_number}

@@ -1,8 +1,5 @@
 -- How a text writes the values of an integer type.
-use Rattle.std.specs.Prelude.{◌≡◌, ℕ, ℤ, ◌-◌, Bool, true, false, List, Result, Ok, codes}
-use Rattle.std.specs.Fmt.{decimal, signed_decimal}
-use Rattle.steps_events.specs.Arithmetic.{Arithmetic, IsValue}
-use Rattle.steps_events.specs.Integers.{span}
+use Rattle.sync_lines.specs.Names.{◌≡◌, ℕ, ℤ, ◌-◌, Bool, true, false, List, Result, Ok, codes, decimal, signed_decimal, Arithmetic, IsValue, span}
 use Rattle.sync_lines.specs.declared.fault.LineFault.{LineFault}
 use Rattle.sync_lines.specs.Lexer.{number_within, signed_within}
 

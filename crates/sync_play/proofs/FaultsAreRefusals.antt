@@ -1,39 +1,15 @@
 -- A text's fault is that of its first refused line, and every refused line is told.
-use Rattle.std.proofs.Common.{◌≡◌, ℕ, zero, suc, ◌+◌, Bool, true, false, cond, List, [], ◌∷◌, ◌++◌, length, Option, Some, None, Result, Ok, Err, ◌⊎◌, inl, inr, refl, sym, ap, subst, ◌∙◌, arith}
-use Rattle.steps_events.specs.declared.event.Event.{Event}
-use Rattle.steps_events.specs.declared.event.Input.{Input}
-use Rattle.steps_events.specs.declared.event.Input.TheVariants as inputs
-use Rattle.steps_events.specs.declared.event.Object.{Object}
-use Rattle.steps_events.specs.declared.event.StepFault.{StepFault}
-use Rattle.steps_events.specs.Arithmetic.{Arithmetic}
-use Rattle.steps_events.specs.Moves.{Move}
-use Rattle.steps_events.specs.Sights.{goes_on}
-use Rattle.steps_events.specs.Moves.{InputValues}
-use Rattle.sync_steps.specs.Runs.{fault_of, move_of, IsNext}
-use Rattle.steps_events.specs.Runs.{after}
-use Rattle.sync_steps.specs.Runs.{IsRun}
-use Rattle.sync_lines.specs.declared.fault.FaultyLine.{FaultyLine}
-use Rattle.sync_lines.specs.declared.fault.LineFault.{LineFault}
-use Rattle.sync_lines.specs.declared.fault.LineFault.TheVariants as faults
-use Rattle.sync_lines.specs.declared.header.Header.{Header}
-use Rattle.sync_lines.specs.declared.command.Command.{Command}
-use Rattle.sync_lines.specs.declared.command.Task.{Task}
-use Rattle.sync_lines.specs.declared.command.Task.TheVariants as tasks
-use Rattle.sync_lines.specs.Command.{command_of}
+use Rattle.sync_play.specs.Names.{Event, Input, Object, StepFault, Arithmetic, Move, goes_on, InputValues, fault_of, move_of, IsNext, after, IsRun, FaultyLine, LineFault, Header, Command, Task, command_of, ◌>>=◌, at_line, line_fault_of, words_of, header_of, Numerals, ReadsValues}
+use Rattle.sync_play.proofs.Names.{◌≡◌, ℕ, zero, suc, ◌+◌, Bool, true, false, cond, List, [], ◌∷◌, ◌++◌, length, Option, Some, None, Result, Ok, Err, ◌⊎◌, inl, inr, refl, sym, ap, subst, ◌∙◌, arith, HasValues, command_values}
 use Rattle.sync_play.specs.Player.{event_by, unless_refused, event_of, events_of, run_of, steps_of, task_events}
-use Rattle.sync_lines.specs.Fault.{◌>>=◌, at_line, line_fault_of}
-use Rattle.sync_lines.specs.Lexer.{words_of}
-use Rattle.sync_lines.specs.Header.{header_of}
 use Rattle.sync_play.specs.Text.{events_asked, line_events, output_after, typed_output}
 use Rattle.sync_play.specs.Print.{printed}
 use Rattle.sync_play.specs.Law.{LinesAsk, GoOn, IsRefusedAt, RunRefused, TaskRefused, LineRefused, LaterLineRefused, IsRefusedLine}
 use Rattle.sync_play.proofs.Moves.{HavePlacesAt, none_have_places, next_has_places_at, run_has_places, allowed_moves}
 use Rattle.sync_play.proofs.RunsAreOutputs.{no_inputs, cut_run, line_is}
-use Rattle.sync_lines.proofs.CommandLaws.{HasValues, command_values}
 use Rattle.sync_play.proofs.OutputsAreRuns.{ok_at_line, next_is, run_of_both, line_runs}
 use Rattle.sync_play.proofs.PlayerLaws.{event_is, event_refused, run_length, run_refused as schedule_refused}
 use Rattle.sync_play.proofs.TextLaws.{after_both, asks_wrongly, asks_command, line_then, line_fails, text_is_empty, header_fails, header_is}
-use Rattle.sync_lines.specs.Numerals.{Numerals, ReadsValues}
 
 -- A step that may fail fails at first, or afterwards.
 
@@ -108,10 +84,10 @@ module _ {T : Type 0} (z : Arithmetic T) (numerals : Numerals T) (reads : ReadsV
 
   -- A run to an end.
 
-  refused_on : (o : Object T) (parties : ℕ) (past : List Ev) (party limit : ℕ) (e : Ev) (fault : LineFault) → IsNext z o parties past party inputs.Go e → goes_on e.then ≡ true → RunRefused z o parties (e ∷ past) party limit fault
+  refused_on : (o : Object T) (parties : ℕ) (past : List Ev) (party limit : ℕ) (e : Ev) (fault : LineFault) → IsNext z o parties past party Input.Go e → goes_on e.then ≡ true → RunRefused z o parties (e ∷ past) party limit fault
       → RunRefused z o parties past party (suc limit) fault
   unfolding steps_of
-  refused_on o parties past party limit e fault n goes (inl r) = inl (e ∷ r.0, (goes, r.1), refused_later o parties past (party, inputs.Go) (steps_of limit party) e r.0 fault n r.2)
+  refused_on o parties past party limit e fault n goes (inl r) = inl (e ∷ r.0, (goes, r.1), refused_later o parties past (party, Input.Go) (steps_of limit party) e r.0 fault n r.2)
   refused_on o parties past party limit e fault n goes (inr r) = inr (e ∷ r.0, (goes, r.1), (n, r.2), r.3)
 
   goes_or_ends : (e : Ev) (b : Bool) (more : Result (List Ev) LineFault) (fault : LineFault) → goes_on e.then ≡ b → cond b (more >>= λ es. Ok (e ∷ es)) (Ok (e ∷ [])) ≡ Err fault → (goes_on e.then ≡ true) × (more ≡ Err fault)
@@ -122,20 +98,20 @@ module _ {T : Type 0} (z : Arithmetic T) (numerals : Numerals T) (reads : ReadsV
   unfolding run_of steps_of
   run_refused o parties past party zero fault had h = inr ([], tt, tt, cc)
   run_refused o parties past party (suc limit) fault had h =
-      elim (fails (event_of z o parties past party inputs.Go) (λ e. cond (goes_on e.then) (run_of z o parties limit (e ∷ past) party >>= λ es. Ok (e ∷ es)) (Ok (e ∷ []))) fault h) [
-        | inl at ↦ inl ([], tt, refused_first o parties past (party, inputs.Go) (steps_of limit party) fault (input_refused o parties past party inputs.Go fault had at))
+      elim (fails (event_of z o parties past party Input.Go) (λ e. cond (goes_on e.then) (run_of z o parties limit (e ∷ past) party >>= λ es. Ok (e ∷ es)) (Ok (e ∷ []))) fault h) [
+        | inl at ↦ inl ([], tt, refused_first o parties past (party, Input.Go) (steps_of limit party) fault (input_refused o parties past party Input.Go fault had at))
         | inr later ↦
-            let n = next_is z numerals reads o parties past party inputs.Go later.0 tt later.1 in
+            let n = next_is z numerals reads o parties past party Input.Go later.0 tt later.1 in
             let g = goes_or_ends later.0 (goes_on later.0.then) (run_of z o parties limit (later.0 ∷ past) party) fault refl later.2 in
-            refused_on o parties past party limit later.0 fault n g.0 (run_refused o parties (later.0 ∷ past) party limit fault (next_has_places_at z o parties past party inputs.Go later.0 had n) g.1)
+            refused_on o parties past party limit later.0 fault n g.0 (run_refused o parties (later.0 ∷ past) party limit fault (next_has_places_at z o parties past party Input.Go later.0 had n) g.1)
       ]
 
   -- A line.
 
   task_refused : (o : Object T) (parties : ℕ) (past : List Ev) (party : ℕ) (task : Task T) (fault : LineFault) → HavePlacesAt z o past → HasValues z numerals reads task → task_events z o parties past party task ≡ Err fault → TaskRefused z o parties past party task fault
-  task_refused o parties past party (tasks.Give input) fault had values h = events_refused o parties past ((party, input) ∷ []) fault had (values, tt) h
-  task_refused o parties past party (tasks.Go n) fault had values h = events_refused o parties past (steps_of n party) fault had (step_values n party) h
-  task_refused o parties past party (tasks.Run limit) fault had values h = run_refused o parties past party limit fault had h
+  task_refused o parties past party (Task.Give input) fault had values h = events_refused o parties past ((party, input) ∷ []) fault had (values, tt) h
+  task_refused o parties past party (Task.Go n) fault had values h = events_refused o parties past (steps_of n party) fault had (step_values n party) h
+  task_refused o parties past party (Task.Run limit) fault had values h = run_refused o parties past party limit fault had h
 
   asked_refused : (o : Object T) (parties : ℕ) (past : List Ev) (words : List (List ℕ)) (asked : Option (Command T)) (fault : LineFault) → HavePlacesAt z o past → command_of numerals o words ≡ Ok asked → events_asked z numerals o parties past asked ≡ Err fault
       → LineRefused z numerals o parties past words fault
@@ -221,7 +197,7 @@ module _ {T : Type 0} (z : Arithmetic T) (numerals : Numerals T) (reads : ReadsV
   pub text_refused : (lines : List (List ℕ)) (fault : FaultyLine) → typed_output z numerals lines ≡ Err fault → IsRefusedLine z numerals lines fault.line fault.fault
   unfolding typed_output
   text_refused [] fault h =
-      let made : FaultyLine = record { line = 1; fault = faults.NoObject } in
+      let made : FaultyLine = record { line = 1; fault = LineFault.NoObject } in
       let same : made ≡ fault = cc in
       (ap (λ (d : FaultyLine). d.line) (sym same), ap (λ (d : FaultyLine). d.fault) (sym same))
   text_refused (first ∷ lines) fault h =
@@ -234,7 +210,7 @@ module _ {T : Type 0} (z : Arithmetic T) (numerals : Numerals T) (reads : ReadsV
 
   -- Back: what is refused is the fault.
 
-  stepped : (party limit : ℕ) (turn : ℕ × Input T) (rest : List (ℕ × Input T)) → steps_of (suc limit) party ≡ turn ∷ rest → ((party, inputs.Go) ≡ turn) × (steps_of limit party ≡ rest)
+  stepped : (party limit : ℕ) (turn : ℕ × Input T) (rest : List (ℕ × Input T)) → steps_of (suc limit) party ≡ turn ∷ rest → ((party, Input.Go) ≡ turn) × (steps_of limit party ≡ rest)
   unfolding steps_of
   stepped party limit turn rest e = (cc, cc)
 
@@ -249,21 +225,21 @@ module _ {T : Type 0} (z : Arithmetic T) (numerals : Numerals T) (reads : ReadsV
   run_stops o parties past party zero before others turn events refusal on same run refused = absurd (no_steps_are party before others turn same)
   run_stops o parties past party (suc limit) [] others turn [] refusal on same run refused =
       let first = stepped party limit turn others same in
-      let known : fault_of z o parties past party inputs.Go ≡ Some refusal = subst (λ (t : ℕ × Input T). fault_of z o parties past t.0 t.1 ≡ Some refusal) (sym first.0) refused in
-      rw (event_refused z o parties past party inputs.Go refusal known) refl
+      let known : fault_of z o parties past party Input.Go ≡ Some refusal = subst (λ (t : ℕ × Input T). fault_of z o parties past t.0 t.1 ≡ Some refusal) (sym first.0) refused in
+      rw (event_refused z o parties past party Input.Go refusal known) refl
   run_stops o parties past party (suc limit) [] others turn (e ∷ events) refusal on same run refused = absurd run
   run_stops o parties past party (suc limit) (t ∷ before) others turn [] refusal on same run refused = absurd run
   run_stops o parties past party (suc limit) (t ∷ before) others turn (e ∷ events) refusal on same run refused =
       let first = stepped party limit t (before ++ (turn ∷ others)) same in
       let n = subst (λ (x : ℕ × Input T). IsNext z o parties past x.0 x.1 e) (sym first.0) run.0 in
-      rw (event_is z o parties past party inputs.Go e n, on.0, run_stops o parties (e ∷ past) party limit before others turn events refusal on.1 first.1 run.1 refused) refl
+      rw (event_is z o parties past party Input.Go e n, on.0, run_stops o parties (e ∷ past) party limit before others turn events refusal on.1 first.1 run.1 refused) refl
 
-  run_is_limited : (o : Object T) (parties : ℕ) (past : List Ev) (party limit : ℕ) (events : List Ev) → GoOn events → IsRun z o parties past (steps_of limit party) events → run_of z o parties limit past party ≡ Err faults.StepLimit
+  run_is_limited : (o : Object T) (parties : ℕ) (past : List Ev) (party limit : ℕ) (events : List Ev) → GoOn events → IsRun z o parties past (steps_of limit party) events → run_of z o parties limit past party ≡ Err LineFault.StepLimit
   unfolding run_of steps_of
   run_is_limited o parties past party zero events on run = refl
   run_is_limited o parties past party (suc limit) [] on run = absurd run
   run_is_limited o parties past party (suc limit) (e ∷ events) on run =
-      rw (event_is z o parties past party inputs.Go e run.0, on.0, run_is_limited o parties (e ∷ past) party limit events on.1 run.1) refl
+      rw (event_is z o parties past party Input.Go e run.0, on.0, run_is_limited o parties (e ∷ past) party limit events on.1 run.1) refl
 
   at_refused : (o : Object T) (parties : ℕ) (past : List Ev) (schedule : List (ℕ × Input T)) (fault : LineFault) → RefusedAt o parties past schedule fault → events_of z o parties past schedule ≡ Err fault
   at_refused o parties past schedule fault r =
@@ -277,9 +253,9 @@ module _ {T : Type 0} (z : Arithmetic T) (numerals : Numerals T) (reads : ReadsV
   run_fails o parties past party limit fault (inr r) = run_is_limited o parties past party limit r.0 r.1 r.2 ∙ ap (λ (f : LineFault). Err f) (sym r.3)
 
   task_fails : (o : Object T) (parties : ℕ) (past : List Ev) (party : ℕ) (task : Task T) (fault : LineFault) → TaskRefused z o parties past party task fault → task_events z o parties past party task ≡ Err fault
-  task_fails o parties past party (tasks.Give input) fault r = at_refused o parties past ((party, input) ∷ []) fault r
-  task_fails o parties past party (tasks.Go n) fault r = at_refused o parties past (steps_of n party) fault r
-  task_fails o parties past party (tasks.Run limit) fault r = run_fails o parties past party limit fault r
+  task_fails o parties past party (Task.Give input) fault r = at_refused o parties past ((party, input) ∷ []) fault r
+  task_fails o parties past party (Task.Go n) fault r = at_refused o parties past (steps_of n party) fault r
+  task_fails o parties past party (Task.Run limit) fault r = run_fails o parties past party limit fault r
 
   words_fail : (o : Object T) (parties : ℕ) (past : List Ev) (words : List (List ℕ)) (fault : LineFault) → LineRefused z numerals o parties past words fault → line_events z numerals o parties past words ≡ Err fault
   words_fail o parties past words fault (inl unknown) = asks_wrongly z numerals o parties past words fault (sym unknown)

@@ -1,3 +1,4 @@
+pub mod Names
 pub mod PlayerLaws
 pub mod PrintLaws
 pub mod TextLaws

@@ -1,39 +1,13 @@
 -- Where a text has an output, it is what a run of the text's inputs prints.
-use Rattle.std.proofs.Common.{◌≡◌, ℕ, zero, suc, ◌+◌, ◌≤◌, Bool, true, false, cond, List, [], ◌∷◌, ◌++◌, Option, Some, None, Result, Ok, Err, refl, sym, ap, subst, ◌∙◌, append_assoc, arith}
-use Rattle.std.proofs.lemmas.List.Concat.{flat_map-append}
-use Rattle.steps_events.specs.declared.event.Event.{Event}
-use Rattle.steps_events.specs.declared.event.Input.{Input}
-use Rattle.steps_events.specs.declared.event.Input.TheVariants as inputs
-use Rattle.steps_events.specs.declared.event.Object.{Object}
-use Rattle.steps_events.specs.declared.event.StepFault.{StepFault}
-use Rattle.steps_events.specs.Arithmetic.{Arithmetic}
-use Rattle.steps_events.specs.Moves.{Move}
-use Rattle.steps_events.specs.Sights.{goes_on}
-use Rattle.steps_events.specs.Moves.{InputValues}
-use Rattle.steps_events.specs.Past.{call_of, hold_of}
+use Rattle.sync_play.specs.Names.{Event, Input, Object, StepFault, Arithmetic, Move, goes_on, InputValues, call_of, hold_of, table_of, word_in, fault_of, move_of, IsNext, after, IsRun, FaultyLine, LineFault, Task, Command, ◌>>=◌, at_line, command_of, words_of, header_of, Numerals, ReadsValues}
+use Rattle.sync_play.proofs.Names.{◌≡◌, ℕ, zero, suc, ◌+◌, ◌≤◌, Bool, true, false, cond, List, [], ◌∷◌, ◌++◌, Option, Some, None, Result, Ok, Err, refl, sym, ap, subst, ◌∙◌, append_assoc, arith, flat_map-append, bind_ok, ok_is, HasValues, command_values}
 use Rattle.steps_events.proofs.Steps.{form_of_move}
-use Rattle.sync_steps.specs.Objects.{table_of}
-use Rattle.sync_steps.specs.Runs.{word_in, fault_of, move_of, IsNext}
-use Rattle.steps_events.specs.Runs.{after}
-use Rattle.sync_steps.specs.Runs.{IsRun}
-use Rattle.sync_lines.specs.declared.fault.FaultyLine.{FaultyLine}
-use Rattle.sync_lines.specs.declared.fault.LineFault.{LineFault}
-use Rattle.sync_lines.specs.declared.command.Task.{Task}
-use Rattle.sync_lines.specs.declared.command.Task.TheVariants as tasks
-use Rattle.sync_lines.specs.declared.command.Command.{Command}
-use Rattle.sync_lines.specs.Fault.{◌>>=◌, at_line}
-use Rattle.sync_lines.specs.Command.{command_of}
-use Rattle.sync_lines.specs.Lexer.{words_of}
-use Rattle.sync_lines.specs.Header.{header_of}
 use Rattle.sync_play.specs.Player.{event_by, unless_refused, event_of, events_of, run_of, steps_of, task_events}
 use Rattle.sync_play.specs.Text.{events_asked, line_events, output_after, typed_output}
 use Rattle.sync_play.specs.Print.{printed, event_lines, last_line}
 use Rattle.sync_play.specs.Law.{EndsFirstAtLast, AreInputsOf, LineAsks, LinesAsk, IsRunOfLines}
-use Rattle.sync_lines.proofs.FaultLaws.{bind_ok, ok_is}
-use Rattle.sync_lines.proofs.CommandLaws.{HasValues, command_values}
 use Rattle.sync_play.proofs.PlayerLaws.{run_length}
 use Rattle.sync_play.proofs.TextLaws.{after_both}
-use Rattle.sync_lines.specs.Numerals.{Numerals, ReadsValues}
 
 -- Steps that may fail, with any kind of fault.
 
@@ -100,10 +74,10 @@ module _ {T : Type 0} (z : Arithmetic T) (numerals : Numerals T) (reads : ReadsV
   unfolding events_of steps_of
   steps_are_run o parties past party zero events h = subst (λ (es : List Ev). IsRun z o parties past [] es) (ok_is [] events h) tt
   steps_are_run o parties past party (suc n) events h =
-      let a = bind_ok (event_of z o parties past party inputs.Go) (λ e. events_of z o parties (e ∷ past) (steps_of n party) >>= λ es. Ok (e ∷ es)) events h in
+      let a = bind_ok (event_of z o parties past party Input.Go) (λ e. events_of z o parties (e ∷ past) (steps_of n party) >>= λ es. Ok (e ∷ es)) events h in
       let b = bind_ok (events_of z o parties (a.0 ∷ past) (steps_of n party)) (λ es. Ok (a.0 ∷ es)) events a.2 in
-      subst (λ (es : List Ev). IsRun z o parties past ((party, inputs.Go) ∷ steps_of n party) es) (ok_is (a.0 ∷ b.0) events b.2)
-      (next_is o parties past party inputs.Go a.0 tt a.1, steps_are_run o parties (a.0 ∷ past) party n b.0 b.1)
+      subst (λ (es : List Ev). IsRun z o parties past ((party, Input.Go) ∷ steps_of n party) es) (ok_is (a.0 ∷ b.0) events b.2)
+      (next_is o parties past party Input.Go a.0 tt a.1, steps_are_run o parties (a.0 ∷ past) party n b.0 b.1)
 
   record RunsToEnd (o : Object T) (parties : ℕ) (past : List Ev) (party limit : ℕ) (events : List Ev) : Type 0 where
     steps : ℕ
@@ -115,18 +89,18 @@ module _ {T : Type 0} (z : Arithmetic T) (numerals : Numerals T) (reads : ReadsV
   ends_later e [] h k = absurd k
   ends_later e (f ∷ events) h k = (h, k)
 
-  step_again : (o : Object T) (parties : ℕ) (past : List Ev) (party limit : ℕ) (e : Ev) (events : List Ev) → IsNext z o parties past party inputs.Go e → goes_on e.then ≡ true → RunsToEnd o parties (e ∷ past) party limit events
+  step_again : (o : Object T) (parties : ℕ) (past : List Ev) (party limit : ℕ) (e : Ev) (events : List Ev) → IsNext z o parties past party Input.Go e → goes_on e.then ≡ true → RunsToEnd o parties (e ∷ past) party limit events
       → RunsToEnd o parties past party (suc limit) (e ∷ events)
   unfolding steps_of
   step_again o parties past party limit e events n h r =
       let within = r.within in
       record { steps = suc r.steps; within = omega arith; run = (n, r.run); ends = ends_later e events h r.ends }
 
-  step_last : (o : Object T) (parties : ℕ) (past : List Ev) (party limit : ℕ) (e : Ev) → IsNext z o parties past party inputs.Go e → goes_on e.then ≡ false → RunsToEnd o parties past party (suc limit) (e ∷ [])
+  step_last : (o : Object T) (parties : ℕ) (past : List Ev) (party limit : ℕ) (e : Ev) → IsNext z o parties past party Input.Go e → goes_on e.then ≡ false → RunsToEnd o parties past party (suc limit) (e ∷ [])
   unfolding steps_of
   step_last o parties past party limit e n h = record { steps = 1; within = omega arith; run = (n, tt); ends = h }
 
-  step_either : (o : Object T) (parties : ℕ) (past : List Ev) (party limit : ℕ) (e : Ev) (b : Bool) (more : Result (List Ev) LineFault) (events : List Ev) → IsNext z o parties past party inputs.Go e → goes_on e.then ≡ b
+  step_either : (o : Object T) (parties : ℕ) (past : List Ev) (party limit : ℕ) (e : Ev) (b : Bool) (more : Result (List Ev) LineFault) (events : List Ev) → IsNext z o parties past party Input.Go e → goes_on e.then ≡ b
       → ((es : List Ev) → more ≡ Ok es → RunsToEnd o parties (e ∷ past) party limit es) → cond b (more >>= λ es. Ok (e ∷ es)) (Ok (e ∷ [])) ≡ Ok events → RunsToEnd o parties past party (suc limit) events
   step_either o parties past party limit e true more events n g k h =
       let b = bind_ok more (λ es. Ok (e ∷ es)) events h in
@@ -138,8 +112,8 @@ module _ {T : Type 0} (z : Arithmetic T) (numerals : Numerals T) (reads : ReadsV
   unfolding run_of
   run_to_end o parties past party zero events h = absurd cc
   run_to_end o parties past party (suc limit) events h =
-      let a = bind_ok (event_of z o parties past party inputs.Go) (λ e. cond (goes_on e.then) (run_of z o parties limit (e ∷ past) party >>= λ es. Ok (e ∷ es)) (Ok (e ∷ []))) events h in
-      step_either o parties past party limit a.0 (goes_on a.0.then) (run_of z o parties limit (a.0 ∷ past) party) events (next_is o parties past party inputs.Go a.0 tt a.1) refl
+      let a = bind_ok (event_of z o parties past party Input.Go) (λ e. cond (goes_on e.then) (run_of z o parties limit (e ∷ past) party >>= λ es. Ok (e ∷ es)) (Ok (e ∷ []))) events h in
+      step_either o parties past party limit a.0 (goes_on a.0.then) (run_of z o parties limit (a.0 ∷ past) party) events (next_is o parties past party Input.Go a.0 tt a.1) refl
       (λ es k. run_to_end o parties (a.0 ∷ past) party limit es k) a.2
 
   -- a line's inputs and their run
@@ -154,9 +128,9 @@ module _ {T : Type 0} (z : Arithmetic T) (numerals : Numerals T) (reads : ReadsV
     run : IsRun z o parties past schedule events
 
   task_runs : (o : Object T) (parties : ℕ) (past : List Ev) (party : ℕ) (task : Task T) (events : List Ev) → HasValues z numerals reads task → task_events z o parties past party task ≡ Ok events → TaskRuns o parties past party task events
-  task_runs o parties past party (tasks.Give input) events values h = record { schedule = (party, input) ∷ []; asks = refl; run = one_is_run o parties past party input events values h }
-  task_runs o parties past party (tasks.Go n) events values h = record { schedule = steps_of n party; asks = refl; run = steps_are_run o parties past party n events h }
-  task_runs o parties past party (tasks.Run limit) events values h =
+  task_runs o parties past party (Task.Give input) events values h = record { schedule = (party, input) ∷ []; asks = refl; run = one_is_run o parties past party input events values h }
+  task_runs o parties past party (Task.Go n) events values h = record { schedule = steps_of n party; asks = refl; run = steps_are_run o parties past party n events h }
+  task_runs o parties past party (Task.Run limit) events values h =
       let r = run_to_end o parties past party limit events h in
       record { schedule = steps_of r.steps party; asks = (r.steps, r.within, refl, r.ends); run = r.run }
 

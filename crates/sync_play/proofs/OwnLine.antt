@@ -1,29 +1,9 @@
 -- A text whose `run` would borrow its end from a later line has another output.
-use Rattle.std.proofs.Common.{◌≡◌, ℕ, true, List, [], ◌∷◌, length, Some, Result, Ok, Err, refl, sym, ap, ◌∙◌, arith}
-use Rattle.std.proofs.lemmas.Fmt.{decimal_digit}
-use Rattle.std.specs.Prelude.{codes}
-use Rattle.steps_events.specs.declared.event.Act.{Act}
-use Rattle.steps_events.specs.declared.event.Act.TheVariants as acts
-use Rattle.steps_events.specs.declared.event.Answer.TheVariants as answers
-use Rattle.steps_events.specs.declared.event.Call.TheVariants as calls
-use Rattle.steps_events.specs.declared.event.Event.{Event}
-use Rattle.steps_events.specs.declared.event.Input.{Input}
-use Rattle.steps_events.specs.declared.event.Input.TheVariants as inputs
-use Rattle.steps_events.specs.declared.event.Object.TheVariants as objects
-use Rattle.steps_events.specs.declared.event.Then.{Then}
-use Rattle.steps_events.specs.declared.event.Then.TheVariants as thens
-use Rattle.steps_events.specs.declared.event.Wake.TheVariants as wakes
-use Rattle.steps_events.specs.declared.event.Word.TheVariants as words
+use Rattle.sync_play.specs.Names.{codes, Act, Answer, Call, Event, Input, Object, Then, Wake, Word, IsRun, FaultyLine, Task, header_of, command_of, task_of, lines_of, u64_numerals}
+use Rattle.sync_play.proofs.Names.{◌≡◌, ℕ, true, List, [], ◌∷◌, length, Some, Result, Ok, Err, refl, sym, ap, ◌∙◌, arith, decimal_digit}
 use Rattle.steps_events.specs.Integers.{u64_arithmetic}
-use Rattle.sync_steps.specs.Runs.{IsRun}
-use Rattle.sync_lines.specs.declared.fault.FaultyLine.{FaultyLine}
-use Rattle.sync_lines.specs.declared.command.Task.TheVariants as tasks
 use Rattle.sync_play.specs.Player.{steps_of}
-use Rattle.sync_lines.specs.Header.{header_of}
-use Rattle.sync_lines.specs.Command.{command_of, task_of}
 use Rattle.sync_play.specs.Print.{last_line}
-use Rattle.sync_lines.specs.Lexer.{lines_of}
-use Rattle.sync_lines.specs.Numerals.{u64_numerals}
 use Rattle.sync_play.specs.Law.{LinesAsk, IsRunOfText, EndsInItsLine}
 use Rattle.sync_play.proofs.RunsAreOutputs.{runs_are_outputs}
 
@@ -38,119 +18,119 @@ event party act stand = record { party = party; act = act; «then» = stand }
 
 -- the events of the text's run
 abbrev taken : Ev
-taken = event 0 (acts.Exchange words.State 0 1 0 true) (thens.Answers answers.Success)
+taken = event 0 (Act.Exchange Word.State 0 1 0 true) (Then.Answers Answer.Success)
 
 abbrev released : Ev
-released = event 0 (acts.Store words.State 0) thens.GoesOn
+released = event 0 (Act.Store Word.State 0) Then.GoesOn
 
 abbrev woken : Ev
-woken = event 0 (acts.Woke wakes.One) (thens.Answers answers.Done)
+woken = event 0 (Act.Woke Wake.One) (Then.Answers Answer.Done)
 
 abbrev taken_again : Ev
-taken_again = event 1 (acts.Exchange words.State 0 1 0 true) (thens.Answers answers.Success)
+taken_again = event 1 (Act.Exchange Word.State 0 1 0 true) (Then.Answers Answer.Success)
 
 abbrev begun : ℕ → Act ℕ → Ev
-begun party act = event party act thens.GoesOn
+begun party act = event party act Then.GoesOn
 
 -- the inputs and the events from each line on
 abbrev inputs_5 : List (ℕ × Input ℕ)
-inputs_5 = (1, inputs.Go) ∷ []
+inputs_5 = (1, Input.Go) ∷ []
 
 abbrev events_5 : List Ev
 events_5 = taken_again ∷ []
 
 abbrev inputs_4 : List (ℕ × Input ℕ)
-inputs_4 = (1, inputs.Begin calls.Lock) ∷ inputs_5
+inputs_4 = (1, Input.Begin Call.Lock) ∷ inputs_5
 
 abbrev events_4 : List Ev
-events_4 = begun 1 (acts.Begun calls.Lock) ∷ events_5
+events_4 = begun 1 (Act.Begun Call.Lock) ∷ events_5
 
 abbrev inputs_3 : List (ℕ × Input ℕ)
-inputs_3 = (0, inputs.Go) ∷ (0, inputs.Go) ∷ inputs_4
+inputs_3 = (0, Input.Go) ∷ (0, Input.Go) ∷ inputs_4
 
 abbrev events_3 : List Ev
 events_3 = released ∷ woken ∷ events_4
 
 abbrev inputs_2 : List (ℕ × Input ℕ)
-inputs_2 = (0, inputs.Begin calls.Unlock) ∷ inputs_3
+inputs_2 = (0, Input.Begin Call.Unlock) ∷ inputs_3
 
 abbrev events_2 : List Ev
-events_2 = begun 0 (acts.Begun calls.Unlock) ∷ events_3
+events_2 = begun 0 (Act.Begun Call.Unlock) ∷ events_3
 
 abbrev inputs_1 : List (ℕ × Input ℕ)
-inputs_1 = (0, inputs.Go) ∷ inputs_2
+inputs_1 = (0, Input.Go) ∷ inputs_2
 
 abbrev events_1 : List Ev
 events_1 = taken ∷ events_2
 
 abbrev inputs_0 : List (ℕ × Input ℕ)
-inputs_0 = (0, inputs.Begin calls.TryLock) ∷ inputs_1
+inputs_0 = (0, Input.Begin Call.TryLock) ∷ inputs_1
 
 abbrev events_0 : List Ev
-events_0 = begun 0 (acts.Begun calls.TryLock) ∷ events_1
+events_0 = begun 0 (Act.Begun Call.TryLock) ∷ events_1
 
-is_run : IsRun u64_arithmetic objects.Mutex 2 [] inputs_0 events_0
+is_run : IsRun u64_arithmetic Object.Mutex 2 [] inputs_0 events_0
 is_run = (record { allowed = refl; values = tt; party_is = refl; form = refl; moved = refl }, (record { allowed = refl; values = tt; party_is = refl; form = refl; moved = refl }, (record { allowed = refl; values = tt; party_is = refl; form = refl; moved = refl }, (record { allowed = refl; values = tt; party_is = refl; form = refl; moved = refl }, (record { allowed = refl; values = tt; party_is = refl; form = refl; moved = refl }, (record { allowed = refl; values = tt; party_is = refl; form = refl; moved = refl }, (record { allowed = refl; values = tt; party_is = refl; form = refl; moved = refl }, tt)))))))
 
 abbrev lines : List (List ℕ)
 lines = codes "1 try_lock" ∷ codes "1 go" ∷ codes "1 unlock" ∷ codes "1 run" ∷ codes "2 lock" ∷ codes "2 go" ∷ []
 
-asks : LinesAsk u64_numerals objects.Mutex lines inputs_0 events_0
+asks : LinesAsk u64_numerals Object.Mutex lines inputs_0 events_0
 unfolding command_of task_of steps_of
 asks = (
-  (0, inputs.Begin calls.TryLock) ∷ [],
+  (0, Input.Begin Call.TryLock) ∷ [],
   inputs_1,
-  begun 0 (acts.Begun calls.TryLock) ∷ [],
+  begun 0 (Act.Begun Call.TryLock) ∷ [],
   events_1,
   refl,
   refl,
   refl,
-  (Some (record { party = 0; task = tasks.Give (inputs.Begin calls.TryLock) }), refl, refl),
+  (Some (record { party = 0; task = Task.Give (Input.Begin Call.TryLock) }), refl, refl),
   (
-    (0, inputs.Go) ∷ [],
+    (0, Input.Go) ∷ [],
     inputs_2,
     taken ∷ [],
     events_2,
     refl,
     refl,
     refl,
-    (Some (record { party = 0; task = tasks.Go 1 }), refl, refl),
+    (Some (record { party = 0; task = Task.Go 1 }), refl, refl),
     (
-      (0, inputs.Begin calls.Unlock) ∷ [],
+      (0, Input.Begin Call.Unlock) ∷ [],
       inputs_3,
-      begun 0 (acts.Begun calls.Unlock) ∷ [],
+      begun 0 (Act.Begun Call.Unlock) ∷ [],
       events_3,
       refl,
       refl,
       refl,
-      (Some (record { party = 0; task = tasks.Give (inputs.Begin calls.Unlock) }), refl, refl),
+      (Some (record { party = 0; task = Task.Give (Input.Begin Call.Unlock) }), refl, refl),
       (
-        (0, inputs.Go) ∷ (0, inputs.Go) ∷ [],
+        (0, Input.Go) ∷ (0, Input.Go) ∷ [],
         inputs_4,
         released ∷ woken ∷ [],
         events_4,
         refl,
         refl,
         refl,
-        (Some (record { party = 0; task = tasks.Run 100000 }), refl, (2, omega arith, refl, (refl, refl))),
+        (Some (record { party = 0; task = Task.Run 100000 }), refl, (2, omega arith, refl, (refl, refl))),
         (
-          (1, inputs.Begin calls.Lock) ∷ [],
+          (1, Input.Begin Call.Lock) ∷ [],
           inputs_5,
-          begun 1 (acts.Begun calls.Lock) ∷ [],
+          begun 1 (Act.Begun Call.Lock) ∷ [],
           events_5,
           refl,
           refl,
           refl,
-          (Some (record { party = 1; task = tasks.Give (inputs.Begin calls.Lock) }), refl, refl),
+          (Some (record { party = 1; task = Task.Give (Input.Begin Call.Lock) }), refl, refl),
           (
-            (1, inputs.Go) ∷ [],
+            (1, Input.Go) ∷ [],
             [],
             taken_again ∷ [],
             [],
             refl,
             refl,
             refl,
-            (Some (record { party = 1; task = tasks.Go 1 }), refl, refl),
+            (Some (record { party = 1; task = Task.Go 1 }), refl, refl),
             refl,
           ),
         ),
@@ -165,7 +145,7 @@ output = codes "1 success\n1 wakes one\n1 done\n2 success\nword 1 failed 0\n"
 is_run_of_text : IsRunOfText text output
 unfolding header_of last_line
 is_run_of_text =
-    record { first = codes "mutex 2"; others = lines; lines_are = refl; header = record { object = objects.Mutex; parties = 2 }; names = refl; schedule = inputs_0; events = events_0; asks = asks; run = is_run; bytes_are = rw (decimal_digit 0 (omega arith), decimal_digit 1 (omega arith), decimal_digit 2 (omega arith)) refl }
+    record { first = codes "mutex 2"; others = lines; lines_are = refl; header = record { object = Object.Mutex; parties = 2 }; names = refl; schedule = inputs_0; events = events_0; asks = asks; run = is_run; bytes_are = rw (decimal_digit 0 (omega arith), decimal_digit 1 (omega arith), decimal_digit 2 (omega arith)) refl }
 
 abbrev output_length : Result (List ℕ) FaultyLine → ℕ
 output_length (Ok bytes) = length bytes

@@ -1,30 +1,15 @@
 -- A walk is played and printed, one more stride at a time.
-use Rattle.std.proofs.Common.{◌≡◌, ℕ, zero, suc, ◌<◌, true, List, [], ◌∷◌, ◌++◌, Option, Some, None, Result, Ok, Err, IfSome, refl, sym, ap, subst, ◌∙◌, append_assoc, arith}
-use Rattle.std.proofs.lemmas.List.{append-nil}
-use Rattle.std.specs.Prelude.{replicate}
-use Rattle.steps_events.specs.declared.event.Act.{Act}
-use Rattle.steps_events.specs.declared.event.Act.TheVariants as acts
-use Rattle.steps_events.specs.declared.event.Event.{Event}
-use Rattle.steps_events.specs.declared.event.Object.{Object}
-use Rattle.steps_events.specs.Arithmetic.{Arithmetic}
-use Rattle.steps_events.specs.Runs.{after}
-use Rattle.sync_steps.specs.Machine.{Configuration, StandsAt}
-use Rattle.sync_steps.specs.Machine.Strides.{is_quiet, IsQuiet}
-use Rattle.sync_lines.specs.declared.fault.FaultyLine.{FaultyLine}
-use Rattle.sync_lines.specs.declared.fault.TextFault.{TextFault}
-use Rattle.sync_lines.specs.declared.header.Header.{Header}
+use Rattle.sync_play.specs.Names.{replicate, Act, Event, Object, Arithmetic, after, Configuration, StandsAt, is_quiet, IsQuiet, FaultyLine, TextFault, Header, IsFaultOf, lines_of, Numerals}
+use Rattle.sync_play.proofs.Names.{◌≡◌, ℕ, zero, suc, ◌<◌, true, List, [], ◌∷◌, ◌++◌, Option, Some, None, Result, Ok, Err, IfSome, refl, sym, ap, subst, ◌∙◌, append_assoc, arith, append-nil}
 use Rattle.sync_play.specs.declared.walk.Rest.{Rest}
 use Rattle.sync_play.specs.declared.walk.Step.{Step}
 use Rattle.sync_play.specs.declared.walk.Stride.{Stride}
-use Rattle.sync_lines.specs.Fault.{IsFaultOf}
-use Rattle.sync_lines.specs.Lexer.{lines_of}
 use Rattle.sync_play.specs.Print.{printed, act_line, event_lines, last_line}
 use Rattle.sync_play.specs.Text.{typed_output}
 use Rattle.sync_play.specs.Walk.{Walk, steps_then, nothing, go_walk, lines_walk, opened, rest_walk, after_times, IsNextStride}
 use Rattle.sync_play.specs.WalkOutput.{events_in, output_unless, output_in, output_opened, PrintsAll}
 use Rattle.sync_play.proofs.TextLaws.{after_both}
 use Rattle.sync_play.proofs.WalksAreOutputs.{walks_print}
-use Rattle.sync_lines.specs.Numerals.{Numerals}
 
 module _ {T : Type 0} (z : Arithmetic T) (numerals : Numerals T) where
   abbrev Ev : Type 0
@@ -56,17 +41,17 @@ module _ {T : Type 0} (z : Arithmetic T) (numerals : Numerals T) where
   -- An event that leaves all as it is prints nothing.
 
   quiet_act : (party : ℕ) (act : Act T) → is_quiet act ≡ true → act_line party act ≡ []
-  quiet_act party (acts.Woke wake) quiet = absurd cc
-  quiet_act party (acts.Begun call) quiet = refl
-  quiet_act party (acts.Load word seen) quiet = refl
-  quiet_act party (acts.Store word put) quiet = refl
-  quiet_act party (acts.Swap word old put) quiet = refl
-  quiet_act party (acts.Add word old put) quiet = refl
-  quiet_act party (acts.Exchange word from to found done) quiet = refl
-  quiet_act party (acts.Answered action) quiet = refl
-  quiet_act party (acts.Chosen choice) quiet = refl
-  quiet_act party acts.Ended quiet = refl
-  quiet_act party (acts.ReadCell v) quiet = refl
+  quiet_act party (Act.Woke wake) quiet = absurd cc
+  quiet_act party (Act.Begun call) quiet = refl
+  quiet_act party (Act.Load word seen) quiet = refl
+  quiet_act party (Act.Store word put) quiet = refl
+  quiet_act party (Act.Swap word old put) quiet = refl
+  quiet_act party (Act.Add word old put) quiet = refl
+  quiet_act party (Act.Exchange word from to found done) quiet = refl
+  quiet_act party (Act.Answered action) quiet = refl
+  quiet_act party (Act.Chosen choice) quiet = refl
+  quiet_act party Act.Ended quiet = refl
+  quiet_act party (Act.ReadCell v) quiet = refl
 
   quiet_prints : (e : Ev) → IsQuiet e → event_lines numerals e ≡ []
   quiet_prints e quiet = rw (quiet_act e.party e.act quiet.act, quiet.goes_on) refl

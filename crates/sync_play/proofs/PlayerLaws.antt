@@ -1,16 +1,6 @@
 -- An input gives its one event, and a schedule the events of its run.
-use Rattle.std.proofs.Common.{◌≡◌, ℕ, suc, List, [], ◌∷◌, ◌++◌, length, Some, Result, Ok, Err, refl, sym, ap, subst, ◌∙◌}
-use Rattle.steps_events.specs.declared.event.Event.{Event}
-use Rattle.steps_events.specs.declared.event.Input.{Input}
-use Rattle.steps_events.specs.declared.event.Object.{Object}
-use Rattle.steps_events.specs.declared.event.StepFault.{StepFault}
-use Rattle.steps_events.specs.Arithmetic.{Arithmetic}
-use Rattle.sync_steps.specs.Runs.{fault_of, IsNext}
-use Rattle.steps_events.specs.Runs.{after}
-use Rattle.sync_steps.specs.Runs.{IsRun}
-use Rattle.sync_lines.specs.declared.fault.LineFault.{LineFault}
-use Rattle.sync_lines.specs.Fault.{◌>>=◌, line_fault_of}
-use Rattle.sync_lines.proofs.FaultLaws.{ok_is, bind_ok}
+use Rattle.sync_play.specs.Names.{Event, Input, Object, StepFault, Arithmetic, fault_of, IsNext, after, IsRun, LineFault, ◌>>=◌, line_fault_of}
+use Rattle.sync_play.proofs.Names.{◌≡◌, ℕ, suc, List, [], ◌∷◌, ◌++◌, length, Some, Result, Ok, Err, refl, sym, ap, subst, ◌∙◌, ok_is, bind_ok}
 use Rattle.sync_play.specs.Player.{event_of, events_of}
 
 -- these events, and then the others

@@ -1,16 +1,7 @@
 -- Lines are printed in pieces.
-use Rattle.std.proofs.Common.{◌≡◌, ◌∙◌, refl, sym, ap, arith, ℕ, ◌+◌, ◌-◌, ◌^◌, ◌<◌, min, if◌then◌else◌, is_ok, List, ◌∷◌, ◌++◌, Result, Ok, Err, OnOk, append_assoc}
-use Rattle.std.specs.Prelude.{codes}
-use Rattle.std.specs.Fmt.{decimal}
-use Rattle.std.proofs.lemmas.Fmt.{decimal_digit}
-use Rattle.steps_events.specs.declared.event.Event.{Event}
-use Rattle.steps_events.specs.declared.event.Object.{Object}
-use Rattle.steps_events.specs.declared.event.Word.TheVariants as words
-use Rattle.steps_events.specs.Arithmetic.{Arithmetic}
-use Rattle.steps_events.specs.Past.{failures_in}
-use Rattle.sync_steps.specs.Runs.{word_in}
+use Rattle.sync_play.specs.Names.{codes, decimal, Event, Object, Word, Arithmetic, failures_in, word_in, Numerals}
+use Rattle.sync_play.proofs.Names.{◌≡◌, ◌∙◌, refl, sym, ap, arith, ℕ, ◌+◌, ◌-◌, ◌^◌, ◌<◌, min, if◌then◌else◌, is_ok, List, ◌∷◌, ◌++◌, Result, Ok, Err, OnOk, append_assoc, decimal_digit}
 use Rattle.sync_play.specs.Print.{party_words, party_line, named, further_words, last_line}
-use Rattle.sync_lines.specs.Numerals.{Numerals}
 
 -- what is printed, if the last piece is
 printed_all : {A E P Q : Type 0} (result : Result A E) → (P → Q) → OnOk result P → OnOk result Q
@@ -38,7 +29,7 @@ line_printed result party words old front new number h =
 module _ {T : Type 0} (z : Arithmetic T) (numerals : Numerals T) where
   pub last_printed :
       {A E : Type 0} (result : Result A E) (o : Object T) (past : List (Event T)) (word failed : ℕ) (old first second all : List ℕ) →
-      word ≡ word_in z o past words.State → failed ≡ min (failures_in past) (2 ^ 64 - 1) →
+      word ≡ word_in z o past Word.State → failed ≡ min (failures_in past) (2 ^ 64 - 1) →
       first ≡ old ++ named (codes "word") (decimal word) →
       second ≡ first ++ further_words z numerals o (word_in z o past) →
       OnOk result (all ≡ second ++ (codes " " ++ (named (codes "failed") (decimal failed) ++ codes "\n"))) →

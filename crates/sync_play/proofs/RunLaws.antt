@@ -1,8 +1,7 @@
 -- What reads and writes in a row do to known bytes.
-use Rattle.std.proofs.Common.{◌≡◌, ℕ, zero, suc, ◌+◌, List, [], ◌∷◌, ◌++◌, take, drop, Option, Some, None, refl, sym, ap, subst, ◌∙◌, append_assoc, arith}
-use Rattle.std.proofs.lemmas.List.{append-nil, take-append-drop}
+use Rattle.sync_play.specs.Names.{Appends}
+use Rattle.sync_play.proofs.Names.{◌≡◌, ℕ, zero, suc, ◌+◌, List, [], ◌∷◌, ◌++◌, take, drop, Option, Some, None, refl, sym, ap, subst, ◌∙◌, append_assoc, arith, append-nil, take-append-drop}
 use Rattle.std.proofs.Math.Seq.{take-add, drop-nil}
-use Rattle.std.specs.Io.KnownBytes.{Appends}
 
 pub writes_both : (a b c : Option (List ℕ)) (xs ys : List ℕ) → Appends a b xs → Appends b c ys → Appends a c (xs ++ ys)
 writes_both None b c xs ys h k = tt

@@ -1,26 +1,12 @@
 -- What a run of a text's inputs prints is the text's output.
-use Rattle.std.proofs.Common.{◌≡◌, ℕ, zero, suc, ◌+◌, ◌≤◌, List, [], ◌∷◌, ◌++◌, length, Option, Some, None, Ok, refl, sym, ap, subst, ◌∙◌, append_assoc, arith}
-use Rattle.std.proofs.lemmas.List.Concat.{flat_map-append}
-use Rattle.steps_events.specs.declared.event.Event.{Event}
-use Rattle.steps_events.specs.declared.event.Input.{Input}
-use Rattle.steps_events.specs.declared.event.Input.TheVariants as inputs
-use Rattle.steps_events.specs.declared.event.Object.{Object}
-use Rattle.steps_events.specs.Arithmetic.{Arithmetic}
-use Rattle.steps_events.specs.Runs.{after}
-use Rattle.sync_steps.specs.Runs.{IsRun}
-use Rattle.sync_lines.specs.declared.command.Command.{Command}
-use Rattle.sync_lines.specs.declared.command.Task.{Task}
-use Rattle.sync_lines.specs.declared.command.Task.TheVariants as tasks
-use Rattle.sync_lines.specs.Command.{command_of}
-use Rattle.sync_lines.specs.Fault.{at_line}
+use Rattle.sync_play.specs.Names.{Event, Input, Object, Arithmetic, after, IsRun, Command, Task, command_of, at_line, words_of, Numerals}
+use Rattle.sync_play.proofs.Names.{◌≡◌, ℕ, zero, suc, ◌+◌, ◌≤◌, List, [], ◌∷◌, ◌++◌, length, Option, Some, None, Ok, refl, sym, ap, subst, ◌∙◌, append_assoc, arith, flat_map-append}
 use Rattle.sync_play.specs.Player.{events_of, run_of, steps_of, task_events}
 use Rattle.sync_play.specs.Text.{line_events, output_after, typed_output}
 use Rattle.sync_play.specs.Print.{printed, event_lines, last_line}
 use Rattle.sync_play.specs.Law.{EndsFirstAtLast, AreInputsOf, CommandAsks, LineAsks, LinesAsk, IsRunOfLines}
-use Rattle.sync_lines.specs.Lexer.{words_of}
 use Rattle.sync_play.proofs.PlayerLaws.{event_is, run_is}
 use Rattle.sync_play.proofs.TextLaws.{after_both, asks_none, asks_command, line_then, lines_end, header_is}
-use Rattle.sync_lines.specs.Numerals.{Numerals}
 
 module _ {T : Type 0} (z : Arithmetic T) (numerals : Numerals T) where
   abbrev Ev : Type 0
@@ -56,9 +42,9 @@ module _ {T : Type 0} (z : Arithmetic T) (numerals : Numerals T) where
   ends_at o parties past party steps limit [] within last run = absurd last
   ends_at o parties past party zero limit (e ∷ events) within last run = absurd run
   ends_at o parties past party (suc steps) zero (e ∷ events) within last run = absurd (omega arith)
-  ends_at o parties past party (suc steps) (suc limit) (e ∷ []) within last run = rw (event_is z o parties past party inputs.Go e run.0, last) refl
+  ends_at o parties past party (suc steps) (suc limit) (e ∷ []) within last run = rw (event_is z o parties past party Input.Go e run.0, last) refl
   ends_at o parties past party (suc steps) (suc limit) (e ∷ next ∷ events) within last run =
-      rw (event_is z o parties past party inputs.Go e run.0, last.0, ends_at o parties (e ∷ past) party steps limit (next ∷ events) (omega arith) last.1 run.1) refl
+      rw (event_is z o parties past party Input.Go e run.0, last.0, ends_at o parties (e ∷ past) party steps limit (next ∷ events) (omega arith) last.1 run.1) refl
 
   ran_to_end : (o : Object T) (parties : ℕ) (past : List Ev) (party steps limit : ℕ) (schedule : List (ℕ × Input T)) (events : List Ev) → steps ≤ limit → schedule ≡ steps_of steps party → EndsFirstAtLast events
       → IsRun z o parties past schedule events → run_of z o parties limit past party ≡ Ok events
@@ -67,9 +53,9 @@ module _ {T : Type 0} (z : Arithmetic T) (numerals : Numerals T) where
 
   task_is : (o : Object T) (parties : ℕ) (past : List Ev) (party : ℕ) (task : Task T) (schedule : List (ℕ × Input T)) (events : List Ev) → AreInputsOf party task schedule events
       → IsRun z o parties past schedule events → task_events z o parties past party task ≡ Ok events
-  task_is o parties past party (tasks.Give input) schedule events asks run = given o parties past schedule ((party, input) ∷ []) events asks run
-  task_is o parties past party (tasks.Go n) schedule events asks run = given o parties past schedule (steps_of n party) events asks run
-  task_is o parties past party (tasks.Run limit) schedule events asks run = ran_to_end o parties past party asks.0 limit schedule events asks.1 asks.2 asks.3 run
+  task_is o parties past party (Task.Give input) schedule events asks run = given o parties past schedule ((party, input) ∷ []) events asks run
+  task_is o parties past party (Task.Go n) schedule events asks run = given o parties past schedule (steps_of n party) events asks run
+  task_is o parties past party (Task.Run limit) schedule events asks run = ran_to_end o parties past party asks.0 limit schedule events asks.1 asks.2 asks.3 run
 
   asked_is : (o : Object T) (parties : ℕ) (past : List Ev) (words : List (List ℕ)) (asked : Option (Command T)) (schedule : List (ℕ × Input T)) (events : List Ev) → command_of numerals o words ≡ Ok asked → CommandAsks asked schedule events
       → IsRun z o parties past schedule events → line_events z numerals o parties past words ≡ Ok events

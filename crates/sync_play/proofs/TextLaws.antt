@@ -1,22 +1,9 @@
 -- What a line asks, and what the lines of a text print.
-use Rattle.std.proofs.Common.{◌≡◌, ℕ, ◌+◌, List, [], ◌∷◌, ◌++◌, Some, None, Result, Ok, Err, refl}
-use Rattle.steps_events.specs.declared.event.Event.{Event}
-use Rattle.steps_events.specs.declared.event.Object.{Object}
-use Rattle.steps_events.specs.Runs.{after}
-use Rattle.steps_events.specs.Arithmetic.{Arithmetic}
-use Rattle.sync_lines.specs.declared.command.Command.{Command}
-use Rattle.sync_lines.specs.declared.fault.FaultyLine.{FaultyLine}
-use Rattle.sync_lines.specs.declared.fault.LineFault.{LineFault}
-use Rattle.sync_lines.specs.declared.fault.LineFault.TheVariants as faults
-use Rattle.sync_lines.specs.declared.header.Header.{Header}
-use Rattle.sync_lines.specs.Command.{command_of}
-use Rattle.sync_lines.specs.Fault.{◌>>=◌, at_line}
-use Rattle.sync_lines.specs.Header.{header_of}
-use Rattle.sync_lines.specs.Lexer.{words_of}
+use Rattle.sync_play.specs.Names.{Event, Object, after, Arithmetic, Command, FaultyLine, LineFault, Header, command_of, ◌>>=◌, at_line, header_of, words_of, Numerals}
+use Rattle.sync_play.proofs.Names.{◌≡◌, ℕ, ◌+◌, List, [], ◌∷◌, ◌++◌, Some, None, Result, Ok, Err, refl}
 use Rattle.sync_play.specs.Player.{command_events}
 use Rattle.sync_play.specs.Print.{printed, last_line}
 use Rattle.sync_play.specs.Text.{line_events, output_after, typed_output}
-use Rattle.sync_lines.specs.Numerals.{Numerals}
 
 pub after_both : {T : Type 0} (events more past : List (Event T)) → after (events ++ more) past ≡ after more (after events past)
 after_both [] more past = refl
@@ -61,7 +48,7 @@ module _ {T : Type 0} (z : Arithmetic T) (numerals : Numerals T) where
 
   -- The first line.
 
-  pub text_is_empty : (lines : List (List ℕ)) → lines ≡ [] → typed_output z numerals lines ≡ Err (record { line = 1; fault = faults.NoObject })
+  pub text_is_empty : (lines : List (List ℕ)) → lines ≡ [] → typed_output z numerals lines ≡ Err (record { line = 1; fault = LineFault.NoObject })
   unfolding typed_output
   text_is_empty lines none = rw none refl
 

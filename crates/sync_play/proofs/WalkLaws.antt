@@ -1,28 +1,9 @@
 -- A walk goes on by the next events of what is left of its line, and then by the next line.
-use Rattle.std.proofs.Common.{◌⊎◌, inl, inr, ◌≡◌, ℕ, zero, suc, ◌-◌, ◌+◌, ◌*◌, ◌^◌, ◌<◌, ◌≤◌, Bool, true, false, cond, List, [], ◌∷◌, Option, Some, None, Ok, Err, IfSome, refl, ap, subst, ◌∙◌, arith}
-use Rattle.std.specs.Prelude.{replicate}
-use Rattle.steps_events.specs.declared.event.Event.{Event}
-use Rattle.steps_events.specs.declared.event.Input.{Input}
-use Rattle.steps_events.specs.declared.event.Input.TheVariants as inputs
-use Rattle.steps_events.specs.declared.event.Object.{Object}
-use Rattle.steps_events.specs.declared.event.StepFault.{StepFault}
-use Rattle.steps_events.specs.Arithmetic.{Arithmetic}
-use Rattle.steps_events.specs.Sights.{goes_on}
-use Rattle.sync_steps.specs.declared.steps.machine.stride.Stride.{Stride as EventStride}
-use Rattle.sync_steps.specs.Machine.{Configuration, StandsAt, Steps, RefusesStep}
-use Rattle.sync_steps.specs.Machine.Strides.{steps_of, Strides, IsQuiet}
-use Rattle.sync_steps.specs.Runs.{IsRun}
-use Rattle.sync_lines.specs.declared.command.Command.{Command}
-use Rattle.sync_lines.specs.declared.command.Task.{Task}
-use Rattle.sync_lines.specs.declared.command.Task.TheVariants as tasks
-use Rattle.sync_lines.specs.declared.fault.LineFault.{LineFault}
-use Rattle.sync_lines.specs.declared.fault.LineFault.TheVariants as faults
-use Rattle.sync_lines.specs.Fault.{line_fault_of}
-use Rattle.sync_lines.specs.Lexer.{lines_of, words_of}
+use Rattle.sync_play.specs.Names.{replicate, Event, Input, Object, StepFault, Arithmetic, goes_on, EventStride, Configuration, StandsAt, Steps, RefusesStep, steps_of, Strides, IsQuiet, IsRun, Command, Task, LineFault, line_fault_of, lines_of, words_of, Numerals}
+use Rattle.sync_play.proofs.Names.{◌⊎◌, inl, inr, ◌≡◌, ℕ, zero, suc, ◌-◌, ◌+◌, ◌*◌, ◌^◌, ◌<◌, ◌≤◌, Bool, true, false, cond, List, [], ◌∷◌, Option, Some, None, Ok, Err, IfSome, refl, ap, subst, ◌∙◌, arith}
 use Rattle.sync_play.specs.Player.{event_of, steps_left, left_after}
 use Rattle.sync_play.specs.Walk.{Walk, ended, stopped, step_then, steps_then, go_walk, run_walk, asked, lines_walk, walk_from, after_times, IsTurn}
 use Rattle.sync_play.proofs.PlayerLaws.{event_is, event_refused}
-use Rattle.sync_lines.specs.Numerals.{Numerals}
 
 -- How many steps are left.
 
@@ -41,12 +22,12 @@ module _ {T : Type 0} (z : Arithmetic T) where
 
   -- So many equal events of steps.
 
-  go_step : (o : Object T) (parties line steps : ℕ) (past : List Ev) (party : ℕ) (e : Ev) (others : List Ev → Walk T) → event_of z o parties past party inputs.Go ≡ Ok e →
+  go_step : (o : Object T) (parties line steps : ℕ) (past : List Ev) (party : ℕ) (e : Ev) (others : List Ev → Walk T) → event_of z o parties past party Input.Go ≡ Ok e →
       go_walk z o parties line (suc steps) past party others ≡ step_then (record { line = line; event = e }) (go_walk z o parties line steps (e ∷ past) party others)
   unfolding go_walk
   go_step o parties line steps past party e others is = rw is refl
 
-  run_step : (o : Object T) (parties line limit : ℕ) (past : List Ev) (party : ℕ) (e : Ev) (others : List Ev → Walk T) → event_of z o parties past party inputs.Go ≡ Ok e →
+  run_step : (o : Object T) (parties line limit : ℕ) (past : List Ev) (party : ℕ) (e : Ev) (others : List Ev → Walk T) → event_of z o parties past party Input.Go ≡ Ok e →
       run_walk z o parties line (suc limit) past party others ≡ step_then (record { line = line; event = e }) (cond (goes_on e.then) (run_walk z o parties line limit (e ∷ past) party others) (others (e ∷ past)))
   unfolding run_walk
   run_step o parties line limit past party e others is = rw is refl
@@ -57,7 +38,7 @@ module _ {T : Type 0} (z : Arithmetic T) where
   goes_so_often o parties line (suc times) zero past party e others within run = absurd (omega (arith, within))
   goes_so_often o parties line (suc times) (suc steps) past party e others within run =
       let left : suc steps - suc times ≡ steps - times = omega arith in
-      go_step o parties line steps past party e others (event_is z o parties past party inputs.Go e run.0)
+      go_step o parties line steps past party e others (event_is z o parties past party Input.Go e run.0)
       ∙ ap (step_then (record { line = line; event = e })) (rw left (goes_so_often o parties line times steps (e ∷ past) party e others (omega (arith, within)) run.1))
 
   runs_so_often : (o : Object T) (parties line times limit : ℕ) (past : List Ev) (party : ℕ) (e : Ev) (others : List Ev → Walk T) → goes_on e.then ≡ true → times ≤ limit → IsRun z o parties past (steps_of party times) (replicate times e) →
@@ -66,7 +47,7 @@ module _ {T : Type 0} (z : Arithmetic T) where
   runs_so_often o parties line (suc times) zero past party e others goes within run = absurd (omega (arith, within))
   runs_so_often o parties line (suc times) (suc limit) past party e others goes within run =
       let left : suc limit - suc times ≡ limit - times = omega arith in
-      run_step o parties line limit past party e others (event_is z o parties past party inputs.Go e run.0)
+      run_step o parties line limit past party e others (event_is z o parties past party Input.Go e run.0)
       ∙ ap (λ (b : Bool). step_then (record { line = line; event = e }) (cond b (run_walk z o parties line limit (e ∷ past) party others) (others (e ∷ past)))) goes
       ∙ ap (step_then (record { line = line; event = e })) (rw left (runs_so_often o parties line times limit (e ∷ past) party e others goes (omega (arith, within)) run.1))
 
@@ -77,7 +58,7 @@ module _ {T : Type 0} (z : Arithmetic T) where
   run_ends o parties line zero limit past party e others ends some within quiet run = absurd (omega (arith, some))
   run_ends o parties line (suc times) zero past party e others ends some within quiet run = absurd (omega (arith, within))
   run_ends o parties line (suc zero) (suc limit) past party e others ends some within quiet run =
-      run_step o parties line limit past party e others (event_is z o parties past party inputs.Go e run.0)
+      run_step o parties line limit past party e others (event_is z o parties past party Input.Go e run.0)
       ∙ ap (λ (b : Bool). step_then (record { line = line; event = e }) (cond b (run_walk z o parties line limit (e ∷ past) party others) (others (e ∷ past)))) ends
   run_ends o parties line (suc (suc times)) (suc limit) past party e others ends some within quiet run =
       let goes = (quiet (omega arith)).goes_on in
@@ -90,15 +71,15 @@ module _ {T : Type 0} (z : Arithmetic T) where
 
   -- What the player tells.
 
-  pub turn_done : (o : Object T) (parties : ℕ) (past : List Ev) (old new : Command T) (machine : Configuration T) → old.task ≡ tasks.Go 0 → StandsAt z o parties past machine → IsTurn z o parties past old new machine (Ok None)
+  pub turn_done : (o : Object T) (parties : ℕ) (past : List Ev) (old new : Command T) (machine : Configuration T) → old.task ≡ Task.Go 0 → StandsAt z o parties past machine → IsTurn z o parties past old new machine (Ok None)
   unfolding go_walk
   turn_done o parties past old new machine asked stands = (λ line others. rw asked refl, stands)
 
-  pub turn_limited : (o : Object T) (parties : ℕ) (past : List Ev) (old new : Command T) (machine : Configuration T) → old.task ≡ tasks.Run 0 → IsTurn z o parties past old new machine (Err faults.StepLimit)
+  pub turn_limited : (o : Object T) (parties : ℕ) (past : List Ev) (old new : Command T) (machine : Configuration T) → old.task ≡ Task.Run 0 → IsTurn z o parties past old new machine (Err LineFault.StepLimit)
   unfolding run_walk
   turn_limited o parties past old new machine asked line others = rw asked refl
 
-  pub turn_given : (o : Object T) (parties : ℕ) (past : List Ev) (old new : Command T) (input : Input T) (e : Ev) (machine machine' : Configuration T) → old.task ≡ tasks.Give input → new.task ≡ tasks.Go 0 → StandsAt z o parties past machine →
+  pub turn_given : (o : Object T) (parties : ℕ) (past : List Ev) (old new : Command T) (input : Input T) (e : Ev) (machine machine' : Configuration T) → old.task ≡ Task.Give input → new.task ≡ Task.Go 0 → StandsAt z o parties past machine →
       Steps z machine old.party input e machine' → IsTurn z o parties past old new machine' (Ok (Some (record { event = e; times = 1 })))
   unfolding go_walk
   turn_given o parties past old new input e machine machine' asked left stands steps =
@@ -106,32 +87,32 @@ module _ {T : Type 0} (z : Arithmetic T) where
       let is = event_is z o parties past old.party input e s.0 in
       (λ line others. rw (asked, left, is) refl, s.1)
 
-  pub turn_not_given : (o : Object T) (parties : ℕ) (past : List Ev) (old new : Command T) (input : Input T) (fault : StepFault) (machine machine' : Configuration T) → old.task ≡ tasks.Give input → StandsAt z o parties past machine →
+  pub turn_not_given : (o : Object T) (parties : ℕ) (past : List Ev) (old new : Command T) (input : Input T) (fault : StepFault) (machine machine' : Configuration T) → old.task ≡ Task.Give input → StandsAt z o parties past machine →
       RefusesStep z machine old.party input fault → IsTurn z o parties past old new machine' (Err (line_fault_of fault))
   turn_not_given o parties past old new input fault machine machine' asked stands refuses line others =
       rw (asked, event_refused z o parties past old.party input fault (refuses o parties past stands)) refl
 
-  pub turn_goes : (o : Object T) (parties : ℕ) (past : List Ev) (old new : Command T) (steps : ℕ) (stride : EventStride T) (machine machine' : Configuration T) → old.task ≡ tasks.Go steps → new.party ≡ old.party → new.task ≡ tasks.Go (steps - stride.times) →
+  pub turn_goes : (o : Object T) (parties : ℕ) (past : List Ev) (old new : Command T) (steps : ℕ) (stride : EventStride T) (machine machine' : Configuration T) → old.task ≡ Task.Go steps → new.party ≡ old.party → new.task ≡ Task.Go (steps - stride.times) →
       stride.times ≤ steps → StandsAt z o parties past machine → Strides z machine old.party stride.event stride.times machine' → IsTurn z o parties past old new machine' (Ok (Some stride))
   turn_goes o parties past old new steps stride machine machine' asked party left within stands strides =
       let s = strides o parties past stands in
       (λ line others. rw (asked, party, left) (goes_so_often o parties line stride.times steps past old.party stride.event others within s.run), s.stands)
 
-  pub turn_refused : (o : Object T) (parties : ℕ) (past : List Ev) (old new : Command T) (steps : ℕ) (fault : StepFault) (machine machine' : Configuration T) → old.task ≡ tasks.Go steps → 0 < steps → StandsAt z o parties past machine →
-      RefusesStep z machine old.party inputs.Go fault → IsTurn z o parties past old new machine' (Err (line_fault_of fault))
+  pub turn_refused : (o : Object T) (parties : ℕ) (past : List Ev) (old new : Command T) (steps : ℕ) (fault : StepFault) (machine machine' : Configuration T) → old.task ≡ Task.Go steps → 0 < steps → StandsAt z o parties past machine →
+      RefusesStep z machine old.party Input.Go fault → IsTurn z o parties past old new machine' (Err (line_fault_of fault))
   unfolding go_walk
   turn_refused o parties past old new zero fault machine machine' asked some stands refuses line others = absurd (omega (arith, some))
   turn_refused o parties past old new (suc steps) fault machine machine' asked some stands refuses line others =
-      rw (asked, event_refused z o parties past old.party inputs.Go fault (refuses o parties past stands)) refl
+      rw (asked, event_refused z o parties past old.party Input.Go fault (refuses o parties past stands)) refl
 
-  pub turn_runs : (o : Object T) (parties : ℕ) (past : List Ev) (old new : Command T) (limit : ℕ) (stride : EventStride T) (machine machine' : Configuration T) → old.task ≡ tasks.Run limit → new.party ≡ old.party →
-      new.task ≡ tasks.Run (limit - stride.times) → goes_on stride.event.then ≡ true → stride.times ≤ limit → StandsAt z o parties past machine → Strides z machine old.party stride.event stride.times machine' →
+  pub turn_runs : (o : Object T) (parties : ℕ) (past : List Ev) (old new : Command T) (limit : ℕ) (stride : EventStride T) (machine machine' : Configuration T) → old.task ≡ Task.Run limit → new.party ≡ old.party →
+      new.task ≡ Task.Run (limit - stride.times) → goes_on stride.event.then ≡ true → stride.times ≤ limit → StandsAt z o parties past machine → Strides z machine old.party stride.event stride.times machine' →
       IsTurn z o parties past old new machine' (Ok (Some stride))
   turn_runs o parties past old new limit stride machine machine' asked party left goes within stands strides =
       let s = strides o parties past stands in
       (λ line others. rw (asked, party, left) (runs_so_often o parties line stride.times limit past old.party stride.event others goes within s.run), s.stands)
 
-  pub turn_ends : (o : Object T) (parties : ℕ) (past : List Ev) (old new : Command T) (limit : ℕ) (stride : EventStride T) (machine machine' : Configuration T) → old.task ≡ tasks.Run limit → new.task ≡ tasks.Go 0 →
+  pub turn_ends : (o : Object T) (parties : ℕ) (past : List Ev) (old new : Command T) (limit : ℕ) (stride : EventStride T) (machine machine' : Configuration T) → old.task ≡ Task.Run limit → new.task ≡ Task.Go 0 →
       goes_on stride.event.then ≡ false → 0 < stride.times → stride.times ≤ limit → (1 < stride.times → IsQuiet stride.event) → StandsAt z o parties past machine →
       Strides z machine old.party stride.event stride.times machine' → IsTurn z o parties past old new machine' (Ok (Some stride))
   unfolding go_walk
@@ -139,25 +120,25 @@ module _ {T : Type 0} (z : Arithmetic T) where
       let s = strides o parties past stands in
       (λ line others. rw (asked, left) (run_ends o parties line stride.times limit past old.party stride.event others ends some within quiet s.run), s.stands)
 
-  pub turn_by_run : (o : Object T) (parties : ℕ) (past : List (Event T)) (old new : Command T) (limit : ℕ) (stride : EventStride T) (machine machine' : Configuration T) → old.task ≡ tasks.Run limit → new.party ≡ old.party →
-      new.task ≡ left_after (tasks.Run limit) stride → 0 < stride.times → stride.times ≤ limit → (1 < stride.times → IsQuiet stride.event) → StandsAt z o parties past machine →
+  pub turn_by_run : (o : Object T) (parties : ℕ) (past : List (Event T)) (old new : Command T) (limit : ℕ) (stride : EventStride T) (machine machine' : Configuration T) → old.task ≡ Task.Run limit → new.party ≡ old.party →
+      new.task ≡ left_after (Task.Run limit) stride → 0 < stride.times → stride.times ≤ limit → (1 < stride.times → IsQuiet stride.event) → StandsAt z o parties past machine →
       Strides z machine old.party stride.event stride.times machine' → IsTurn z o parties past old new machine' (Ok (Some stride))
   turn_by_run o parties past old new limit stride machine machine' asked party left some within quiet stands strides = decided (goes_on stride.event.then) refl left
     where
-      decided : (goes : Bool) → goes_on stride.event.then ≡ goes → new.task ≡ cond goes (tasks.Run (limit - stride.times)) (tasks.Go 0) → IsTurn z o parties past old new machine' (Ok (Some stride))
+      decided : (goes : Bool) → goes_on stride.event.then ≡ goes → new.task ≡ cond goes (Task.Run (limit - stride.times)) (Task.Go 0) → IsTurn z o parties past old new machine' (Ok (Some stride))
       decided true goes is = turn_runs o parties past old new limit stride machine machine' asked party is goes within stands strides
       decided false ends is = turn_ends o parties past old new limit stride machine machine' asked is ends some within quiet stands strides
 
-  pub run_refused : (o : Object T) (parties : ℕ) (past : List Ev) (old new : Command T) (limit : ℕ) (fault : StepFault) (machine machine' : Configuration T) → old.task ≡ tasks.Run limit → 0 < limit → StandsAt z o parties past machine →
-      RefusesStep z machine old.party inputs.Go fault → IsTurn z o parties past old new machine' (Err (line_fault_of fault))
+  pub run_refused : (o : Object T) (parties : ℕ) (past : List Ev) (old new : Command T) (limit : ℕ) (fault : StepFault) (machine machine' : Configuration T) → old.task ≡ Task.Run limit → 0 < limit → StandsAt z o parties past machine →
+      RefusesStep z machine old.party Input.Go fault → IsTurn z o parties past old new machine' (Err (line_fault_of fault))
   unfolding run_walk
   run_refused o parties past old new zero fault machine machine' asked some stands refuses line others = absurd (omega (arith, some))
   run_refused o parties past old new (suc limit) fault machine machine' asked some stands refuses line others =
-      rw (asked, event_refused z o parties past old.party inputs.Go fault (refuses o parties past stands)) refl
+      rw (asked, event_refused z o parties past old.party Input.Go fault (refuses o parties past stands)) refl
 
   -- so many steps, or steps up to an end, and at most so many
   abbrev pub AsksSteps : ℕ → Task T → Type 0
-  AsksSteps limit task = (task ≡ tasks.Go limit) ⊎ (task ≡ tasks.Run limit)
+  AsksSteps limit task = (task ≡ Task.Go limit) ⊎ (task ≡ Task.Run limit)
 
   pub turn_strides : (o : Object T) (parties : ℕ) (past : List (Event T)) (old new : Command T) (limit : ℕ) (stride : EventStride T) (machine machine' : Configuration T) → AsksSteps limit old.task → new.party ≡ old.party →
       new.task ≡ left_after old.task stride → 0 < stride.times → stride.times ≤ limit → (1 < stride.times → IsQuiet stride.event) → StandsAt z o parties past machine →
@@ -168,7 +149,7 @@ module _ {T : Type 0} (z : Arithmetic T) where
       turn_by_run o parties past old new limit stride machine machine' asked party (left ∙ ap (λ (task : Task T). left_after task stride) asked) some within quiet stands strides
 
   pub stride_refused : (o : Object T) (parties : ℕ) (past : List (Event T)) (old new : Command T) (limit : ℕ) (fault : StepFault) (machine machine' : Configuration T) → AsksSteps limit old.task → 0 < limit → StandsAt z o parties past machine →
-      RefusesStep z machine old.party inputs.Go fault → IsTurn z o parties past old new machine' (Err (line_fault_of fault))
+      RefusesStep z machine old.party Input.Go fault → IsTurn z o parties past old new machine' (Err (line_fault_of fault))
   stride_refused o parties past old new limit fault machine machine' (inl asked) some stands refuses = turn_refused o parties past old new limit fault machine machine' asked some stands refuses
   stride_refused o parties past old new limit fault machine machine' (inr asked) some stands refuses = run_refused o parties past old new limit fault machine machine' asked some stands refuses
 

@@ -1,27 +1,11 @@
 -- What a text prints is what its walk prints.
-use Rattle.std.proofs.Common.{◌≡◌, ℕ, zero, suc, ◌+◌, Bool, true, false, cond, List, [], ◌∷◌, ◌++◌, Option, Some, None, Result, Ok, Err, refl, sym, ap, ◌∙◌, append_assoc}
-use Rattle.steps_events.specs.declared.event.Event.{Event}
-use Rattle.steps_events.specs.declared.event.Input.TheVariants as inputs
-use Rattle.steps_events.specs.declared.event.Object.{Object}
-use Rattle.steps_events.specs.Runs.{after}
-use Rattle.steps_events.specs.Sights.{goes_on}
-use Rattle.steps_events.specs.Arithmetic.{Arithmetic}
-use Rattle.sync_lines.specs.declared.command.Command.{Command}
-use Rattle.sync_lines.specs.declared.command.Task.{Task}
-use Rattle.sync_lines.specs.declared.command.Task.TheVariants as tasks
-use Rattle.sync_lines.specs.declared.fault.LineFault.{LineFault}
-use Rattle.sync_lines.specs.declared.header.Header.{Header}
-use Rattle.sync_lines.specs.Command.{command_of}
-use Rattle.sync_lines.specs.Fault.{◌>>=◌, at_line}
-use Rattle.sync_lines.specs.Header.{header_of}
-use Rattle.sync_lines.specs.Lexer.{words_of}
+use Rattle.sync_play.specs.Names.{Event, Input, Object, after, goes_on, Arithmetic, Command, Task, LineFault, Header, command_of, ◌>>=◌, at_line, header_of, words_of, FaultyLine, Numerals}
+use Rattle.sync_play.proofs.Names.{◌≡◌, ℕ, zero, suc, ◌+◌, Bool, true, false, cond, List, [], ◌∷◌, ◌++◌, Option, Some, None, Result, Ok, Err, refl, sym, ap, ◌∙◌, append_assoc}
 use Rattle.sync_play.specs.Player.{event_of, events_of, run_of, steps_of, task_events}
 use Rattle.sync_play.specs.Print.{printed, event_lines, last_line}
 use Rattle.sync_play.specs.Text.{events_asked, line_events, output_after, typed_output}
-use Rattle.sync_lines.specs.declared.fault.FaultyLine.{FaultyLine}
 use Rattle.sync_play.specs.WalkOutput.{events_in, output_unless, output_in, output_opened}
 use Rattle.sync_play.specs.Walk.{Walk, step_then, event_then, go_walk, run_walk, task_walk, or_nothing, line_walk, lines_walk, opened, opened_by}
-use Rattle.sync_lines.specs.Numerals.{Numerals}
 
 abbrev Out : Type 0
 Out = Result (List ℕ) FaultyLine
@@ -80,7 +64,7 @@ module _ {T : Type 0} (z : Arithmetic T) (numerals : Numerals T) where
   unfolding events_of steps_of go_walk
   go_prints o parties past number zero party rest others prints = onto_none (rest past) ∙ prints past
   go_prints o parties past number (suc n) party rest others prints =
-      event_prints o past number (event_of z o parties past party inputs.Go) (λ e. events_of z o parties (e ∷ past) (steps_of n party)) rest (λ e. go_walk z o parties number n (e ∷ past) party others)
+      event_prints o past number (event_of z o parties past party Input.Go) (λ e. events_of z o parties (e ∷ past) (steps_of n party)) rest (λ e. go_walk z o parties number n (e ∷ past) party others)
       (λ e. go_prints o parties (e ∷ past) number n party rest others prints)
 
   -- a run ends, or goes on
@@ -102,8 +86,8 @@ module _ {T : Type 0} (z : Arithmetic T) (numerals : Numerals T) where
   unfolding run_of run_walk
   run_prints o parties past number zero party rest others prints = refl
   run_prints o parties past number (suc n) party rest others prints =
-      ap (λ (r : Result (List Ev) LineFault). followed number past r rest) (run_event o parties past n party (event_of z o parties past party inputs.Go))
-      ∙ event_prints o past number (event_of z o parties past party inputs.Go) (λ e. events_if (goes_on e.then) (run_of z o parties n (e ∷ past) party)) rest
+      ap (λ (r : Result (List Ev) LineFault). followed number past r rest) (run_event o parties past n party (event_of z o parties past party Input.Go))
+      ∙ event_prints o past number (event_of z o parties past party Input.Go) (λ e. events_if (goes_on e.then) (run_of z o parties n (e ∷ past) party)) rest
       (λ e. cond (goes_on e.then) (run_walk z o parties number n (e ∷ past) party others) (others (e ∷ past))) (λ e. by_test e (run_prints o parties (e ∷ past) number n party rest others prints) (goes_on e.then))
     where
       by_test :
@@ -115,10 +99,10 @@ module _ {T : Type 0} (z : Arithmetic T) (numerals : Numerals T) where
   task_prints : (o : Object T) (parties : ℕ) (past : List Ev) (number party : ℕ) (task : Task T) (rest : List Ev → Out) (others : List Ev → Walk T) → Prints o rest others →
       followed number past (task_events z o parties past party task) rest ≡ output_in z numerals o past (task_walk z o parties number past party task others)
   unfolding events_of
-  task_prints o parties past number party (tasks.Give input) rest others prints =
+  task_prints o parties past number party (Task.Give input) rest others prints =
       event_prints o past number (event_of z o parties past party input) (λ e. Ok []) rest (λ e. others (e ∷ past)) (λ e. onto_none (rest (e ∷ past)) ∙ prints (e ∷ past))
-  task_prints o parties past number party (tasks.Go n) rest others prints = go_prints o parties past number n party rest others prints
-  task_prints o parties past number party (tasks.Run n) rest others prints = run_prints o parties past number n party rest others prints
+  task_prints o parties past number party (Task.Go n) rest others prints = go_prints o parties past number n party rest others prints
+  task_prints o parties past number party (Task.Run n) rest others prints = run_prints o parties past number n party rest others prints
 
   asked_prints : (o : Object T) (parties : ℕ) (past : List Ev) (number : ℕ) (command : Result (Option (Command T)) LineFault) (rest : List Ev → Out) (others : List Ev → Walk T) → Prints o rest others →
       followed number past (command >>= λ asked. events_asked z numerals o parties past asked) rest ≡ output_in z numerals o past (line_walk z o parties number past (command >>= λ c. Ok (or_nothing c)) others)

@@ -1,30 +1,8 @@
 -- A text as a run: its inputs, line by line, and their events.
-use Rattle.std.specs.Prelude.{◌≡◌, ℕ, ◌+◌, ◌≤◌, true, false, List, [], ◌∷◌, ◌++◌, length, Option, Some, None, Ok, Err, ◌⊎◌, codes}
-use Rattle.steps_events.specs.declared.event.Event.{Event}
-use Rattle.steps_events.specs.declared.event.Input.{Input}
-use Rattle.steps_events.specs.declared.event.Object.{Object}
-use Rattle.steps_events.specs.declared.event.StepFault.{StepFault}
-use Rattle.steps_events.specs.Arithmetic.{Arithmetic}
-use Rattle.steps_events.specs.Sights.{goes_on}
-use Rattle.sync_steps.specs.Runs.{fault_of}
-use Rattle.steps_events.specs.Runs.{after}
-use Rattle.sync_steps.specs.Runs.{IsRun}
-use Rattle.sync_lines.specs.declared.fault.FaultyLine.{FaultyLine}
-use Rattle.sync_lines.specs.declared.fault.LineFault.{LineFault}
-use Rattle.sync_lines.specs.declared.fault.LineFault.TheVariants as faults
-use Rattle.sync_lines.specs.declared.command.Command.{Command}
-use Rattle.sync_lines.specs.declared.command.Task.{Task}
-use Rattle.sync_lines.specs.declared.command.Task.TheVariants as tasks
-use Rattle.sync_lines.specs.declared.header.Header.{Header}
-use Rattle.sync_lines.specs.Command.{command_of}
-use Rattle.sync_lines.specs.Fault.{line_fault_of}
-use Rattle.sync_lines.specs.Header.{header_of}
-use Rattle.sync_lines.specs.Lexer.{lines_of, words_of}
+use Rattle.sync_play.specs.Names.{◌≡◌, ℕ, ◌+◌, ◌≤◌, true, false, List, [], ◌∷◌, ◌++◌, length, Option, Some, None, Ok, Err, ◌⊎◌, codes, Event, Input, Object, StepFault, Arithmetic, goes_on, fault_of, after, IsRun, FaultyLine, LineFault, Command, Task, Header, command_of, line_fault_of, header_of, lines_of, words_of, Numerals, values_in}
 use Rattle.sync_play.specs.Player.{steps_of}
 use Rattle.sync_play.specs.Print.{printed, last_line}
 use Rattle.sync_play.specs.Text.{output_of}
-use Rattle.sync_lines.specs.Numerals.{Numerals}
-use Rattle.sync_lines.specs.ValueTypes.{values_in}
 
 -- the last event answered its call or stands at a closure, and none before it did
 abbrev pub EndsFirstAtLast : {T : Type 0} → List (Event T) → Type 0
@@ -34,9 +12,9 @@ EndsFirstAtLast (e ∷ next ∷ events) = (goes_on e.then ≡ true) × EndsFirst
 
 -- the inputs of a task of a party, where these are their events
 abbrev pub AreInputsOf : {T : Type 0} → ℕ → Task T → List (ℕ × Input T) → List (Event T) → Type 0
-AreInputsOf party (tasks.Give input) schedule events = schedule ≡ (party, input) ∷ []
-AreInputsOf party (tasks.Go n) schedule events = schedule ≡ steps_of n party
-AreInputsOf party (tasks.Run limit) schedule events =
+AreInputsOf party (Task.Give input) schedule events = schedule ≡ (party, input) ∷ []
+AreInputsOf party (Task.Go n) schedule events = schedule ≡ steps_of n party
+AreInputsOf party (Task.Run limit) schedule events =
     (steps : ℕ) × (steps ≤ limit) × (schedule ≡ steps_of steps party) × EndsFirstAtLast events
 
 -- a line without words has no inputs
@@ -78,13 +56,13 @@ module _ {T : Type 0} (z : Arithmetic T) where
   abbrev pub RunRefused : Object T → ℕ → List (Event T) → ℕ → ℕ → LineFault → Type 0
   RunRefused o parties past party limit fault =
       ((events : List (Event T)) × GoOn events × IsRefusedAt o parties past (steps_of limit party) events fault)
-      ⊎ ((events : List (Event T)) × GoOn events × IsRun z o parties past (steps_of limit party) events × (fault ≡ faults.StepLimit))
+      ⊎ ((events : List (Event T)) × GoOn events × IsRun z o parties past (steps_of limit party) events × (fault ≡ LineFault.StepLimit))
 
   -- a task of a party is refused
   abbrev pub TaskRefused : Object T → ℕ → List (Event T) → ℕ → Task T → LineFault → Type 0
-  TaskRefused o parties past party (tasks.Give input) fault = (events : List (Event T)) × IsRefusedAt o parties past ((party, input) ∷ []) events fault
-  TaskRefused o parties past party (tasks.Go n) fault = (events : List (Event T)) × IsRefusedAt o parties past (steps_of n party) events fault
-  TaskRefused o parties past party (tasks.Run limit) fault = RunRefused o parties past party limit fault
+  TaskRefused o parties past party (Task.Give input) fault = (events : List (Event T)) × IsRefusedAt o parties past ((party, input) ∷ []) events fault
+  TaskRefused o parties past party (Task.Go n) fault = (events : List (Event T)) × IsRefusedAt o parties past (steps_of n party) events fault
+  TaskRefused o parties past party (Task.Run limit) fault = RunRefused o parties past party limit fault
 
 module _ {T : Type 0} (z : Arithmetic T) (numerals : Numerals T) where
   -- the bytes are what a run of all the text's inputs prints, and then the last line
@@ -125,7 +103,7 @@ module _ {T : Type 0} (z : Arithmetic T) (numerals : Numerals T) where
 
   -- line `number` is the first that is refused, and with this word; a text without lines names no object
   abbrev pub IsRefusedLine : List (List ℕ) → ℕ → LineFault → Type 0
-  IsRefusedLine [] number fault = (number ≡ 1) × (fault ≡ faults.NoObject)
+  IsRefusedLine [] number fault = (number ≡ 1) × (fault ≡ LineFault.NoObject)
   IsRefusedLine (first ∷ lines) number fault = ((number ≡ 1) × (header_of numerals (words_of first) ≡ Err fault)) ⊎ LaterLineRefused first lines number fault
 
 -- The laws: what a text prints, and why it is refused, are relations of its lines alone.

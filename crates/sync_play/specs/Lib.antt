@@ -1,3 +1,4 @@
+pub mod Names
 pub mod Player
 pub mod Print
 pub mod Text

@@ -1,9 +1,6 @@
 -- What became of a run of the program.
-use Rattle.std.specs.Prelude.{◌≡◌, ℕ, List, take, Option, Ok, Err}
-use Rattle.std.specs.Io.KnownBytes.{Appends, Consumes, IsAtEnd}
-use Rattle.sync_lines.specs.declared.fault.FaultyLine.{FaultyLine}
+use Rattle.sync_play.specs.Names.{◌≡◌, ℕ, List, take, Option, Ok, Err, Appends, Consumes, IsAtEnd, FaultyLine}
 use Rattle.sync_lines.specs.declared.fault.RunFault.{RunFault}
-use Rattle.sync_lines.specs.declared.fault.RunFault.TheVariants as runs
 use Rattle.sync_play.specs.Text.{output_of}
 
 -- the text was read to its end
@@ -36,13 +33,13 @@ pub record HasFault (left left' : Option (List ℕ)) (fault : FaultyLine) : Type
 
 -- a fault of the text is the one that its meaning has
 abbrev pub TellsFault : RunFault → Option (List ℕ) → Option (List ℕ) → Type 0
-TellsFault (runs.Text line fault) left left' = HasFault left left' (record { line = line; fault = fault })
+TellsFault (RunFault.Text line fault) left left' = HasFault left left' (record { line = line; fault = fault })
 TellsFault other left left' = Unit {0}
 
 -- reading ends early for these alone
 abbrev pub EndsReading : RunFault → Type 0
-EndsReading runs.Read = Unit {0}
-EndsReading runs.Memory = Unit {0}
+EndsReading RunFault.Read = Unit {0}
+EndsReading RunFault.Memory = Unit {0}
 EndsReading other = ⊥
 
 -- a beginning of the bytes was written

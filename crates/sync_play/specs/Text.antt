@@ -1,21 +1,7 @@
 -- What a text prints, or the fault of its first faulty line.
-use Rattle.std.specs.Prelude.{ℕ, ◌+◌, List, [], ◌∷◌, ◌++◌, Option, Some, None, Result, Ok, Err}
-use Rattle.steps_events.specs.declared.event.Event.{Event}
-use Rattle.steps_events.specs.declared.event.Object.{Object}
-use Rattle.steps_events.specs.Arithmetic.{Arithmetic}
-use Rattle.steps_events.specs.Runs.{after}
-use Rattle.sync_lines.specs.declared.command.Command.{Command}
-use Rattle.sync_lines.specs.declared.fault.FaultyLine.{FaultyLine}
-use Rattle.sync_lines.specs.declared.fault.LineFault.{LineFault}
-use Rattle.sync_lines.specs.declared.fault.LineFault.TheVariants as faults
-use Rattle.sync_lines.specs.Command.{command_of}
-use Rattle.sync_lines.specs.Fault.{◌>>=◌, at_line}
-use Rattle.sync_lines.specs.Header.{header_of}
-use Rattle.sync_lines.specs.Lexer.{lines_of, words_of}
+use Rattle.sync_play.specs.Names.{ℕ, ◌+◌, List, [], ◌∷◌, ◌++◌, Option, Some, None, Result, Ok, Err, Event, Object, Arithmetic, after, Command, FaultyLine, LineFault, command_of, ◌>>=◌, at_line, header_of, lines_of, words_of, Numerals, values_in}
 use Rattle.sync_play.specs.Player.{command_events}
 use Rattle.sync_play.specs.Print.{printed, last_line}
-use Rattle.sync_lines.specs.Numerals.{Numerals}
-use Rattle.sync_lines.specs.ValueTypes.{values_in}
 
 module _ {T : Type 0} (z : Arithmetic T) (numerals : Numerals T) where
   -- a line without words asks nothing
@@ -37,7 +23,7 @@ module _ {T : Type 0} (z : Arithmetic T) (numerals : Numerals T) where
 
   -- the lines of the run of all the text's inputs, and then the last line
   unfoldable pub typed_output : List (List ℕ) → Result (List ℕ) FaultyLine
-  typed_output [] = Err (record { line = 1; fault = faults.NoObject })
+  typed_output [] = Err (record { line = 1; fault = LineFault.NoObject })
   typed_output (line ∷ lines) = do
     header ← at_line 1 (header_of numerals (words_of line))
     output_after header.object header.parties 2 lines []

@@ -1,28 +1,8 @@
 -- A text as a walk: its steps, each with the line that asked for it, up to its end or its first fault.
-use Rattle.std.specs.Prelude.{◌≡◌, ℕ, zero, suc, ◌+◌, ◌*◌, ◌^◌, length, replicate, if◌then◌else◌, List, [], ◌∷◌, Option, Some, None, Result, Ok, Err}
-use Rattle.steps_events.specs.declared.event.Event.{Event}
-use Rattle.steps_events.specs.declared.event.Input.TheVariants as inputs
-use Rattle.steps_events.specs.declared.event.Object.{Object}
-use Rattle.steps_events.specs.Arithmetic.{Arithmetic}
-use Rattle.steps_events.specs.Runs.{after}
-use Rattle.steps_events.specs.Sights.{goes_on}
-use Rattle.sync_steps.specs.declared.steps.machine.stride.Stride.{Stride as EventStride}
-use Rattle.sync_steps.specs.Machine.{Configuration, StandsAt}
-use Rattle.sync_lines.specs.declared.command.Command.{Command}
-use Rattle.sync_lines.specs.declared.command.Task.{Task}
-use Rattle.sync_lines.specs.declared.command.Task.TheVariants as tasks
-use Rattle.sync_lines.specs.declared.fault.LineFault.{LineFault}
-use Rattle.sync_lines.specs.declared.fault.LineFault.TheVariants as faults
-use Rattle.sync_lines.specs.declared.header.Header.{Header}
-use Rattle.sync_lines.specs.Command.{command_of}
-use Rattle.sync_lines.specs.Fault.{◌>>=◌}
-use Rattle.sync_lines.specs.Header.{header_of}
-use Rattle.sync_lines.specs.Lexer.{lines_of, words_of}
-use Rattle.sync_lines.specs.Numerals.{Numerals}
+use Rattle.sync_play.specs.Names.{◌≡◌, ℕ, zero, suc, ◌+◌, ◌*◌, ◌^◌, length, replicate, if◌then◌else◌, List, [], ◌∷◌, Option, Some, None, Result, Ok, Err, Event, Input, Object, Arithmetic, after, goes_on, EventStride, Configuration, StandsAt, Command, Task, LineFault, Header, command_of, ◌>>=◌, header_of, lines_of, words_of, Numerals, FaultyLine}
 use Rattle.sync_play.specs.Player.{event_of, steps_left}
 use Rattle.sync_play.specs.declared.walk.Step.{Step}
 use Rattle.sync_play.specs.declared.walk.Stride.{Stride}
-use Rattle.sync_lines.specs.declared.fault.FaultyLine.{FaultyLine}
 use Rattle.sync_play.specs.declared.walk.Rest.{Rest}
 
 -- the steps, in order, and the line with a fault that ends them early, if there is one
@@ -52,7 +32,7 @@ event_then line (Err fault) others = stopped line fault
 
 -- a line without words asks for no step
 abbrev pub nothing : {T : Type 0} → Command T
-nothing = record { party = 0; task = tasks.Go 0 }
+nothing = record { party = 0; task = Task.Go 0 }
 
 abbrev pub or_nothing : {T : Type 0} → Option (Command T) → Command T
 or_nothing None = nothing
@@ -75,20 +55,20 @@ module _ {T : Type 0} (z : Arithmetic T) where
   unfoldable pub go_walk : Object T → ℕ → ℕ → ℕ → List (Event T) → ℕ → (List (Event T) → Walk T) → Walk T
   go_walk o parties line zero past party others = others past
   go_walk o parties line (suc steps) past party others =
-      event_then line (event_of z o parties past party inputs.Go) (λ e. go_walk o parties line steps (e ∷ past) party others)
+      event_then line (event_of z o parties past party Input.Go) (λ e. go_walk o parties line steps (e ∷ past) party others)
 
   -- at least one step and at most so many, until the call has answered or stands at a closure
   unfoldable pub run_walk : Object T → ℕ → ℕ → ℕ → List (Event T) → ℕ → (List (Event T) → Walk T) → Walk T
-  run_walk o parties line zero past party others = stopped line faults.StepLimit
+  run_walk o parties line zero past party others = stopped line LineFault.StepLimit
   run_walk o parties line (suc steps) past party others =
-      event_then line (event_of z o parties past party inputs.Go)
+      event_then line (event_of z o parties past party Input.Go)
       (λ e. if goes_on e.then then run_walk o parties line steps (e ∷ past) party others else others (e ∷ past))
 
   -- what a line asks of a party, and then the others
   abbrev pub task_walk : Object T → ℕ → ℕ → List (Event T) → ℕ → Task T → (List (Event T) → Walk T) → Walk T
-  task_walk o parties line past party (tasks.Give input) others = event_then line (event_of z o parties past party input) (λ e. others (e ∷ past))
-  task_walk o parties line past party (tasks.Go steps) others = go_walk o parties line steps past party others
-  task_walk o parties line past party (tasks.Run steps) others = run_walk o parties line steps past party others
+  task_walk o parties line past party (Task.Give input) others = event_then line (event_of z o parties past party input) (λ e. others (e ∷ past))
+  task_walk o parties line past party (Task.Go steps) others = go_walk o parties line steps past party others
+  task_walk o parties line past party (Task.Run steps) others = run_walk o parties line steps past party others
 
   abbrev pub line_walk : Object T → ℕ → ℕ → List (Event T) → Result (Command T) LineFault → (List (Event T) → Walk T) → Walk T
   line_walk o parties line past (Ok command) others = task_walk o parties line past command.party command.task others
@@ -119,7 +99,7 @@ module _ {T : Type 0} (numerals : Numerals T) where
 
   -- the object and the parties that the first line names, and the lines after it; or the fault of that line
   abbrev pub opened : List (List ℕ) → Result (Header T × List (List ℕ)) FaultyLine
-  opened [] = Err (record { line = 1; fault = faults.NoObject })
+  opened [] = Err (record { line = 1; fault = LineFault.NoObject })
   opened (line ∷ lines) = opened_by (header_of numerals (words_of line)) lines
 
 module _ {T : Type 0} (z : Arithmetic T) (numerals : Numerals T) where

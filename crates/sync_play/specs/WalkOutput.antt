@@ -1,17 +1,7 @@
 -- Walks and outputs: what a text prints is what its walk's events print, and both have the same fault.
-use Rattle.std.specs.Prelude.{◌≡◌, ℕ, List, [], ◌++◌, map, Option, Some, None, Result, Ok, Err}
-use Rattle.steps_events.specs.declared.event.Event.{Event}
-use Rattle.steps_events.specs.declared.event.Object.{Object}
-use Rattle.steps_events.specs.Arithmetic.{Arithmetic}
-use Rattle.steps_events.specs.Runs.{after}
-use Rattle.sync_steps.specs.Machine.{Configuration, StandsAt}
-use Rattle.sync_lines.specs.declared.header.Header.{Header}
-use Rattle.sync_lines.specs.declared.fault.TextFault.{TextFault}
-use Rattle.sync_lines.specs.Fault.{IsFaultOf}
+use Rattle.sync_play.specs.Names.{◌≡◌, ℕ, List, [], ◌++◌, map, Option, Some, None, Result, Ok, Err, Event, Object, Arithmetic, after, Configuration, StandsAt, Header, TextFault, IsFaultOf, Numerals, FaultyLine}
 use Rattle.sync_play.specs.Print.{printed, last_line}
-use Rattle.sync_lines.specs.Numerals.{Numerals}
 use Rattle.sync_play.specs.Text.{typed_output}
-use Rattle.sync_lines.specs.declared.fault.FaultyLine.{FaultyLine}
 use Rattle.sync_play.specs.declared.walk.Step.{Step}
 use Rattle.sync_play.specs.Walk.{Walk, opened, lines_walk}
 

@@ -1,36 +1,17 @@
 -- The headline holds at every front of every run, and a word that an object does not have is 0.
-use Rattle.std.proofs.Common.{◌≡◌, ◌∙◌, ℕ, false, refl, sym, subst, List, [], ◌∷◌}
-use Rattle.steps_events.specs.declared.event.Event.{Event}
-use Rattle.steps_events.specs.declared.event.Input.{Input}
-use Rattle.steps_events.specs.declared.event.Object.{Object}
-use Rattle.steps_events.specs.declared.event.Object.TheVariants as objects
-use Rattle.steps_events.specs.declared.event.Word.{Word}
-use Rattle.steps_events.specs.declared.event.Word.TheVariants as words
-use Rattle.steps_events.specs.Arithmetic.{Arithmetic}
-use Rattle.steps_events.specs.Past.{same_word}
-use Rattle.steps_events.specs.Runs.{AtEveryFront}
-use Rattle.steps_events.proofs.Steps.{lacked_word}
-use Rattle.steps_mutex.specs.Table.{mutex_table}
+use Rattle.sync_steps.specs.Names.{Event, Input, Object, Word, Arithmetic, same_word, AtEveryFront, mutex_table, spin_table, semaphore_table, semaphore_opening, barrier_table, rw_reader_table, rw_writer_table, condvar_table, once_table, lazy_table, atomic_table, atomic_opening}
+use Rattle.sync_steps.proofs.Names.{◌≡◌, ◌∙◌, ℕ, false, refl, sym, subst, List, [], ◌∷◌, lacked_word}
 use Rattle.steps_mutex.proofs.Laws.{keeps_mutex, mutex_lacks}
-use Rattle.steps_spin.specs.Table.{spin_table}
 use Rattle.steps_spin.proofs.Laws.{keeps_spin, spin_lacks}
-use Rattle.steps_semaphore.specs.Table.{semaphore_table, semaphore_opening}
 use Rattle.steps_semaphore.proofs.Laws.{keeps_semaphore, semaphore_lacks}
-use Rattle.steps_barrier.specs.Table.{barrier_table}
 use Rattle.steps_barrier.proofs.Laws.{keeps_barrier, barrier_lacks}
-use Rattle.steps_rw_reader.specs.Table.{rw_reader_table}
 use Rattle.steps_rw_reader.proofs.Laws.{rw_reader_lacks}
 use Rattle.steps_rw_reader.proofs.AnswerLaws.{keeps_rw_reader}
-use Rattle.steps_rw_writer.specs.Table.{rw_writer_table}
 use Rattle.steps_rw_writer.proofs.Laws.{rw_writer_lacks}
 use Rattle.steps_rw_writer.proofs.Causes.{keeps_rw_writer}
-use Rattle.steps_condvar.specs.Table.{condvar_table}
 use Rattle.steps_condvar.proofs.Laws.{keeps_condvar, condvar_lacks}
-use Rattle.steps_once.specs.Table.{once_table}
 use Rattle.steps_once.proofs.Laws.{keeps_once, once_lacks}
-use Rattle.steps_lazy.specs.Table.{lazy_table}
 use Rattle.steps_lazy.proofs.Laws.{keeps_lazy, lazy_lacks}
-use Rattle.steps_atomic.specs.Table.{atomic_table, atomic_opening}
 use Rattle.steps_atomic.proofs.Data.{keeps_atomic}
 use Rattle.steps_atomic.proofs.Laws.{atomic_lacks}
 use Rattle.sync_steps.specs.Objects.{has_word}
@@ -38,16 +19,16 @@ use Rattle.sync_steps.specs.Runs.{word_in, IsNext, IsPast, IsRun}
 use Rattle.sync_steps.specs.Law.{Headline}
 
 pub headline : {T : Type 0} (z : Arithmetic T) (o : Object T) (parties : ℕ) (past : List (Event T)) → IsPast z o parties past → Headline z o past
-headline z objects.Mutex parties past run = keeps_mutex z parties past run.1
-headline z objects.Spin parties past run = keeps_spin z parties past run.1
-headline z (objects.Semaphore initial) parties past run = keeps_semaphore z initial parties past run.0 run.1
-headline z (objects.Barrier n) parties past run = keeps_barrier z n parties past run.0 run.1
-headline z objects.ReaderLock parties past run = keeps_rw_reader z parties past run.1
-headline z objects.WriterLock parties past run = keeps_rw_writer z parties past run.1
-headline z objects.Condvar parties past run = keeps_condvar z parties past run.1
-headline z objects.Once parties past run = keeps_once z parties past run.1
-headline z (objects.Lazy v) parties past run = keeps_lazy z v parties past run.1
-headline z (objects.Atomic v) parties past run = keeps_atomic z run.0.1 v parties past run.0.0 run.1
+headline z Object.Mutex parties past run = keeps_mutex z parties past run.1
+headline z Object.Spin parties past run = keeps_spin z parties past run.1
+headline z (Object.Semaphore initial) parties past run = keeps_semaphore z initial parties past run.0 run.1
+headline z (Object.Barrier n) parties past run = keeps_barrier z n parties past run.0 run.1
+headline z Object.ReaderLock parties past run = keeps_rw_reader z parties past run.1
+headline z Object.WriterLock parties past run = keeps_rw_writer z parties past run.1
+headline z Object.Condvar parties past run = keeps_condvar z parties past run.1
+headline z Object.Once parties past run = keeps_once z parties past run.1
+headline z (Object.Lazy v) parties past run = keeps_lazy z v parties past run.1
+headline z (Object.Atomic v) parties past run = keeps_atomic z run.0.1 v parties past run.0.0 run.1
 
 -- at every front of a run that goes on from a past
 pub fronts :
@@ -64,82 +45,82 @@ fronts z o parties past (turn ∷ schedule) [] run goes = absurd goes
 
 -- The words that an object does not have.
 
-not_state : (T : Type 0) (o : Object T) (word : Word) → has_word o word ≡ false → same_word words.State word ≡ false
-not_state T o words.State lacks = absurd cc
-not_state T o words.Counter lacks = refl
-not_state T o words.Waiters lacks = refl
-not_state T o words.Value lacks = refl
-not_state T o words.Low lacks = refl
-not_state T o words.High lacks = refl
+not_state : (T : Type 0) (o : Object T) (word : Word) → has_word o word ≡ false → same_word Word.State word ≡ false
+not_state T o Word.State lacks = absurd cc
+not_state T o Word.Counter lacks = refl
+not_state T o Word.Waiters lacks = refl
+not_state T o Word.Value lacks = refl
+not_state T o Word.Low lacks = refl
+not_state T o Word.High lacks = refl
 
-not_waiters : (T : Type 0) (word : Word) → has_word {T = T} objects.Condvar word ≡ false → same_word words.Waiters word ≡ false
-not_waiters T words.State lacks = refl
-not_waiters T words.Counter lacks = refl
-not_waiters T words.Waiters lacks = absurd cc
-not_waiters T words.Value lacks = refl
-not_waiters T words.Low lacks = refl
-not_waiters T words.High lacks = refl
+not_waiters : (T : Type 0) (word : Word) → has_word {T = T} Object.Condvar word ≡ false → same_word Word.Waiters word ≡ false
+not_waiters T Word.State lacks = refl
+not_waiters T Word.Counter lacks = refl
+not_waiters T Word.Waiters lacks = absurd cc
+not_waiters T Word.Value lacks = refl
+not_waiters T Word.Low lacks = refl
+not_waiters T Word.High lacks = refl
 
-not_value : (T : Type 0) (word : Word) → has_word {T = T} objects.Condvar word ≡ false → same_word words.Value word ≡ false
-not_value T words.State lacks = refl
-not_value T words.Counter lacks = refl
-not_value T words.Waiters lacks = refl
-not_value T words.Value lacks = absurd cc
-not_value T words.Low lacks = refl
-not_value T words.High lacks = refl
+not_value : (T : Type 0) (word : Word) → has_word {T = T} Object.Condvar word ≡ false → same_word Word.Value word ≡ false
+not_value T Word.State lacks = refl
+not_value T Word.Counter lacks = refl
+not_value T Word.Waiters lacks = refl
+not_value T Word.Value lacks = absurd cc
+not_value T Word.Low lacks = refl
+not_value T Word.High lacks = refl
 
-not_counter : (T : Type 0) (word : Word) → has_word {T = T} objects.WriterLock word ≡ false → same_word words.Counter word ≡ false
-not_counter T words.State lacks = refl
-not_counter T words.Counter lacks = absurd cc
-not_counter T words.Waiters lacks = refl
-not_counter T words.Value lacks = refl
-not_counter T words.Low lacks = refl
-not_counter T words.High lacks = refl
+not_counter : (T : Type 0) (word : Word) → has_word {T = T} Object.WriterLock word ≡ false → same_word Word.Counter word ≡ false
+not_counter T Word.State lacks = refl
+not_counter T Word.Counter lacks = absurd cc
+not_counter T Word.Waiters lacks = refl
+not_counter T Word.Value lacks = refl
+not_counter T Word.Low lacks = refl
+not_counter T Word.High lacks = refl
 
-unopened : (initial : ℕ) (word : Word) → same_word words.State word ≡ false → semaphore_opening initial word ≡ 0
-unopened initial words.State other = absurd cc
-unopened initial words.Counter other = refl
-unopened initial words.Waiters other = refl
-unopened initial words.Value other = refl
-unopened initial words.Low other = refl
-unopened initial words.High other = refl
+unopened : (initial : ℕ) (word : Word) → same_word Word.State word ≡ false → semaphore_opening initial word ≡ 0
+unopened initial Word.State other = absurd cc
+unopened initial Word.Counter other = refl
+unopened initial Word.Waiters other = refl
+unopened initial Word.Value other = refl
+unopened initial Word.Low other = refl
+unopened initial Word.High other = refl
 
-not_low : (T : Type 0) (v : T) (word : Word) → has_word {T = T} (objects.Atomic v) word ≡ false → same_word words.Low word ≡ false
-not_low T v words.State lacks = refl
-not_low T v words.Counter lacks = refl
-not_low T v words.Waiters lacks = refl
-not_low T v words.Value lacks = refl
-not_low T v words.Low lacks = absurd cc
-not_low T v words.High lacks = refl
+not_low : (T : Type 0) (v : T) (word : Word) → has_word {T = T} (Object.Atomic v) word ≡ false → same_word Word.Low word ≡ false
+not_low T v Word.State lacks = refl
+not_low T v Word.Counter lacks = refl
+not_low T v Word.Waiters lacks = refl
+not_low T v Word.Value lacks = refl
+not_low T v Word.Low lacks = absurd cc
+not_low T v Word.High lacks = refl
 
-not_high : (T : Type 0) (v : T) (word : Word) → has_word {T = T} (objects.Atomic v) word ≡ false → same_word words.High word ≡ false
-not_high T v words.State lacks = refl
-not_high T v words.Counter lacks = refl
-not_high T v words.Waiters lacks = refl
-not_high T v words.Value lacks = refl
-not_high T v words.Low lacks = refl
-not_high T v words.High lacks = absurd cc
+not_high : (T : Type 0) (v : T) (word : Word) → has_word {T = T} (Object.Atomic v) word ≡ false → same_word Word.High word ≡ false
+not_high T v Word.State lacks = refl
+not_high T v Word.Counter lacks = refl
+not_high T v Word.Waiters lacks = refl
+not_high T v Word.Value lacks = refl
+not_high T v Word.Low lacks = refl
+not_high T v Word.High lacks = absurd cc
 
-unopened_data : {T : Type 0} (z : Arithmetic T) (v : T) (word : Word) → has_word {T = T} (objects.Atomic v) word ≡ false → atomic_opening z v word ≡ 0
-unopened_data z v words.State lacks = refl
-unopened_data z v words.Counter lacks = refl
-unopened_data z v words.Waiters lacks = refl
-unopened_data z v words.Value lacks = refl
-unopened_data z v words.Low lacks = absurd cc
-unopened_data z v words.High lacks = absurd cc
+unopened_data : {T : Type 0} (z : Arithmetic T) (v : T) (word : Word) → has_word {T = T} (Object.Atomic v) word ≡ false → atomic_opening z v word ≡ 0
+unopened_data z v Word.State lacks = refl
+unopened_data z v Word.Counter lacks = refl
+unopened_data z v Word.Waiters lacks = refl
+unopened_data z v Word.Value lacks = refl
+unopened_data z v Word.Low lacks = absurd cc
+unopened_data z v Word.High lacks = absurd cc
 
 pub absent_word : {T : Type 0} (z : Arithmetic T) (o : Object T) (parties : ℕ) (past : List (Event T)) (word : Word) → IsPast z o parties past → has_word o word ≡ false → word_in z o past word ≡ 0
-absent_word {T} z objects.Mutex parties past word run lacks = lacked_word z mutex_table parties word (mutex_lacks T word (not_state T objects.Mutex word lacks)) past run.1
-absent_word {T} z (objects.Semaphore initial) parties past word run lacks =
-    let other = not_state T (objects.Semaphore initial) word lacks in
+absent_word {T} z Object.Mutex parties past word run lacks = lacked_word z mutex_table parties word (mutex_lacks T word (not_state T Object.Mutex word lacks)) past run.1
+absent_word {T} z (Object.Semaphore initial) parties past word run lacks =
+    let other = not_state T (Object.Semaphore initial) word lacks in
     lacked_word z (semaphore_table initial) parties word (semaphore_lacks T initial word other) past run.1 ∙ unopened initial word other
-absent_word {T} z objects.Spin parties past word run lacks = lacked_word z spin_table parties word (spin_lacks T word (not_state T objects.Spin word lacks)) past run.1
-absent_word {T} z (objects.Barrier n) parties past word run lacks = lacked_word z (barrier_table n) parties word (barrier_lacks T n word (not_state T (objects.Barrier n) word lacks)) past run.1
-absent_word {T} z objects.ReaderLock parties past word run lacks = lacked_word z rw_reader_table parties word (rw_reader_lacks T word (not_state T objects.ReaderLock word lacks)) past run.1
-absent_word {T} z objects.WriterLock parties past word run lacks = lacked_word z rw_writer_table parties word (rw_writer_lacks T word (not_state T objects.WriterLock word lacks) (not_counter T word lacks)) past run.1
-absent_word {T} z objects.Condvar parties past word run lacks =
-    lacked_word z condvar_table parties word (condvar_lacks T word (not_state T objects.Condvar word lacks) (not_waiters T word lacks) (not_value T word lacks)) past run.1
-absent_word {T} z objects.Once parties past word run lacks = lacked_word z once_table parties word (once_lacks T word (not_state T objects.Once word lacks)) past run.1
-absent_word {T} z (objects.Lazy v) parties past word run lacks = lacked_word z (lazy_table v) parties word (lazy_lacks T v word (not_state T (objects.Lazy v) word lacks)) past run.1
-absent_word {T} z (objects.Atomic v) parties past word run lacks =
-    lacked_word z (atomic_table z v) parties word (atomic_lacks z v word (not_state T (objects.Atomic v) word lacks) (not_low T v word lacks) (not_high T v word lacks)) past run.1 ∙ unopened_data z v word lacks
+absent_word {T} z Object.Spin parties past word run lacks = lacked_word z spin_table parties word (spin_lacks T word (not_state T Object.Spin word lacks)) past run.1
+absent_word {T} z (Object.Barrier n) parties past word run lacks = lacked_word z (barrier_table n) parties word (barrier_lacks T n word (not_state T (Object.Barrier n) word lacks)) past run.1
+absent_word {T} z Object.ReaderLock parties past word run lacks = lacked_word z rw_reader_table parties word (rw_reader_lacks T word (not_state T Object.ReaderLock word lacks)) past run.1
+absent_word {T} z Object.WriterLock parties past word run lacks = lacked_word z rw_writer_table parties word (rw_writer_lacks T word (not_state T Object.WriterLock word lacks) (not_counter T word lacks)) past run.1
+absent_word {T} z Object.Condvar parties past word run lacks =
+    lacked_word z condvar_table parties word (condvar_lacks T word (not_state T Object.Condvar word lacks) (not_waiters T word lacks) (not_value T word lacks)) past run.1
+absent_word {T} z Object.Once parties past word run lacks = lacked_word z once_table parties word (once_lacks T word (not_state T Object.Once word lacks)) past run.1
+absent_word {T} z (Object.Lazy v) parties past word run lacks = lacked_word z (lazy_table v) parties word (lazy_lacks T v word (not_state T (Object.Lazy v) word lacks)) past run.1
+absent_word {T} z (Object.Atomic v) parties past word run lacks =
+    lacked_word z (atomic_table z v) parties word (atomic_lacks z v word (not_state T (Object.Atomic v) word lacks) (not_low T v word lacks) (not_high T v word lacks)) past run.1 ∙ unopened_data z v word lacks

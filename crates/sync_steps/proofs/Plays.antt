@@ -1,13 +1,6 @@
 -- Playing one more input.
-use Rattle.std.proofs.Common.{◌≡◌, ℕ, ◌+◌, ◌<◌, refl, sym, ◌∙◌, ap, subst, List, [], ◌∷◌, ◌++◌, length, take, get_or, Some, slice_get}
-use Rattle.std.proofs.lemmas.Option.{slice_get-get_or}
-use Rattle.std.proofs.lemmas.List.{take_more}
-use Rattle.steps_events.specs.declared.event.Event.{Event}
-use Rattle.steps_events.specs.declared.event.Input.{Input}
-use Rattle.steps_events.specs.declared.event.Object.{Object}
-use Rattle.steps_events.specs.declared.event.StepFault.{StepFault}
-use Rattle.steps_events.specs.Arithmetic.{Arithmetic}
-use Rattle.steps_events.specs.Runs.{after}
+use Rattle.sync_steps.specs.Names.{Event, Input, Object, StepFault, Arithmetic, after}
+use Rattle.sync_steps.proofs.Names.{◌≡◌, ℕ, ◌+◌, ◌<◌, refl, sym, ◌∙◌, ap, subst, List, [], ◌∷◌, ◌++◌, length, take, get_or, Some, slice_get, slice_get-get_or, take_more}
 use Rattle.sync_steps.specs.Runs.{fault_of, IsNext, IsRun}
 use Rattle.sync_steps.specs.Machine.{Configuration, StandsAt, Steps, Continues, Plays, PlaysUpTo}
 use Rattle.sync_steps.proofs.Headlines.{headline, fronts}

@@ -1,30 +1,9 @@
 -- A turn leads from where a run stands to where it stands with one more event.
-use Rattle.std.proofs.Common.{◌≡◌, ◌≢◌, ℕ, zero, suc, ◌<◌, ◌≤◌, refl, sym, ◌∙◌, ap, subst, List, [], ◌∷◌, length, false, Option, Some, None, Result, Ok, Err, IfOk, IfErr, ◌⊎◌, inl, inr, slice_get, slice_set, get_or, Bool, true, cond, nat_lt, arith}
-use Rattle.std.proofs.lemmas.Option.{slice_get-get_or}
+use Rattle.sync_steps.specs.Names.{ForSome, replicate, Event, Input, Object, StepFault, Act, Then, Word, HoldKind, word_at, Arithmetic, PendingCall, call_of, call_after, hold_of, hold_after, word_after, failures_in, event, InputValues, fault_at, Table}
+use Rattle.sync_steps.proofs.Names.{◌≡◌, ◌≢◌, ℕ, zero, suc, ◌<◌, ◌≤◌, refl, sym, ◌∙◌, ap, subst, List, [], ◌∷◌, length, false, Option, Some, None, Result, Ok, Err, IfOk, IfErr, ◌⊎◌, inl, inr, slice_get, slice_set, get_or, Bool, true, cond, nat_lt, arith, slice_get-get_or, lt-ltb, ltb-true, eqb_tells, length-set, length-replicate, set-get_or, call_of_same, call_of_other, hold_of_same, hold_of_other}
 use std.Path.{fun_ext}
-use Rattle.std.specs.Option.{ForSome}
-use Rattle.std.proofs.lemmas.Bool.{lt-ltb, ltb-true}
-use Rattle.std.proofs.lemmas.Bool.Decides.{eqb_tells}
-use Rattle.std.proofs.Math.ListN.{length-set}
-use Rattle.std.proofs.lemmas.List.{length-replicate, set-get_or}
-use Rattle.std.specs.Prelude.{replicate}
-use Rattle.steps_events.specs.declared.event.Event.{Event}
-use Rattle.steps_events.specs.declared.event.Input.{Input}
-use Rattle.steps_events.specs.declared.event.Object.{Object}
-use Rattle.steps_events.specs.declared.event.StepFault.{StepFault}
-use Rattle.steps_events.specs.declared.event.StepFault.TheVariants as faults
-use Rattle.steps_events.specs.declared.event.Act.{Act}
-use Rattle.steps_events.specs.declared.event.Then.{Then}
-use Rattle.steps_events.specs.declared.event.Word.{Word}
-use Rattle.steps_events.specs.declared.hold.HoldKind.{HoldKind}
-use Rattle.steps_events.specs.WordsAt.{word_at}
-use Rattle.steps_events.specs.Arithmetic.{Arithmetic}
-use Rattle.steps_events.specs.Past.{PendingCall, call_of, call_after, hold_of, hold_after, word_after, failures_in, event}
 use Rattle.steps_events.specs.Moves as moves
-use Rattle.steps_events.specs.Moves.{InputValues, fault_at}
 use Rattle.steps_events.specs.Runs as runs
-use Rattle.steps_events.specs.Tables.{Table}
-use Rattle.steps_events.proofs.Holds.{call_of_same, call_of_other, hold_of_same, hold_of_other}
 use Rattle.sync_steps.specs.declared.steps.place.Doing.{Doing}
 use Rattle.sync_steps.specs.declared.steps.place.Party.{Party}
 use Rattle.sync_steps.specs.Machine.Turns.{Turn}
@@ -275,7 +254,7 @@ kept_in_place {T} party turn {found} after {answer} {fault} {own} same there tur
 there_to_move : {T P : Type 0} (t : Table T P) (parties : ℕ) (past : List (Event T)) (party : ℕ) (input : Input T) → moves.fault_of t parties past party input ≡ None → party < parties
 there_to_move t parties past party input allowed = by_test (nat_lt party parties) (fault_at t (call_of party past) (hold_of t party past) input) refl allowed
   where
-    by_test : (b : Bool) (fault : Option StepFault) → nat_lt party parties ≡ b → cond b fault (Some faults.NoParty) ≡ None → party < parties
+    by_test : (b : Bool) (fault : Option StepFault) → nat_lt party parties ≡ b → cond b fault (Some StepFault.NoParty) ≡ None → party < parties
     by_test true fault is allowed = ltb-true party parties is
     by_test false fault is allowed = absurd cc
 

@@ -1,26 +1,6 @@
 -- A spin is the run of its tries: each does the same, and leads to the next.
-use Rattle.std.proofs.Common.{◌≡◌, ℕ, zero, suc, ◌+◌, ◌*◌, ◌-◌, ◌^◌, ◌<◌, ◌≤◌, ◌==◌, ◌&&◌, not, min, refl, sym, ◌∙◌, ap, subst, List, [], ◌∷◌, length, Bool, true, false, cond, Option, Some, None, Ok, slice_get, slice_set, arith}
-use Rattle.std.proofs.Math.ListN.{length-set}
-use Rattle.std.proofs.lemmas.Bool.{eqb-true}
-use Rattle.std.specs.Prelude.{replicate}
-use Rattle.steps_events.specs.declared.event.Act.{Act}
-use Rattle.steps_events.specs.declared.event.Act.TheVariants as acts
-use Rattle.steps_events.specs.declared.event.Call.{Call}
-use Rattle.steps_events.specs.declared.event.Event.{Event}
-use Rattle.steps_events.specs.declared.event.Input.{Input}
-use Rattle.steps_events.specs.declared.event.Input.TheVariants as inputs
-use Rattle.steps_events.specs.declared.event.Object.{Object}
-use Rattle.steps_events.specs.declared.event.Then.TheVariants as thens
-use Rattle.steps_events.specs.declared.event.Word.{Word}
-use Rattle.steps_events.specs.declared.event.Word.TheVariants as words
-use Rattle.steps_events.specs.declared.hold.HoldKind.{HoldKind}
-use Rattle.steps_events.specs.declared.row.After.{After}
-use Rattle.steps_events.specs.declared.row.Intent.{Intent}
-use Rattle.steps_events.specs.declared.row.Intent.TheVariants as intents
-use Rattle.steps_events.specs.Arithmetic.{Arithmetic}
-use Rattle.steps_events.specs.Past.{same_word, word_after, is_failure, failures_by, event}
-use Rattle.steps_events.specs.Rows.{carried_out, value_told}
-use Rattle.steps_events.specs.WordsAt.{word_at}
+use Rattle.sync_steps.specs.Names.{replicate, Act, Call, Event, Input, Object, Then, Word, HoldKind, After, Intent, Arithmetic, same_word, word_after, is_failure, failures_by, event, carried_out, value_told, word_at}
+use Rattle.sync_steps.proofs.Names.{◌≡◌, ℕ, zero, suc, ◌+◌, ◌*◌, ◌-◌, ◌^◌, ◌<◌, ◌≤◌, ◌==◌, ◌&&◌, not, min, refl, sym, ◌∙◌, ap, subst, List, [], ◌∷◌, length, Bool, true, false, cond, Option, Some, None, Ok, slice_get, slice_set, arith, length-set, eqb-true}
 use Rattle.sync_steps.specs.declared.steps.place.Doing.{Doing}
 use Rattle.sync_steps.specs.declared.steps.place.Party.{Party}
 use Rattle.sync_steps.specs.declared.steps.place.Place.{Place}
@@ -67,12 +47,12 @@ undone true false to value is = refl
 undone false done to value is = refl
 
 same_words : (a b : Word) → same_word a b ≡ true → a ≡ b
-same_words words.State words.State is = refl
-same_words words.Counter words.Counter is = refl
-same_words words.Waiters words.Waiters is = refl
-same_words words.Value words.Value is = refl
-same_words words.Low words.Low is = refl
-same_words words.High words.High is = refl
+same_words Word.State Word.State is = refl
+same_words Word.Counter Word.Counter is = refl
+same_words Word.Waiters Word.Waiters is = refl
+same_words Word.Value Word.Value is = refl
+same_words Word.Low Word.Low is = refl
+same_words Word.High Word.High is = refl
 same_words a b is = absurd cc
 
 -- a swap of a value for itself
@@ -81,46 +61,46 @@ swapped w word put memory true same is = sym is ∙ ap memory (same_words w word
 swapped w word put memory false same is = refl
 
 quiet_word : {T : Type 0} (i : Intent T) (memory : Word → ℕ) (word : Word) → is_quiet (carried_out i memory) ≡ true → word_after word (carried_out i memory) (memory word) ≡ memory word
-quiet_word (intents.Load w) memory word quiet = refl
-quiet_word (intents.Store w put) memory word quiet = absurd cc
-quiet_word (intents.Swap w put) memory word quiet = swapped w word put memory (same_word w word) refl (eqb-true (memory w) put (and_both (memory w == put) (not (memory w == 0)) quiet).0)
-quiet_word (intents.Add w more) memory word quiet = absurd cc
-quiet_word (intents.Subtract w less) memory word quiet = absurd cc
-quiet_word (intents.Exchange w from to) memory word quiet = undone (same_word w word) (memory w == from) to (memory word) (not_true (memory w == from) quiet)
-quiet_word (intents.Wake wake) memory word quiet = absurd cc
-quiet_word intents.End memory word quiet = absurd cc
-quiet_word (intents.ReadCell v) memory word quiet = absurd cc
+quiet_word (Intent.Load w) memory word quiet = refl
+quiet_word (Intent.Store w put) memory word quiet = absurd cc
+quiet_word (Intent.Swap w put) memory word quiet = swapped w word put memory (same_word w word) refl (eqb-true (memory w) put (and_both (memory w == put) (not (memory w == 0)) quiet).0)
+quiet_word (Intent.Add w more) memory word quiet = absurd cc
+quiet_word (Intent.Subtract w less) memory word quiet = absurd cc
+quiet_word (Intent.Exchange w from to) memory word quiet = undone (same_word w word) (memory w == from) to (memory word) (not_true (memory w == from) quiet)
+quiet_word (Intent.Wake wake) memory word quiet = absurd cc
+quiet_word Intent.End memory word quiet = absurd cc
+quiet_word (Intent.ReadCell v) memory word quiet = absurd cc
 
-quiet_exchange : {T : Type 0} (z : Arithmetic T) (o : Object T) (call : Call T) (w : Word) (from to found : ℕ) (done : Bool) (hold : Option HoldKind) → not done ≡ true → new_hold z o call (acts.Exchange w from to found done) hold ≡ hold
+quiet_exchange : {T : Type 0} (z : Arithmetic T) (o : Object T) (call : Call T) (w : Word) (from to found : ℕ) (done : Bool) (hold : Option HoldKind) → not done ≡ true → new_hold z o call (Act.Exchange w from to found done) hold ≡ hold
 quiet_exchange z o call w from to found true hold quiet = absurd cc
-quiet_exchange z o call words.State from to found false hold quiet = refl
-quiet_exchange z o call words.Counter from to found false hold quiet = refl
-quiet_exchange z o call words.Waiters from to found false hold quiet = refl
-quiet_exchange z o call words.Value from to found false hold quiet = refl
-quiet_exchange z o call words.Low from to found false hold quiet = refl
-quiet_exchange z o call words.High from to found false hold quiet = refl
+quiet_exchange z o call Word.State from to found false hold quiet = refl
+quiet_exchange z o call Word.Counter from to found false hold quiet = refl
+quiet_exchange z o call Word.Waiters from to found false hold quiet = refl
+quiet_exchange z o call Word.Value from to found false hold quiet = refl
+quiet_exchange z o call Word.Low from to found false hold quiet = refl
+quiet_exchange z o call Word.High from to found false hold quiet = refl
 
-quiet_swap : {T : Type 0} (z : Arithmetic T) (o : Object T) (call : Call T) (w : Word) (old put : ℕ) (hold : Option HoldKind) → not (old == 0) ≡ true → new_hold z o call (acts.Swap w old put) hold ≡ hold
-quiet_swap z o call words.State zero put hold quiet = absurd cc
-quiet_swap z o call words.State (suc old) put hold quiet = refl
-quiet_swap z o call words.Counter old put hold quiet = refl
-quiet_swap z o call words.Waiters old put hold quiet = refl
-quiet_swap z o call words.Value old put hold quiet = refl
-quiet_swap z o call words.Low old put hold quiet = refl
-quiet_swap z o call words.High old put hold quiet = refl
+quiet_swap : {T : Type 0} (z : Arithmetic T) (o : Object T) (call : Call T) (w : Word) (old put : ℕ) (hold : Option HoldKind) → not (old == 0) ≡ true → new_hold z o call (Act.Swap w old put) hold ≡ hold
+quiet_swap z o call Word.State zero put hold quiet = absurd cc
+quiet_swap z o call Word.State (suc old) put hold quiet = refl
+quiet_swap z o call Word.Counter old put hold quiet = refl
+quiet_swap z o call Word.Waiters old put hold quiet = refl
+quiet_swap z o call Word.Value old put hold quiet = refl
+quiet_swap z o call Word.Low old put hold quiet = refl
+quiet_swap z o call Word.High old put hold quiet = refl
 
 quiet_hold : {T : Type 0} (z : Arithmetic T) (o : Object T) (call : Call T) (act : Act T) (hold : Option HoldKind) → is_quiet act ≡ true → new_hold z o call act hold ≡ hold
-quiet_hold z o call (acts.Load w seen) hold quiet = refl
-quiet_hold z o call (acts.Exchange w from to found done) hold quiet = quiet_exchange z o call w from to found done hold quiet
-quiet_hold z o call (acts.Swap w old put) hold quiet = quiet_swap z o call w old put hold (and_both (old == put) (not (old == 0)) quiet).1
-quiet_hold z o call (acts.Begun c) hold quiet = absurd cc
-quiet_hold z o call (acts.Store w put) hold quiet = absurd cc
-quiet_hold z o call (acts.Add w old put) hold quiet = absurd cc
-quiet_hold z o call (acts.Woke wake) hold quiet = absurd cc
-quiet_hold z o call (acts.Answered action) hold quiet = absurd cc
-quiet_hold z o call (acts.Chosen choice) hold quiet = absurd cc
-quiet_hold z o call acts.Ended hold quiet = absurd cc
-quiet_hold z o call (acts.ReadCell v) hold quiet = absurd cc
+quiet_hold z o call (Act.Load w seen) hold quiet = refl
+quiet_hold z o call (Act.Exchange w from to found done) hold quiet = quiet_exchange z o call w from to found done hold quiet
+quiet_hold z o call (Act.Swap w old put) hold quiet = quiet_swap z o call w old put hold (and_both (old == put) (not (old == 0)) quiet).1
+quiet_hold z o call (Act.Begun c) hold quiet = absurd cc
+quiet_hold z o call (Act.Store w put) hold quiet = absurd cc
+quiet_hold z o call (Act.Add w old put) hold quiet = absurd cc
+quiet_hold z o call (Act.Woke wake) hold quiet = absurd cc
+quiet_hold z o call (Act.Answered action) hold quiet = absurd cc
+quiet_hold z o call (Act.Chosen choice) hold quiet = absurd cc
+quiet_hold z o call Act.Ended hold quiet = absurd cc
+quiet_hold z o call (Act.ReadCell v) hold quiet = absurd cc
 
 -- The tries.
 
@@ -148,23 +128,23 @@ record IsTrying {T : Type 0} (z : Arithmetic T) (party : ℕ) (found : Party T) 
   most : i + n ≤ spins_at doing.place (value_told act)
 
 try_turns : {T : Type 0} (z : Arithmetic T) (o : Object T) (found : Party T) (doing : Doing T) (act : Act T) (i : ℕ) (memory : Word → ℕ) → act ≡ carried_out (intent_at z doing.place found.hold) memory → is_quiet act ≡ true → i < spins_at doing.place (value_told act) →
-    turn_at z o (spun_party found doing i) memory inputs.Go ≡ Ok (record { act = act; outcome = thens.GoesOn; party = spun_party found doing (i + 1) })
+    turn_at z o (spun_party found doing i) memory Input.Go ≡ Ok (record { act = act; outcome = Then.GoesOn; party = spun_party found doing (i + 1) })
 try_turns {T} z o found doing act i memory act_is quiet below =
     let here : Place T = spun_at i doing.place in
     let same : carried_out (intent_at z here found.hold) memory ≡ act = ap (λ (x : Intent T). carried_out x memory) (spun_intent z doing.place i found.hold) ∙ sym act_is in
     ap (λ (a : Act T). Ok (turn_after z o doing.call found.hold a (after_at z here (value_told a)))) same
     ∙ ap (λ (x : After T (Place T)). Ok (turn_after z o doing.call found.hold act x)) (spins_again z doing.place (value_told act) i below)
-    ∙ ap (λ (h : Option HoldKind). Ok (record { act = act; outcome = thens.GoesOn; party = record { doing = Some (record { call = doing.call; place = spun_at (i + 1) doing.place; stands = None }); hold = h } })) (quiet_hold z o doing.call act found.hold quiet)
+    ∙ ap (λ (h : Option HoldKind). Ok (record { act = act; outcome = Then.GoesOn; party = record { doing = Some (record { call = doing.call; place = spun_at (i + 1) doing.place; stands = None }); hold = h } })) (quiet_hold z o doing.call act found.hold quiet)
 
 one_try : {T : Type 0} (z : Arithmetic T) (party : ℕ) (found : Party T) (doing : Doing T) (act : Act T) (n i : ℕ) (old new : Configuration T) → IsTrying z party found doing act (suc n) i old → Tried party found doing act 1 i old new →
-    HasTurned z party inputs.Go old new (event party act thens.GoesOn)
+    HasTurned z party Input.Go old new (event party act Then.GoesOn)
 one_try {T} z party found doing act n i old new t made =
     let most = t.most in
     let below : i < spins_at doing.place (value_told act) = omega (arith, most) in
     record {
       found = spun_party found doing i;
       there = t.there;
-      turn = record { act = act; outcome = thens.GoesOn; party = spun_party found doing (i + 1) };
+      turn = record { act = act; outcome = Then.GoesOn; party = spun_party found doing (i + 1) };
       is = try_turns z old.object found doing act i (word_at old.words) t.act_is t.quiet below;
       made_is = refl;
       applied = record {
@@ -192,13 +172,13 @@ tried party found doing act i m =
     record { object = m.object; parties = slice_set m.parties party (spun_party found doing (i + 1)); words = m.words; failed = min (1 * failures_by act + m.failed) (2 ^ 64 - 1) }
 
 tries : {T : Type 0} (z : Arithmetic T) (party : ℕ) (found : Party T) (doing : Doing T) (act : Act T) (n i : ℕ) (old new : Configuration T) → IsTrying z party found doing act (suc n) i old → Tried party found doing act (suc n) i old new →
-    Strides z old party (event party act thens.GoesOn) (suc n) new
+    Strides z old party (event party act Then.GoesOn) (suc n) new
 unfolding tried
 tries {T} z party found doing act zero i old new t made =
-    let e : Event T = event party act thens.GoesOn in
-    plays_first z party inputs.Go e [] [] old new new (turns_step z party inputs.Go inputs.Go old new (Ok e) t.below tt refl (one_try z party found doing act zero i old new t made)) (plays_none z new)
+    let e : Event T = event party act Then.GoesOn in
+    plays_first z party Input.Go e [] [] old new new (turns_step z party Input.Go Input.Go old new (Ok e) t.below tt refl (one_try z party found doing act zero i old new t made)) (plays_none z new)
 tries {T} z party found doing act (suc n) i old new t made =
-    let e : Event T = event party act thens.GoesOn in
+    let e : Event T = event party act Then.GoesOn in
     let mid = tried party found doing act i old in
     let most = t.most in
     let next : i + 1 + suc n ≡ i + suc (suc n) = omega arith in
@@ -213,8 +193,8 @@ tries {T} z party found doing act (suc n) i old new t made =
       words = made.words;
       failed = made.failed ∙ counted_both (is_failure act) n old.failed;
     } in
-    plays_first z party inputs.Go e (replicate (suc n) (party, inputs.Go)) (replicate (suc n) e) old mid new
-    (turns_step z party inputs.Go inputs.Go old mid (Ok e) t.below tt refl (one_try z party found doing act (suc n) i old mid t first)) (tries z party found doing act n (i + 1) mid new on others)
+    plays_first z party Input.Go e (replicate (suc n) (party, Input.Go)) (replicate (suc n) e) old mid new
+    (turns_step z party Input.Go Input.Go old mid (Ok e) t.below tt refl (one_try z party found doing act (suc n) i old mid t first)) (tries z party found doing act n (i + 1) mid new on others)
 
 -- a spin of a machine
 pub spins_stride : {T : Type 0} (z : Arithmetic T) (party : ℕ) (e : Event T) (times : ℕ) (old new : Configuration T) → HasSpun z party e times old new → Strides z old party e times new
@@ -245,5 +225,5 @@ spins_stride {T} z party e (suc n) old new h =
         (has ∙ ap (λ (c : Option _). Some (record { call = doing.call; place = doing.place; stands = c })) goes ∙ ap (λ (p : Place T). Some (record { call = doing.call; place = p; stands = None })) (sym none))
 
 -- one step
-pub step_strides : {T : Type 0} (z : Arithmetic T) (party : ℕ) (e : Event T) (old new : Configuration T) → Steps z old party inputs.Go e new → Strides z old party e 1 new
-step_strides z party e old new steps = plays_first z party inputs.Go e [] [] old new new steps (plays_none z new)
+pub step_strides : {T : Type 0} (z : Arithmetic T) (party : ℕ) (e : Event T) (old new : Configuration T) → Steps z old party Input.Go e new → Strides z old party e 1 new
+step_strides z party e old new steps = plays_first z party Input.Go e [] [] old new new steps (plays_none z new)

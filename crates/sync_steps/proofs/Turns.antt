@@ -1,27 +1,6 @@
 -- The turn of a party that is where a run's call is, is the move that the definitions give, and leaves it where they do.
-use Rattle.std.proofs.Common.{◌≡◌, refl, sym, ◌∙◌, ap, subst, ℕ, Bool, true, false, ◌&&◌, cond, is_some, is_none, ◌∷◌, Option, Some, None, Result, Ok, Err, ◌⊎◌, inl, inr}
-use Rattle.steps_events.specs.declared.WaitAction.{WaitAction}
-use Rattle.steps_events.specs.declared.event.Act.{Act}
-use Rattle.steps_events.specs.declared.event.Act.TheVariants as acts
-use Rattle.steps_events.specs.declared.event.Call.{Call}
-use Rattle.steps_events.specs.declared.event.Event.{Event}
-use Rattle.steps_events.specs.declared.event.Input.{Input}
-use Rattle.steps_events.specs.declared.event.Input.TheVariants as inputs
-use Rattle.steps_events.specs.declared.event.Object.{Object}
-use Rattle.steps_events.specs.declared.event.StepFault.{StepFault}
-use Rattle.steps_events.specs.declared.event.StepFault.TheVariants as faults
-use Rattle.steps_events.specs.declared.event.Then.{Then}
-use Rattle.steps_events.specs.declared.event.Then.TheVariants as thens
-use Rattle.steps_events.specs.declared.event.Word.{Word}
-use Rattle.steps_events.specs.declared.hold.HoldKind.{HoldKind}
-use Rattle.steps_events.specs.declared.row.Intent.{Intent}
-use Rattle.steps_events.specs.declared.row.After.{After}
-use Rattle.steps_events.specs.declared.row.After.TheVariants as afters
-use Rattle.steps_events.specs.Arithmetic.{Arithmetic}
-use Rattle.steps_events.specs.Rows.{carried_out, value_told, outcome_of, place_after, within}
-use Rattle.steps_events.specs.Past.{PendingCall, call_after, call_going_on, hold_after, latest_outcome, event}
-use Rattle.steps_events.specs.Moves.{stage_of, next_stage, stage_after, move_of, fault_at, go_fault, answer_fault, choose_fault, is_locking, HasForm}
-use Rattle.steps_events.proofs.Steps.{carried_is_step, carried_goes_on, carried_stage}
+use Rattle.sync_steps.specs.Names.{WaitAction, Act, Call, Event, Input, Object, StepFault, Then, Word, HoldKind, Intent, After, Arithmetic, carried_out, value_told, outcome_of, place_after, within, PendingCall, call_after, call_going_on, hold_after, latest_outcome, event, stage_of, next_stage, stage_after, move_of, fault_at, go_fault, answer_fault, choose_fault, is_locking, HasForm}
+use Rattle.sync_steps.proofs.Names.{◌≡◌, refl, sym, ◌∙◌, ap, subst, ℕ, Bool, true, false, ◌&&◌, cond, is_some, is_none, ◌∷◌, Option, Some, None, Result, Ok, Err, ◌⊎◌, inl, inr, carried_is_step, carried_goes_on, carried_stage}
 use Rattle.sync_steps.specs.declared.steps.place.Doing.{Doing}
 use Rattle.sync_steps.specs.declared.steps.place.Party.{Party}
 use Rattle.sync_steps.specs.declared.steps.place.Place.{Place}
@@ -60,7 +39,7 @@ begins_none wrap (Some p) is = absurd cc
 begins_by :
     {T : Type 0} (z : Arithmetic T) (o : Object T) (call : Call T) (hold : Option HoldKind) (memory : Word → ℕ) (place : Place T) (p : place_of o) (holds lacks : Bool) → (table_of z o).begins call ≡ Some p → place_in o p ≡ place →
     (is_locking call && is_some hold) ≡ holds → (needs_hold_at z o call && is_none hold) ≡ lacks →
-    TurnsOr z o None hold memory (inputs.Begin call) (cond holds (Err faults.Holding) (cond lacks (Err faults.NoHold) (Ok (begun (record { doing = None; hold = hold }) call place))))
+    TurnsOr z o None hold memory (Input.Begin call) (cond holds (Err StepFault.Holding) (cond lacks (Err StepFault.NoHold) (Ok (begun (record { doing = None; hold = hold }) call place))))
 begins_by z o call hold memory place p true lacks begins is locks needs = rw (begins, locks) refl
 begins_by {T} z o call hold memory place p false true begins is locks needs =
     let needed : ((table_of z o).needs_hold call && is_none hold) ≡ true = ap (λ b. b && is_none hold) (sym (needs_hold_is z o call)) ∙ needs in
@@ -76,14 +55,14 @@ begins_by {T} z o call hold memory place p false false begins is locks needs =
 
 begin_turns :
     {T : Type 0} (z : Arithmetic T) (o : Object T) (doing : Option (Doing T)) (hold : Option HoldKind) (memory : Word → ℕ) (call : Call T) (pending : Option (PendingCall T)) → DoesCall z o doing pending →
-    TurnsOr z o pending hold memory (inputs.Begin call) (begin_turn z o (record { doing = doing; hold = hold }) call)
+    TurnsOr z o pending hold memory (Input.Begin call) (begin_turn z o (record { doing = doing; hold = hold }) call)
 begin_turns z o None hold memory call (Some c) at = absurd at
 begin_turns z o (Some doing) hold memory call None at = absurd at
 begin_turns z o (Some doing) hold memory call (Some c) at = refl
 begin_turns {T} z o None hold memory call None at = by_place (begins_at z o call) (sym (begins_is z o call))
   where
     by_place : (found : Option (Place T)) → map_place (place_in o) ((table_of z o).begins call) ≡ found →
-        TurnsOr z o None hold memory (inputs.Begin call) (begin_at z o (record { doing = None; hold = hold }) call found)
+        TurnsOr z o None hold memory (Input.Begin call) (begin_at z o (record { doing = None; hold = hold }) call found)
     by_place None is = rw (begins_none (place_in o) ((table_of z o).begins call) is) refl
     by_place (Some place) is =
         let found = begins_some (place_in o) ((table_of z o).begins call) place is in
@@ -92,10 +71,10 @@ begin_turns {T} z o None hold memory call None at = by_place (begins_at z o call
 -- A step.
 
 outcome_within : {T P Q : Type 0} (wrap : P → Q) (a : After T P) → outcome_of (within wrap a) ≡ outcome_of a
-outcome_within wrap (afters.At place) = refl
-outcome_within wrap (afters.Waits place seen) = refl
-outcome_within wrap (afters.Chooses place old) = refl
-outcome_within wrap (afters.Ends answer) = refl
+outcome_within wrap (After.At place) = refl
+outcome_within wrap (After.Waits place seen) = refl
+outcome_within wrap (After.Chooses place old) = refl
+outcome_within wrap (After.Ends answer) = refl
 
 -- the party after a step, by how its call goes on
 leaves_by :
@@ -116,21 +95,21 @@ leaves_by {T} z o c hold memory p number a stage is = by_after a is
 
     by_after : (b : After T (place_of o)) → (table_of z o).after p (value_told act) ≡ b →
         DoesCall z o (doing_after c.call (within (place_in o) b)) (call_after (outcome_of (within (place_in o) b)) (event number act (outcome_of (within (place_in o) b))) (Some c))
-    by_after (afters.At q) same =
-        let e : Event T = event number act thens.GoesOn in
-        goes _ e (record { call_is = refl; place = (q, refl, reaches e (afters.At q) q same refl); stands_is = refl })
-    by_after (afters.Waits q seen) same =
-        let e : Event T = event number act (thens.Waits seen) in
-        goes _ e (record { call_is = refl; place = (q, refl, reaches e (afters.Waits q seen) q same refl); stands_is = refl })
-    by_after (afters.Chooses q old) same =
-        let e : Event T = event number act (thens.Chooses old) in
-        goes _ e (record { call_is = refl; place = (q, refl, reaches e (afters.Chooses q old) q same refl); stands_is = refl })
-    by_after (afters.Ends answer) same = tt
+    by_after (After.At q) same =
+        let e : Event T = event number act Then.GoesOn in
+        goes _ e (record { call_is = refl; place = (q, refl, reaches e (After.At q) q same refl); stands_is = refl })
+    by_after (After.Waits q seen) same =
+        let e : Event T = event number act (Then.Waits seen) in
+        goes _ e (record { call_is = refl; place = (q, refl, reaches e (After.Waits q seen) q same refl); stands_is = refl })
+    by_after (After.Chooses q old) same =
+        let e : Event T = event number act (Then.Chooses old) in
+        goes _ e (record { call_is = refl; place = (q, refl, reaches e (After.Chooses q old) q same refl); stands_is = refl })
+    by_after (After.Ends answer) same = tt
 
 -- the step at a place of the table
 table_steps :
     {T : Type 0} (z : Arithmetic T) (o : Object T) (c : PendingCall T) (hold : Option HoldKind) (memory : Word → ℕ) (p : place_of o) → stage_of (table_of z o) c ≡ Some p → go_fault (latest_outcome c.own) ≡ None →
-    Turns z o (Some c) hold memory inputs.Go
+    Turns z o (Some c) hold memory Input.Go
     (turn_after z o c.call hold (carried_out ((table_of z o).intent p hold) memory) (within (place_in o) ((table_of z o).after p (value_told (carried_out ((table_of z o).intent p hold) memory)))))
 table_steps {T} z o c hold memory p stage free =
     let act = carried_out ((table_of z o).intent p hold) memory in
@@ -145,34 +124,34 @@ table_steps {T} z o c hold memory p stage free =
 -- the step at the code's place
 steps_at :
     {T : Type 0} (z : Arithmetic T) (o : Object T) (doing : Doing T) (c : PendingCall T) (hold : Option HoldKind) (memory : Word → ℕ) → IsDoing z o doing c → go_fault (latest_outcome c.own) ≡ None →
-    Turns z o (Some c) hold memory inputs.Go (stepped z o doing hold memory)
+    Turns z o (Some c) hold memory Input.Go (stepped z o doing hold memory)
 steps_at {T} z o doing c hold memory at free =
     let p = at.place.0 in
     let act = carried_out ((table_of z o).intent p hold) memory in
-    let I : Intent T → Type 0 = λ i. Turns z o (Some c) hold memory inputs.Go (stepped_by z o (record { call = c.call; place = place_in o p; stands = doing.stands }) hold (carried_out i memory)) in
-    let A : After T (Place T) → Type 0 = λ a. Turns z o (Some c) hold memory inputs.Go (turn_after z o c.call hold act a) in
-    let D : Place T → Type 0 = λ place. Turns z o (Some c) hold memory inputs.Go (stepped z o (record { call = c.call; place = place; stands = doing.stands }) hold memory) in
-    let C : Call T → Type 0 = λ call. Turns z o (Some c) hold memory inputs.Go (stepped z o (record { call = call; place = doing.place; stands = doing.stands }) hold memory) in
+    let I : Intent T → Type 0 = λ i. Turns z o (Some c) hold memory Input.Go (stepped_by z o (record { call = c.call; place = place_in o p; stands = doing.stands }) hold (carried_out i memory)) in
+    let A : After T (Place T) → Type 0 = λ a. Turns z o (Some c) hold memory Input.Go (turn_after z o c.call hold act a) in
+    let D : Place T → Type 0 = λ place. Turns z o (Some c) hold memory Input.Go (stepped z o (record { call = c.call; place = place; stands = doing.stands }) hold memory) in
+    let C : Call T → Type 0 = λ call. Turns z o (Some c) hold memory Input.Go (stepped z o (record { call = call; place = doing.place; stands = doing.stands }) hold memory) in
     let by_table = subst A (sym (after_is z o p (value_told act))) (table_steps z o c hold memory p at.place.2 free) in
     subst C (sym at.call_is) (subst D at.place.1 (subst I (sym (intent_is z o p hold)) by_table))
 
 -- whether a call makes steps, by how it was left
-goes_by : {T : Type 0} (outcome : Then T) → ((is_some (closure_of outcome) ≡ true) × (go_fault outcome ≡ Some faults.WaitingForAnswer)) ⊎ ((is_some (closure_of outcome) ≡ false) × (go_fault outcome ≡ None))
-goes_by thens.GoesOn = inr (refl, refl)
-goes_by (thens.Waits seen) = inl (refl, refl)
-goes_by (thens.Chooses old) = inl (refl, refl)
-goes_by (thens.Answers answer) = inr (refl, refl)
+goes_by : {T : Type 0} (outcome : Then T) → ((is_some (closure_of outcome) ≡ true) × (go_fault outcome ≡ Some StepFault.WaitingForAnswer)) ⊎ ((is_some (closure_of outcome) ≡ false) × (go_fault outcome ≡ None))
+goes_by Then.GoesOn = inr (refl, refl)
+goes_by (Then.Waits seen) = inl (refl, refl)
+goes_by (Then.Chooses old) = inl (refl, refl)
+goes_by (Then.Answers answer) = inr (refl, refl)
 
 go_turns :
     {T : Type 0} (z : Arithmetic T) (o : Object T) (doing : Option (Doing T)) (hold : Option HoldKind) (memory : Word → ℕ) (pending : Option (PendingCall T)) → DoesCall z o doing pending →
-    TurnsOr z o pending hold memory inputs.Go (go_at z o doing hold memory)
+    TurnsOr z o pending hold memory Input.Go (go_at z o doing hold memory)
 go_turns z o None hold memory (Some c) at = absurd at
 go_turns z o (Some doing) hold memory None at = absurd at
 go_turns z o None hold memory None at = refl
 go_turns {T} z o (Some doing) hold memory (Some c) at = by_outcome (goes_by (latest_outcome c.own))
   where
-    by_outcome : ((is_some (closure_of (latest_outcome c.own)) ≡ true) × (go_fault (latest_outcome c.own) ≡ Some faults.WaitingForAnswer)) ⊎ ((is_some (closure_of (latest_outcome c.own)) ≡ false) × (go_fault (latest_outcome c.own) ≡ None)) →
-        TurnsOr z o (Some c) hold memory inputs.Go (cond (is_some doing.stands) (Err faults.WaitingForAnswer) (Ok (stepped z o doing hold memory)))
+    by_outcome : ((is_some (closure_of (latest_outcome c.own)) ≡ true) × (go_fault (latest_outcome c.own) ≡ Some StepFault.WaitingForAnswer)) ⊎ ((is_some (closure_of (latest_outcome c.own)) ≡ false) × (go_fault (latest_outcome c.own) ≡ None)) →
+        TurnsOr z o (Some c) hold memory Input.Go (cond (is_some doing.stands) (Err StepFault.WaitingForAnswer) (Ok (stepped z o doing hold memory)))
     by_outcome (inl stands) = let is : is_some doing.stands ≡ true = ap is_some at.stands_is ∙ stands.0 in rw is stands.1
     by_outcome (inr free) = let is : is_some doing.stands ≡ false = ap is_some at.stands_is ∙ free.0 in rw is (steps_at z o doing c hold memory at free.1)
 
@@ -181,46 +160,46 @@ go_turns {T} z o (Some doing) hold memory (Some c) at = by_outcome (goes_by (lat
 -- the closure of a call has answered, and it goes on from another place of the table
 leaves_at :
     {T : Type 0} (z : Arithmetic T) (o : Object T) (c : PendingCall T) (act : Act T) (p q : place_of o) (place : Place T) → place ≡ place_in o q → stage_of (table_of z o) c ≡ Some p → stage_after (table_of z o) act p ≡ Some q → (number : ℕ) →
-    IsDoing z o (record { call = c.call; place = place; stands = None }) (record { call = c.call; own = event number act thens.GoesOn ∷ c.own })
+    IsDoing z o (record { call = c.call; place = place; stands = None }) (record { call = c.call; own = event number act Then.GoesOn ∷ c.own })
 leaves_at z o c act p q place is stage to number = record { call_is = refl; place = (q, sym is, ap (next_stage (table_of z o) act) stage ∙ to); stands_is = refl }
 
 at_place_of : {T : Type 0} (z : Arithmetic T) (o : Object T) (doing : Doing T) (c : PendingCall T) (f : Place T → Place T) (p q : place_of o) → place_in o p ≡ doing.place → f (place_in o p) ≡ place_in o q → f doing.place ≡ place_in o q
 at_place_of z o doing c f p q is to = ap f (sym is) ∙ to
 
-answers_by : {T : Type 0} (outcome : Then T) → ((is_at_wait (closure_of outcome) ≡ true) × (answer_fault outcome ≡ None)) ⊎ ((is_at_wait (closure_of outcome) ≡ false) × (answer_fault outcome ≡ Some faults.NotWaiting))
-answers_by thens.GoesOn = inr (refl, refl)
-answers_by (thens.Waits seen) = inl (refl, refl)
-answers_by (thens.Chooses old) = inr (refl, refl)
-answers_by (thens.Answers answer) = inr (refl, refl)
+answers_by : {T : Type 0} (outcome : Then T) → ((is_at_wait (closure_of outcome) ≡ true) × (answer_fault outcome ≡ None)) ⊎ ((is_at_wait (closure_of outcome) ≡ false) × (answer_fault outcome ≡ Some StepFault.NotWaiting))
+answers_by Then.GoesOn = inr (refl, refl)
+answers_by (Then.Waits seen) = inl (refl, refl)
+answers_by (Then.Chooses old) = inr (refl, refl)
+answers_by (Then.Answers answer) = inr (refl, refl)
 
-chooses_by : {T : Type 0} (outcome : Then T) → ((is_at_choice (closure_of outcome) ≡ true) × (choose_fault outcome ≡ None)) ⊎ ((is_at_choice (closure_of outcome) ≡ false) × (choose_fault outcome ≡ Some faults.NotWaiting))
-chooses_by thens.GoesOn = inr (refl, refl)
-chooses_by (thens.Waits seen) = inr (refl, refl)
-chooses_by (thens.Chooses old) = inl (refl, refl)
-chooses_by (thens.Answers answer) = inr (refl, refl)
+chooses_by : {T : Type 0} (outcome : Then T) → ((is_at_choice (closure_of outcome) ≡ true) × (choose_fault outcome ≡ None)) ⊎ ((is_at_choice (closure_of outcome) ≡ false) × (choose_fault outcome ≡ Some StepFault.NotWaiting))
+chooses_by Then.GoesOn = inr (refl, refl)
+chooses_by (Then.Waits seen) = inr (refl, refl)
+chooses_by (Then.Chooses old) = inl (refl, refl)
+chooses_by (Then.Answers answer) = inr (refl, refl)
 
 answer_turns :
     {T : Type 0} (z : Arithmetic T) (o : Object T) (doing : Option (Doing T)) (hold : Option HoldKind) (memory : Word → ℕ) (action : WaitAction) (pending : Option (PendingCall T)) → DoesCall z o doing pending →
-    TurnsOr z o pending hold memory (inputs.Answer action) (answer_at z doing hold action)
+    TurnsOr z o pending hold memory (Input.Answer action) (answer_at z doing hold action)
 answer_turns z o None hold memory action (Some c) at = absurd at
 answer_turns z o (Some doing) hold memory action None at = absurd at
 answer_turns z o None hold memory action None at = refl
 answer_turns {T} z o (Some doing) hold memory action (Some c) at = by_outcome (answers_by (latest_outcome c.own))
   where
     made : Turn T
-    made = told_answer (acts.Answered action) doing hold (answered_at z doing.place action)
+    made = told_answer (Act.Answered action) doing hold (answered_at z doing.place action)
 
     p : place_of o
     p = at.place.0
 
-    does : (number : ℕ) → IsDoing z o (record { call = doing.call; place = answered_at z doing.place action; stands = None }) (record { call = c.call; own = event number (acts.Answered action) thens.GoesOn ∷ c.own })
+    does : (number : ℕ) → IsDoing z o (record { call = doing.call; place = answered_at z doing.place action; stands = None }) (record { call = c.call; own = event number (Act.Answered action) Then.GoesOn ∷ c.own })
     does number =
         let is = at_place_of z o doing c (λ k. answered_at z k action) p ((table_of z o).answered p action) at.place.1 (answered_is z o p action) in
-        subst (λ (call : Call T). IsDoing z o (record { call = call; place = answered_at z doing.place action; stands = None }) (record { call = c.call; own = event number (acts.Answered action) thens.GoesOn ∷ c.own })) (sym at.call_is)
-        (leaves_at z o c (acts.Answered action) p ((table_of z o).answered p action) (answered_at z doing.place action) is at.place.2 refl number)
+        subst (λ (call : Call T). IsDoing z o (record { call = call; place = answered_at z doing.place action; stands = None }) (record { call = c.call; own = event number (Act.Answered action) Then.GoesOn ∷ c.own })) (sym at.call_is)
+        (leaves_at z o c (Act.Answered action) p ((table_of z o).answered p action) (answered_at z doing.place action) is at.place.2 refl number)
 
-    by_outcome : ((is_at_wait (closure_of (latest_outcome c.own)) ≡ true) × (answer_fault (latest_outcome c.own) ≡ None)) ⊎ ((is_at_wait (closure_of (latest_outcome c.own)) ≡ false) × (answer_fault (latest_outcome c.own) ≡ Some faults.NotWaiting)) →
-        TurnsOr z o (Some c) hold memory (inputs.Answer action) (cond (is_at_wait doing.stands) (Ok made) (Err faults.NotWaiting))
+    by_outcome : ((is_at_wait (closure_of (latest_outcome c.own)) ≡ true) × (answer_fault (latest_outcome c.own) ≡ None)) ⊎ ((is_at_wait (closure_of (latest_outcome c.own)) ≡ false) × (answer_fault (latest_outcome c.own) ≡ Some StepFault.NotWaiting)) →
+        TurnsOr z o (Some c) hold memory (Input.Answer action) (cond (is_at_wait doing.stands) (Ok made) (Err StepFault.NotWaiting))
     by_outcome (inl stands) =
         let is : is_at_wait doing.stands ≡ true = ap is_at_wait at.stands_is ∙ stands.0 in
         rw is (record { allowed = stands.1; form = refl; moved = refl; leaves = λ number. record { doing = does number; hold_is = refl } })
@@ -228,26 +207,26 @@ answer_turns {T} z o (Some doing) hold memory action (Some c) at = by_outcome (a
 
 choose_turns :
     {T : Type 0} (z : Arithmetic T) (o : Object T) (doing : Option (Doing T)) (hold : Option HoldKind) (memory : Word → ℕ) (choice : Option T) (pending : Option (PendingCall T)) → DoesCall z o doing pending →
-    TurnsOr z o pending hold memory (inputs.Choose choice) (choose_at z doing hold choice)
+    TurnsOr z o pending hold memory (Input.Choose choice) (choose_at z doing hold choice)
 choose_turns z o None hold memory choice (Some c) at = absurd at
 choose_turns z o (Some doing) hold memory choice None at = absurd at
 choose_turns z o None hold memory choice None at = refl
 choose_turns {T} z o (Some doing) hold memory choice (Some c) at = by_outcome (chooses_by (latest_outcome c.own))
   where
     made : Turn T
-    made = told_answer (acts.Chosen choice) doing hold (chosen_at z doing.place choice)
+    made = told_answer (Act.Chosen choice) doing hold (chosen_at z doing.place choice)
 
     p : place_of o
     p = at.place.0
 
-    does : (number : ℕ) → IsDoing z o (record { call = doing.call; place = chosen_at z doing.place choice; stands = None }) (record { call = c.call; own = event number (acts.Chosen choice) thens.GoesOn ∷ c.own })
+    does : (number : ℕ) → IsDoing z o (record { call = doing.call; place = chosen_at z doing.place choice; stands = None }) (record { call = c.call; own = event number (Act.Chosen choice) Then.GoesOn ∷ c.own })
     does number =
         let is = at_place_of z o doing c (λ k. chosen_at z k choice) p ((table_of z o).chosen p choice) at.place.1 (chosen_is z o p choice) in
-        subst (λ (call : Call T). IsDoing z o (record { call = call; place = chosen_at z doing.place choice; stands = None }) (record { call = c.call; own = event number (acts.Chosen choice) thens.GoesOn ∷ c.own })) (sym at.call_is)
-        (leaves_at z o c (acts.Chosen choice) p ((table_of z o).chosen p choice) (chosen_at z doing.place choice) is at.place.2 refl number)
+        subst (λ (call : Call T). IsDoing z o (record { call = call; place = chosen_at z doing.place choice; stands = None }) (record { call = c.call; own = event number (Act.Chosen choice) Then.GoesOn ∷ c.own })) (sym at.call_is)
+        (leaves_at z o c (Act.Chosen choice) p ((table_of z o).chosen p choice) (chosen_at z doing.place choice) is at.place.2 refl number)
 
-    by_outcome : ((is_at_choice (closure_of (latest_outcome c.own)) ≡ true) × (choose_fault (latest_outcome c.own) ≡ None)) ⊎ ((is_at_choice (closure_of (latest_outcome c.own)) ≡ false) × (choose_fault (latest_outcome c.own) ≡ Some faults.NotWaiting)) →
-        TurnsOr z o (Some c) hold memory (inputs.Choose choice) (cond (is_at_choice doing.stands) (Ok made) (Err faults.NotWaiting))
+    by_outcome : ((is_at_choice (closure_of (latest_outcome c.own)) ≡ true) × (choose_fault (latest_outcome c.own) ≡ None)) ⊎ ((is_at_choice (closure_of (latest_outcome c.own)) ≡ false) × (choose_fault (latest_outcome c.own) ≡ Some StepFault.NotWaiting)) →
+        TurnsOr z o (Some c) hold memory (Input.Choose choice) (cond (is_at_choice doing.stands) (Ok made) (Err StepFault.NotWaiting))
     by_outcome (inl stands) =
         let is : is_at_choice doing.stands ≡ true = ap is_at_choice at.stands_is ∙ stands.0 in
         rw is (record { allowed = stands.1; form = refl; moved = refl; leaves = λ number. record { doing = does number; hold_is = refl } })
@@ -261,7 +240,7 @@ turns_at {T} z o party memory input pending hold at =
     subst (λ h. TurnsOr z o pending h memory input (turn_at z o party memory input)) at.hold_is (by_input input)
   where
     by_input : (i : Input T) → TurnsOr z o pending party.hold memory i (turn_at z o party memory i)
-    by_input (inputs.Begin call) = begin_turns z o party.doing party.hold memory call pending at.doing
-    by_input inputs.Go = go_turns z o party.doing party.hold memory pending at.doing
-    by_input (inputs.Answer action) = answer_turns z o party.doing party.hold memory action pending at.doing
-    by_input (inputs.Choose choice) = choose_turns z o party.doing party.hold memory choice pending at.doing
+    by_input (Input.Begin call) = begin_turns z o party.doing party.hold memory call pending at.doing
+    by_input Input.Go = go_turns z o party.doing party.hold memory pending at.doing
+    by_input (Input.Answer action) = answer_turns z o party.doing party.hold memory action pending at.doing
+    by_input (Input.Choose choice) = choose_turns z o party.doing party.hold memory choice pending at.doing

@@ -1,72 +1,33 @@
 -- What a wait closure is told is what its call saw last of the word that it watches.
-use Rattle.std.proofs.Common.{◌≡◌, refl, sym, ◌∙◌, ap, subst, ℕ, true, cond, is_some, List, [], ◌∷◌, Option, Some, None, ◌⊎◌, inl, inr, arith}
-use Rattle.std.specs.Prelude.{MatchOption}
-use Rattle.std.proofs.lemmas.Bool.Decides.{nat_tests}
-use Rattle.steps_events.specs.declared.WaitAction.{WaitAction}
-use Rattle.steps_events.specs.declared.event.Act.{Act}
-use Rattle.steps_events.specs.declared.event.Act.TheVariants as acts
-use Rattle.steps_events.specs.declared.event.Call.{Call}
-use Rattle.steps_events.specs.declared.event.Event.{Event}
-use Rattle.steps_events.specs.declared.event.Object.{Object}
-use Rattle.steps_events.specs.declared.event.Object.TheVariants as objects
-use Rattle.steps_events.specs.declared.event.Then.{Then}
-use Rattle.steps_events.specs.declared.event.Then.TheVariants as thens
-use Rattle.steps_events.specs.declared.event.Word.{Word}
-use Rattle.steps_events.specs.declared.event.Word.TheVariants as words
-use Rattle.steps_events.specs.declared.hold.HoldKind.{HoldKind}
-use Rattle.steps_events.specs.declared.patience.Patience.{Patience}
-use Rattle.steps_events.specs.declared.row.After.{After}
-use Rattle.steps_events.specs.declared.row.After.TheVariants as afters
-use Rattle.steps_events.specs.Arithmetic.{Arithmetic}
+use Rattle.sync_steps.specs.Names.{MatchOption, WaitAction, Act, Call, Event, Object, Then, Word, HoldKind, Patience, After, Arithmetic, Move, stage_of, stage_after, next_stage, seen_by, PendingCall, call_of, call_after, call_going_on, hold_of, word_in, event, carried_out, value_told, outcome_of, place_after, sight_of, is_sight, last_of, Table, RwWriterPlace, rw_writer_table, rw_writer_intent, rw_writer_after, rw_writer_begins, rw_writer_answered, last_look, CondvarPlace, condvar_table, condvar_intent, condvar_after, refused_by, SpinPlace, spin_after, OncePlace, once_after, LazyPlace, lazy_after, AtomicPlace, atomic_after}
+use Rattle.sync_steps.proofs.Names.{◌≡◌, refl, sym, ◌∙◌, ap, subst, ℕ, true, cond, is_some, List, [], ◌∷◌, Option, Some, None, ◌⊎◌, inl, inr, arith, nat_tests, some_same, call_of_same, by_move, carried_goes_on, carried_stage}
 use Rattle.steps_events.specs.Asks.{Refusing, WhereAsked, TellsRefusal, sight_at}
-use Rattle.steps_events.specs.Moves.{Move, stage_of, stage_after, next_stage}
-use Rattle.steps_events.specs.NextStep.{seen_by}
-use Rattle.steps_events.specs.Past.{PendingCall, call_of, call_after, call_going_on, hold_of, word_in, event}
-use Rattle.steps_events.specs.Rows.{carried_out, value_told, outcome_of, place_after}
 use Rattle.steps_events.specs.Runs as runs
-use Rattle.steps_events.specs.Sights.{sight_of, is_sight, last_of}
-use Rattle.steps_events.specs.Tables.{Table}
-use Rattle.steps_events.proofs.Holds.{some_same, call_of_same}
 use Rattle.steps_events.proofs.Parties.{IsKept, at_place}
-use Rattle.steps_events.proofs.Steps.{by_move, carried_goes_on, carried_stage}
-use Rattle.steps_rw_writer.specs.declared.RwWriterPlace.{RwWriterPlace}
-use Rattle.steps_rw_writer.specs.declared.RwWriterPlace.TheVariants as writer_places
-use Rattle.steps_rw_writer.specs.Table.{rw_writer_table, rw_writer_intent, rw_writer_after, rw_writer_begins, rw_writer_answered, last_look}
-use Rattle.steps_condvar.specs.declared.CondvarPlace.{CondvarPlace}
-use Rattle.steps_condvar.specs.Table.{condvar_table, condvar_intent, condvar_after}
-use Rattle.steps_condvar.specs.Law.{refused_by}
-use Rattle.steps_spin.specs.declared.SpinPlace.{SpinPlace}
-use Rattle.steps_spin.specs.Table.{spin_after}
-use Rattle.steps_once.specs.declared.OncePlace.{OncePlace}
-use Rattle.steps_once.specs.Table.{once_after}
-use Rattle.steps_lazy.specs.declared.LazyPlace.{LazyPlace}
-use Rattle.steps_lazy.specs.Table.{lazy_after}
-use Rattle.steps_atomic.specs.declared.AtomicPlace.{AtomicPlace}
-use Rattle.steps_atomic.specs.Table.{atomic_after}
-use Rattle.sync_steps.specs.declared.steps.place.Place.TheVariants as places
+use Rattle.sync_steps.specs.declared.steps.place.Place.{Place}
 use Rattle.sync_steps.specs.Objects.{table_of}
 use Rattle.sync_steps.specs.Runs.{IsPast}
 use Rattle.sync_steps.specs.Machine.Places.{place_in, watched_word, SawLast, TellsWatched}
 use Rattle.sync_steps.proofs.Headlines.{headline}
 
-waits_at : {T P : Type 0} (a : After T P) (told : ℕ) → outcome_of a ≡ thens.Waits told → (next : P) × (a ≡ afters.Waits next told)
-waits_at (afters.Waits next n) told is = (next, cc)
-waits_at (afters.At place) told is = absurd cc
-waits_at (afters.Chooses place old) told is = absurd cc
-waits_at (afters.Ends answer) told is = absurd cc
+waits_at : {T P : Type 0} (a : After T P) (told : ℕ) → outcome_of a ≡ Then.Waits told → (next : P) × (a ≡ After.Waits next told)
+waits_at (After.Waits next n) told is = (next, cc)
+waits_at (After.At place) told is = absurd cc
+waits_at (After.Chooses place old) told is = absurd cc
+waits_at (After.Ends answer) told is = absurd cc
 
 -- what is to be shown of the step that left the call at its closure
 abbrev WhereAStepWaits : {T P : Type 0} → Table T P → (P → Word) → List (Event T) → Event T → Type 0
 WhereAStepWaits {T} {P} t watched past e =
-    (c : PendingCall T) (place next : P) (told : ℕ) → call_of e.party past ≡ Some c → stage_of t c ≡ Some place → e.act ≡ carried_out (t.intent place (hold_of t e.party past)) (word_in t past) → e.then ≡ thens.Waits told →
-    t.after place (value_told (carried_out (t.intent place (hold_of t e.party past)) (word_in t past))) ≡ afters.Waits next told → SawLast (watched next) (e ∷ c.own) told
+    (c : PendingCall T) (place next : P) (told : ℕ) → call_of e.party past ≡ Some c → stage_of t c ≡ Some place → e.act ≡ carried_out (t.intent place (hold_of t e.party past)) (word_in t past) → e.then ≡ Then.Waits told →
+    t.after place (value_told (carried_out (t.intent place (hold_of t e.party past)) (word_in t past))) ≡ After.Waits next told → SawLast (watched next) (e ∷ c.own) told
 
 watches :
     {T P : Type 0} (z : Arithmetic T) (t : Table T P) (parties : ℕ) (watched : P → Word) (past : List (Event T)) (e : Event T) → runs.IsPast z t parties (e ∷ past) → WhereAStepWaits t watched past e →
-    (told : ℕ) (c : PendingCall T) (place : P) → e.then ≡ thens.Waits told → call_of e.party (e ∷ past) ≡ Some c → stage_of t c ≡ Some place → SawLast (watched place) c.own told
+    (told : ℕ) (c : PendingCall T) (place : P) → e.then ≡ Then.Waits told → call_of e.party (e ∷ past) ≡ Some c → stage_of t c ≡ Some place → SawLast (watched place) c.own told
 watches {T} {P} z t parties watched past e run rows told c place waits called stage =
     by_move t (call_of e.party past) hold memory
-    (λ (k : Option (PendingCall T)) (x : Move T). call_of e.party past ≡ k → x.act ≡ e.act → x.outcome ≡ thens.Waits told → call_after x.outcome e k ≡ Some c → SawLast (watched place) c.own told)
+    (λ (k : Option (PendingCall T)) (x : Move T). call_of e.party past ≡ k → x.act ≡ e.act → x.outcome ≡ Then.Waits told → call_after x.outcome e k ≡ Some c → SawLast (watched place) c.own told)
     run.0.0 (record { act = e.act; outcome = e.then }) (λ call _ was acted left made. absurd cc) (λ action _ was acted left made. absurd cc) (λ choice _ was acted left made. absurd cc)
     (λ d from _ _ at was acted left made. stepped d from at was acted left made)
     run.0.1.moved refl refl waits (sym (call_of_same e.party e.act e.then past) ∙ called)
@@ -77,7 +38,7 @@ watches {T} {P} z t parties watched past e run rows told c place waits called st
     memory : Word → ℕ
     memory = word_in t past
 
-    stepped : (d : PendingCall T) (from : P) → stage_of t d ≡ Some from → call_of e.party past ≡ Some d → carried_out (t.intent from hold) memory ≡ e.act → outcome_of (t.after from (value_told (carried_out (t.intent from hold) memory))) ≡ thens.Waits told →
+    stepped : (d : PendingCall T) (from : P) → stage_of t d ≡ Some from → call_of e.party past ≡ Some d → carried_out (t.intent from hold) memory ≡ e.act → outcome_of (t.after from (value_told (carried_out (t.intent from hold) memory))) ≡ Then.Waits told →
         call_after (outcome_of (t.after from (value_told (carried_out (t.intent from hold) memory)))) e (Some d) ≡ Some c → SawLast (watched place) c.own told
     stepped d from at was acted left made =
         let next = waits_at (t.after from (value_told (carried_out (t.intent from hold) memory))) told left in
@@ -92,80 +53,80 @@ watches {T} {P} z t parties watched past e run rows told c place waits called st
 -- The sight is that of the step itself, where what refused the call is told,
 
 asked :
-    {T : Type 0} (refusing : Refusing T) (past : List (Event T)) (e : Event T) (c : PendingCall T) (told : ℕ) → TellsRefusal refusing (e ∷ past) → call_of e.party past ≡ Some c → e.then ≡ thens.Waits told →
+    {T : Type 0} (refusing : Refusing T) (past : List (Event T)) (e : Event T) (c : PendingCall T) (told : ℕ) → TellsRefusal refusing (e ∷ past) → call_of e.party past ≡ Some c → e.then ≡ Then.Waits told →
     refusing c.call c.own e.act ≡ Some told
 asked {T} refusing past e c told tells was waits =
     let P : PendingCall T → Act T → ℕ → Type 0 = λ k act n. refusing k.call k.own act ≡ Some n in
-    subst (λ (k : Option (PendingCall T)). WhereAsked P k e.act (thens.Waits told)) was (subst (λ (o : Then T). WhereAsked P (call_of e.party past) e.act o) waits tells)
+    subst (λ (k : Option (PendingCall T)). WhereAsked P k e.act (Then.Waits told)) was (subst (λ (o : Then T). WhereAsked P (call_of e.party past) e.act o) waits tells)
 
 saw_now : {T : Type 0} (word : Word) (e : Event T) (own : List (Event T)) (told : ℕ) → sight_of word e.act ≡ Some told → SawLast word (e ∷ own) told
 saw_now word e own told is = subst (λ (s : Option ℕ). seen_by word (cond (is_some s) (Some e.act) (last_of (is_sight word) own)) ≡ Some told) (sym is) is
 
 -- as of most objects that is what a step saw of the lock's word;
 
-state_rows : {T P : Type 0} (t : Table T P) (past : List (Event T)) (e : Event T) → TellsRefusal (sight_at words.State) (e ∷ past) → WhereAStepWaits t (λ place. words.State) past e
-state_rows t past e tells c place next told was at acted waits leads = saw_now words.State e c.own told (asked (sight_at words.State) past e c told tells was waits)
+state_rows : {T P : Type 0} (t : Table T P) (past : List (Event T)) (e : Event T) → TellsRefusal (sight_at Word.State) (e ∷ past) → WhereAStepWaits t (λ place. Word.State) past e
+state_rows t past e tells c place next told was at acted waits leads = saw_now Word.State e c.own told (asked (sight_at Word.State) past e c told tells was waits)
 
 -- and a spin lock, a once, a lazy value and an atomic ask no closure.
 
-none_rows : {T P : Type 0} (t : Table T P) (watched : P → Word) (past : List (Event T)) (e : Event T) → ((place next : P) (x : Option ℕ) (told : ℕ) → t.after place x ≡ afters.Waits next told → ⊥) → WhereAStepWaits t watched past e
+none_rows : {T P : Type 0} (t : Table T P) (watched : P → Word) (past : List (Event T)) (e : Event T) → ((place next : P) (x : Option ℕ) (told : ℕ) → t.after place x ≡ After.Waits next told → ⊥) → WhereAStepWaits t watched past e
 none_rows t watched past e asks_none c place next told was at acted waits leads = absurd (asks_none place next _ told leads)
 
-spin_asks_none : {T : Type 0} (place next : SpinPlace) (x : Option ℕ) (told : ℕ) → spin_after {T = T} place x ≡ afters.Waits next told → ⊥
+spin_asks_none : {T : Type 0} (place next : SpinPlace) (x : Option ℕ) (told : ℕ) → spin_after {T = T} place x ≡ After.Waits next told → ⊥
 spin_asks_none place next x told is = grind arith
 
-once_asks_none : {T : Type 0} (place next : OncePlace) (x : Option ℕ) (told : ℕ) → once_after {T = T} place x ≡ afters.Waits next told → ⊥
+once_asks_none : {T : Type 0} (place next : OncePlace) (x : Option ℕ) (told : ℕ) → once_after {T = T} place x ≡ After.Waits next told → ⊥
 once_asks_none place next x told is = grind arith
 
-lazy_asks_none : {T : Type 0} (v : T) (place next : LazyPlace) (x : Option ℕ) (told : ℕ) → lazy_after v place x ≡ afters.Waits next told → ⊥
+lazy_asks_none : {T : Type 0} (v : T) (place next : LazyPlace) (x : Option ℕ) (told : ℕ) → lazy_after v place x ≡ After.Waits next told → ⊥
 lazy_asks_none v place next x told is = grind arith
 
-atomic_asks_none : {T : Type 0} (z : Arithmetic T) (place next : AtomicPlace T) (x : Option ℕ) (told : ℕ) → atomic_after z place x ≡ afters.Waits next told → ⊥
+atomic_asks_none : {T : Type 0} (z : Arithmetic T) (place next : AtomicPlace T) (x : Option ℕ) (told : ℕ) → atomic_after z place x ≡ After.Waits next told → ⊥
 atomic_asks_none z place next x told is = grind arith
 
 -- A writer's last look tells no count: that was loaded before it.
 
 abbrev count_at : RwWriterPlace → Option ℕ
-count_at (writer_places.LastLook count patience) = Some count
+count_at (RwWriterPlace.LastLook count patience) = Some count
 count_at place = None
 
 abbrev AtCount : {T : Type 0} → RwWriterPlace → PendingCall T → Option HoldKind → Type 0
-AtCount place c hold = MatchOption (count_at place) (Unit {0}) (λ count. SawLast words.Counter c.own count)
+AtCount place c hold = MatchOption (count_at place) (Unit {0}) (λ count. SawLast Word.Counter c.own count)
 
 -- the step at a place of the lock
 abbrev act_at : {T : Type 0} → RwWriterPlace → Option HoldKind → (Word → ℕ) → Act T
-act_at place hold memory = carried_out (rw_writer_intent words.State words.Counter place hold) memory
+act_at place hold memory = carried_out (rw_writer_intent Word.State Word.Counter place hold) memory
 
 abbrev after_at : {T : Type 0} → RwWriterPlace → Option HoldKind → (Word → ℕ) → After T RwWriterPlace
 after_at {T} place hold memory = rw_writer_after place (value_told {T = T} (act_at place hold memory))
 
 count_led : {T : Type 0} (place next : RwWriterPlace) (hold : Option HoldKind) (memory : Word → ℕ) (count : ℕ) →
-    place_after (after_at {T = T} place hold memory) ≡ Some next → count_at next ≡ Some count → act_at {T = T} place hold memory ≡ acts.Load words.Counter count
+    place_after (after_at {T = T} place hold memory) ≡ Some next → count_at next ≡ Some count → act_at {T = T} place hold memory ≡ Act.Load Word.Counter count
 count_led place next hold memory count leads is = grind (arith, nat_tests)
 
-writer_told : {T : Type 0} (place next : RwWriterPlace) (hold : Option HoldKind) (memory : Word → ℕ) (told : ℕ) → after_at {T = T} place hold memory ≡ afters.Waits next told → count_at place ≡ None →
-    sight_of {T = T} (watched_word {T = T} objects.WriterLock (places.RwWriter next)) (act_at place hold memory) ≡ Some told
+writer_told : {T : Type 0} (place next : RwWriterPlace) (hold : Option HoldKind) (memory : Word → ℕ) (told : ℕ) → after_at {T = T} place hold memory ≡ After.Waits next told → count_at place ≡ None →
+    sight_of {T = T} (watched_word {T = T} Object.WriterLock (Place.RwWriter next)) (act_at place hold memory) ≡ Some told
 writer_told place next hold memory told is none = grind (arith, nat_tests)
 
-writer_counted : {T : Type 0} (place next : RwWriterPlace) (hold : Option HoldKind) (memory : Word → ℕ) (told count : ℕ) → after_at {T = T} place hold memory ≡ afters.Waits next told → count_at place ≡ Some count → count ≡ told
+writer_counted : {T : Type 0} (place next : RwWriterPlace) (hold : Option HoldKind) (memory : Word → ℕ) (told count : ℕ) → after_at {T = T} place hold memory ≡ After.Waits next told → count_at place ≡ Some count → count ≡ told
 writer_counted place next hold memory told count is some = grind (arith, nat_tests)
 
-last_waits : {T : Type 0} (count v told : ℕ) (patience : Patience) (next : RwWriterPlace) → last_look {T = T} count patience v ≡ afters.Waits next told → watched_word {T = T} objects.WriterLock (places.RwWriter next) ≡ words.Counter
+last_waits : {T : Type 0} (count v told : ℕ) (patience : Patience) (next : RwWriterPlace) → last_look {T = T} count patience v ≡ After.Waits next told → watched_word {T = T} Object.WriterLock (Place.RwWriter next) ≡ Word.Counter
 last_waits count v told patience next is = grind (arith, nat_tests)
 
 abbrev patience_at : RwWriterPlace → Patience
-patience_at (writer_places.LastLook count patience) = patience
+patience_at (RwWriterPlace.LastLook count patience) = patience
 patience_at place = record { spins = 0; keep = true }
 
-is_last : (place : RwWriterPlace) (count : ℕ) → count_at place ≡ Some count → place ≡ writer_places.LastLook count (patience_at place)
+is_last : (place : RwWriterPlace) (count : ℕ) → count_at place ≡ Some count → place ≡ RwWriterPlace.LastLook count (patience_at place)
 is_last place count is = grind arith
 
-writer_watches : {T : Type 0} (place next : RwWriterPlace) (hold : Option HoldKind) (memory : Word → ℕ) (told count : ℕ) → after_at {T = T} place hold memory ≡ afters.Waits next told → count_at place ≡ Some count →
-    (watched_word {T = T} objects.WriterLock (places.RwWriter next) ≡ words.Counter)
+writer_watches : {T : Type 0} (place next : RwWriterPlace) (hold : Option HoldKind) (memory : Word → ℕ) (told count : ℕ) → after_at {T = T} place hold memory ≡ After.Waits next told → count_at place ≡ Some count →
+    (watched_word {T = T} Object.WriterLock (Place.RwWriter next) ≡ Word.Counter)
 writer_watches {T} place next hold memory told count is some =
-    last_waits {T = T} count (memory words.State) told (patience_at place) next (subst (λ p. after_at {T = T} p hold memory ≡ afters.Waits next told) (is_last place count some) is)
+    last_waits {T = T} count (memory Word.State) told (patience_at place) next (subst (λ p. after_at {T = T} p hold memory ≡ After.Waits next told) (is_last place count some) is)
 
-writer_looks : {T : Type 0} (place : RwWriterPlace) (hold : Option HoldKind) (memory : Word → ℕ) (count : ℕ) → count_at place ≡ Some count → act_at {T = T} place hold memory ≡ acts.Load words.State (memory words.State)
+writer_looks : {T : Type 0} (place : RwWriterPlace) (hold : Option HoldKind) (memory : Word → ℕ) (count : ℕ) → count_at place ≡ Some count → act_at {T = T} place hold memory ≡ Act.Load Word.State (memory Word.State)
 writer_looks place hold memory count some = grind arith
 
 count_kept : {T : Type 0} → IsKept {T = T} rw_writer_table AtCount
@@ -177,11 +138,11 @@ count_kept {T} =
       chooses = λ place c hold choice number at stands. at;
     }
   where
-    count_begun : (call : Call T) (place : RwWriterPlace) → rw_writer_begins call ≡ Some place → MatchOption (count_at place) (Unit {0}) (λ count. SawLast {T = T} words.Counter [] count)
+    count_begun : (call : Call T) (place : RwWriterPlace) → rw_writer_begins call ≡ Some place → MatchOption (count_at place) (Unit {0}) (λ count. SawLast {T = T} Word.Counter [] count)
     count_begun call place is = grind arith
 
     count_answered : (place : RwWriterPlace) (c : PendingCall T) (hold : Option HoldKind) (action : WaitAction) (number : ℕ) → AtCount place c hold →
-        AtCount (rw_writer_answered place action) (record { call = c.call; own = event number (acts.Answered action) thens.GoesOn ∷ c.own }) hold
+        AtCount (rw_writer_answered place action) (record { call = c.call; own = event number (Act.Answered action) Then.GoesOn ∷ c.own }) hold
     count_answered place c hold action number at = grind arith
 
     count_stepped : (place next : RwWriterPlace) (c : PendingCall T) (hold : Option HoldKind) (memory : Word → ℕ) (number : ℕ) → place_after (after_at {T = T} place hold memory) ≡ Some next →
@@ -191,24 +152,24 @@ count_kept {T} =
         e : Event T
         e = event number (act_at place hold memory) (outcome_of (after_at {T = T} place hold memory))
 
-        by_count : (count : Option ℕ) → count_at next ≡ count → MatchOption count (Unit {0}) (λ n. SawLast words.Counter (e ∷ c.own) n)
+        by_count : (count : Option ℕ) → count_at next ≡ count → MatchOption count (Unit {0}) (λ n. SawLast Word.Counter (e ∷ c.own) n)
         by_count None is = tt
-        by_count (Some n) is = saw_now words.Counter e c.own n (ap (sight_of words.Counter) (count_led place next hold memory n leads is))
+        by_count (Some n) is = saw_now Word.Counter e c.own n (ap (sight_of Word.Counter) (count_led place next hold memory n leads is))
 
 -- A wait at a condition variable is refused by the permits, and later by the mutex's word: each time by the word that it has just seen.
 
-refused_by_sight : {T : Type 0} (call : Call T) (own : List (Event T)) (act : Act T) (told : ℕ) → refused_by call own act ≡ Some told → (sight_of words.State act ≡ Some told) ⊎ (sight_of words.Value act ≡ Some told)
+refused_by_sight : {T : Type 0} (call : Call T) (own : List (Event T)) (act : Act T) (told : ℕ) → refused_by call own act ≡ Some told → (sight_of Word.State act ≡ Some told) ⊎ (sight_of Word.Value act ≡ Some told)
 refused_by_sight call own act told is = grind arith
 
-watches_mutex : {T : Type 0} (place next : CondvarPlace) (memory : Word → ℕ) (told seen : ℕ) → condvar_after {T = T} place (value_told {T = T} (carried_out (condvar_intent place) memory)) ≡ afters.Waits next told →
-    sight_of {T = T} words.State (carried_out (condvar_intent place) memory) ≡ Some seen → watched_word {T = T} objects.Condvar (places.Condvar next) ≡ words.State
+watches_mutex : {T : Type 0} (place next : CondvarPlace) (memory : Word → ℕ) (told seen : ℕ) → condvar_after {T = T} place (value_told {T = T} (carried_out (condvar_intent place) memory)) ≡ After.Waits next told →
+    sight_of {T = T} Word.State (carried_out (condvar_intent place) memory) ≡ Some seen → watched_word {T = T} Object.Condvar (Place.Condvar next) ≡ Word.State
 watches_mutex place next memory told seen is sees = grind (arith, nat_tests)
 
-watches_permits : {T : Type 0} (place next : CondvarPlace) (memory : Word → ℕ) (told seen : ℕ) → condvar_after {T = T} place (value_told {T = T} (carried_out (condvar_intent place) memory)) ≡ afters.Waits next told →
-    sight_of {T = T} words.Value (carried_out (condvar_intent place) memory) ≡ Some seen → watched_word {T = T} objects.Condvar (places.Condvar next) ≡ words.Value
+watches_permits : {T : Type 0} (place next : CondvarPlace) (memory : Word → ℕ) (told seen : ℕ) → condvar_after {T = T} place (value_told {T = T} (carried_out (condvar_intent place) memory)) ≡ After.Waits next told →
+    sight_of {T = T} Word.Value (carried_out (condvar_intent place) memory) ≡ Some seen → watched_word {T = T} Object.Condvar (Place.Condvar next) ≡ Word.Value
 watches_permits place next memory told seen is sees = grind (arith, nat_tests)
 
-writer_rows : {T : Type 0} (z : Arithmetic T) (parties : ℕ) (past : List (Event T)) (e : Event T) → IsPast z objects.WriterLock parties (e ∷ past) → WhereAStepWaits {T = T} (table_of z objects.WriterLock) (λ place. watched_word {T = T} objects.WriterLock (place_in {T = T} objects.WriterLock place)) past e
+writer_rows : {T : Type 0} (z : Arithmetic T) (parties : ℕ) (past : List (Event T)) (e : Event T) → IsPast z Object.WriterLock parties (e ∷ past) → WhereAStepWaits {T = T} (table_of z Object.WriterLock) (λ place. watched_word {T = T} Object.WriterLock (place_in {T = T} Object.WriterLock place)) past e
 writer_rows {T} z parties past e run c place next told was at acted waits leads = by_count (count_at place) refl
   where
     hold : Option HoldKind
@@ -220,35 +181,35 @@ writer_rows {T} z parties past e run c place next told was at acted waits leads 
     Saw : Word → Type 0
     Saw word = SawLast word (e ∷ c.own) told
 
-    by_count : (count : Option ℕ) → count_at place ≡ count → Saw (watched_word {T = T} objects.WriterLock (places.RwWriter next))
-    by_count None none = saw_now _ e c.own told (ap (sight_of (watched_word {T = T} objects.WriterLock (places.RwWriter next))) acted ∙ writer_told place next hold memory told leads none)
+    by_count : (count : Option ℕ) → count_at place ≡ count → Saw (watched_word {T = T} Object.WriterLock (Place.RwWriter next))
+    by_count None none = saw_now _ e c.own told (ap (sight_of (watched_word {T = T} Object.WriterLock (Place.RwWriter next))) acted ∙ writer_told place next hold memory told leads none)
     by_count (Some count) some =
         let kept : AtCount place c hold = at_place z rw_writer_table parties AtCount count_kept past run.1.1 e.party c place was at in
-        let saw : SawLast words.Counter c.own count = subst (λ (k : Option ℕ). MatchOption k (Unit {0}) (λ n. SawLast words.Counter c.own n)) some kept in
-        let later : SawLast words.Counter (e ∷ c.own) count = subst (λ (act : Act T). SawLast words.Counter (event e.party act e.then ∷ c.own) count) (sym (acted ∙ writer_looks place hold memory count some)) saw in
-        subst Saw (sym (writer_watches place next hold memory told count leads some)) (subst (λ n. SawLast words.Counter (e ∷ c.own) n) (writer_counted place next hold memory told count leads some) later)
+        let saw : SawLast Word.Counter c.own count = subst (λ (k : Option ℕ). MatchOption k (Unit {0}) (λ n. SawLast Word.Counter c.own n)) some kept in
+        let later : SawLast Word.Counter (e ∷ c.own) count = subst (λ (act : Act T). SawLast Word.Counter (event e.party act e.then ∷ c.own) count) (sym (acted ∙ writer_looks place hold memory count some)) saw in
+        subst Saw (sym (writer_watches place next hold memory told count leads some)) (subst (λ n. SawLast Word.Counter (e ∷ c.own) n) (writer_counted place next hold memory told count leads some) later)
 
-condvar_rows : {T : Type 0} (z : Arithmetic T) (parties : ℕ) (past : List (Event T)) (e : Event T) → IsPast z objects.Condvar parties (e ∷ past) → WhereAStepWaits {T = T} (table_of z objects.Condvar) (λ place. watched_word {T = T} objects.Condvar (place_in {T = T} objects.Condvar place)) past e
-condvar_rows {T} z parties past e run c place next told was at acted waits leads = by_sight (refused_by_sight c.call c.own e.act told (asked refused_by past e c told (headline z objects.Condvar parties (e ∷ past) run).law.waits.tells was waits))
+condvar_rows : {T : Type 0} (z : Arithmetic T) (parties : ℕ) (past : List (Event T)) (e : Event T) → IsPast z Object.Condvar parties (e ∷ past) → WhereAStepWaits {T = T} (table_of z Object.Condvar) (λ place. watched_word {T = T} Object.Condvar (place_in {T = T} Object.Condvar place)) past e
+condvar_rows {T} z parties past e run c place next told was at acted waits leads = by_sight (refused_by_sight c.call c.own e.act told (asked refused_by past e c told (headline z Object.Condvar parties (e ∷ past) run).law.waits.tells was waits))
   where
     memory : Word → ℕ
     memory = word_in {T = T} condvar_table past
 
-    by_sight : (sight_of words.State e.act ≡ Some told) ⊎ (sight_of words.Value e.act ≡ Some told) → SawLast (watched_word {T = T} objects.Condvar (places.Condvar next)) (e ∷ c.own) told
-    by_sight (inl saw) = subst (λ word. SawLast word (e ∷ c.own) told) (sym (watches_mutex {T = T} place next memory told told leads (ap (sight_of words.State) (sym acted) ∙ saw))) (saw_now words.State e c.own told saw)
-    by_sight (inr saw) = subst (λ word. SawLast word (e ∷ c.own) told) (sym (watches_permits {T = T} place next memory told told leads (ap (sight_of words.Value) (sym acted) ∙ saw))) (saw_now words.Value e c.own told saw)
+    by_sight : (sight_of Word.State e.act ≡ Some told) ⊎ (sight_of Word.Value e.act ≡ Some told) → SawLast (watched_word {T = T} Object.Condvar (Place.Condvar next)) (e ∷ c.own) told
+    by_sight (inl saw) = subst (λ word. SawLast word (e ∷ c.own) told) (sym (watches_mutex {T = T} place next memory told told leads (ap (sight_of Word.State) (sym acted) ∙ saw))) (saw_now Word.State e c.own told saw)
+    by_sight (inr saw) = subst (λ word. SawLast word (e ∷ c.own) told) (sym (watches_permits {T = T} place next memory told told leads (ap (sight_of Word.Value) (sym acted) ∙ saw))) (saw_now Word.Value e c.own told saw)
 
 rows : {T : Type 0} (z : Arithmetic T) (o : Object T) (parties : ℕ) (past : List (Event T)) (e : Event T) → IsPast z o parties (e ∷ past) → WhereAStepWaits (table_of z o) (λ place. watched_word o (place_in o place)) past e
-rows z objects.Mutex parties past e run = state_rows (table_of z objects.Mutex) past e (headline z objects.Mutex parties (e ∷ past) run).law.waits.tells
-rows {T} z objects.Spin parties past e run = none_rows (table_of z objects.Spin) (λ place. words.State) past e (spin_asks_none {T = T})
-rows z (objects.Semaphore initial) parties past e run = state_rows (table_of z (objects.Semaphore initial)) past e (headline z (objects.Semaphore initial) parties (e ∷ past) run).law.waits.tells
-rows z (objects.Barrier n) parties past e run = state_rows (table_of z (objects.Barrier n)) past e (headline z (objects.Barrier n) parties (e ∷ past) run).law.waits.tells
-rows z objects.ReaderLock parties past e run = state_rows (table_of z objects.ReaderLock) past e (headline z objects.ReaderLock parties (e ∷ past) run).law.waits.tells
-rows z objects.WriterLock parties past e run = writer_rows z parties past e run
-rows z objects.Condvar parties past e run = condvar_rows z parties past e run
-rows {T} z objects.Once parties past e run = none_rows (table_of z objects.Once) (λ place. words.State) past e (once_asks_none {T = T})
-rows {T} z (objects.Lazy v) parties past e run = none_rows (table_of z (objects.Lazy v)) (λ place. words.State) past e (lazy_asks_none v)
-rows {T} z (objects.Atomic v) parties past e run = none_rows (table_of z (objects.Atomic v)) (λ place. words.State) past e (atomic_asks_none z)
+rows z Object.Mutex parties past e run = state_rows (table_of z Object.Mutex) past e (headline z Object.Mutex parties (e ∷ past) run).law.waits.tells
+rows {T} z Object.Spin parties past e run = none_rows (table_of z Object.Spin) (λ place. Word.State) past e (spin_asks_none {T = T})
+rows z (Object.Semaphore initial) parties past e run = state_rows (table_of z (Object.Semaphore initial)) past e (headline z (Object.Semaphore initial) parties (e ∷ past) run).law.waits.tells
+rows z (Object.Barrier n) parties past e run = state_rows (table_of z (Object.Barrier n)) past e (headline z (Object.Barrier n) parties (e ∷ past) run).law.waits.tells
+rows z Object.ReaderLock parties past e run = state_rows (table_of z Object.ReaderLock) past e (headline z Object.ReaderLock parties (e ∷ past) run).law.waits.tells
+rows z Object.WriterLock parties past e run = writer_rows z parties past e run
+rows z Object.Condvar parties past e run = condvar_rows z parties past e run
+rows {T} z Object.Once parties past e run = none_rows (table_of z Object.Once) (λ place. Word.State) past e (once_asks_none {T = T})
+rows {T} z (Object.Lazy v) parties past e run = none_rows (table_of z (Object.Lazy v)) (λ place. Word.State) past e (lazy_asks_none v)
+rows {T} z (Object.Atomic v) parties past e run = none_rows (table_of z (Object.Atomic v)) (λ place. Word.State) past e (atomic_asks_none z)
 
 pub tells_watched : {T : Type 0} (z : Arithmetic T) (o : Object T) (parties : ℕ) (past : List (Event T)) → IsPast z o parties past → TellsWatched z o past
 tells_watched z o parties [] run = tt

@@ -1,10 +1,5 @@
 -- What holds at every front of every run.
-use Rattle.std.specs.Prelude.{ℕ, List}
-use Rattle.steps_events.specs.declared.event.Call.{Call}
-use Rattle.steps_events.specs.declared.event.Event.{Event}
-use Rattle.steps_events.specs.declared.event.Object.{Object}
-use Rattle.steps_events.specs.declared.event.Object.TheVariants as objects
-use Rattle.steps_events.specs.Arithmetic.{Arithmetic}
+use Rattle.sync_steps.specs.Names.{ℕ, List, Call, Event, Object, Arithmetic, CondvarCause, CondvarLaw}
 use Rattle.steps_events.specs.Laws.{Keeps}
 use Rattle.steps_mutex.specs.Law.{MutexCause, MutexLaw}
 use Rattle.steps_spin.specs.Law.{SpinCause, SpinLaw}
@@ -12,7 +7,6 @@ use Rattle.steps_semaphore.specs.Law.{SemaphoreCause, SemaphoreLaw}
 use Rattle.steps_barrier.specs.Law.{BarrierCause, BarrierLaw}
 use Rattle.steps_rw_reader.specs.Law.{RwReaderCause, RwReaderLaw}
 use Rattle.steps_rw_writer.specs.Law.{RwWriterCause, RwWriterLaw}
-use Rattle.steps_condvar.specs.Law.{CondvarCause, CondvarLaw}
 use Rattle.steps_once.specs.Law.{OnceCause, OnceLaw}
 use Rattle.steps_lazy.specs.Law.{LazyCause, LazyLaw}
 use Rattle.steps_atomic.specs.Law.{AtomicCause, AtomicLaw}
@@ -20,30 +14,30 @@ use Rattle.sync_steps.specs.Objects.{table_of}
 
 -- why a call of the object was refused, by the events up to its answer
 abbrev pub CauseOf : {T : Type 0} → Object T → Call T → ℕ → List (Event T) → Type 0
-CauseOf objects.Mutex = MutexCause
-CauseOf objects.Spin = SpinCause
-CauseOf (objects.Semaphore initial) = SemaphoreCause initial
-CauseOf (objects.Barrier n) = BarrierCause n
-CauseOf objects.ReaderLock = RwReaderCause
-CauseOf objects.WriterLock = RwWriterCause
-CauseOf objects.Condvar = CondvarCause
-CauseOf objects.Once = OnceCause
-CauseOf (objects.Lazy v) = LazyCause
-CauseOf (objects.Atomic v) = AtomicCause
+CauseOf Object.Mutex = MutexCause
+CauseOf Object.Spin = SpinCause
+CauseOf (Object.Semaphore initial) = SemaphoreCause initial
+CauseOf (Object.Barrier n) = BarrierCause n
+CauseOf Object.ReaderLock = RwReaderCause
+CauseOf Object.WriterLock = RwWriterCause
+CauseOf Object.Condvar = CondvarCause
+CauseOf Object.Once = OnceCause
+CauseOf (Object.Lazy v) = LazyCause
+CauseOf (Object.Atomic v) = AtomicCause
 
 -- What each object keeps beside: no more permits are taken than given, a barrier's round is full before it is passed, a once's closure ends before any call tells
 -- of it, every answer of a lazy value is its value, an atomic answers as one register, ..
 abbrev pub LawOf : {T : Type 0} → Arithmetic T → Object T → List (Event T) → Type 0
-LawOf z objects.Mutex = MutexLaw
-LawOf z objects.Spin = SpinLaw
-LawOf z (objects.Semaphore initial) = SemaphoreLaw initial
-LawOf z (objects.Barrier n) = BarrierLaw n
-LawOf z objects.ReaderLock = RwReaderLaw
-LawOf z objects.WriterLock = RwWriterLaw
-LawOf z objects.Condvar = CondvarLaw
-LawOf z objects.Once = OnceLaw
-LawOf z (objects.Lazy v) = LazyLaw v
-LawOf z (objects.Atomic v) = AtomicLaw z v
+LawOf z Object.Mutex = MutexLaw
+LawOf z Object.Spin = SpinLaw
+LawOf z (Object.Semaphore initial) = SemaphoreLaw initial
+LawOf z (Object.Barrier n) = BarrierLaw n
+LawOf z Object.ReaderLock = RwReaderLaw
+LawOf z Object.WriterLock = RwWriterLaw
+LawOf z Object.Condvar = CondvarLaw
+LawOf z Object.Once = OnceLaw
+LawOf z (Object.Lazy v) = LazyLaw v
+LawOf z (Object.Atomic v) = AtomicLaw z v
 
 -- *told*, *exclusive*, *cause*, and the object's law
 abbrev pub Headline : {T : Type 0} → Arithmetic T → Object T → List (Event T) → Type 0

@@ -1,3 +1,4 @@
+pub mod Names
 pub mod Objects
 pub mod Runs
 pub mod Law

@@ -1,19 +1,7 @@
 -- What contracts see of a machine, when a run stands at it, and what its calls promise.
-use Rattle.std.specs.Prelude.{◌≡◌, ℕ, ◌-◌, ◌^◌, ◌<◌, min, List, ◌∷◌, length, take, Option, Some, slice_get, false}
-use Rattle.std.specs.Option.{ForSome}
-use Rattle.steps_events.specs.declared.event.Event.{Event}
-use Rattle.steps_events.specs.declared.event.Input.{Input}
-use Rattle.steps_events.specs.declared.event.Object.{Object}
-use Rattle.steps_events.specs.declared.event.StepFault.{StepFault}
-use Rattle.steps_events.specs.declared.event.Word.{Word}
-use Rattle.steps_events.specs.declared.hold.HoldKind.{HoldKind}
+use Rattle.sync_steps.specs.Names.{◌≡◌, ℕ, ◌-◌, ◌^◌, ◌<◌, min, List, ◌∷◌, length, take, Option, Some, slice_get, false, ForSome, Event, Input, Object, StepFault, Word, HoldKind, Arithmetic, call_of, hold_of, failures_in, after, AtEveryFront, word_at}
 use Rattle.steps_events.specs.declared.words.Words.{Words}
-use Rattle.steps_events.specs.Arithmetic.{Arithmetic}
-use Rattle.steps_events.specs.Past.{call_of, hold_of, failures_in}
-use Rattle.steps_events.specs.Runs.{after, AtEveryFront}
-use Rattle.steps_events.specs.WordsAt.{word_at}
 use Rattle.sync_steps.specs.declared.steps.fault.PlayFault.{PlayFault}
-use Rattle.sync_steps.specs.declared.steps.fault.PlayFault.TheVariants as faults
 use Rattle.sync_steps.specs.declared.steps.place.Party.{Party}
 use Rattle.sync_steps.specs.Objects.{table_of, has_word}
 use Rattle.sync_steps.specs.Runs.{word_in, fault_of, IsNext, IsPast, IsRun}
@@ -101,5 +89,5 @@ pub record PlaysUpTo {T : Type 0} (z : Arithmetic T) (o : Object T) (parties : �
 
 -- playing ended early: for want of memory before the first step, or at a refused input
 abbrev pub Refuses : {T A : Type 0} → Arithmetic T → List (ℕ × Input T) → Configuration T → Configuration T → PlayFault T A → Type 0
-Refuses z schedule old new faults.Memory = new ≡ old
-Refuses z schedule old new (faults.Step done fault) = ForRunAt z old (λ o parties past. PlaysUpTo z o parties past schedule done.items fault new)
+Refuses z schedule old new PlayFault.Memory = new ≡ old
+Refuses z schedule old new (PlayFault.Step done fault) = ForRunAt z old (λ o parties past. PlaysUpTo z o parties past schedule done.items fault new)

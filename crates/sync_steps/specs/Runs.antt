@@ -1,15 +1,7 @@
 -- Runs of an object: those of its table, where what it is opened with is a value of its type.
-use Rattle.std.specs.Prelude.{ℕ, List, Option}
-use Rattle.steps_events.specs.declared.event.Event.{Event}
-use Rattle.steps_events.specs.declared.event.Input.{Input}
-use Rattle.steps_events.specs.declared.event.Object.{Object}
-use Rattle.steps_events.specs.declared.event.StepFault.{StepFault}
-use Rattle.steps_events.specs.declared.event.Word.{Word}
-use Rattle.steps_events.specs.Arithmetic.{Arithmetic}
+use Rattle.sync_steps.specs.Names.{ℕ, List, Option, Event, Input, Object, StepFault, Word, Arithmetic, Hold, Move}
 use Rattle.steps_events.specs.Past as pasts
-use Rattle.steps_events.specs.Past.{Hold}
 use Rattle.steps_events.specs.Moves as moves
-use Rattle.steps_events.specs.Moves.{Move}
 use Rattle.steps_events.specs.Runs as runs
 use Rattle.sync_steps.specs.Objects.{table_of, IsObject}
 

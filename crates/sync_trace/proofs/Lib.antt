@@ -1,3 +1,4 @@
+pub mod Names
 pub mod QuietLaws
 pub mod CellLaws
 pub mod RowLaws

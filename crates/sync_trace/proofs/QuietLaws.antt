@@ -1,25 +1,9 @@
 -- Of equal events in a row that leave all as it is, each reads as the first.
-use Rattle.std.proofs.Common.{◌≡◌, ℕ, zero, suc, ◌+◌, ◌==◌, ◌&&◌, not, Bool, true, false, cond, List, ◌∷◌, Option, refl, ap, ◌∙◌}
+use Rattle.sync_trace.specs.Names.{decimal, Act, Event, Object, Word, HoldKind, Arithmetic, PendingCall, Hold, same_word, word_after, is_release, hold_taken, with_hold, without, call_of, holds_of, hold_among, hold_of, is_quiet, table_of, word_in, Header, Step, after_times, Numerals}
+use Rattle.sync_trace.proofs.Names.{◌≡◌, ℕ, zero, suc, ◌+◌, ◌==◌, ◌&&◌, not, Bool, true, false, cond, List, ◌∷◌, Option, refl, ap, ◌∙◌}
 use std.Path.{fun_ext}
-use Rattle.std.specs.Fmt.{decimal}
-use Rattle.steps_events.specs.declared.event.Act.{Act}
-use Rattle.steps_events.specs.declared.event.Act.TheVariants as acts
-use Rattle.steps_events.specs.declared.event.Event.{Event}
-use Rattle.steps_events.specs.declared.event.Object.{Object}
-use Rattle.steps_events.specs.declared.event.Word.{Word}
-use Rattle.steps_events.specs.declared.event.Word.TheVariants as words
-use Rattle.steps_events.specs.declared.hold.HoldKind.{HoldKind}
-use Rattle.steps_events.specs.Arithmetic.{Arithmetic}
-use Rattle.steps_events.specs.Past.{PendingCall, Hold, same_word, word_after, is_release, hold_taken, with_hold, without, call_of, holds_of, hold_among, hold_of}
 use Rattle.steps_events.specs.Tables.{Table}
-use Rattle.sync_steps.specs.Machine.Strides.{is_quiet}
-use Rattle.sync_steps.specs.Objects.{table_of}
-use Rattle.sync_steps.specs.Runs.{word_in}
-use Rattle.sync_lines.specs.declared.header.Header.{Header}
-use Rattle.sync_play.specs.declared.walk.Step.{Step}
-use Rattle.sync_play.specs.Walk.{after_times}
 use Rattle.sync_trace.specs.Cells.{Texts, act_words, standing_words, words_text, with_holder, holders, or_dash, cells_at}
-use Rattle.sync_lines.specs.Numerals.{Numerals}
 
 module _ {T : Type 0} (z : Arithmetic T) (numerals : Numerals T) where
   abbrev Ev : Type 0
@@ -35,36 +19,36 @@ module _ {T : Type 0} (z : Arithmetic T) (numerals : Numerals T) where
   abbrev held_after : {P : Type 0} → Table T P → ℕ → Act T → Option (PendingCall T) → List Hold → List Hold
   held_after t party act pending holds = cond (is_release act) (without party holds) (with_hold party (hold_taken t act pending) holds)
 
-  exchange_holds : {P : Type 0} (t : Table T P) (party : ℕ) (w : Word) (from to found : ℕ) (done : Bool) (pending : Option (PendingCall T)) (holds : List Hold) → not done ≡ true → held_after t party (acts.Exchange w from to found done) pending holds ≡ holds
+  exchange_holds : {P : Type 0} (t : Table T P) (party : ℕ) (w : Word) (from to found : ℕ) (done : Bool) (pending : Option (PendingCall T)) (holds : List Hold) → not done ≡ true → held_after t party (Act.Exchange w from to found done) pending holds ≡ holds
   exchange_holds t party w from to found true pending holds quiet = absurd cc
-  exchange_holds t party words.State from to found false pending holds quiet = refl
-  exchange_holds t party words.Counter from to found false pending holds quiet = refl
-  exchange_holds t party words.Waiters from to found false pending holds quiet = refl
-  exchange_holds t party words.Value from to found false pending holds quiet = refl
-  exchange_holds t party words.Low from to found false pending holds quiet = refl
-  exchange_holds t party words.High from to found false pending holds quiet = refl
+  exchange_holds t party Word.State from to found false pending holds quiet = refl
+  exchange_holds t party Word.Counter from to found false pending holds quiet = refl
+  exchange_holds t party Word.Waiters from to found false pending holds quiet = refl
+  exchange_holds t party Word.Value from to found false pending holds quiet = refl
+  exchange_holds t party Word.Low from to found false pending holds quiet = refl
+  exchange_holds t party Word.High from to found false pending holds quiet = refl
 
-  swap_holds : {P : Type 0} (t : Table T P) (party : ℕ) (w : Word) (old put : ℕ) (pending : Option (PendingCall T)) (holds : List Hold) → not (old == 0) ≡ true → held_after t party (acts.Swap w old put) pending holds ≡ holds
-  swap_holds t party words.State zero put pending holds quiet = absurd cc
-  swap_holds t party words.State (suc old) put pending holds quiet = refl
-  swap_holds t party words.Counter old put pending holds quiet = refl
-  swap_holds t party words.Waiters old put pending holds quiet = refl
-  swap_holds t party words.Value old put pending holds quiet = refl
-  swap_holds t party words.Low old put pending holds quiet = refl
-  swap_holds t party words.High old put pending holds quiet = refl
+  swap_holds : {P : Type 0} (t : Table T P) (party : ℕ) (w : Word) (old put : ℕ) (pending : Option (PendingCall T)) (holds : List Hold) → not (old == 0) ≡ true → held_after t party (Act.Swap w old put) pending holds ≡ holds
+  swap_holds t party Word.State zero put pending holds quiet = absurd cc
+  swap_holds t party Word.State (suc old) put pending holds quiet = refl
+  swap_holds t party Word.Counter old put pending holds quiet = refl
+  swap_holds t party Word.Waiters old put pending holds quiet = refl
+  swap_holds t party Word.Value old put pending holds quiet = refl
+  swap_holds t party Word.Low old put pending holds quiet = refl
+  swap_holds t party Word.High old put pending holds quiet = refl
 
   act_holds : {P : Type 0} (t : Table T P) (party : ℕ) (act : Act T) (pending : Option (PendingCall T)) (holds : List Hold) → is_quiet act ≡ true → held_after t party act pending holds ≡ holds
-  act_holds t party (acts.Load w seen) pending holds quiet = refl
-  act_holds t party (acts.Exchange w from to found done) pending holds quiet = exchange_holds t party w from to found done pending holds quiet
-  act_holds t party (acts.Swap w old put) pending holds quiet = swap_holds t party w old put pending holds (and_right (old == put) (not (old == 0)) quiet)
-  act_holds t party (acts.Begun c) pending holds quiet = absurd cc
-  act_holds t party (acts.Store w put) pending holds quiet = absurd cc
-  act_holds t party (acts.Add w old put) pending holds quiet = absurd cc
-  act_holds t party (acts.Woke wake) pending holds quiet = absurd cc
-  act_holds t party (acts.Answered action) pending holds quiet = absurd cc
-  act_holds t party (acts.Chosen choice) pending holds quiet = absurd cc
-  act_holds t party acts.Ended pending holds quiet = absurd cc
-  act_holds t party (acts.ReadCell v) pending holds quiet = absurd cc
+  act_holds t party (Act.Load w seen) pending holds quiet = refl
+  act_holds t party (Act.Exchange w from to found done) pending holds quiet = exchange_holds t party w from to found done pending holds quiet
+  act_holds t party (Act.Swap w old put) pending holds quiet = swap_holds t party w old put pending holds (and_right (old == put) (not (old == 0)) quiet)
+  act_holds t party (Act.Begun c) pending holds quiet = absurd cc
+  act_holds t party (Act.Store w put) pending holds quiet = absurd cc
+  act_holds t party (Act.Add w old put) pending holds quiet = absurd cc
+  act_holds t party (Act.Woke wake) pending holds quiet = absurd cc
+  act_holds t party (Act.Answered action) pending holds quiet = absurd cc
+  act_holds t party (Act.Chosen choice) pending holds quiet = absurd cc
+  act_holds t party Act.Ended pending holds quiet = absurd cc
+  act_holds t party (Act.ReadCell v) pending holds quiet = absurd cc
 
   hold_again : (o : Object T) (e : Ev) (past : List Ev) (party : ℕ) → is_quiet e.act ≡ true → hold_of (table_of z o) party (e ∷ e ∷ past) ≡ hold_of (table_of z o) party (e ∷ past)
   hold_again o e past party quiet =
@@ -84,17 +68,17 @@ module _ {T : Type 0} (z : Arithmetic T) (numerals : Numerals T) where
   put_again false put value = refl
 
   word_again : (word : Word) (act : Act T) (value : ℕ) → word_after word act (word_after word act value) ≡ word_after word act value
-  word_again word (acts.Store w put) value = put_again (same_word w word) put value
-  word_again word (acts.Swap w old put) value = put_again (same_word w word) put value
-  word_again word (acts.Add w old put) value = put_again (same_word w word) put value
-  word_again word (acts.Exchange w from to found done) value = put_again (same_word w word && done) to value
-  word_again word (acts.Load w seen) value = refl
-  word_again word (acts.Begun c) value = refl
-  word_again word (acts.Woke wake) value = refl
-  word_again word (acts.Answered action) value = refl
-  word_again word (acts.Chosen choice) value = refl
-  word_again word acts.Ended value = refl
-  word_again word (acts.ReadCell v) value = refl
+  word_again word (Act.Store w put) value = put_again (same_word w word) put value
+  word_again word (Act.Swap w old put) value = put_again (same_word w word) put value
+  word_again word (Act.Add w old put) value = put_again (same_word w word) put value
+  word_again word (Act.Exchange w from to found done) value = put_again (same_word w word && done) to value
+  word_again word (Act.Load w seen) value = refl
+  word_again word (Act.Begun c) value = refl
+  word_again word (Act.Woke wake) value = refl
+  word_again word (Act.Answered action) value = refl
+  word_again word (Act.Chosen choice) value = refl
+  word_again word Act.Ended value = refl
+  word_again word (Act.ReadCell v) value = refl
 
   -- The cells.
 

@@ -1,10 +1,8 @@
 -- Rows, one more at a time.
-use Rattle.std.proofs.Common.{◌≡◌, ℕ, zero, suc, ◌+◌, ◌-◌, ◌^◌, ◌<◌, ◌≤◌, min, Bool, true, false, refl, sym, ◌∙◌, ap, subst, List, [], ◌∷◌, ◌++◌, length, take, get_or, append_assoc, Option, Some, None, arith}
-use Rattle.std.proofs.lemmas.List.{take_more, map-append, append-nil, length-map}
-use Rattle.std.specs.List.{take-map}
+use Rattle.sync_trace.specs.Names.{take-map, bytes_eq}
+use Rattle.sync_trace.proofs.Names.{◌≡◌, ℕ, zero, suc, ◌+◌, ◌-◌, ◌^◌, ◌<◌, ◌≤◌, min, Bool, true, false, refl, sym, ◌∙◌, ap, subst, List, [], ◌∷◌, ◌++◌, length, take, get_or, append_assoc, Option, Some, None, arith, take_more, map-append, append-nil, length-map}
 use Rattle.std.proofs.lemmas.List.Concat.{flat_map-append}
 use Rattle.std.proofs.lemmas.Slice.Eq.{bytes_eq-Decides}
-use Rattle.std.specs.Str.{bytes_eq}
 use Rattle.sync_trace.specs.declared.rows.Row.{Row}
 use Rattle.sync_trace.specs.declared.table.Line.{Line}
 use Rattle.sync_trace.specs.declared.table.Widths.{Widths}

@@ -1,20 +1,8 @@
 -- The rows of a walk, one more step at a time.
-use Rattle.std.proofs.Common.{◌≡◌, ℕ, zero, suc, ◌<◌, true, IfSome, arith, ◌++◌, refl, sym, ◌∙◌, ap, subst, List, [], ◌∷◌, Option, Some, None, Result, Ok, Err}
-use Rattle.std.specs.Prelude.{replicate}
-use Rattle.steps_events.specs.declared.event.Event.{Event}
-use Rattle.steps_events.specs.declared.event.Object.{Object}
-use Rattle.steps_events.specs.Arithmetic.{Arithmetic}
-use Rattle.steps_events.specs.Runs.{after}
-use Rattle.sync_steps.specs.Machine.{Configuration, StandsAt}
-use Rattle.sync_steps.specs.Machine.Strides.{is_quiet, IsQuiet}
-use Rattle.sync_lines.specs.declared.header.Header.{Header}
-use Rattle.sync_lines.specs.Lexer.{lines_of}
-use Rattle.sync_lines.specs.declared.fault.FaultyLine.{FaultyLine}
+use Rattle.sync_trace.specs.Names.{replicate, Event, Object, Arithmetic, after, Configuration, StandsAt, is_quiet, IsQuiet, Header, lines_of, FaultyLine, Step, events_in, Walk, steps_then, nothing, go_walk, lines_walk, opened, rest_walk, after_times, IsNextStride, Numerals}
+use Rattle.sync_trace.proofs.Names.{◌≡◌, ℕ, zero, suc, ◌<◌, true, IfSome, arith, ◌++◌, refl, sym, ◌∙◌, ap, subst, List, [], ◌∷◌, Option, Some, None, Result, Ok, Err}
 use Rattle.sync_play.specs.declared.walk.Rest.{Rest}
-use Rattle.sync_play.specs.declared.walk.Step.{Step}
 use Rattle.sync_play.specs.declared.walk.Stride.{Stride}
-use Rattle.sync_play.specs.WalkOutput.{events_in}
-use Rattle.sync_play.specs.Walk.{Walk, steps_then, nothing, go_walk, lines_walk, opened, rest_walk, after_times, IsNextStride}
 use Rattle.sync_play.proofs.PlayLaws.{events_then, fault_then}
 use Rattle.sync_play.proofs.TextLaws.{after_both}
 use Rattle.sync_trace.specs.declared.rows.Row.{Row}
@@ -25,7 +13,6 @@ use Rattle.sync_trace.specs.Table.{table}
 use Rattle.sync_trace.proofs.QuietLaws.{cells_again, cells_after}
 use Rattle.sync_trace.proofs.RowLaws.{trimmed_folded}
 use Rattle.sync_trace.specs.Trace.{rows_with, cells_along, HasAdded, RowsAndFault, rows_of_walk, rows_of_opened, rows_of, AreRowsOf, HasPlayed, Written, typed_trace}
-use Rattle.sync_lines.specs.Numerals.{Numerals}
 
 module _ {T : Type 0} (z : Arithmetic T) (numerals : Numerals T) where
   abbrev Ev : Type 0

@@ -1,30 +1,9 @@
 -- What a step's row says, cell by cell.
-use Rattle.std.specs.Prelude.{ℕ, zero, suc, ◌+◌, true, false, List, [], ◌∷◌, ◌++◌, Option, Some, None, codes, string_bytes}
-use Rattle.std.specs.Fmt.{decimal}
-use Rattle.steps_events.specs.declared.WaitAction.TheVariants as actions
-use Rattle.steps_events.specs.declared.event.Act.{Act}
-use Rattle.steps_events.specs.declared.event.Act.TheVariants as acts
+use Rattle.sync_trace.specs.Names.{ℕ, zero, suc, ◌+◌, true, false, List, [], ◌∷◌, ◌++◌, Option, Some, None, codes, string_bytes, decimal, WaitAction, Act, Event, Object, Wake, Word, HoldKind, Arithmetic, hold_of, table_of, word_in, Header, Numerals, answer_words, further_words, Step}
 use Rattle.steps_events.specs.declared.event.Call.{Call}
-use Rattle.steps_events.specs.declared.event.Event.{Event}
-use Rattle.steps_events.specs.declared.event.Object.{Object}
-use Rattle.steps_events.specs.declared.event.Object.TheVariants as objects
 use Rattle.steps_events.specs.declared.event.Then.{Then}
-use Rattle.steps_events.specs.declared.event.Then.TheVariants as thens
-use Rattle.steps_events.specs.declared.event.Wake.TheVariants as wakes
-use Rattle.steps_events.specs.declared.event.Word.{Word}
-use Rattle.steps_events.specs.declared.event.Word.TheVariants as words
-use Rattle.steps_events.specs.declared.hold.HoldKind.{HoldKind}
-use Rattle.steps_events.specs.declared.hold.HoldKind.TheVariants as kinds
-use Rattle.steps_events.specs.Arithmetic.{Arithmetic}
-use Rattle.steps_events.specs.Past.{hold_of}
-use Rattle.sync_steps.specs.Objects.{table_of}
-use Rattle.sync_steps.specs.Runs.{word_in}
-use Rattle.sync_lines.specs.declared.header.Header.{Header}
 use Rattle.sync_lines.specs.Call.{name_of}
 use Rattle.sync_lines.specs.Command.{values_written}
-use Rattle.sync_lines.specs.Numerals.{Numerals}
-use Rattle.sync_play.specs.Print.{answer_words, further_words}
-use Rattle.sync_play.specs.declared.walk.Step.{Step}
 use Rattle.sync_trace.specs.declared.cells.Cells.{Cells}
 
 -- The act.
@@ -41,68 +20,68 @@ call_words numerals call = name_of call ++ spaced (values_written numerals call)
 
 -- the first word of an object goes without its name
 abbrev pub verb_words : List ℕ → Word → List ℕ
-verb_words verb words.State = verb
-verb_words verb words.Counter = verb ++ codes " counter"
-verb_words verb words.Waiters = verb ++ codes " waiters"
-verb_words verb words.Value = verb ++ codes " value"
-verb_words verb words.Low = verb ++ codes " low"
-verb_words verb words.High = verb ++ codes " high"
+verb_words verb Word.State = verb
+verb_words verb Word.Counter = verb ++ codes " counter"
+verb_words verb Word.Waiters = verb ++ codes " waiters"
+verb_words verb Word.Value = verb ++ codes " value"
+verb_words verb Word.Low = verb ++ codes " low"
+verb_words verb Word.High = verb ++ codes " high"
 
 -- what a step did, and the values that it told and put
 abbrev pub act_words : {T : Type 0} → Numerals T → Act T → List ℕ
-act_words numerals (acts.Begun call) = call_words numerals call
-act_words numerals (acts.Load word seen) = verb_words (codes "load") word ++ (codes ", found " ++ decimal seen)
-act_words numerals (acts.Store word put) = verb_words (codes "store") word ++ (codes " " ++ decimal put)
-act_words numerals (acts.Swap word old put) = verb_words (codes "swap") word ++ (codes " in " ++ (decimal put ++ (codes ", found " ++ decimal old)))
-act_words numerals (acts.Add word old put) = verb_words (codes "add") word ++ (codes ", found " ++ (decimal old ++ (codes ", put " ++ decimal put)))
-act_words numerals (acts.Exchange word from to found true) =
+act_words numerals (Act.Begun call) = call_words numerals call
+act_words numerals (Act.Load word seen) = verb_words (codes "load") word ++ (codes ", found " ++ decimal seen)
+act_words numerals (Act.Store word put) = verb_words (codes "store") word ++ (codes " " ++ decimal put)
+act_words numerals (Act.Swap word old put) = verb_words (codes "swap") word ++ (codes " in " ++ (decimal put ++ (codes ", found " ++ decimal old)))
+act_words numerals (Act.Add word old put) = verb_words (codes "add") word ++ (codes ", found " ++ (decimal old ++ (codes ", put " ++ decimal put)))
+act_words numerals (Act.Exchange word from to found true) =
     verb_words (codes "exchange") word ++ (codes " " ++ (decimal from ++ (codes " for " ++ (decimal to ++ (codes ", found " ++ (decimal found ++ codes ", done"))))))
-act_words numerals (acts.Exchange word from to found false) =
+act_words numerals (Act.Exchange word from to found false) =
     verb_words (codes "exchange") word ++ (codes " " ++ (decimal from ++ (codes " for " ++ (decimal to ++ (codes ", found " ++ (decimal found ++ codes ", failed"))))))
-act_words numerals (acts.Woke wakes.One) = codes "wake one"
-act_words numerals (acts.Woke wakes.All) = codes "wake all"
-act_words numerals (acts.Answered actions.Continue) = codes "its closure answers Continue"
-act_words numerals (acts.Answered actions.Abort) = codes "its closure answers Abort"
-act_words numerals (acts.Chosen (Some v)) = codes "its closure answers some " ++ numerals.decimal_of v
-act_words numerals (acts.Chosen None) = codes "its closure answers none"
-act_words numerals acts.Ended = codes "its closure ends"
-act_words numerals (acts.ReadCell v) = codes "read the cell, found " ++ numerals.decimal_of v
+act_words numerals (Act.Woke Wake.One) = codes "wake one"
+act_words numerals (Act.Woke Wake.All) = codes "wake all"
+act_words numerals (Act.Answered WaitAction.Continue) = codes "its closure answers Continue"
+act_words numerals (Act.Answered WaitAction.Abort) = codes "its closure answers Abort"
+act_words numerals (Act.Chosen (Some v)) = codes "its closure answers some " ++ numerals.decimal_of v
+act_words numerals (Act.Chosen None) = codes "its closure answers none"
+act_words numerals Act.Ended = codes "its closure ends"
+act_words numerals (Act.ReadCell v) = codes "read the cell, found " ++ numerals.decimal_of v
 
 -- How the call stands.
 
 abbrev pub going_words : {T : Type 0} → Act T → List ℕ
-going_words (acts.Begun call) = codes "begins"
+going_words (Act.Begun call) = codes "begins"
 going_words act = codes "goes on"
 
 abbrev pub standing_words : {T : Type 0} → Numerals T → Act T → Then T → List ℕ
-standing_words numerals act thens.GoesOn = going_words act
-standing_words numerals act (thens.Waits seen) = codes "waits " ++ decimal seen
-standing_words numerals act (thens.Chooses old) = codes "chooses " ++ numerals.decimal_of old
-standing_words numerals act (thens.Answers answer) = answer_words numerals answer
+standing_words numerals act Then.GoesOn = going_words act
+standing_words numerals act (Then.Waits seen) = codes "waits " ++ decimal seen
+standing_words numerals act (Then.Chooses old) = codes "chooses " ++ numerals.decimal_of old
+standing_words numerals act (Then.Answers answer) = answer_words numerals answer
 
 -- The words of the object: the first, and the others by their names.
 
 abbrev pub words_text : {T : Type 0} → Arithmetic T → Numerals T → Object T → (Word → ℕ) → List ℕ
-words_text z numerals o memory = decimal (memory words.State) ++ further_words z numerals o memory
+words_text z numerals o memory = decimal (memory Word.State) ++ further_words z numerals o memory
 
 -- The holds.
 
 abbrev pub kind_words : HoldKind → List ℕ
-kind_words kinds.Read = codes " reads"
-kind_words kinds.Write = codes " writes"
+kind_words HoldKind.Read = codes " reads"
+kind_words HoldKind.Write = codes " writes"
 
 -- a party that holds something, and what, where the object has two kinds of holds
 abbrev pub holder_words : {T : Type 0} → Object T → ℕ → HoldKind → List ℕ
-holder_words objects.ReaderLock party kind = decimal (party + 1) ++ kind_words kind
-holder_words objects.WriterLock party kind = decimal (party + 1) ++ kind_words kind
-holder_words (objects.Atomic v) party kind = decimal (party + 1) ++ kind_words kind
-holder_words objects.Mutex party kind = decimal (party + 1)
-holder_words objects.Spin party kind = decimal (party + 1)
-holder_words (objects.Semaphore initial) party kind = decimal (party + 1)
-holder_words (objects.Barrier n) party kind = decimal (party + 1)
-holder_words objects.Condvar party kind = decimal (party + 1)
-holder_words objects.Once party kind = decimal (party + 1)
-holder_words (objects.Lazy v) party kind = decimal (party + 1)
+holder_words Object.ReaderLock party kind = decimal (party + 1) ++ kind_words kind
+holder_words Object.WriterLock party kind = decimal (party + 1) ++ kind_words kind
+holder_words (Object.Atomic v) party kind = decimal (party + 1) ++ kind_words kind
+holder_words Object.Mutex party kind = decimal (party + 1)
+holder_words Object.Spin party kind = decimal (party + 1)
+holder_words (Object.Semaphore initial) party kind = decimal (party + 1)
+holder_words (Object.Barrier n) party kind = decimal (party + 1)
+holder_words Object.Condvar party kind = decimal (party + 1)
+holder_words Object.Once party kind = decimal (party + 1)
+holder_words (Object.Lazy v) party kind = decimal (party + 1)
 
 abbrev pub after_comma : List ℕ → List ℕ
 after_comma [] = []

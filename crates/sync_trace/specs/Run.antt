@@ -1,10 +1,8 @@
 -- What became of a run of the program.
-use Rattle.std.specs.Prelude.{◌≡◌, ℕ, List, take, Option, Some, None}
+use Rattle.sync_trace.specs.Names.{◌≡◌, ℕ, List, take, Option, Some, None, FaultyLine}
 use Rattle.std.specs.Io.KnownBytes.{Appends}
 use Rattle.sync_lines.specs.declared.fault.RunFault.{RunFault}
-use Rattle.sync_lines.specs.declared.fault.RunFault.TheVariants as runs
 use Rattle.sync_play.specs.Run.{HasRead}
-use Rattle.sync_lines.specs.declared.fault.FaultyLine.{FaultyLine}
 use Rattle.sync_trace.specs.Trace.{trace_of}
 
 -- all that was read is a text with this fault, or none, and its trace was written and nothing else
@@ -24,11 +22,11 @@ pub record HasBegun (left left' written written' : Option (List ℕ)) : Type 0 w
 
 -- a fault of the text is told once its trace up to it is written
 abbrev pub TellsFault : RunFault → Option (List ℕ) → Option (List ℕ) → Option (List ℕ) → Option (List ℕ) → Type 0
-TellsFault (runs.Text line fault) left left' written written' = HasTraced left left' written written' (Some (record { line = line; fault = fault }))
+TellsFault (RunFault.Text line fault) left left' written written' = HasTraced left left' written written' (Some (record { line = line; fault = fault }))
 TellsFault other left left' written written' = Unit {0}
 
 -- the faults that come before the first byte is written
 abbrev pub IsEarly : RunFault → Type 0
-IsEarly runs.Read = Unit {0}
-IsEarly runs.Memory = Unit {0}
+IsEarly RunFault.Read = Unit {0}
+IsEarly RunFault.Memory = Unit {0}
 IsEarly other = ⊥

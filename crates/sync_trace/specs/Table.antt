@@ -1,7 +1,5 @@
 -- The table of rows: columns as wide as their widest cells, and two blanks between them.
-use Rattle.std.specs.Prelude.{ℕ, ◌+◌, ◌-◌, ◌==◌, max, if◌then◌else◌, List, [], ◌∷◌, ◌++◌, length, replicate, codes}
-use Rattle.std.specs.Fmt.{decimal}
-use Rattle.std.specs.List.{flat_map}
+use Rattle.sync_trace.specs.Names.{ℕ, ◌+◌, ◌-◌, ◌==◌, max, if◌then◌else◌, List, [], ◌∷◌, ◌++◌, length, replicate, codes, decimal, flat_map}
 use Rattle.sync_trace.specs.declared.table.Line.{Line}
 use Rattle.sync_trace.specs.declared.table.Widths.{Widths}
 use Rattle.sync_trace.specs.Rows.{Entry}

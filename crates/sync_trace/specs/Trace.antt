@@ -1,17 +1,6 @@
 -- The trace of a text: what is written of it, and its first fault.
-use Rattle.std.specs.Prelude.{◌≡◌, ℕ, List, [], ◌∷◌, Option, Some, None, Result, Ok, Err}
-use Rattle.steps_events.specs.declared.event.Event.{Event}
-use Rattle.steps_events.specs.Arithmetic.{Arithmetic}
-use Rattle.steps_events.specs.Runs.{after}
-use Rattle.sync_steps.specs.Machine.{Configuration, StandsAt}
-use Rattle.sync_lines.specs.declared.header.Header.{Header}
-use Rattle.sync_lines.specs.Lexer.{lines_of}
-use Rattle.sync_lines.specs.Numerals.{Numerals}
+use Rattle.sync_trace.specs.Names.{◌≡◌, ℕ, List, [], ◌∷◌, Option, Some, None, Result, Ok, Err, Event, Arithmetic, after, Configuration, StandsAt, Header, lines_of, Numerals, FaultyLine, Step, events_in, Walk, lines_walk, opened}
 use Rattle.sync_lines.specs.ValueTypes.{values_in}
-use Rattle.sync_lines.specs.declared.fault.FaultyLine.{FaultyLine}
-use Rattle.sync_play.specs.declared.walk.Step.{Step}
-use Rattle.sync_play.specs.WalkOutput.{events_in}
-use Rattle.sync_play.specs.Walk.{Walk, lines_walk, opened}
 use Rattle.sync_trace.specs.declared.rows.Row.{Row}
 use Rattle.sync_trace.specs.declared.trace.Rows.{Rows}
 use Rattle.sync_trace.specs.declared.trace.Trace.{Trace}

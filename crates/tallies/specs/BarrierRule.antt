@@ -1,10 +1,7 @@
 -- What a pass of a barrier counts and knows, and the rule over all passes.
-use Rattle.std.specs.Prelude.{◌≡◌, ℕ, ◌+◌, ◌-◌, ◌*◌, ◌%◌, ◌^◌, ◌<◌, ◌≤◌, max, List, [], length, slice_index}
+use Rattle.tallies.specs.Names.{◌≡◌, ℕ, ◌+◌, ◌-◌, ◌*◌, ◌%◌, ◌^◌, ◌<◌, ◌≤◌, max, List, [], length, slice_index, some, Event, arrivals_in}
 use Rattle.std.specs.List.{sum}
 use mathlib.Core.Option as maybe
-use mathlib.Core.Option.{some}
-use Rattle.steps_events.specs.declared.event.Event.{Event}
-use Rattle.steps_barrier.specs.Rounds.{arrivals_in}
 use Rattle.tallies.specs.declared.barrier.Rounds.{Rounds}
 use Rattle.tallies.specs.Counts.{both_counts}
 

@@ -1,10 +1,6 @@
 -- The model that a barrier plays.
 use Rattle.std.proofs.Common.{arith}
-use Rattle.std.specs.Prelude.{ℕ, ◌%◌, ◌^◌, List}
-use Rattle.steps_events.specs.declared.event.Event.{Event}
-use Rattle.steps_events.specs.Integers.{u64_arithmetic}
-use Rattle.playing.specs.Models.{Model}
-use Rattle.steps_events.specs.Runs.{IsPast}
+use Rattle.tallies.specs.Names.{ℕ, ◌%◌, ◌^◌, List, Event, u64_arithmetic, Model, IsPast}
 use Rattle.steps_barrier.specs.declared.BarrierPlace.{BarrierPlace}
 use Rattle.steps_barrier.specs.Table.{barrier_table}
 use Rattle.steps_barrier.specs.Law.{KeepsBarrier}

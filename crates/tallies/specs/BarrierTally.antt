@@ -1,11 +1,7 @@
 -- What the passes of a barrier count and know adds up, and acts on no word are no arrivals.
 use Rattle.std.proofs.Common.{◌≡◌, ℕ, ◌+◌, Bool, false, cond, max, List, refl, ap, ◌∙◌, arith}
-use Rattle.passes.specs.Tallies.{IsTally}
+use Rattle.tallies.specs.Names.{IsTally, Act, is_arrival, IsOnNoWord, on_no_word, StaysOnNoWord}
 use Rattle.tallies.specs.Counts.{both_counts, counts_swap, counts_group}
-use Rattle.steps_events.specs.declared.event.Act.{Act}
-use Rattle.steps_barrier.specs.Rounds.{is_arrival}
-use Rattle.playing.specs.Words.{IsOnNoWord, on_no_word}
-use Rattle.playing.specs.Passes.{StaysOnNoWord}
 use Rattle.tallies.specs.BarrierRule.{rounds, no_rounds, both_rounds, known_rounds, AreArrivalsIn}
 
 max_group : (a b c : ℕ) → max (max a b) c ≡ max a (max b c)

@@ -1,5 +1,5 @@
 -- A count for each place of a list, added up place by place.
-use Rattle.std.specs.Prelude.{slice_index}
+use Rattle.tallies.specs.Names.{slice_index}
 use Rattle.std.proofs.Common.{◌≡◌, ℕ, zero, suc, ◌+◌, List, [], ◌∷◌, refl, add_assoc, add_comm}
 
 -- the count for this place

@@ -1,7 +1,7 @@
 -- What the passes of a reader-writer lock count adds up.
 use Rattle.std.proofs.Common.{ℕ, ◌+◌, ◌≡◌, Bool, true, false, refl, sym, subst, ◌∙◌, arith}
 use Rattle.std.proofs.lemmas.Bool.{true≢false}
-use Rattle.passes.specs.Tallies.{IsTally}
+use Rattle.tallies.specs.Names.{IsTally}
 use Rattle.tallies.specs.declared.held.Held.{Held}
 use Rattle.tallies.specs.declared.held.Held.TheVariants.{Free, Reading, Writing, Torn}
 use Rattle.tallies.specs.Held.{TellsSame, readers_if, both_held}

@@ -1,3 +1,4 @@
+pub mod Names
 pub mod MutexRule
 pub mod MutexTally
 pub mod SemaphoreRule

@@ -1,11 +1,6 @@
 -- What a pass of a mutex counts, and the rule over all passes.
-use Rattle.std.specs.Prelude.{◌≡◌, ℕ, ◌+◌, ◌≤◌, List, length, slice_index}
+use Rattle.tallies.specs.Names.{◌≡◌, ℕ, ◌+◌, ◌≤◌, List, length, slice_index, some, Event, HoldKind, Table, grants_in}
 use mathlib.Core.Option as maybe
-use mathlib.Core.Option.{some}
-use Rattle.steps_events.specs.declared.event.Event.{Event}
-use Rattle.steps_events.specs.declared.hold.HoldKind.TheVariants as kinds
-use Rattle.steps_events.specs.Tables.{Table}
-use Rattle.playing.specs.Sums.{grants_in}
 use Rattle.tallies.specs.declared.mutex.Holds.{Holds}
 
 abbrev pub holds : ℕ → ℕ → Holds
@@ -28,4 +23,4 @@ MutexAgrees words homes = IsHeld words
 
 -- so often was a call granted in the run
 abbrev pub AreGrantsIn : {V P : Type 0} → Table V P → List (Event V) → Holds → Type 0
-AreGrantsIn t past counts = counts.grants ≡ grants_in t kinds.Write past
+AreGrantsIn t past counts = counts.grants ≡ grants_in t HoldKind.Write past

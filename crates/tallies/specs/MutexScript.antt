@@ -1,9 +1,5 @@
 -- The model that a mutex plays.
-use Rattle.std.specs.Prelude.{ℕ, List}
-use Rattle.steps_events.specs.declared.event.Event.{Event}
-use Rattle.steps_events.specs.Integers.{u64_arithmetic}
-use Rattle.playing.specs.Models.{Model}
-use Rattle.steps_events.specs.Runs.{IsPast}
+use Rattle.tallies.specs.Names.{ℕ, List, Event, u64_arithmetic, Model, IsPast}
 use Rattle.steps_mutex.specs.declared.MutexPlace.{MutexPlace}
 use Rattle.steps_mutex.specs.Table.{mutex_table}
 use Rattle.steps_mutex.specs.Law.{KeepsMutex}

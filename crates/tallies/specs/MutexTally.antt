@@ -1,11 +1,7 @@
 -- What the passes of a mutex count adds up, and acts on no word grant nothing.
 use Rattle.std.proofs.Common.{ℕ, ◌+◌, ◌≡◌, ◌≢◌, ◌==◌, Bool, cond, ap, ◌∙◌, arith}
 use Rattle.std.proofs.lemmas.Bool.{ne_eqb}
-use Rattle.steps_events.specs.declared.hold.HoldKind.TheVariants as kinds
-use Rattle.steps_events.specs.Tables.{Table}
-use Rattle.playing.specs.Passes.{StaysOnNoWord}
-use Rattle.playing.specs.Sums.{same_grants}
-use Rattle.passes.specs.Tallies.{IsTally}
+use Rattle.tallies.specs.Names.{HoldKind, Table, StaysOnNoWord, same_grants, IsTally}
 use Rattle.tallies.specs.MutexRule.{holds, no_holds, both_holds, AreGrantsIn}
 
 same_holds : (a b c d : ℕ) → a ≡ b → c ≡ d → holds a c ≡ holds b d
@@ -20,7 +16,7 @@ holds_add_up = record {
 }
 
 pub grants_stay : {V P : Type 0} (t : Table V P) → StaysOnNoWord (AreGrantsIn t)
-grants_stay t past e counts quiet is = same_grants t kinds.Write past e counts.grants quiet is
+grants_stay t past e counts quiet is = same_grants t HoldKind.Write past e counts.grants quiet is
 
 -- a step that grants where it found 0
 

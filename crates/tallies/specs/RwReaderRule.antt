@@ -1,11 +1,6 @@
 -- The rule over all passes of a reader-preferring lock.
-use Rattle.std.specs.Prelude.{◌≡◌, ℕ, List, length, slice_index}
+use Rattle.tallies.specs.Names.{◌≡◌, ℕ, List, length, slice_index, some, Event, Table, holds_of, reads_in, writes_in}
 use mathlib.Core.Option as maybe
-use mathlib.Core.Option.{some}
-use Rattle.steps_events.specs.declared.event.Event.{Event}
-use Rattle.steps_events.specs.Tables.{Table}
-use Rattle.steps_events.specs.Past.{holds_of}
-use Rattle.steps_events.specs.HoldCounts.{reads_in, writes_in}
 use Rattle.tallies.specs.declared.held.Held.{Held}
 use Rattle.tallies.specs.declared.held.Held.TheVariants.{Free}
 use Rattle.tallies.specs.Held.{both_held, read_holds, write_holds, Locks}

@@ -1,9 +1,5 @@
 -- The model that a reader-preferring lock plays.
-use Rattle.std.specs.Prelude.{ℕ, List}
-use Rattle.steps_events.specs.declared.event.Event.{Event}
-use Rattle.steps_events.specs.Integers.{u64_arithmetic}
-use Rattle.playing.specs.Models.{Model}
-use Rattle.steps_events.specs.Runs.{IsPast}
+use Rattle.tallies.specs.Names.{ℕ, List, Event, u64_arithmetic, Model, IsPast}
 use Rattle.steps_rw_reader.specs.declared.RwReaderPlace.{RwReaderPlace}
 use Rattle.steps_rw_reader.specs.Table.{rw_reader_table}
 use Rattle.steps_rw_reader.specs.Law.{KeepsRwReader}

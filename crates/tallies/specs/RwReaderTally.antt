@@ -1,11 +1,6 @@
 -- Acts on no word take no hold of a reader-preferring lock and end none.
 use Rattle.std.proofs.Common.{◌≡◌, ℕ, cond, refl, sym, ap, ◌∙◌, List, Option}
-use Rattle.steps_events.specs.declared.event.Act.{Act}
-use Rattle.steps_events.specs.Tables.{Table}
-use Rattle.steps_events.specs.Past.{Hold, PendingCall, call_of, holds_of, is_release, hold_taken, with_hold, without}
-use Rattle.steps_events.specs.HoldCounts.{reads_in, writes_in}
-use Rattle.playing.specs.Words.{IsOnNoWord, on_no_word}
-use Rattle.playing.specs.Passes.{StaysOnNoWord}
+use Rattle.tallies.specs.Names.{Act, Table, Hold, PendingCall, call_of, holds_of, is_release, hold_taken, with_hold, without, reads_in, writes_in, IsOnNoWord, on_no_word, StaysOnNoWord}
 use Rattle.tallies.specs.RwReaderRule.{AreHoldsIn}
 
 module _ {V P : Type 0} (t : Table V P) where

@@ -1,10 +1,6 @@
 -- What a pass of a writer-preferring lock counts, and the rule over all passes.
-use Rattle.std.specs.Prelude.{◌≡◌, ℕ, ◌+◌, ◌-◌, ◌*◌, ◌^◌, ◌<◌, ◌≤◌, List, length, slice_index}
+use Rattle.tallies.specs.Names.{◌≡◌, ℕ, ◌+◌, ◌-◌, ◌*◌, ◌^◌, ◌<◌, ◌≤◌, List, length, slice_index, Event, HoldKind, Table, grants_in}
 use mathlib.Core.Option as maybe
-use Rattle.steps_events.specs.declared.event.Event.{Event}
-use Rattle.steps_events.specs.declared.hold.HoldKind.TheVariants as kinds
-use Rattle.steps_events.specs.Tables.{Table}
-use Rattle.playing.specs.Sums.{grants_in}
 use Rattle.tallies.specs.declared.rw_writer.MarkedHolds.{MarkedHolds}
 use Rattle.tallies.specs.Held.{read_holds, write_holds, Knows}
 use Rattle.tallies.specs.RwReaderRule.{Holds, no_holds, both_holds}
@@ -34,5 +30,5 @@ RwWriterAgrees words homes = IsMarkedOrHeld words
 
 -- so often was a call granted a hold of each kind in the run
 pub record AreGrantsByKindIn {V P : Type 0} (t : Table V P) (past : List (Event V)) (counts : MarkedHolds) : Type 0 where
-  pub reads : counts.read_grants ≡ grants_in t kinds.Read past
-  pub writes : counts.write_grants ≡ grants_in t kinds.Write past
+  pub reads : counts.read_grants ≡ grants_in t HoldKind.Read past
+  pub writes : counts.write_grants ≡ grants_in t HoldKind.Write past

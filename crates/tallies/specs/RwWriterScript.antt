@@ -1,14 +1,7 @@
 -- The model that a writer-preferring lock plays.
-use Rattle.std.specs.Prelude.{ℕ, List}
-use Rattle.steps_events.specs.declared.event.Word.{Word}
-use Rattle.steps_events.specs.declared.event.Word.TheVariants as words
-use Rattle.steps_events.specs.declared.event.Wake.TheVariants as wakes
-use Rattle.steps_events.specs.declared.event.Event.{Event}
-use Rattle.steps_events.specs.Integers.{u64_arithmetic}
-use Rattle.playing.specs.Models.{Model}
-use Rattle.steps_events.specs.Runs.{IsPast}
+use Rattle.tallies.specs.Names.{ℕ, List, Word, Event, u64_arithmetic, Model, IsPast}
+use Rattle.steps_events.specs.declared.event.Wake.{Wake}
 use Rattle.steps_rw_writer.specs.declared.RwWriterPlace.{RwWriterPlace}
-use Rattle.steps_rw_writer.specs.declared.RwWriterPlace.TheVariants as places
 use Rattle.steps_rw_writer.specs.Table.{rw_writer_woken, rw_writer_table}
 use Rattle.steps_rw_writer.specs.Law.{KeepsRwWriter}
 use Rattle.steps_rw_writer.proofs.Causes.{keeps_rw_writer}
@@ -22,8 +15,8 @@ rw_writer_lawful parties past run = keeps_rw_writer u64_arithmetic parties past 
 
 -- a wake is of the word that the model says; a writer waits on that of the wake of one, a reader on that of the wake of all
 abbrev pub rw_writer_handed : RwWriterPlace → Word
-rw_writer_handed (places.WriteLook patience) = rw_writer_woken wakes.One
-rw_writer_handed (places.WakeOne who) = rw_writer_woken wakes.One
-rw_writer_handed (places.WakeAll who) = rw_writer_woken wakes.All
-rw_writer_handed (places.ReadLook patience) = rw_writer_woken wakes.All
-rw_writer_handed place = words.State
+rw_writer_handed (RwWriterPlace.WriteLook patience) = rw_writer_woken Wake.One
+rw_writer_handed (RwWriterPlace.WakeOne who) = rw_writer_woken Wake.One
+rw_writer_handed (RwWriterPlace.WakeAll who) = rw_writer_woken Wake.All
+rw_writer_handed (RwWriterPlace.ReadLook patience) = rw_writer_woken Wake.All
+rw_writer_handed place = Word.State

@@ -1,10 +1,6 @@
 -- What the passes of a writer-preferring lock count adds up, and acts on no word grant nothing.
 use Rattle.std.proofs.Common.{ℕ, ◌+◌, ◌≡◌, refl, arith}
-use Rattle.steps_events.specs.declared.hold.HoldKind.TheVariants as kinds
-use Rattle.steps_events.specs.Tables.{Table}
-use Rattle.playing.specs.Passes.{StaysOnNoWord}
-use Rattle.playing.specs.Sums.{same_grants}
-use Rattle.passes.specs.Tallies.{IsTally}
+use Rattle.tallies.specs.Names.{HoldKind, Table, StaysOnNoWord, same_grants, IsTally}
 use Rattle.tallies.specs.HeldTally.{same_nothing, tells_same_nothing, held_adds_up}
 use Rattle.tallies.specs.RwReaderRule.{Holds, no_holds, both_holds}
 use Rattle.tallies.specs.RwWriterRule.{marked, nothing_marked, both_marked, AreGrantsByKindIn}
@@ -26,6 +22,6 @@ marked_add_up = let holds = held_adds_up same_nothing tells_same_nothing in reco
 
 pub grants_by_kind_stay : {V P : Type 0} (t : Table V P) → StaysOnNoWord (AreGrantsByKindIn t)
 grants_by_kind_stay t past e counts quiet is = record {
-  reads = same_grants t kinds.Read past e counts.read_grants quiet is.reads;
-  writes = same_grants t kinds.Write past e counts.write_grants quiet is.writes;
+  reads = same_grants t HoldKind.Read past e counts.read_grants quiet is.reads;
+  writes = same_grants t HoldKind.Write past e counts.write_grants quiet is.writes;
 }

@@ -1,12 +1,5 @@
 -- What a pass of a semaphore counts, and what all passes count together: what the acts of the run gave and took.
-use Rattle.std.specs.Prelude.{◌≡◌, ℕ, ◌+◌, ◌-◌, ◌%◌, ◌^◌, true, List}
-use Rattle.steps_events.specs.declared.event.Word.TheVariants as words
-use Rattle.steps_events.specs.declared.event.Call.{Call}
-use Rattle.steps_events.specs.declared.event.Act.{Act}
-use Rattle.steps_events.specs.declared.event.Act.TheVariants as acts
-use Rattle.steps_events.specs.declared.event.Event.{Event}
-use Rattle.steps_semaphore.specs.Permits.{permits_given, permits_taken}
-use Rattle.steps_semaphore.specs.Law.{semaphore_gives, permits_posted}
+use Rattle.tallies.specs.Names.{◌≡◌, ℕ, ◌+◌, ◌-◌, ◌%◌, ◌^◌, true, List, Word, Call, Act, Event, permits_given, permits_taken, semaphore_gives, permits_posted}
 use Rattle.tallies.specs.declared.semaphore.Permits.{Permits}
 
 abbrev pub permits : ℕ → ℕ → Permits
@@ -28,11 +21,11 @@ value_of t = (t.given - t.taken) % 2 ^ 64
 
 -- what an act of a call makes of a tally: an exchange that is done takes one, and the add of a `Post` gives its amount
 abbrev pub permits_after : Act ℕ → Call ℕ → Permits → Permits
-permits_after (acts.Exchange words.State from to found true) call t = permits t.given (t.taken + 1)
-permits_after (acts.Add words.State old put) call t = permits (t.given + permits_posted call) t.taken
+permits_after (Act.Exchange Word.State from to found true) call t = permits t.given (t.taken + 1)
+permits_after (Act.Add Word.State old put) call t = permits (t.given + permits_posted call) t.taken
 permits_after act call t = t
 
 -- so much was given and taken in the run
 pub record ArePermitsOf (initial : ℕ) (past : List (Event ℕ)) (t : Permits) : Type 0 where
   pub given : t.given ≡ permits_given semaphore_gives initial past
-  pub taken : t.taken ≡ permits_taken words.State past
+  pub taken : t.taken ≡ permits_taken Word.State past

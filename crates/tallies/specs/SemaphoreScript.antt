@@ -1,13 +1,8 @@
 -- The model that a semaphore plays.
 use Rattle.std.proofs.Common.{arith}
-use Rattle.std.specs.Prelude.{ℕ, ◌%◌, ◌^◌, List}
-use Rattle.steps_events.specs.declared.event.Event.{Event}
-use Rattle.steps_events.specs.Integers.{u64_arithmetic}
-use Rattle.playing.specs.Models.{Model}
-use Rattle.steps_events.specs.Runs.{IsPast}
+use Rattle.tallies.specs.Names.{ℕ, ◌%◌, ◌^◌, List, Event, u64_arithmetic, Model, IsPast, KeepsSemaphore}
 use Rattle.steps_semaphore.specs.declared.SemaphorePlace.{SemaphorePlace}
 use Rattle.steps_semaphore.specs.Table.{semaphore_table}
-use Rattle.steps_semaphore.specs.Law.{KeepsSemaphore}
 use Rattle.steps_semaphore.proofs.Laws.{keeps_semaphore}
 
 abbrev pub semaphore_model : ℕ → Model ℕ SemaphorePlace

@@ -1,16 +1,6 @@
 -- What the passes of a semaphore count adds up, and follows the run.
-use Rattle.std.specs.Prelude.{if◌then◌else◌}
+use Rattle.tallies.specs.Names.{if◌then◌else◌, Word, Call, Act, PendingCall, call_of, is_take, permits_given, semaphore_gives, IsTally, IsOnNoWord, on_no_word, StaysOnNoWord, GoesOnByActs}
 use Rattle.std.proofs.Common.{ℕ, ◌+◌, ◌≡◌, true, refl, ap, sym, subst, ◌∙◌, arith, Option, Some, [], ◌∷◌}
-use Rattle.steps_events.specs.declared.event.Word.TheVariants as words
-use Rattle.steps_events.specs.declared.event.Call.{Call}
-use Rattle.steps_events.specs.declared.event.Act.{Act}
-use Rattle.steps_events.specs.declared.event.Act.TheVariants as acts
-use Rattle.steps_events.specs.Past.{PendingCall, call_of}
-use Rattle.steps_semaphore.specs.Permits.{is_take, permits_given}
-use Rattle.steps_semaphore.specs.Law.{semaphore_gives}
-use Rattle.passes.specs.Tallies.{IsTally}
-use Rattle.playing.specs.Words.{IsOnNoWord, on_no_word}
-use Rattle.playing.specs.Passes.{StaysOnNoWord, GoesOnByActs}
 use Rattle.tallies.specs.declared.semaphore.Permits.{Permits}
 use Rattle.tallies.specs.SemaphoreScript.{semaphore_model}
 use Rattle.tallies.specs.SemaphoreRule.{permits, no_permits, both_permits, first_permits, permits_after, ArePermitsOf}
@@ -31,7 +21,7 @@ permits_open initial = record { given = refl; taken = refl }
 
 -- what an act gives and takes, as the model's law counts it
 abbrev Counts : Act ℕ → Option (PendingCall ℕ) → ℕ → ℕ → Type 0
-Counts act pending given taken = (semaphore_gives act pending ≡ given) × ((if is_take words.State act then 1 else 0) ≡ taken)
+Counts act pending given taken = (semaphore_gives act pending ≡ given) × ((if is_take Word.State act then 1 else 0) ≡ taken)
 
 counts_none : (act : Act ℕ) (pending : Option (PendingCall ℕ)) → IsOnNoWord act → Counts act pending 0 0
 counts_none act pending = on_no_word (λ (a : Act ℕ). Counts a pending 0 0) (λ call. (refl, refl)) (λ action. (refl, refl)) (λ choice. (refl, refl)) (λ wake. (refl, refl)) (refl, refl) (λ value. (refl, refl)) act
@@ -41,9 +31,9 @@ permits_stay initial past e t quiet is = let none = counts_none e.act (call_of e
     record { given = omega (arith, is.given, none.0); taken = omega (arith, is.taken, none.1) }
 
 counts_more : (act : Act ℕ) (c : PendingCall ℕ) (t rest : Permits) (given taken : ℕ) → t.given + rest.given ≡ given → t.taken + rest.taken ≡ taken →
-    ((permits_after act c.call t).given + rest.given ≡ semaphore_gives act (Some c) + given) × ((permits_after act c.call t).taken + rest.taken ≡ (if is_take words.State act then 1 else 0) + taken)
-counts_more (acts.Exchange words.State from to found true) c t rest given taken first second = (omega (arith, first), omega (arith, second))
-counts_more (acts.Add words.State old put) c t rest given taken first second = (omega (arith, first), omega (arith, second))
+    ((permits_after act c.call t).given + rest.given ≡ semaphore_gives act (Some c) + given) × ((permits_after act c.call t).taken + rest.taken ≡ (if is_take Word.State act then 1 else 0) + taken)
+counts_more (Act.Exchange Word.State from to found true) c t rest given taken first second = (omega (arith, first), omega (arith, second))
+counts_more (Act.Add Word.State old put) c t rest given taken first second = (omega (arith, first), omega (arith, second))
 counts_more act c t rest given taken first second = (omega (arith, first), omega (arith, second))
 
 pub permits_go_on : (initial : ℕ) → GoesOnByActs (semaphore_model initial) both_permits (ArePermitsOf initial) permits_after

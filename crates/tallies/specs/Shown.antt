@@ -1,24 +1,23 @@
 -- Which word of which object closures see.
-use Rattle.std.specs.Prelude.{◌≡◌, ℕ}
+use Rattle.tallies.specs.Names.{◌≡◌, ℕ}
 use Rattle.passes.specs.declared.words.Word.{Word}
 use Rattle.atomic_table.specs.Seated.{TableId}
 use Rattle.tallies.specs.declared.wait_word.WaitWord.{WaitWord}
 use Rattle.tallies.specs.declared.wait_word.AnyWord.{AnyWord}
-use Rattle.tallies.specs.declared.wait_word.AnyWord.TheVariants as any
 
 abbrev pub object_of_any : AnyWord → TableId
-object_of_any (any.Mutex word) = word.shared.now.table_id
-object_of_any (any.ReaderLock word) = word.shared.now.table_id
-object_of_any (any.WriterLock word) = word.shared.now.table_id
-object_of_any (any.Semaphore word) = word.shared.now.table_id
-object_of_any (any.Barrier word) = word.shared.now.table_id
+object_of_any (AnyWord.Mutex word) = word.shared.now.table_id
+object_of_any (AnyWord.ReaderLock word) = word.shared.now.table_id
+object_of_any (AnyWord.WriterLock word) = word.shared.now.table_id
+object_of_any (AnyWord.Semaphore word) = word.shared.now.table_id
+object_of_any (AnyWord.Barrier word) = word.shared.now.table_id
 
 abbrev pub index_of_any : AnyWord → ℕ
-index_of_any (any.Mutex word) = word.index
-index_of_any (any.ReaderLock word) = word.index
-index_of_any (any.WriterLock word) = word.index
-index_of_any (any.Semaphore word) = word.index
-index_of_any (any.Barrier word) = word.index
+index_of_any (AnyWord.Mutex word) = word.index
+index_of_any (AnyWord.ReaderLock word) = word.index
+index_of_any (AnyWord.WriterLock word) = word.index
+index_of_any (AnyWord.Semaphore word) = word.index
+index_of_any (AnyWord.Barrier word) = word.index
 
 abbrev pub object_shown : WaitWord → TableId
 object_shown w = object_of_any w.word

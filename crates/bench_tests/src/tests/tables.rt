@@ -7,7 +7,7 @@ use std::test::Fail;
 use std::time::{Clock, Duration};
 
 /// The names of the lines, in the order of the table.
-const NAMES: [&str; 41] = [
+const NAMES: [&str; 43] = [
     "bare exchange store",
     "std mutex lock unlock",
     "mutex lock unlock",
@@ -22,6 +22,8 @@ const NAMES: [&str; 41] = [
     "bare load exchange store add",
     "rwlock writer read unlock",
     "rwlock writer write unlock",
+    "rwvalue read unlock",
+    "rwvalue write unlock",
     "semaphore try_wait post",
     "semaphore value",
     "bare load exchange",

@@ -1,11 +1,12 @@
 //! What a call finds beside a reader or a writer, and calls that give up.
+ghost use Rattle.std.specs.Prelude.{◌≡◌, ◌<◌, ◌+◌};
 ghost use Rattle.running_rw_writer.specs.RwWriterShown.{HasStayed};
 ghost use Rattle.running_rw_value.specs.RwValueShown.{IsRwValuePass};
 
 use closures::{wake_nobody, yield_and_go_on};
 use passes::WaitResult;
 use running_rw_value::RwLock;
-use running_rw_writer::RwWriterPass;
+use running_rw_writer::{RwLockWriterPreference, RwWriterPass};
 use std::sync::Wait;
 use std::test::Fail;
 use steps_events::WaitAction;
@@ -45,6 +46,40 @@ fn can_write_now<R: Wait>(rt: &R, lock: &RwLock<u64>, pass: &mut RwWriterPass) -
     }
 }
 
+/// Whether the lock in front lets no reader in now.
+fn is_shut(lock: &RwLock<u64>, pass: &mut RwWriterPass) -> bool
+    requires own { IsRwValuePass lock.now pass.old }
+    ensures stayed { HasStayed pass.old pass.new }
+{
+    match RwLockWriterPreference::try_read_lock(pass, lock.front()) {
+        WaitResult::Success(hold) => {
+            lock.front().unlock(hold, wake_nobody, wake_nobody);
+            false
+        }
+        WaitResult::Interrupted => true,
+    }
+}
+
+/// Whether the lock in front is shut for `two` while a `with_write` of `one` acts, and after it.
+fn shut_within<R: Wait>(
+    rt: &R,
+    lock: &RwLock<u64>,
+    one: &mut RwWriterPass,
+    two: &mut RwWriterPass,
+) -> (WaitResult<bool>, bool)
+    requires own { IsRwValuePass lock.now one.old × IsRwValuePass lock.now two.old }
+{
+    let within = lock.with_write(
+        rt,
+        one,
+        give_up,
+        wake_nobody,
+        wake_nobody,
+        |_number| is_shut(lock, two),
+    );
+    (within, is_shut(lock, one))
+}
+
 /// Whether a `with_write` writes this, whose wait closure gives up at once.
 fn write_or_give_up<R: Wait>(
     rt: &R,
@@ -66,6 +101,31 @@ fn write_or_give_up<R: Wait>(
     match written {
         WaitResult::Success(()) => true,
         WaitResult::Interrupted => false,
+    }
+}
+
+/// Puts this in by a write guard, adds 1 to it, and unlocks. What the guard lends in between and at last is known by its clauses.
+fn put_and_add<R: Wait>(
+    rt: &R,
+    lock: &RwLock<u64>,
+    pass: &mut RwWriterPass,
+    number: u64,
+) -> (u64, u64)
+    requires own { IsRwValuePass lock.now pass.old }
+    requires small { number < 100 }
+    ensures known { (result.0 ≡ number) × (result.1 ≡ number + 1) }
+    ensures stayed { HasStayed pass.old pass.new }
+{
+    match RwLock::write(pass, lock, rt, yield_and_go_on, wake_nobody, wake_nobody) {
+        WaitResult::Success(mut guard) => {
+            guard.change(|value| *value = number);
+            let put = *guard;
+            guard.change(|value| *value += 1);
+            let added = *guard;
+            RwLock::unlock_write(guard, wake_nobody, wake_nobody);
+            (put, added)
+        }
+        WaitResult::Interrupted => unreachable!(),
     }
 }
 
@@ -143,6 +203,29 @@ fn a_writer_is_alone(rt: HostRuntime) -> Result<(), Fail> {
     };
     let found = beside_a_writer(&rt, &lock, &mut one, &mut two);
     assert_eq!(rt; found, (None, false, true, 7));
+    Ok(())
+}
+
+#[test]
+fn a_write_acts_before_it_unlocks(rt: HostRuntime) -> Result<(), Fail> {
+    let Ok((lock, pass)) = RwLock::new(rt.alloc(), 7u64) else {
+        return Err("no memory")?;
+    };
+    let Ok((mut one, mut two)) = pass.split(lock.front()) else {
+        unreachable!()
+    };
+    let found = shut_within(&rt, &lock, &mut one, &mut two);
+    assert_eq!(rt; found, (WaitResult::Success(true), false));
+    Ok(())
+}
+
+#[test]
+fn what_a_guard_changed_it_lends_and_comes_out(rt: HostRuntime) -> Result<(), Fail> {
+    let Ok((lock, mut pass)) = RwLock::new(rt.alloc(), 7u64) else {
+        return Err("no memory")?;
+    };
+    let lent = put_and_add(&rt, &lock, &mut pass, 40);
+    assert_eq!(rt; (lent, lock.into_inner(pass)), ((40, 41), 41));
     Ok(())
 }
 

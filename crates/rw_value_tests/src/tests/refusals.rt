@@ -1,4 +1,4 @@
-//! The growth of `new`, refused.
+//! Each growth of `new`, refused in turn. The lock in front is two blocks of 16 bytes.
 use linked_list_allocator::LocalHeap;
 use running_rw_value::RwLock;
 use std::alloc::{AllocError, Global};
@@ -20,7 +20,7 @@ fn made_in(alloc: Global, size: usize) -> Result<(Option<u64>, usize), AllocErro
 
 #[test]
 fn a_value_comes_back_where_there_is_no_memory(rt: HostRuntime) -> Result<(), Fail> {
-    for (size, back) in [(0, Some(7)), (256, None)] {
+    for (size, back) in [(0, Some(7)), (16, Some(7)), (32, None)] {
         assert_eq!(rt; made_in(rt.alloc(), size)?, (back, 0));
     }
     Ok(())

@@ -1,4 +1,4 @@
-use Rattle.std.proofs.Common.{rules}
+use Rattle.steps_barrier.proofs.Names.{rules}
 use Rattle.steps_barrier.proofs.look.Goals as goal
 
 pub returns-in-Some : goal.returns-in-Some

@@ -1,4 +1,4 @@
-use Rattle.std.proofs.Common.{rules}
+use Rattle.steps_condvar.proofs.Names.{rules}
 use Rattle.steps_condvar.proofs.after_relock.Goals as goal
 
 pub returns-in-Ends-Success-2 : goal.returns-in-Ends-Success-2

@@ -1,12 +1,10 @@
-use Rattle.std.proofs.Common.{◌≡◌, ◌≢◌, ◌∙◌, ℕ, refl}
-use Rattle.steps_events.specs.declared.event.Call.{Call}
-use Rattle.steps_events.specs.declared.event.Call.TheVariants as calls
-use Rattle.steps_mutex.specs.Table.{mutex_grant}
+use Rattle.steps_condvar.specs.Names.{Call, mutex_grant}
+use Rattle.steps_condvar.proofs.Names.{◌≡◌, ◌≢◌, ◌∙◌, ℕ, refl}
 use Rattle.steps_condvar.specs.Table.{condvar_grant}
 use Rattle.steps_condvar.proofs.grant.Goals as goal
 
-of_others : {T : Type 0} (call : Call T) (from to : ℕ) → call ≢ calls.Wait → mutex_grant call from to ≡ condvar_grant call from to
-of_others calls.Wait from to other = absurd (other refl)
+of_others : {T : Type 0} (call : Call T) (from to : ℕ) → call ≢ Call.Wait → mutex_grant call from to ≡ condvar_grant call from to
+of_others Call.Wait from to other = absurd (other refl)
 of_others call from to other = refl
 
 -- of every call but `Wait`

@@ -1,4 +1,4 @@
-use Rattle.std.proofs.Common.{rules}
+use Rattle.steps_condvar.proofs.Names.{rules}
 use Rattle.steps_condvar.proofs.permits_for.Goals as goal
 
 pub returns-in-All-clause-all : goal.returns-in-All-clause-all

@@ -1,4 +1,4 @@
-use Rattle.std.proofs.Common.{rules}
+use Rattle.steps_mutex.proofs.Names.{rules}
 use Rattle.steps_mutex.proofs.grant.Goals as goal
 
 pub returns-in_default : goal.returns-in_default

@@ -1,4 +1,4 @@
-use Rattle.std.proofs.Common.{rules}
+use Rattle.steps_mutex.proofs.Names.{rules}
 use Rattle.steps_mutex.proofs.granted.Goals as goal
 
 pub returns-clause-locked : goal.returns-clause-locked

@@ -1,4 +1,4 @@
-use Rattle.std.proofs.Common.{rules}
+use Rattle.steps_once.proofs.Names.{rules}
 use Rattle.steps_once.proofs.begun.Goals as goal
 
 pub returns-clause-begun : goal.returns-clause-begun

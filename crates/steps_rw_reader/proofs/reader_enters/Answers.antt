@@ -1,4 +1,4 @@
-use Rattle.std.proofs.Common.{rules}
+use Rattle.steps_rw_reader.proofs.Names.{rules}
 use Rattle.steps_rw_reader.proofs.reader_enters.Goals as goal
 
 pub returns-then-word-clause-shut : goal.returns-then-word-clause-shut

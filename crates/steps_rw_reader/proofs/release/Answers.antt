@@ -1,4 +1,4 @@
-use Rattle.std.proofs.Common.{rules}
+use Rattle.steps_rw_reader.proofs.Names.{rules}
 use Rattle.steps_rw_reader.proofs.release.Goals as goal
 
 pub returns-in-Some-Read : goal.returns-in-Some-Read

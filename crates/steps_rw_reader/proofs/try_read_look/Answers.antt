@@ -1,4 +1,4 @@
-use Rattle.std.proofs.Common.{rules}
+use Rattle.steps_rw_reader.proofs.Names.{rules}
 use Rattle.steps_rw_reader.proofs.try_read_look.Goals as goal
 
 pub returns-in-Some : goal.returns-in-Some

@@ -1,4 +1,4 @@
-use Rattle.std.proofs.Common.{rules}
+use Rattle.steps_rw_writer.proofs.Names.{rules}
 use Rattle.steps_rw_writer.proofs.reader_enters.Goals as goal
 
 pub returns-then-word-clause-marked : goal.returns-then-word-clause-marked

@@ -1,4 +1,4 @@
-use Rattle.std.proofs.Common.{rules}
+use Rattle.steps_rw_writer.proofs.Names.{rules}
 use Rattle.steps_rw_writer.proofs.released.Goals as goal
 
 pub returns-in-Some-eq3 : goal.returns-in-Some-eq3

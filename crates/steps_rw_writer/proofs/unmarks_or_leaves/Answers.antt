@@ -1,4 +1,4 @@
-use Rattle.std.proofs.Common.{rules}
+use Rattle.steps_rw_writer.proofs.Names.{rules}
 use Rattle.steps_rw_writer.proofs.unmarks_or_leaves.Goals as goal
 
 pub returns-in-Some : goal.returns-in-Some

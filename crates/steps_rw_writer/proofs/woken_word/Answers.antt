@@ -1,4 +1,4 @@
-use Rattle.std.proofs.Common.{rules}
+use Rattle.steps_rw_writer.proofs.Names.{rules}
 use Rattle.steps_rw_writer.proofs.woken_word.Goals as goal
 
 pub returns-in-One : goal.returns-in-One

@@ -1,4 +1,4 @@
-use Rattle.std.proofs.Common.{rules}
+use Rattle.steps_rw_writer.proofs.Names.{rules}
 use Rattle.steps_rw_writer.proofs.writer_enters.Goals as goal
 
 pub returns-clause-held : goal.returns-clause-held

@@ -1,4 +1,4 @@
-use Rattle.std.proofs.Common.{rules}
+use Rattle.steps_semaphore.proofs.Names.{rules}
 use Rattle.steps_semaphore.proofs.posted.Goals as goal
 
 pub returns : goal.returns

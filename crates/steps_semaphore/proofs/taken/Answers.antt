@@ -1,4 +1,4 @@
-use Rattle.std.proofs.Common.{rules}
+use Rattle.steps_semaphore.proofs.Names.{rules}
 use Rattle.steps_semaphore.proofs.taken.Goals as goal
 
 pub returns-clause-empty : goal.returns-clause-empty

@@ -1,4 +1,4 @@
-use Rattle.std.proofs.Common.{rules}
+use Rattle.steps_semaphore.proofs.Names.{rules}
 use Rattle.steps_semaphore.proofs.try_look.Goals as goal
 
 pub returns-in-Some : goal.returns-in-Some

@@ -1,13 +1,5 @@
 -- What a machine changes at a turn of a party, and at none.
-use Rattle.std.specs.Prelude.{◌≡◌, ℕ, ◌+◌, ◌-◌, ◌^◌, min, slice_get, slice_set, Some, Ok, Err}
-use Rattle.steps_events.specs.declared.event.Act.{Act}
-use Rattle.steps_events.specs.declared.event.Event.{Event}
-use Rattle.steps_events.specs.declared.event.Input.{Input}
-use Rattle.steps_events.specs.declared.event.StepFault.{StepFault}
-use Rattle.steps_events.specs.declared.event.Word.{Word}
-use Rattle.steps_events.specs.Arithmetic.{Arithmetic}
-use Rattle.steps_events.specs.Past.{word_after, failures_by, event}
-use Rattle.steps_events.specs.WordsAt.{word_at}
+use Rattle.sync_steps.specs.Names.{◌≡◌, ℕ, ◌+◌, ◌-◌, ◌^◌, min, slice_get, slice_set, Some, Ok, Err, Act, Event, Input, StepFault, Word, Arithmetic, word_after, failures_by, event, word_at}
 use Rattle.sync_steps.specs.declared.steps.place.Party.{Party}
 use Rattle.sync_steps.specs.Machine.Turns.{Turn}
 use Rattle.sync_steps.specs.Machine.{Configuration}

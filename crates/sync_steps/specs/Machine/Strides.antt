@@ -1,16 +1,5 @@
 -- Strides: equal events in a row, as a call makes them that spins.
-use Rattle.std.specs.Prelude.{◌≡◌, ℕ, ◌+◌, ◌*◌, ◌-◌, ◌^◌, ◌<◌, ◌≤◌, ◌==◌, ◌&&◌, not, min, Bool, true, false, List, replicate, slice_get, slice_set, Option, Some, None}
-use Rattle.steps_events.specs.declared.event.Act.{Act}
-use Rattle.steps_events.specs.declared.event.Act.TheVariants as acts
-use Rattle.steps_events.specs.declared.event.Event.{Event}
-use Rattle.steps_events.specs.declared.event.Input.{Input}
-use Rattle.steps_events.specs.declared.event.Input.TheVariants as inputs
-use Rattle.steps_events.specs.declared.event.Then.TheVariants as thens
-use Rattle.steps_events.specs.declared.event.Word.{Word}
-use Rattle.steps_events.specs.Arithmetic.{Arithmetic}
-use Rattle.steps_events.specs.Past.{event, failures_by}
-use Rattle.steps_events.specs.Rows.{carried_out, value_told}
-use Rattle.steps_events.specs.WordsAt.{word_at}
+use Rattle.sync_steps.specs.Names.{◌≡◌, ℕ, ◌+◌, ◌*◌, ◌-◌, ◌^◌, ◌<◌, ◌≤◌, ◌==◌, ◌&&◌, not, min, Bool, true, false, List, replicate, slice_get, slice_set, Option, Some, None, Act, Event, Input, Then, Word, Arithmetic, event, failures_by, carried_out, value_told, word_at}
 use Rattle.sync_steps.specs.declared.steps.machine.stride.Stride.{Stride}
 use Rattle.sync_steps.specs.declared.steps.place.Doing.{Doing}
 use Rattle.sync_steps.specs.declared.steps.place.Party.{Party}
@@ -20,7 +9,7 @@ use Rattle.sync_steps.specs.Machine.Spins.{spins_at, spun_at}
 
 -- so many steps of a party
 abbrev pub steps_of : {T : Type 0} → ℕ → ℕ → List (ℕ × Input T)
-steps_of party times = replicate times (party, inputs.Go)
+steps_of party times = replicate times (party, Input.Go)
 
 -- So many steps of the party were played, whatever run stood at the machine before, and each gave this event.
 abbrev pub Strides : {T : Type 0} → Arithmetic T → Configuration T → ℕ → Event T → ℕ → Configuration T → Type 0
@@ -28,15 +17,15 @@ Strides z old party event times new = Plays z (steps_of party times) old (replic
 
 -- the act leaves all words and holds as they are: a load, an exchange that failed, or a swap of a value that is not 0 for itself
 abbrev pub is_quiet : {T : Type 0} → Act T → Bool
-is_quiet (acts.Load word seen) = true
-is_quiet (acts.Exchange word from to found done) = not done
-is_quiet (acts.Swap word old put) = (old == put) && not (old == 0)
+is_quiet (Act.Load word seen) = true
+is_quiet (Act.Exchange word from to found done) = not done
+is_quiet (Act.Swap word old put) = (old == put) && not (old == 0)
 is_quiet act = false
 
 -- the event leaves all words and holds as they are, and its call goes on
 pub record IsQuiet {T : Type 0} (e : Event T) : Type 0 where
   pub act : is_quiet e.act ≡ true
-  pub goes_on : e.then ≡ thens.GoesOn
+  pub goes_on : e.then ≡ Then.GoesOn
 
 -- What a party and its machine make of a spin: what `src/steps/stride.rt` answers.
 
@@ -66,7 +55,7 @@ pub record HasSpun {T : Type 0} (z : Arithmetic T) (party : ℕ) (made : Event T
   pub after : Party T
   pub act : Act T
   pub spins : SpinsBy z (word_at old.words) found after act times
-  pub made_is : made ≡ event party act thens.GoesOn
+  pub made_is : made ≡ event party act Then.GoesOn
   pub object : new.object ≡ old.object
   pub parties : new.parties ≡ slice_set old.parties party after
   pub words : new.words ≡ old.words

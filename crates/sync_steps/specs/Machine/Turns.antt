@@ -1,26 +1,5 @@
 -- What one input makes a party of a machine do: what the functions of `src/steps/turn.rt` answer.
-use Rattle.std.specs.Prelude.{◌≡◌, ℕ, zero, Bool, true, false, ◌&&◌, is_some, is_none, if◌then◌else◌, Option, Some, None, Result, Ok, Err}
-use Rattle.steps_events.specs.declared.WaitAction.{WaitAction}
-use Rattle.steps_events.specs.declared.event.Act.{Act}
-use Rattle.steps_events.specs.declared.event.Act.TheVariants as acts
-use Rattle.steps_events.specs.declared.event.Call.{Call}
-use Rattle.steps_events.specs.declared.event.Input.{Input}
-use Rattle.steps_events.specs.declared.event.Input.TheVariants as inputs
-use Rattle.steps_events.specs.declared.event.Object.{Object}
-use Rattle.steps_events.specs.declared.event.StepFault.{StepFault}
-use Rattle.steps_events.specs.declared.event.StepFault.TheVariants as faults
-use Rattle.steps_events.specs.declared.event.Then.{Then}
-use Rattle.steps_events.specs.declared.event.Then.TheVariants as thens
-use Rattle.steps_events.specs.declared.event.Word.{Word}
-use Rattle.steps_events.specs.declared.event.Word.TheVariants as words
-use Rattle.steps_events.specs.declared.hold.HoldKind.{HoldKind}
-use Rattle.steps_events.specs.declared.row.After.{After}
-use Rattle.steps_events.specs.declared.row.After.TheVariants as afters
-use Rattle.steps_events.specs.Arithmetic.{Arithmetic}
-use Rattle.steps_events.specs.Rows.{carried_out, value_told, outcome_of}
-use Rattle.steps_events.specs.Past.{is_release, hold_or}
-use Rattle.steps_events.specs.Moves.{is_locking}
-use Rattle.sync_steps.specs.declared.steps.place.Closure.TheVariants as closures
+use Rattle.sync_steps.specs.Names.{◌≡◌, ℕ, zero, Bool, true, false, ◌&&◌, is_some, is_none, if◌then◌else◌, Option, Some, None, Result, Ok, Err, WaitAction, Act, Call, Input, Object, StepFault, Then, Word, HoldKind, After, Arithmetic, carried_out, value_told, outcome_of, is_release, hold_or, is_locking}
 use Rattle.sync_steps.specs.declared.steps.place.Closure.{Closure}
 use Rattle.sync_steps.specs.declared.steps.place.Doing.{Doing}
 use Rattle.sync_steps.specs.declared.steps.place.Party.{Party}
@@ -40,18 +19,18 @@ TurnsTo turned old new (Err fault) = (turned ≡ Err fault) × (new ≡ old)
 
 -- the hold that an act of a call takes
 abbrev pub hold_won : {T : Type 0} → Arithmetic T → Object T → Call T → Act T → Option HoldKind
-hold_won z o call (acts.Exchange words.State from to found true) = grant_at z o call from to
-hold_won z o call (acts.Swap words.State zero put) = grant_at z o call 0 put
+hold_won z o call (Act.Exchange Word.State from to found true) = grant_at z o call from to
+hold_won z o call (Act.Swap Word.State zero put) = grant_at z o call 0 put
 hold_won z o call act = None
 
 abbrev pub new_hold : {T : Type 0} → Arithmetic T → Object T → Call T → Act T → Option HoldKind → Option HoldKind
 new_hold z o call act hold = if is_release act then None else hold_or (hold_won z o call act) hold
 
 abbrev pub doing_after : {T : Type 0} → Call T → After T (Place T) → Option (Doing T)
-doing_after call (afters.At place) = Some (record { call = call; place = place; stands = None })
-doing_after call (afters.Waits place seen) = Some (record { call = call; place = place; stands = Some closures.Wait })
-doing_after call (afters.Chooses place old) = Some (record { call = call; place = place; stands = Some closures.Choice })
-doing_after call (afters.Ends answer) = None
+doing_after call (After.At place) = Some (record { call = call; place = place; stands = None })
+doing_after call (After.Waits place seen) = Some (record { call = call; place = place; stands = Some Closure.Wait })
+doing_after call (After.Chooses place old) = Some (record { call = call; place = place; stands = Some Closure.Choice })
+doing_after call (After.Ends answer) = None
 
 abbrev pub moved_on : {T : Type 0} → Option (Doing T) → After T (Place T) → Option (Doing T)
 moved_on None after = None
@@ -61,20 +40,20 @@ moved_on (Some doing) after = doing_after doing.call after
 abbrev pub begun : {T : Type 0} → Party T → Call T → Place T → Turn T
 begun party call place =
     record {
-      act = acts.Begun call;
-      outcome = thens.GoesOn;
+      act = Act.Begun call;
+      outcome = Then.GoesOn;
       party = record { doing = Some (record { call = call; place = place; stands = None }); hold = party.hold };
     }
 
 abbrev pub begin_at : {T : Type 0} → Arithmetic T → Object T → Party T → Call T → Option (Place T) → Result (Turn T) StepFault
-begin_at z o party call None = Err faults.OtherObject
+begin_at z o party call None = Err StepFault.OtherObject
 begin_at z o party call (Some place) =
     if (is_locking call && is_some party.hold)
-    then Err faults.Holding
-    else (if (needs_hold_at z o call && is_none party.hold) then Err faults.NoHold else Ok (begun party call place))
+    then Err StepFault.Holding
+    else (if (needs_hold_at z o call && is_none party.hold) then Err StepFault.NoHold else Ok (begun party call place))
 
 abbrev pub begin_turn : {T : Type 0} → Arithmetic T → Object T → Party T → Call T → Result (Turn T) StepFault
-begin_turn z o party call = if is_some party.doing then Err faults.Busy else begin_at z o party call (begins_at z o call)
+begin_turn z o party call = if is_some party.doing then Err StepFault.Busy else begin_at z o party call (begins_at z o call)
 
 -- after an act of a call that goes on so
 abbrev pub turn_after : {T : Type 0} → Arithmetic T → Object T → Call T → Option HoldKind → Act T → After T (Place T) → Turn T
@@ -89,8 +68,8 @@ abbrev pub stepped : {T : Type 0} → Arithmetic T → Object T → Doing T → 
 stepped z o doing hold memory = stepped_by z o doing hold (carried_out (intent_at z doing.place hold) memory)
 
 abbrev pub go_at : {T : Type 0} → Arithmetic T → Object T → Option (Doing T) → Option HoldKind → (Word → ℕ) → Result (Turn T) StepFault
-go_at z o None hold memory = Err faults.Idle
-go_at z o (Some doing) hold memory = if is_some doing.stands then Err faults.WaitingForAnswer else Ok (stepped z o doing hold memory)
+go_at z o None hold memory = Err StepFault.Idle
+go_at z o (Some doing) hold memory = if is_some doing.stands then Err StepFault.WaitingForAnswer else Ok (stepped z o doing hold memory)
 
 abbrev pub go_turn : {T : Type 0} → Arithmetic T → Object T → Party T → (Word → ℕ) → Result (Turn T) StepFault
 go_turn z o party memory = go_at z o party.doing party.hold memory
@@ -100,40 +79,40 @@ abbrev pub told_answer : {T : Type 0} → Act T → Doing T → Option HoldKind 
 told_answer act doing hold place =
     record {
       act = act;
-      outcome = thens.GoesOn;
+      outcome = Then.GoesOn;
       party = record { doing = Some (record { call = doing.call; place = place; stands = None }); hold = hold };
     }
 
 abbrev pub is_at_wait : Option Closure → Bool
-is_at_wait (Some closures.Wait) = true
+is_at_wait (Some Closure.Wait) = true
 is_at_wait other = false
 
 abbrev pub is_at_choice : Option Closure → Bool
-is_at_choice (Some closures.Choice) = true
+is_at_choice (Some Closure.Choice) = true
 is_at_choice other = false
 
 abbrev pub answer_at : {T : Type 0} → Arithmetic T → Option (Doing T) → Option HoldKind → WaitAction → Result (Turn T) StepFault
-answer_at z None hold action = Err faults.NotWaiting
+answer_at z None hold action = Err StepFault.NotWaiting
 answer_at z (Some doing) hold action =
     if is_at_wait doing.stands
-    then Ok (told_answer (acts.Answered action) doing hold (answered_at z doing.place action))
-    else Err faults.NotWaiting
+    then Ok (told_answer (Act.Answered action) doing hold (answered_at z doing.place action))
+    else Err StepFault.NotWaiting
 
 abbrev pub answer_turn : {T : Type 0} → Arithmetic T → Party T → WaitAction → Result (Turn T) StepFault
 answer_turn z party action = answer_at z party.doing party.hold action
 
 abbrev pub choose_at : {T : Type 0} → Arithmetic T → Option (Doing T) → Option HoldKind → Option T → Result (Turn T) StepFault
-choose_at z None hold choice = Err faults.NotWaiting
+choose_at z None hold choice = Err StepFault.NotWaiting
 choose_at z (Some doing) hold choice =
     if is_at_choice doing.stands
-    then Ok (told_answer (acts.Chosen choice) doing hold (chosen_at z doing.place choice))
-    else Err faults.NotWaiting
+    then Ok (told_answer (Act.Chosen choice) doing hold (chosen_at z doing.place choice))
+    else Err StepFault.NotWaiting
 
 abbrev pub choose_turn : {T : Type 0} → Arithmetic T → Party T → Option T → Result (Turn T) StepFault
 choose_turn z party choice = choose_at z party.doing party.hold choice
 
 abbrev pub turn_at : {T : Type 0} → Arithmetic T → Object T → Party T → (Word → ℕ) → Input T → Result (Turn T) StepFault
-turn_at z o party memory (inputs.Begin call) = begin_turn z o party call
-turn_at z o party memory inputs.Go = go_turn z o party memory
-turn_at z o party memory (inputs.Answer action) = answer_turn z party action
-turn_at z o party memory (inputs.Choose choice) = choose_turn z party choice
+turn_at z o party memory (Input.Begin call) = begin_turn z o party call
+turn_at z o party memory Input.Go = go_turn z o party memory
+turn_at z o party memory (Input.Answer action) = answer_turn z party action
+turn_at z o party memory (Input.Choose choice) = choose_turn z party choice

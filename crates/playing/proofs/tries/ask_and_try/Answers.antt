@@ -1,10 +1,7 @@
-use Rattle.std.proofs.Common.{◌≡◌, ◌+◌, refl, ◌∙◌, sym, subst, arith}
+use Rattle.playing.specs.Names.{WaitAction, answered, part_of, sights_of}
+use Rattle.playing.proofs.Names.{◌≡◌, ◌+◌, refl, ◌∙◌, sym, subst, arith, not_asked, goes_on, has_asked, told_of_its_kind}
 use Rattle.std.proofs.lemmas.Bool.{false≢true}
-use Rattle.steps_events.specs.declared.WaitAction.TheVariants as actions
-use Rattle.steps_events.specs.Rows.{answered}
-use Rattle.passes.proofs.Attempts.{not_asked, goes_on, has_asked, told_of_its_kind}
 use Rattle.playing.specs.Tries.{spun, IsStanding}
-use Rattle.passes.specs.Passes.{part_of, sights_of}
 use Rattle.playing.specs.Passes.{parties_of, counts_of}
 use Rattle.playing.specs.Counts.{HasMoved, WasRefusedAt}
 use Rattle.playing.proofs.Attempts.{seen_none, seen_twice, still_so, moved_later, refused_by, refused_later}
@@ -35,17 +32,17 @@ ask-requires-clause-stands g c =
 pub attempt-requires-clause-comes : goal.attempt-requires-clause-comes
 attempt-requires-clause-comes g c =
     record {
-      patience = answered (spun 10000) actions.Continue;
+      patience = answered (spun 10000) WaitAction.Continue;
       done = c.requires.at.0;
-      comes = tries_on _ _ _ (g.met.B.Attempt.answers _) actions.Continue c.loop.last _ _ (subst (λ q. IsStanding (g.M.Script.model (g.B.Attempt.key c.args.by.now)) g.B.Attempt.call g.B.Attempt.place c.loop.last c.requires.at.0 (parties_of q)) (sym c.in-Continue.ensures.still) (c.loop.invariant.at c.requires.at.0 c.requires.at.1));
+      comes = tries_on _ _ _ (g.met.B.Attempt.answers _) WaitAction.Continue c.loop.last _ _ (subst (λ q. IsStanding (g.M.Script.model (g.B.Attempt.key c.args.by.now)) g.B.Attempt.call g.B.Attempt.place c.loop.last c.requires.at.0 (parties_of q)) (sym c.in-Continue.ensures.still) (c.loop.invariant.at c.requires.at.0 c.requires.at.1));
     }
 
 pub attempt-requires-in-Abort-clause-comes : goal.attempt-requires-in-Abort-clause-comes
 attempt-requires-in-Abort-clause-comes g c =
     record {
-      patience = answered (spun 10000) actions.Abort;
+      patience = answered (spun 10000) WaitAction.Abort;
       done = c.requires.at.0;
-      comes = tries_on _ _ _ (g.met.B.Attempt.answers _) actions.Abort c.loop.last _ _ (subst (λ q. IsStanding (g.M.Script.model (g.B.Attempt.key c.args.by.now)) g.B.Attempt.call g.B.Attempt.place c.loop.last c.requires.at.0 (parties_of q)) (sym c.in-Abort.ensures.still) (c.loop.invariant.at c.requires.at.0 c.requires.at.1));
+      comes = tries_on _ _ _ (g.met.B.Attempt.answers _) WaitAction.Abort c.loop.last _ _ (subst (λ q. IsStanding (g.M.Script.model (g.B.Attempt.key c.args.by.now)) g.B.Attempt.call g.B.Attempt.place c.loop.last c.requires.at.0 (parties_of q)) (sym c.in-Abort.ensures.still) (c.loop.invariant.at c.requires.at.0 c.requires.at.1));
     }
 
 pub returns-in-Ok-clause-told : goal.returns-in-Ok-clause-told
@@ -59,7 +56,7 @@ returns-in-Ok-clause-asked g c = λ no. absurd (false≢true (sym no))
 
 pub returns-in-Ok-clause-over : goal.returns-in-Ok-clause-over
 returns-in-Ok-clause-over g c =
-    λ done stood. c.in-Ok.ensures.granted (answered (spun 10000) actions.Continue) done (tries_on _ _ _ (g.met.B.Attempt.answers _) actions.Continue c.loop.last _ _ (subst (λ q. IsStanding (g.M.Script.model (g.B.Attempt.key c.args.by.now)) g.B.Attempt.call g.B.Attempt.place c.loop.last done (parties_of q)) (sym c.in-Continue.ensures.still) (c.loop.invariant.at done stood)))
+    λ done stood. c.in-Ok.ensures.granted (answered (spun 10000) WaitAction.Continue) done (tries_on _ _ _ (g.met.B.Attempt.answers _) WaitAction.Continue c.loop.last _ _ (subst (λ q. IsStanding (g.M.Script.model (g.B.Attempt.key c.args.by.now)) g.B.Attempt.call g.B.Attempt.place c.loop.last done (parties_of q)) (sym c.in-Continue.ensures.still) (c.loop.invariant.at done stood)))
 
 pub returns-in-Ok-attempt-clause-told : goal.returns-in-Ok-attempt-clause-told
 returns-in-Ok-attempt-clause-told g c = moved_later g.B.Attempt.moves c.args.turn.pass.now c.loop.next.pass.now c.in-Ok-attempt.granted.pass.now c.loop.invariant.stayed (subst (λ q. HasMoved g.B.Attempt.moves q c.in-Ok-attempt.granted.pass.now) c.in-Abort.ensures.still c.in-Ok-attempt.ensures.moved)
@@ -72,7 +69,7 @@ returns-in-Ok-attempt-clause-asked g c = λ no. absurd (false≢true (sym no))
 
 pub returns-in-Ok-attempt-clause-over : goal.returns-in-Ok-attempt-clause-over
 returns-in-Ok-attempt-clause-over g c =
-    λ done stood. c.in-Ok-attempt.ensures.granted (answered (spun 10000) actions.Abort) done (tries_on _ _ _ (g.met.B.Attempt.answers _) actions.Abort c.loop.last _ _ (subst (λ q. IsStanding (g.M.Script.model (g.B.Attempt.key c.args.by.now)) g.B.Attempt.call g.B.Attempt.place c.loop.last done (parties_of q)) (sym c.in-Abort.ensures.still) (c.loop.invariant.at done stood)))
+    λ done stood. c.in-Ok-attempt.ensures.granted (answered (spun 10000) WaitAction.Abort) done (tries_on _ _ _ (g.met.B.Attempt.answers _) WaitAction.Abort c.loop.last _ _ (subst (λ q. IsStanding (g.M.Script.model (g.B.Attempt.key c.args.by.now)) g.B.Attempt.call g.B.Attempt.place c.loop.last done (parties_of q)) (sym c.in-Abort.ensures.still) (c.loop.invariant.at done stood)))
 
 pub returns-in-Err-attempt-clause-told : goal.returns-in-Err-attempt-clause-told
 returns-in-Err-attempt-clause-told g c =
@@ -81,10 +78,10 @@ returns-in-Err-attempt-clause-told g c =
 
 pub returns-in-Err-attempt-clause-over : goal.returns-in-Err-attempt-clause-over
 returns-in-Err-attempt-clause-over g c =
-    λ done stood. c.in-Err-attempt.ensures.failed (answered (spun 10000) actions.Abort) done (tries_on _ _ _ (g.met.B.Attempt.answers _) actions.Abort c.loop.last _ _ (subst (λ q. IsStanding (g.M.Script.model (g.B.Attempt.key c.args.by.now)) g.B.Attempt.call g.B.Attempt.place c.loop.last done (parties_of q)) (sym c.in-Abort.ensures.still) (c.loop.invariant.at done stood)))
+    λ done stood. c.in-Err-attempt.ensures.failed (answered (spun 10000) WaitAction.Abort) done (tries_on _ _ _ (g.met.B.Attempt.answers _) WaitAction.Abort c.loop.last _ _ (subst (λ q. IsStanding (g.M.Script.model (g.B.Attempt.key c.args.by.now)) g.B.Attempt.call g.B.Attempt.place c.loop.last done (parties_of q)) (sym c.in-Abort.ensures.still) (c.loop.invariant.at done stood)))
 
 pub returns-in-Err-attempt-clause-aborted : goal.returns-in-Err-attempt-clause-aborted
-returns-in-Err-attempt-clause-aborted g c = λ _. told_of_its_kind g.W.Fn _ g.B.Attempt.refuses actions.Abort _ c.in-Abort.ensures.answered c.loop.invariant.refused
+returns-in-Err-attempt-clause-aborted g c = λ _. told_of_its_kind g.W.Fn _ g.B.Attempt.refuses WaitAction.Abort _ c.in-Abort.ensures.answered c.loop.invariant.refused
 
 pub returns-in-Err-attempt-clause-asked : goal.returns-in-Err-attempt-clause-asked
 returns-in-Err-attempt-clause-asked g c = λ _ looks_once. has_asked _ _ _ c.args.turn.pass.now c.loop.next.pass.now c.in-Err-attempt.refused.pass.now
@@ -100,7 +97,7 @@ loop-preserved g c =
       refused = refused.looked.refusing.1;
       asked = λ looks_once. goes_on _ _ _ c.args.turn.pass.now c.loop.next.pass.now c.in-Err.again.pass.now
           (c.loop.invariant.asked looks_once)
-          (told_of_its_kind g.W.Fn _ g.B.Attempt.refuses actions.Continue _ c.in-Continue.ensures.answered c.loop.invariant.refused)
+          (told_of_its_kind g.W.Fn _ g.B.Attempt.refuses WaitAction.Continue _ c.in-Continue.ensures.answered c.loop.invariant.refused)
           (subst (λ q. g.B.Attempt.looks_once (part_of q) (counts_of q) → (sights_of c.in-Err.again.pass.now).count ≡ (sights_of q).count + 1) c.in-Continue.ensures.still c.in-Err.ensures.once (still_so g.B.Attempt.looks_once c.args.turn.pass.now c.loop.next.pass.now c.loop.invariant.stayed looks_once));
-      at = λ done stood. c.in-Err.ensures.failed (answered (spun 10000) actions.Continue) done (tries_on _ _ _ (g.met.B.Attempt.answers _) actions.Continue c.loop.last _ _ (subst (λ q. IsStanding (g.M.Script.model (g.B.Attempt.key c.args.by.now)) g.B.Attempt.call g.B.Attempt.place c.loop.last done (parties_of q)) (sym c.in-Continue.ensures.still) (c.loop.invariant.at done stood)));
+      at = λ done stood. c.in-Err.ensures.failed (answered (spun 10000) WaitAction.Continue) done (tries_on _ _ _ (g.met.B.Attempt.answers _) WaitAction.Continue c.loop.last _ _ (subst (λ q. IsStanding (g.M.Script.model (g.B.Attempt.key c.args.by.now)) g.B.Attempt.call g.B.Attempt.place c.loop.last done (parties_of q)) (sym c.in-Continue.ensures.still) (c.loop.invariant.at done stood)));
     }

@@ -1,6 +1,5 @@
-use Rattle.std.proofs.Common.{◌≡◌}
-use Rattle.passes.specs.Passes.{object_of, part_of}
-use Rattle.passes.proofs.Attempts.{HasGoneOn}
+use Rattle.playing.specs.Names.{object_of, part_of}
+use Rattle.playing.proofs.Names.{◌≡◌, HasGoneOn}
 use Rattle.playing.specs.Passes.{parties_of, counts_of}
 use Rattle.playing.specs.Counts.{HasOnlySeen}
 use Rattle.playing.specs.Tries.{IsStanding, OnceStanding}

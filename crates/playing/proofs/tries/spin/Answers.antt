@@ -1,4 +1,4 @@
-use Rattle.std.proofs.Common.{◌+◌, ◌∙◌, arith}
+use Rattle.playing.proofs.Names.{◌+◌, ◌∙◌, arith}
 use Rattle.playing.specs.Tries.{spun}
 use Rattle.playing.proofs.Attempts.{seen_twice, still_so, moved_later}
 use Rattle.playing.proofs.Patience.{spins_on}

@@ -1,5 +1,4 @@
-use Rattle.std.proofs.Common.{◌∙◌}
-use Rattle.passes.proofs.Attempts.{asked_later}
+use Rattle.playing.proofs.Names.{◌∙◌, asked_later}
 use Rattle.playing.proofs.Attempts.{still_so, told_later}
 use Rattle.playing.proofs.tries.try_again.Goals as goal
 

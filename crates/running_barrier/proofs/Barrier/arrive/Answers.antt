@@ -1,4 +1,4 @@
-use Rattle.std.proofs.Common.{rules}
+use Rattle.running_barrier.proofs.Names.{rules}
 use Rattle.running_barrier.proofs.Barrier.arrive.Goals as goal
 
 pub returns-then-found-seen-clause-joined : goal.returns-then-found-seen-clause-joined

@@ -1,4 +1,4 @@
-use Rattle.std.proofs.Common.{rules}
+use Rattle.running_barrier.proofs.Names.{rules}
 use Rattle.running_barrier.proofs.Barrier.arrive_later.Goals as goal
 
 pub exchange-found-requires-clause-looked : goal.exchange-found-requires-clause-looked

@@ -1,7 +1,5 @@
-use Rattle.std.proofs.Common.{◌≡◌, ◌<◌}
-use Rattle.passes.specs.Passes.{sights_of}
-use Rattle.playing.specs.Passes.{parties_of}
-use Rattle.steps_barrier.specs.Rounds.{count_of}
+use Rattle.running_barrier.specs.Names.{sights_of, parties_of, count_of}
+use Rattle.running_barrier.proofs.Names.{◌≡◌, ◌<◌}
 use Rattle.running_barrier.specs.BarrierParties.{HasLooked, OnceLooked}
 use Rattle.running_barrier.specs.BarrierShown.{waiters_of, HasStayed}
 use Rattle.running_barrier.proofs.Barrier.arrive_later.Given as goal

@@ -1,5 +1,5 @@
-use Rattle.std.proofs.Common.{rules, sym, subst}
-use Rattle.playing.specs.Passes.{parties_of}
+use Rattle.running_barrier.specs.Names.{parties_of}
+use Rattle.running_barrier.proofs.Names.{rules, sym, subst}
 use Rattle.running_barrier.specs.BarrierParties.{Looks}
 use Rattle.running_barrier.specs.BarrierShown.{waiters_of}
 use Rattle.running_barrier.proofs.BarrierPlays.{leaves, stands_to_wait, may_look_on, looks_on}

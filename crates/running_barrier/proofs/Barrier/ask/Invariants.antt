@@ -1,6 +1,5 @@
-use Rattle.std.proofs.Common.{◌≡◌, ◌%◌, ◌^◌}
-use Rattle.playing.specs.Passes.{parties_of, counted}
-use Rattle.steps_barrier.specs.Rounds.{epoch_of}
+use Rattle.running_barrier.specs.Names.{parties_of, counted, epoch_of}
+use Rattle.running_barrier.proofs.Names.{◌≡◌, ◌%◌, ◌^◌}
 use Rattle.running_barrier.specs.BarrierParties.{Looks, OnceLooking}
 use Rattle.running_barrier.specs.BarrierSteps.{HasAll}
 use Rattle.running_barrier.specs.BarrierShown.{waiters_of, reached_of, HasStayed}

@@ -1,6 +1,5 @@
-use Rattle.std.proofs.Common.{arith}
-use Rattle.playing.specs.Plays.{Going}
-use Rattle.playing.specs.Passes.{parties_of, counted}
+use Rattle.running_barrier.specs.Names.{Going, parties_of, counted}
+use Rattle.running_barrier.proofs.Names.{arith}
 use Rattle.running_barrier.proofs.BarrierKeeps.{exchanges, exchange_counts}
 use Rattle.running_barrier.proofs.BarrierPlays.{may_arrive, has_joined, looked_again}
 use Rattle.running_barrier.proofs.Barrier.exchange.Goals as goal

@@ -1,9 +1,5 @@
-use Rattle.std.proofs.Common.{subst}
-use Rattle.steps_events.specs.declared.event.Call.TheVariants as calls
-use Rattle.playing.specs.Plays.{Beginning, Went}
-use Rattle.playing.specs.Passes.{parties_of, counted}
-use Rattle.passes.specs.Passes.{IsSamePass}
-use Rattle.tallies.specs.BarrierScript.{barrier_model}
+use Rattle.running_barrier.specs.Names.{Call, Beginning, Went, parties_of, counted, IsSamePass, barrier_model}
+use Rattle.running_barrier.proofs.Names.{subst}
 use Rattle.running_barrier.specs.BarrierSteps.{Loaded}
 use Rattle.running_barrier.specs.BarrierShown.{waiters_of}
 use Rattle.running_barrier.proofs.BarrierPlays.{may_look}
@@ -19,4 +15,4 @@ pub returns-clause-told : goal.returns-clause-told
 returns-clause-told g c = subst (λ p. Loaded (waiters_of c.args.self.now) (counted p) c.look.result.0 (counted c.look.result.1.pass.now)) c.begin_new-begun.ensures.still c.look.ensures.told
 
 pub returns-clause-went : goal.returns-clause-went
-returns-clause-went g c = subst (λ p. Went (barrier_model (waiters_of c.args.self.now)) (Beginning calls.Wait) (parties_of p) c.look.result.0 (parties_of c.look.result.1.pass.now)) c.begin_new-begun.ensures.still c.look.ensures.went
+returns-clause-went g c = subst (λ p. Went (barrier_model (waiters_of c.args.self.now)) (Beginning Call.Wait) (parties_of p) c.look.result.0 (parties_of c.look.result.1.pass.now)) c.begin_new-begun.ensures.still c.look.ensures.went

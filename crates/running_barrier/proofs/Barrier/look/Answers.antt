@@ -1,4 +1,4 @@
-use Rattle.playing.specs.Passes.{parties_of, counted}
+use Rattle.running_barrier.specs.Names.{parties_of, counted}
 use Rattle.running_barrier.proofs.BarrierKeeps.{loads, load_counts}
 use Rattle.running_barrier.proofs.Barrier.look.Goals as goal
 

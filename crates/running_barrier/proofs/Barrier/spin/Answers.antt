@@ -1,5 +1,5 @@
-use Rattle.std.proofs.Common.{◌≡◌, ℕ, rules, subst}
-use Rattle.playing.specs.Passes.{parties_of}
+use Rattle.running_barrier.specs.Names.{parties_of}
+use Rattle.running_barrier.proofs.Names.{◌≡◌, ℕ, rules, subst}
 use Rattle.running_barrier.specs.BarrierParties.{Looks}
 use Rattle.running_barrier.specs.BarrierShown.{waiters_of}
 use Rattle.running_barrier.proofs.BarrierPlays.{may_stay, looks, looks_no_more, spins_on}

@@ -1,19 +1,15 @@
-use Rattle.std.proofs.Common.{rules, sym, subst, ◌∙◌}
-use Rattle.steps_events.specs.declared.event.Call.TheVariants as calls
-use Rattle.steps_events.specs.declared.event.Answer.TheVariants as answers
-use Rattle.playing.specs.Slots.{all_of}
-use Rattle.playing.specs.Passes.{parties_of}
+use Rattle.running_barrier.specs.Names.{Call, Answer, all_of, parties_of, barrier_model}
+use Rattle.running_barrier.proofs.Names.{rules, sym, subst, ◌∙◌}
 use Rattle.playing.proofs.Over.{is_over}
-use Rattle.tallies.specs.BarrierScript.{barrier_model}
 use Rattle.running_barrier.specs.BarrierShown.{waiters_of, HasPlayed, HasFilled}
 use Rattle.running_barrier.proofs.BarrierPlays.{looked, refused, fills, stays, is_to_wake, is_over_woken}
 use Rattle.running_barrier.proofs.Barrier.wait.Goals as goal
 
 pub end-pass-requires-clause-over : goal.end-pass-requires-clause-over
-end-pass-requires-clause-over g c = is_over (barrier_model (waiters_of c.args.self.now)) calls.Wait _ _ _ _ (refused _ _ _ _ (search rules) (looked _ _ _ _ c.first_look-seen.ensures.went))
+end-pass-requires-clause-over g c = is_over (barrier_model (waiters_of c.args.self.now)) Call.Wait _ _ _ _ (refused _ _ _ _ (search rules) (looked _ _ _ _ c.first_look-seen.ensures.went))
 
 pub returns-in_default-clause-full : goal.returns-in_default-clause-full
-returns-in_default-clause-full g c = subst (λ q. HasPlayed (waiters_of c.args.self.now) answers.Full c.args.pass.now q) (sym (c.pass-1.given.1 (sym c.first_look-seen.ensures.same_borrow ∙ sym c.end-pass.ensures.same_borrow) ∙ c.end-pass.ensures.still)) (refused _ _ _ _ (search rules) (looked _ _ _ _ c.first_look-seen.ensures.went))
+returns-in_default-clause-full g c = subst (λ q. HasPlayed (waiters_of c.args.self.now) Answer.Full c.args.pass.now q) (sym (c.pass-1.given.1 (sym c.first_look-seen.ensures.same_borrow ∙ sym c.end-pass.ensures.same_borrow) ∙ c.end-pass.ensures.still)) (refused _ _ _ _ (search rules) (looked _ _ _ _ c.first_look-seen.ensures.went))
 
 pub arrive-from-requires-clause-looked : goal.arrive-from-requires-clause-looked
 arrive-from-requires-clause-looked g c = (all_of (parties_of c.args.pass.now), looked _ _ _ _ c.first_look-seen.ensures.went)
@@ -34,7 +30,7 @@ pub stay-left-requires-clause-comes : goal.stay-left-requires-clause-comes
 stay-left-requires-clause-comes g c = (all_of (parties_of c.args.pass.now), stays _ _ _ _ _ c.epoch_of.ensures (search rules) (c.arrive-from.ensures.joined _ (looked _ _ _ _ c.first_look-seen.ensures.went)))
 
 pub end-pass-requires-2-clause-over : goal.end-pass-requires-2-clause-over
-end-pass-requires-2-clause-over g c = is_over (barrier_model (waiters_of c.args.self.now)) calls.Wait _ _ _ _ (c.stay-left.ensures.left (all_of (parties_of c.args.pass.now)) (stays _ _ _ _ _ c.epoch_of.ensures (search rules) (c.arrive-from.ensures.joined _ (looked _ _ _ _ c.first_look-seen.ensures.went))))
+end-pass-requires-2-clause-over g c = is_over (barrier_model (waiters_of c.args.self.now)) Call.Wait _ _ _ _ (c.stay-left.ensures.left (all_of (parties_of c.args.pass.now)) (stays _ _ _ _ _ c.epoch_of.ensures (search rules) (c.arrive-from.ensures.joined _ (looked _ _ _ _ c.first_look-seen.ensures.went))))
 
 pub returns-clause-played : goal.returns-clause-played
-returns-clause-played g c = λ _. subst (λ q. HasPlayed (waiters_of c.args.self.now) answers.Ok c.args.pass.now q) (sym (c.pass-2-1.given.1 (sym c.first_look-seen.ensures.same_borrow ∙ sym c.arrive-from.ensures.same_borrow ∙ sym c.stay-left.ensures.same_borrow ∙ sym c.end-pass-2.ensures.same_borrow) ∙ c.end-pass-2.ensures.still)) (c.stay-left.ensures.left (all_of (parties_of c.args.pass.now)) (stays _ _ _ _ _ c.epoch_of.ensures (search rules) (c.arrive-from.ensures.joined _ (looked _ _ _ _ c.first_look-seen.ensures.went))))
+returns-clause-played g c = λ _. subst (λ q. HasPlayed (waiters_of c.args.self.now) Answer.Ok c.args.pass.now q) (sym (c.pass-2-1.given.1 (sym c.first_look-seen.ensures.same_borrow ∙ sym c.arrive-from.ensures.same_borrow ∙ sym c.stay-left.ensures.same_borrow ∙ sym c.end-pass-2.ensures.same_borrow) ∙ c.end-pass-2.ensures.still)) (c.stay-left.ensures.left (all_of (parties_of c.args.pass.now)) (stays _ _ _ _ _ c.epoch_of.ensures (search rules) (c.arrive-from.ensures.joined _ (looked _ _ _ _ c.first_look-seen.ensures.went))))

@@ -1,5 +1,5 @@
-use Rattle.tallies.specs.MutexScript.{mutex_model}
-use Rattle.running_spin_lock.proofs.ValueKeeps.{one_holder}
+use Rattle.running_guarded.specs.Names.{mutex_model}
+use Rattle.running_guarded.proofs.Names.{one_holder}
 use Rattle.running_guarded.proofs.guarded.one_holder_at_most.Goals as goal
 
 pub returns : goal.returns

@@ -1,4 +1,4 @@
-use Rattle.playing.specs.Passes.{parties_of, counted}
+use Rattle.running_mutex.specs.Names.{parties_of, counted}
 use Rattle.running_mutex.proofs.MutexKeeps.{exchanges, exchange_counts}
 use Rattle.running_mutex.proofs.Mutex.exchange.Goals as goal
 

@@ -1,14 +1,10 @@
-use Rattle.std.proofs.Common.{◌≡◌, ℕ, true, MatchBool, [], ◌∷◌, sym, subst}
-use Rattle.steps_events.specs.declared.event.Word.TheVariants as words
-use Rattle.steps_events.specs.declared.row.Intent.TheVariants as intents
-use Rattle.tallies.specs.MutexScript.{mutex_model}
-use Rattle.playing.specs.Plays.{Beginning, MayStep}
-use Rattle.playing.specs.Passes.{parties_of}
+use Rattle.running_mutex.specs.Names.{Word, Intent, mutex_model, Beginning, MayStep, parties_of}
+use Rattle.running_mutex.proofs.Names.{◌≡◌, ℕ, true, MatchBool, [], ◌∷◌, sym, subst}
 use Rattle.running_mutex.specs.MutexShown.{HasLocked, HasSeenLocked, HasTried, IsAlone}
 use Rattle.running_mutex.proofs.Mutex.first.Goals as goal
 
 pub exchange-requires-clause-may : goal.exchange-requires-clause-may
-exchange-requires-clause-may g c = subst (λ p. (put : ℕ) → put ≡ 1 → MayStep mutex_model (words.State ∷ []) (Beginning g.L.Called.call) 0 (λ w. intents.Exchange w 0 put) (parties_of p)) (sym c.begin_new-begun.ensures.still) c.requires.may
+exchange-requires-clause-may g c = subst (λ p. (put : ℕ) → put ≡ 1 → MayStep mutex_model (Word.State ∷ []) (Beginning g.L.Called.call) 0 (λ w. Intent.Exchange w 0 put) (parties_of p)) (sym c.begin_new-begun.ensures.still) c.requires.may
 
 pub returns-clause-locked : goal.returns-clause-locked
 returns-clause-locked g c = let q = c.exchange.result.1.pass.now in subst (λ p. MatchBool c.exchange.result.0 (HasLocked p q) (HasSeenLocked p q)) c.begin_new-begun.ensures.still c.exchange.ensures.locked

@@ -1,5 +1,5 @@
-use Rattle.std.proofs.Common.{sym, subst}
-use Rattle.playing.specs.Passes.{parties_of}
+use Rattle.running_mutex.specs.Names.{parties_of}
+use Rattle.running_mutex.proofs.Names.{sym, subst}
 use Rattle.running_mutex.specs.MutexParties.{HasMutex}
 use Rattle.running_mutex.specs.MutexShown.{HasPlayedUnlock}
 use Rattle.running_mutex.proofs.MutexPlays.{is_to_wake, unlock_is_over}

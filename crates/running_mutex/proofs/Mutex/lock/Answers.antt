@@ -1,23 +1,13 @@
-use Rattle.steps_events.specs.declared.event.Answer.TheVariants as answers
-use Rattle.steps_events.specs.declared.hold.HoldKind.TheVariants as kinds
-use Rattle.playing.specs.Counts.{HasGivenUp}
+use Rattle.running_mutex.specs.Names.{Answer, HoldKind, HasGivenUp, Call, all_of, Beginning, spun, parties_of, mutex_model}
+use Rattle.running_mutex.proofs.Names.{◌≡◌, Some, None, refl, sym, ap, subst, ◌∙◌, MatchBool-at_true, MatchBool-at_false, true≢false, is_over, either_is_over}
 use Rattle.running_mutex.specs.MutexShown.{HasPlayed, HasEntered, IsLocked, holds_of}
 use Rattle.running_mutex.specs.MutexParties.{HasMutex}
-use Rattle.std.proofs.Common.{◌≡◌, Some, None, refl, sym, ap, subst, ◌∙◌}
-use Rattle.std.proofs.lemmas.Bool.{MatchBool-at_true, MatchBool-at_false, true≢false}
-use Rattle.steps_events.specs.declared.event.Call.TheVariants as calls
-use Rattle.playing.specs.Slots.{all_of}
-use Rattle.playing.specs.Plays.{Beginning}
-use Rattle.playing.specs.Tries.{spun}
-use Rattle.playing.specs.Passes.{parties_of}
-use Rattle.tallies.specs.MutexScript.{mutex_model}
-use Rattle.playing.proofs.Over.{is_over, either_is_over}
 use Rattle.running_mutex.proofs.MutexPlays.{lock_begins, may_lock, lock_first, granted_has}
 use Rattle.running_mutex.proofs.MutexTries.{locks_once, ends, state_named}
 use Rattle.running_mutex.proofs.Mutex.lock.Goals as goal
 
 pub first-free-requires-clause-may : goal.first-free-requires-clause-may
-first-free-requires-clause-may g c = λ put is. may_lock (Beginning calls.Lock) _ put is (record { patience = spun 0; done = all_of (parties_of c.args.pass.now); comes = lock_begins (parties_of c.args.pass.now) })
+first-free-requires-clause-may g c = λ put is. may_lock (Beginning Call.Lock) _ put is (record { patience = spun 0; done = all_of (parties_of c.args.pass.now); comes = lock_begins (parties_of c.args.pass.now) })
 
 pub try_again-granted-requires-clause-at : goal.try_again-granted-requires-clause-at
 try_again-granted-requires-clause-at g c = (all_of (parties_of c.args.pass.now), MatchBool-at_false _ _ c.if-free.false (lock_first _ _ _ c.first-free.ensures.tried))
@@ -35,16 +25,16 @@ pub try_again-granted-requires-clause-handed : goal.try_again-granted-requires-c
 try_again-granted-requires-clause-handed g c = λ _. state_named _ c.word.ensures.index
 
 pub end-pass-requires-clause-over : goal.end-pass-requires-clause-over
-end-pass-requires-clause-over g c = is_over mutex_model calls.Lock _ _ _ _ (MatchBool-at_true _ _ c.if-free.true (lock_first _ _ _ c.first-free.ensures.tried))
+end-pass-requires-clause-over g c = is_over mutex_model Call.Lock _ _ _ _ (MatchBool-at_true _ _ c.if-free.true (lock_first _ _ _ c.first-free.ensures.tried))
 
 pub end-pass-requires-2-clause-over : goal.end-pass-requires-2-clause-over
-end-pass-requires-2-clause-over g c = either_is_over mutex_model c.try_again-granted.result.0 calls.Lock _ _ _ (c.try_again-granted.ensures.over (all_of (parties_of c.args.pass.now)) (MatchBool-at_false _ _ c.if-free.false (lock_first _ _ _ c.first-free.ensures.tried)))
+end-pass-requires-2-clause-over g c = either_is_over mutex_model c.try_again-granted.result.0 Call.Lock _ _ _ (c.try_again-granted.ensures.over (all_of (parties_of c.args.pass.now)) (MatchBool-at_false _ _ c.if-free.false (lock_first _ _ _ c.first-free.ensures.tried)))
 
 pub invariant_of-result-clause-on : goal.invariant_of-result-clause-on
 invariant_of-result-clause-on g c = subst (λ q. holds_of q ≡ 1) (sym (c.pass-1.given.1 (sym c.first-free.ensures.same_borrow ∙ sym c.end-pass.ensures.same_borrow) ∙ c.end-pass.ensures.still)) (locks_once c.args.pass.now c.first-free.result.1.pass.now (MatchBool-at_true _ _ c.if-free.true c.first-free.ensures.locked)).counts.on
 
 pub invariant_of-result-clause-has : goal.invariant_of-result-clause-has
-invariant_of-result-clause-has g c = subst (λ q. HasMutex (parties_of q)) (sym (c.pass-1.given.1 (sym c.first-free.ensures.same_borrow ∙ sym c.end-pass.ensures.same_borrow) ∙ c.end-pass.ensures.still)) (granted_has calls.Lock (parties_of c.args.pass.now) _ (MatchBool-at_true _ _ c.if-free.true (lock_first _ _ _ c.first-free.ensures.tried)))
+invariant_of-result-clause-has g c = subst (λ q. HasMutex (parties_of q)) (sym (c.pass-1.given.1 (sym c.first-free.ensures.same_borrow ∙ sym c.end-pass.ensures.same_borrow) ∙ c.end-pass.ensures.still)) (granted_has Call.Lock (parties_of c.args.pass.now) _ (MatchBool-at_true _ _ c.if-free.true (lock_first _ _ _ c.first-free.ensures.tried)))
 
 pub returns-then-free : goal.returns-then-free
 returns-then-free g c = (
@@ -53,7 +43,7 @@ returns-then-free g c = (
     refused = tt;
     same_borrow = refl;
     granted = subst (λ q. HasEntered c.args.pass.now q) (sym (c.pass-1.given.1 (sym c.first-free.ensures.same_borrow ∙ sym c.end-pass.ensures.same_borrow) ∙ c.end-pass.ensures.still)) (locks_once c.args.pass.now c.first-free.result.1.pass.now (MatchBool-at_true _ _ c.if-free.true c.first-free.ensures.locked));
-    played = subst (λ q. HasPlayed calls.Lock answers.Success (Some kinds.Write) c.args.pass.now q) (sym (c.pass-1.given.1 (sym c.first-free.ensures.same_borrow ∙ sym c.end-pass.ensures.same_borrow) ∙ c.end-pass.ensures.still)) (MatchBool-at_true _ _ c.if-free.true (lock_first _ _ _ c.first-free.ensures.tried));
+    played = subst (λ q. HasPlayed Call.Lock Answer.Success (Some HoldKind.Write) c.args.pass.now q) (sym (c.pass-1.given.1 (sym c.first-free.ensures.same_borrow ∙ sym c.end-pass.ensures.same_borrow) ∙ c.end-pass.ensures.still)) (MatchBool-at_true _ _ c.if-free.true (lock_first _ _ _ c.first-free.ensures.tried));
     exact = λ _. tt;
     aborted = tt;
   },
@@ -63,7 +53,7 @@ pub invariant_of-result-then-granted-clause-on : goal.invariant_of-result-then-g
 invariant_of-result-then-granted-clause-on g c = subst (λ q. holds_of q ≡ 1) (sym (c.pass-2-1.given.1 (sym c.first-free.ensures.same_borrow ∙ sym c.try_again-granted.ensures.same_borrow ∙ sym c.end-pass-2.ensures.same_borrow) ∙ c.end-pass-2.ensures.still)) (MatchBool-at_true _ _ c.if-granted.true (ends _ _ _ c.args.pass.now c.first-free.result.1.pass.now c.try_again-granted.result.1.pass.now (MatchBool-at_false _ _ c.if-free.false c.first-free.ensures.locked) c.try_again-granted.ensures.told (λ no. c.try_again-granted.ensures.asked no tt))).counts.on
 
 pub invariant_of-result-then-granted-clause-has : goal.invariant_of-result-then-granted-clause-has
-invariant_of-result-then-granted-clause-has g c = subst (λ q. HasMutex (parties_of q)) (sym (c.pass-2-1.given.1 (sym c.first-free.ensures.same_borrow ∙ sym c.try_again-granted.ensures.same_borrow ∙ sym c.end-pass-2.ensures.same_borrow) ∙ c.end-pass-2.ensures.still)) (granted_has calls.Lock (parties_of c.args.pass.now) _ (MatchBool-at_true _ _ c.if-granted.true (c.try_again-granted.ensures.over (all_of (parties_of c.args.pass.now)) (MatchBool-at_false _ _ c.if-free.false (lock_first _ _ _ c.first-free.ensures.tried)))))
+invariant_of-result-then-granted-clause-has g c = subst (λ q. HasMutex (parties_of q)) (sym (c.pass-2-1.given.1 (sym c.first-free.ensures.same_borrow ∙ sym c.try_again-granted.ensures.same_borrow ∙ sym c.end-pass-2.ensures.same_borrow) ∙ c.end-pass-2.ensures.still)) (granted_has Call.Lock (parties_of c.args.pass.now) _ (MatchBool-at_true _ _ c.if-granted.true (c.try_again-granted.ensures.over (all_of (parties_of c.args.pass.now)) (MatchBool-at_false _ _ c.if-free.false (lock_first _ _ _ c.first-free.ensures.tried)))))
 
 pub returns-then-granted : goal.returns-then-granted
 returns-then-granted g c = (
@@ -72,7 +62,7 @@ returns-then-granted g c = (
     refused = tt;
     same_borrow = refl;
     granted = subst (λ q. HasEntered c.args.pass.now q) (sym (c.pass-2-1.given.1 (sym c.first-free.ensures.same_borrow ∙ sym c.try_again-granted.ensures.same_borrow ∙ sym c.end-pass-2.ensures.same_borrow) ∙ c.end-pass-2.ensures.still)) (MatchBool-at_true _ _ c.if-granted.true (ends _ _ _ c.args.pass.now c.first-free.result.1.pass.now c.try_again-granted.result.1.pass.now (MatchBool-at_false _ _ c.if-free.false c.first-free.ensures.locked) c.try_again-granted.ensures.told (λ no. c.try_again-granted.ensures.asked no tt)));
-    played = subst (λ q. HasPlayed calls.Lock answers.Success (Some kinds.Write) c.args.pass.now q) (sym (c.pass-2-1.given.1 (sym c.first-free.ensures.same_borrow ∙ sym c.try_again-granted.ensures.same_borrow ∙ sym c.end-pass-2.ensures.same_borrow) ∙ c.end-pass-2.ensures.still)) (MatchBool-at_true _ _ c.if-granted.true (c.try_again-granted.ensures.over (all_of (parties_of c.args.pass.now)) (MatchBool-at_false _ _ c.if-free.false (lock_first _ _ _ c.first-free.ensures.tried))));
+    played = subst (λ q. HasPlayed Call.Lock Answer.Success (Some HoldKind.Write) c.args.pass.now q) (sym (c.pass-2-1.given.1 (sym c.first-free.ensures.same_borrow ∙ sym c.try_again-granted.ensures.same_borrow ∙ sym c.end-pass-2.ensures.same_borrow) ∙ c.end-pass-2.ensures.still)) (MatchBool-at_true _ _ c.if-granted.true (c.try_again-granted.ensures.over (all_of (parties_of c.args.pass.now)) (MatchBool-at_false _ _ c.if-free.false (lock_first _ _ _ c.first-free.ensures.tried))));
     exact = λ _. tt;
     aborted = tt;
   },
@@ -81,7 +71,7 @@ returns-then-granted g c = (
 pub returns : goal.returns
 returns g c =
     let gave_up = subst (λ q. HasGivenUp g.W.Fn c.args.wait IsLocked c.args.pass.now q) (sym (c.pass-2-1.given.1 (sym c.first-free.ensures.same_borrow ∙ sym c.try_again-granted.ensures.same_borrow ∙ sym c.end-pass-2.ensures.same_borrow) ∙ c.end-pass-2.ensures.still)) (MatchBool-at_false _ _ c.if-granted.false (ends _ _ _ c.args.pass.now c.first-free.result.1.pass.now c.try_again-granted.result.1.pass.now (MatchBool-at_false _ _ c.if-free.false c.first-free.ensures.locked) c.try_again-granted.ensures.told (λ no. c.try_again-granted.ensures.asked no tt))) in
-    let played = subst (λ q. HasPlayed calls.Lock answers.Interrupted None c.args.pass.now q) (sym (c.pass-2-1.given.1 (sym c.first-free.ensures.same_borrow ∙ sym c.try_again-granted.ensures.same_borrow ∙ sym c.end-pass-2.ensures.same_borrow) ∙ c.end-pass-2.ensures.still)) (MatchBool-at_false _ _ c.if-granted.false (c.try_again-granted.ensures.over (all_of (parties_of c.args.pass.now)) (MatchBool-at_false _ _ c.if-free.false (lock_first _ _ _ c.first-free.ensures.tried)))) in (
+    let played = subst (λ q. HasPlayed Call.Lock Answer.Interrupted None c.args.pass.now q) (sym (c.pass-2-1.given.1 (sym c.first-free.ensures.same_borrow ∙ sym c.try_again-granted.ensures.same_borrow ∙ sym c.end-pass-2.ensures.same_borrow) ∙ c.end-pass-2.ensures.still)) (MatchBool-at_false _ _ c.if-granted.false (c.try_again-granted.ensures.over (all_of (parties_of c.args.pass.now)) (MatchBool-at_false _ _ c.if-free.false (lock_first _ _ _ c.first-free.ensures.tried)))) in (
       (refl, λ _. tt, (gave_up, played)),
       record {
         refused = tt;

@@ -1,6 +1,4 @@
-use Rattle.steps_events.specs.declared.event.Call.TheVariants as calls
-use Rattle.playing.specs.Plays.{Continuing}
-use Rattle.playing.specs.Passes.{parties_of, counted}
+use Rattle.running_mutex.specs.Names.{Call, Continuing, parties_of, counted}
 use Rattle.running_mutex.proofs.MutexKeeps.{stores, store_counts}
 use Rattle.running_mutex.proofs.MutexPlays.{may_unlock, unlocks}
 use Rattle.running_mutex.proofs.Mutex.release.Goals as goal
@@ -12,7 +10,7 @@ pub store_by-requires-clause-update : goal.store_by-requires-clause-update
 store_by-requires-clause-update g c = stores _ c.requires.on
 
 pub store_by-requires-clause-follow : goal.store_by-requires-clause-follow
-store_by-requires-clause-follow g c = store_counts (Continuing calls.Unlock) (parties_of c.args.turn.pass.now) (counted c.args.turn.pass.now)
+store_by-requires-clause-follow g c = store_counts (Continuing Call.Unlock) (parties_of c.args.turn.pass.now) (counted c.args.turn.pass.now)
 
 pub returns-clause-played : goal.returns-clause-played
 returns-clause-played g c = unlocks _ _ c.store_by.ensures.went

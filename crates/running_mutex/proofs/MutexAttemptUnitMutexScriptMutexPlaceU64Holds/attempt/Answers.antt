@@ -1,10 +1,5 @@
-use Rattle.std.proofs.Common.{sym, subst}
-use Rattle.std.proofs.lemmas.Bool.{MatchBool-at_true, MatchBool-at_false}
-use Rattle.steps_events.specs.declared.event.Call.TheVariants as calls
-use Rattle.steps_mutex.specs.declared.MutexPlace.TheVariants as places
-use Rattle.tallies.specs.MutexScript.{mutex_model}
-use Rattle.playing.specs.Passes.{parties_of}
-use Rattle.playing.specs.Tries.{IsRefused}
+use Rattle.running_mutex.specs.Names.{Call, MutexPlace, mutex_model, parties_of, IsRefused}
+use Rattle.running_mutex.proofs.Names.{sym, subst, MatchBool-at_true, MatchBool-at_false}
 use Rattle.running_mutex.proofs.MutexPlays.{may_lock, lock_goes}
 use Rattle.running_mutex.proofs.MutexTries.{locks_once, sees_once, refused_at}
 use Rattle.running_mutex.proofs.MutexAttemptUnitMutexScriptMutexPlaceU64Holds.attempt.Goals as goal
@@ -26,5 +21,5 @@ pub returns-else-free-clause-once : goal.returns-else-free-clause-once
 returns-else-free-clause-once g c = λ _. sees_once c.args.turn.pass.now c.exchange-free.result.1.pass.now (MatchBool-at_false _ _ c.if-free.false c.exchange-free.ensures.locked)
 
 pub returns-else-free-clause-failed : goal.returns-else-free-clause-failed
-returns-else-free-clause-failed g c = λ patience done comes. let t = c.exchange-free.ensures.tried in subst (λ n. IsRefused mutex_model calls.Lock places.Lock patience n done (parties_of c.exchange-free.result.1.pass.now)) (sym c.locked.ensures)
+returns-else-free-clause-failed g c = λ patience done comes. let t = c.exchange-free.ensures.tried in subst (λ n. IsRefused mutex_model Call.Lock MutexPlace.Lock patience n done (parties_of c.exchange-free.result.1.pass.now)) (sym c.locked.ensures)
     (MatchBool-at_false _ _ c.if-free.false (lock_goes _ g.W.Way.coming t.0 patience done (parties_of c.args.turn.pass.now) (parties_of c.exchange-free.result.1.pass.now) t.1 t.2 comes))

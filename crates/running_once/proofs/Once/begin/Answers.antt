@@ -1,5 +1,4 @@
-use Rattle.playing.specs.Plays.{Going}
-use Rattle.playing.specs.Passes.{parties_of, counted}
+use Rattle.running_once.specs.Names.{Going, parties_of, counted}
 use Rattle.running_once.proofs.OnceCounts.{exchange_counts}
 use Rattle.running_once.proofs.OnceKeeps.{exchanges}
 use Rattle.running_once.proofs.OncePlays.{may_begin, runs, stays}

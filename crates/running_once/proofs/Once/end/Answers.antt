@@ -1,5 +1,4 @@
-use Rattle.playing.specs.Plays.{Aside}
-use Rattle.playing.specs.Passes.{parties_of, counted}
+use Rattle.running_once.specs.Names.{Aside, parties_of, counted}
 use Rattle.running_once.proofs.OnceCounts.{store_counts}
 use Rattle.running_once.proofs.OncePlays.{may_complete, completes}
 use Rattle.running_once.proofs.Once.end.Goals as goal

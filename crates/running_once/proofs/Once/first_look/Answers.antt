@@ -1,15 +1,11 @@
-use Rattle.std.proofs.Common.{[], ◌∷◌, sym, subst}
-use Rattle.steps_events.specs.declared.event.Word.TheVariants as words
-use Rattle.steps_events.specs.declared.row.Intent.TheVariants as intents
-use Rattle.passes.specs.Passes.{IsSamePass}
-use Rattle.playing.specs.Plays.{Beginning, MayStep, Went}
-use Rattle.playing.specs.Passes.{parties_of, counted}
+use Rattle.running_once.specs.Names.{Word, Intent, IsSamePass, Beginning, MayStep, Went, parties_of, counted}
+use Rattle.running_once.proofs.Names.{[], ◌∷◌, sym, subst}
 use Rattle.running_once.specs.OnceScript.{once_model}
 use Rattle.running_once.specs.OnceRule.{Loaded}
 use Rattle.running_once.proofs.Once.first_look.Goals as goal
 
 pub look-requires-clause-may : goal.look-requires-clause-may
-look-requires-clause-may g c = subst (λ p. MayStep once_model (words.State ∷ []) (Beginning g.L.Called.call) 0 (λ w. intents.Load w) (parties_of p)) (sym c.begin_new-begun.ensures.still) c.requires.may
+look-requires-clause-may g c = subst (λ p. MayStep once_model (Word.State ∷ []) (Beginning g.L.Called.call) 0 (λ w. Intent.Load w) (parties_of p)) (sym c.begin_new-begun.ensures.still) c.requires.may
 
 pub returns-clause-same : goal.returns-clause-same
 returns-clause-same g c = subst (λ p. IsSamePass p c.look.result.1.pass.now) c.begin_new-begun.ensures.still c.look.ensures.same

@@ -1,4 +1,4 @@
-use Rattle.std.proofs.Common.{rules}
+use Rattle.running_once.proofs.Names.{rules}
 use Rattle.running_once.proofs.OncePlays.{asked}
 use Rattle.running_once.proofs.Once.is_completed.Goals as goal
 

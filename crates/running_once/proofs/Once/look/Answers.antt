@@ -1,4 +1,4 @@
-use Rattle.playing.specs.Passes.{parties_of, counted}
+use Rattle.running_once.specs.Names.{parties_of, counted}
 use Rattle.running_once.proofs.OnceCounts.{load_counts}
 use Rattle.running_once.proofs.Once.look.Goals as goal
 

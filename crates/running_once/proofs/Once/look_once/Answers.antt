@@ -1,8 +1,5 @@
-use Rattle.std.proofs.Common.{sym, subst, ◌∙◌}
-use Rattle.steps_events.specs.declared.event.Call.TheVariants as calls
-use Rattle.passes.specs.Passes.{IsSamePass}
-use Rattle.playing.specs.Plays.{Beginning, Went}
-use Rattle.playing.specs.Passes.{parties_of, counted}
+use Rattle.running_once.specs.Names.{Call, IsSamePass, Beginning, Went, parties_of, counted}
+use Rattle.running_once.proofs.Names.{sym, subst, ◌∙◌}
 use Rattle.running_once.specs.OnceScript.{once_model}
 use Rattle.running_once.specs.OnceRule.{Loaded}
 use Rattle.running_once.proofs.OncePlays.{may_ask, asked_is_over}
@@ -21,4 +18,4 @@ pub returns-clause-told : goal.returns-clause-told
 returns-clause-told g c = subst (λ q. Loaded (counted c.args.pass.now) c.first_look-seen.result.0 (counted q)) (sym (c.pass-1.given.1 (sym c.first_look-seen.ensures.same_borrow ∙ sym c.end-pass.ensures.same_borrow) ∙ c.end-pass.ensures.still)) c.first_look-seen.ensures.told
 
 pub returns-clause-went : goal.returns-clause-went
-returns-clause-went g c = subst (λ q. Went once_model (Beginning calls.IsCompleted) (parties_of c.args.pass.now) c.first_look-seen.result.0 (parties_of q)) (sym (c.pass-1.given.1 (sym c.first_look-seen.ensures.same_borrow ∙ sym c.end-pass.ensures.same_borrow) ∙ c.end-pass.ensures.still)) c.first_look-seen.ensures.went
+returns-clause-went g c = subst (λ q. Went once_model (Beginning Call.IsCompleted) (parties_of c.args.pass.now) c.first_look-seen.result.0 (parties_of q)) (sym (c.pass-1.given.1 (sym c.first_look-seen.ensures.same_borrow ∙ sym c.end-pass.ensures.same_borrow) ∙ c.end-pass.ensures.still)) c.first_look-seen.ensures.went

@@ -1,4 +1,4 @@
-use Rattle.std.proofs.Common.{rules}
+use Rattle.running_once.proofs.Names.{rules}
 use Rattle.running_once.proofs.OncePlays.{may_stay, leaves_at_last, stays_on}
 use Rattle.running_once.proofs.Once.stay.Goals as goal
 

@@ -1,5 +1,5 @@
-use Rattle.std.proofs.Common.{◌≡◌}
-use Rattle.playing.specs.Passes.{parties_of}
+use Rattle.running_once.specs.Names.{parties_of}
+use Rattle.running_once.proofs.Names.{◌≡◌}
 use Rattle.running_once.specs.OnceParties.{ComesToStay, WhereStays}
 use Rattle.running_once.specs.OnceShown.{HasOnlyWaited}
 use Rattle.running_once.proofs.Once.stay.Given as goal

@@ -1,5 +1,4 @@
-use Rattle.playing.specs.Plays.{Going}
-use Rattle.playing.specs.Passes.{parties_of, counted}
+use Rattle.running_rw_reader.specs.Names.{Going, parties_of, counted}
 use Rattle.running_rw_reader.proofs.RwReaderCounts.{reader_in_counts}
 use Rattle.running_rw_reader.proofs.RwReaderKeeps.{readers_in}
 use Rattle.running_rw_reader.proofs.RwLockReaderPreference.come_to_read.Goals as goal

@@ -1,4 +1,4 @@
-use Rattle.playing.specs.Passes.{parties_of, counted}
+use Rattle.running_rw_reader.specs.Names.{parties_of, counted}
 use Rattle.running_rw_reader.proofs.RwReaderCounts.{writer_in_counts}
 use Rattle.running_rw_reader.proofs.RwReaderKeeps.{writers_in}
 use Rattle.running_rw_reader.proofs.RwLockReaderPreference.come_to_write.Goals as goal

@@ -1,17 +1,10 @@
-use Rattle.std.proofs.Common.{◌≡◌, [], ◌∷◌, sym, subst}
-use Rattle.steps_events.specs.declared.event.Word.TheVariants as words
-use Rattle.steps_events.specs.declared.row.Intent.TheVariants as intents
-use Rattle.passes.specs.Parts.{IsWhole}
-use Rattle.passes.specs.Passes.{part_of}
-use Rattle.playing.specs.Plays.{Beginning, MayStep, Went}
-use Rattle.playing.specs.Counts.{HasSeen}
-use Rattle.playing.specs.Passes.{parties_of, counts_of}
-use Rattle.tallies.specs.RwReaderScript.{rw_reader_model}
+use Rattle.running_rw_reader.specs.Names.{Word, Intent, IsWhole, part_of, Beginning, MayStep, Went, HasSeen, parties_of, counts_of, rw_reader_model}
+use Rattle.running_rw_reader.proofs.Names.{◌≡◌, [], ◌∷◌, sym, subst}
 use Rattle.running_rw_reader.specs.RwReaderSteps.{word_of}
 use Rattle.running_rw_reader.proofs.RwLockReaderPreference.first_look.Goals as goal
 
 pub look-requires-clause-may : goal.look-requires-clause-may
-look-requires-clause-may g c = subst (λ p. MayStep rw_reader_model (words.State ∷ []) (Beginning g.L.Called.call) 0 (λ w. intents.Load w) (parties_of p)) (sym c.begin_new-begun.ensures.still) c.requires.may
+look-requires-clause-may g c = subst (λ p. MayStep rw_reader_model (Word.State ∷ []) (Beginning g.L.Called.call) 0 (λ w. Intent.Load w) (parties_of p)) (sym c.begin_new-begun.ensures.still) c.requires.may
 
 pub returns-clause-saw : goal.returns-clause-saw
 returns-clause-saw g c = subst (λ p. HasSeen c.look.result.0 p c.look.result.1.pass.now) c.begin_new-begun.ensures.still c.look.ensures.saw

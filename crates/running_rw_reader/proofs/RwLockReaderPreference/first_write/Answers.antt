@@ -1,16 +1,10 @@
-use Rattle.std.specs.Prelude.{IfOk, IfErr, is_ok}
-use Rattle.std.proofs.Common.{◌≡◌, ◌≢◌, ◌-◌, ◌^◌, ℕ, true, [], ◌∷◌, sym, subst}
-use Rattle.steps_events.specs.declared.event.Word.TheVariants as words
-use Rattle.steps_events.specs.declared.row.Intent.TheVariants as intents
-use Rattle.passes.specs.Passes.{sights_of}
-use Rattle.playing.specs.Plays.{Beginning, MayStep, Went}
-use Rattle.playing.specs.Passes.{parties_of}
-use Rattle.tallies.specs.RwReaderScript.{rw_reader_model}
+use Rattle.running_rw_reader.specs.Names.{IfOk, IfErr, is_ok, Word, Intent, sights_of, Beginning, MayStep, Went, parties_of, rw_reader_model}
+use Rattle.running_rw_reader.proofs.Names.{◌≡◌, ◌≢◌, ◌-◌, ◌^◌, ℕ, true, [], ◌∷◌, sym, subst}
 use Rattle.running_rw_reader.specs.RwReaderShown.{IsAlone, HasEnteredToWrite, HasWrittenAtOnce, HasSeenTaken}
 use Rattle.running_rw_reader.proofs.RwLockReaderPreference.first_write.Goals as goal
 
 pub try_to_write-requires-clause-may : goal.try_to_write-requires-clause-may
-try_to_write-requires-clause-may g c = subst (λ p. (put : ℕ) → put ≡ 2 ^ 64 - 1 → MayStep rw_reader_model (words.State ∷ []) (Beginning g.L.Called.call) 0 (λ w. intents.Exchange w 0 put) (parties_of p)) (sym c.begin_new-begun.ensures.still) c.requires.may
+try_to_write-requires-clause-may g c = subst (λ p. (put : ℕ) → put ≡ 2 ^ 64 - 1 → MayStep rw_reader_model (Word.State ∷ []) (Beginning g.L.Called.call) 0 (λ w. Intent.Exchange w 0 put) (parties_of p)) (sym c.begin_new-begun.ensures.still) c.requires.may
 
 pub returns-clause-entered : goal.returns-clause-entered
 returns-clause-entered g c = subst (λ p. IfOk c.try_to_write.result (λ next. HasEnteredToWrite p next.pass.now)) c.begin_new-begun.ensures.still c.try_to_write.ensures.entered

@@ -1,6 +1,4 @@
-use Rattle.steps_events.specs.declared.event.Call.TheVariants as calls
-use Rattle.playing.specs.Plays.{Continuing}
-use Rattle.playing.specs.Passes.{parties_of, counted}
+use Rattle.running_rw_reader.specs.Names.{Call, Continuing, parties_of, counted}
 use Rattle.running_rw_reader.proofs.RwReaderCounts.{reader_out_counts}
 use Rattle.running_rw_reader.proofs.RwReaderKeeps.{readers_out}
 use Rattle.running_rw_reader.proofs.RwReaderPlays.{may_leave_reading, leaves_reading}
@@ -13,7 +11,7 @@ pub subtract_by-next-requires-clause-update : goal.subtract_by-next-requires-cla
 subtract_by-next-requires-clause-update g c = readers_out _ c.requires.on
 
 pub subtract_by-next-requires-clause-follow : goal.subtract_by-next-requires-clause-follow
-subtract_by-next-requires-clause-follow g c = reader_out_counts (Continuing calls.Unlock) (parties_of c.args.turn.pass.now) (counted c.args.turn.pass.now) c.requires.on
+subtract_by-next-requires-clause-follow g c = reader_out_counts (Continuing Call.Unlock) (parties_of c.args.turn.pass.now) (counted c.args.turn.pass.now) c.requires.on
 
 pub returns-clause-played : goal.returns-clause-played
 returns-clause-played g c = leaves_reading _ _ _ c.subtract_by-next.ensures.went

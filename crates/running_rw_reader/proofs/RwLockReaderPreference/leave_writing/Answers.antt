@@ -1,6 +1,4 @@
-use Rattle.steps_events.specs.declared.event.Call.TheVariants as calls
-use Rattle.playing.specs.Plays.{Continuing}
-use Rattle.playing.specs.Passes.{parties_of, counted}
+use Rattle.running_rw_reader.specs.Names.{Call, Continuing, parties_of, counted}
 use Rattle.running_rw_reader.proofs.RwReaderCounts.{writer_out_counts}
 use Rattle.running_rw_reader.proofs.RwReaderKeeps.{writers_out}
 use Rattle.running_rw_reader.proofs.RwReaderPlays.{may_leave_writing, leaves_writing}
@@ -13,7 +11,7 @@ pub store_by-requires-clause-update : goal.store_by-requires-clause-update
 store_by-requires-clause-update g c = writers_out _ c.requires.on
 
 pub store_by-requires-clause-follow : goal.store_by-requires-clause-follow
-store_by-requires-clause-follow g c = writer_out_counts (Continuing calls.Unlock) (parties_of c.args.turn.pass.now) (counted c.args.turn.pass.now) c.requires.on
+store_by-requires-clause-follow g c = writer_out_counts (Continuing Call.Unlock) (parties_of c.args.turn.pass.now) (counted c.args.turn.pass.now) c.requires.on
 
 pub returns-clause-played : goal.returns-clause-played
 returns-clause-played g c = leaves_writing _ _ _ c.store_by.ensures.went

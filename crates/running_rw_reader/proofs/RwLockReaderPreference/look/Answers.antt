@@ -1,4 +1,4 @@
-use Rattle.playing.specs.Passes.{parties_of, counted}
+use Rattle.running_rw_reader.specs.Names.{parties_of, counted}
 use Rattle.running_rw_reader.proofs.RwReaderCounts.{load_counts}
 use Rattle.running_rw_reader.proofs.RwReaderKeeps.{loads}
 use Rattle.running_rw_reader.proofs.RwLockReaderPreference.look.Goals as goal

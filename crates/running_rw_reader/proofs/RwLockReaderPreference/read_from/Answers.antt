@@ -1,8 +1,5 @@
-use Rattle.std.proofs.Common.{ap, ◌∙◌, refl}
-use Rattle.passes.specs.declared.view.View.{View}
-use Rattle.playing.proofs.Attempts.{seen_none, seen_twice}
-use Rattle.tallies.specs.RwReaderRule.{Holds}
-use Rattle.running_rw_hold.proofs.RwTries.{seen_instead_once}
+use Rattle.running_rw_reader.specs.Names.{View, Holds}
+use Rattle.running_rw_reader.proofs.Names.{ap, ◌∙◌, refl, seen_none, seen_twice, seen_instead_once}
 use Rattle.running_rw_reader.proofs.RwReaderPlays.{reads_some, reads_none, may_read, looked_again, has_read, found_shut}
 use Rattle.running_rw_reader.proofs.RwReaderTries.{found_again, entered_to_read}
 use Rattle.running_rw_reader.proofs.RwLockReaderPreference.read_from.Goals as goal

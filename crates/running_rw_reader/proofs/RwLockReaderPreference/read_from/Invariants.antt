@@ -1,11 +1,5 @@
-use Rattle.std.proofs.Common.{◌≡◌}
-use Rattle.steps_events.specs.declared.patience.Patience.{Patience}
-use Rattle.std.specs.Prelude.{List, ℕ}
-use Rattle.passes.specs.Parts.{IsWhole}
-use Rattle.passes.specs.Passes.{part_of, sights_of}
-use Rattle.playing.specs.Slots.{Slot}
-use Rattle.playing.specs.Passes.{parties_of, counts_of}
-use Rattle.playing.specs.Counts.{HasOnlySeen}
+use Rattle.running_rw_reader.specs.Names.{Patience, List, ℕ, IsWhole, part_of, sights_of, Slot, parties_of, counts_of, HasOnlySeen}
+use Rattle.running_rw_reader.proofs.Names.{◌≡◌}
 use Rattle.running_rw_reader.specs.RwReaderParties.{HasLooked}
 use Rattle.running_rw_reader.specs.RwReaderSteps.{word_of}
 use Rattle.running_rw_reader.proofs.RwLockReaderPreference.read_from.Given as goal

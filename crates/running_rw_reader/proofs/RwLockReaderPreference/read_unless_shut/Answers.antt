@@ -1,9 +1,5 @@
-use Rattle.std.proofs.Common.{◌≡◌, ap, ◌∙◌, arith}
-use Rattle.passes.specs.declared.view.View.{View}
-use Rattle.passes.specs.Parts.{IsWhole}
-use Rattle.playing.proofs.Attempts.{seen_twice, moved_later, still_so}
-use Rattle.tallies.specs.RwReaderRule.{Holds}
-use Rattle.running_rw_hold.proofs.RwTries.{seen_once, looked_at, last_seen}
+use Rattle.running_rw_reader.specs.Names.{View, IsWhole, Holds}
+use Rattle.running_rw_reader.proofs.Names.{◌≡◌, ap, ◌∙◌, arith, seen_twice, moved_later, still_so, seen_once, looked_at, last_seen}
 use Rattle.running_rw_reader.specs.RwReaderSteps.{word_of}
 use Rattle.running_rw_reader.specs.RwReaderShown.{EntersToRead}
 use Rattle.running_rw_reader.proofs.RwReaderPlays.{may_look, looked}

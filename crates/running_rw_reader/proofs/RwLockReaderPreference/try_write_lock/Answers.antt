@@ -1,8 +1,6 @@
-use Rattle.std.proofs.Common.{Some, refl, sym, ap, subst}
+use Rattle.running_rw_reader.specs.Names.{Call, Answer, HoldKind}
+use Rattle.running_rw_reader.proofs.Names.{Some, refl, sym, ap, subst}
 use mathlib.Core.Option as maybe
-use Rattle.steps_events.specs.declared.event.Call.TheVariants as calls
-use Rattle.steps_events.specs.declared.event.Answer.TheVariants as answers
-use Rattle.steps_events.specs.declared.hold.HoldKind.TheVariants as kinds
 use Rattle.running_rw_reader.specs.RwReaderShown.{RwReaderPass, HasEnteredToWrite, HasWrittenAtOnce, HasPlayed}
 use Rattle.running_rw_reader.proofs.RwLockReaderPreference.try_write_lock.Goals as goal
 
@@ -21,7 +19,7 @@ returns-then-try_once_to_write g c = (
     kind = tt;
     granted = subst (λ (p : RwReaderPass). HasEnteredToWrite c.args.pass.now p) (sym c.write_hold.ensures.same_pass) c.if-try_once_to_write.ensures.entered;
     at_once = subst (λ (p : RwReaderPass). HasWrittenAtOnce c.args.pass.now p) (sym c.write_hold.ensures.same_pass) (c.try_once_to_write.ensures.at_once c.if-try_once_to_write.true);
-    played = subst (λ (p : RwReaderPass). HasPlayed calls.TryWriteLock answers.Success (Some kinds.Write) c.args.pass.now p) (sym c.write_hold.ensures.same_pass) c.if-try_once_to_write.ensures.played;
+    played = subst (λ (p : RwReaderPass). HasPlayed Call.TryWriteLock Answer.Success (Some HoldKind.Write) c.args.pass.now p) (sym c.write_hold.ensures.same_pass) c.if-try_once_to_write.ensures.played;
     exact = λ _. tt;
   },
 )

@@ -1,6 +1,5 @@
-use Rattle.std.proofs.Common.{◌≡◌, ◌<◌, true, ◌∙◌, sym, subst}
-use Rattle.steps_events.specs.declared.hold.HoldKind.TheVariants as kinds
-use Rattle.playing.specs.Passes.{parties_of}
+use Rattle.running_rw_reader.specs.Names.{HoldKind, parties_of}
+use Rattle.running_rw_reader.proofs.Names.{◌≡◌, ◌<◌, true, ◌∙◌, sym, subst}
 use Rattle.running_rw_hold.proofs.RwHolds.{pass_read, pass_written, borrow_read, borrow_written}
 use Rattle.running_rw_reader.specs.RwReaderParties.{has_hold}
 use Rattle.running_rw_reader.specs.RwReaderShown.{RwReaderPass, IsRwReaderPass, reads_of, writes_of}
@@ -14,7 +13,7 @@ pub unlock_read-requires-clause-on : goal.unlock_read-requires-clause-on
 unlock_read-requires-clause-on g c = subst (λ (p : RwReaderPass). 0 < reads_of p) (sym c.end_read_hold.ensures.same_pass) c.in-Read.hold.on
 
 pub unlock_read-requires-clause-has : goal.unlock_read-requires-clause-has
-unlock_read-requires-clause-has g c = subst (λ (p : RwReaderPass). has_hold kinds.Read (parties_of p) ≡ true) (sym c.end_read_hold.ensures.same_pass) c.in-Read.hold.has
+unlock_read-requires-clause-has g c = subst (λ (p : RwReaderPass). has_hold HoldKind.Read (parties_of p) ≡ true) (sym c.end_read_hold.ensures.same_pass) c.in-Read.hold.has
 
 pub unlock_write-requires-clause-own : goal.unlock_write-requires-clause-own
 unlock_write-requires-clause-own g c = subst (λ (p : RwReaderPass). IsRwReaderPass c.args.self.now p) (pass_written _ _ c.in-Write.is ∙ sym c.end_write_hold.ensures.same_pass) c.requires.own
@@ -23,7 +22,7 @@ pub unlock_write-requires-clause-on : goal.unlock_write-requires-clause-on
 unlock_write-requires-clause-on g c = subst (λ (p : RwReaderPass). writes_of p ≡ 1) (sym c.end_write_hold.ensures.same_pass) c.in-Write.hold.on
 
 pub unlock_write-requires-clause-has : goal.unlock_write-requires-clause-has
-unlock_write-requires-clause-has g c = subst (λ (p : RwReaderPass). has_hold kinds.Write (parties_of p) ≡ true) (sym c.end_write_hold.ensures.same_pass) c.in-Write.hold.has
+unlock_write-requires-clause-has g c = subst (λ (p : RwReaderPass). has_hold HoldKind.Write (parties_of p) ≡ true) (sym c.end_write_hold.ensures.same_pass) c.in-Write.hold.has
 
 pub returns-in-Read-clause-same_borrow : goal.returns-in-Read-clause-same_borrow
 returns-in-Read-clause-same_borrow g c = c.unlock_read.ensures.same_borrow ∙ c.end_read_hold.ensures.same_reference ∙ sym (borrow_read _ _ c.in-Read.is)

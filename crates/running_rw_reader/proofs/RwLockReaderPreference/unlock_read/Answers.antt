@@ -1,18 +1,17 @@
-use Rattle.std.proofs.Common.{◌≡◌, true, sym, subst}
-use Rattle.steps_events.specs.declared.hold.HoldKind.TheVariants as kinds
-use Rattle.playing.specs.Passes.{parties_of}
+use Rattle.running_rw_reader.specs.Names.{HoldKind, parties_of}
+use Rattle.running_rw_reader.proofs.Names.{◌≡◌, true, sym, subst}
 use Rattle.running_rw_reader.specs.RwReaderParties.{has_hold, Unlocks}
 use Rattle.running_rw_reader.proofs.RwReaderPlays.{is_to_wake, unlock_is_over}
 use Rattle.running_rw_reader.proofs.RwLockReaderPreference.unlock_read.Goals as goal
 
 pub leave_reading-turn-requires-clause-has : goal.leave_reading-turn-requires-clause-has
-leave_reading-turn-requires-clause-has g c = subst (λ p. has_hold kinds.Read (parties_of p) ≡ true) (sym c.begin_held-begun.ensures.still) c.requires.has
+leave_reading-turn-requires-clause-has g c = subst (λ p. has_hold HoldKind.Read (parties_of p) ≡ true) (sym c.begin_held-begun.ensures.still) c.requires.has
 
 pub wake-woken-requires-clause-wakes : goal.wake-woken-requires-clause-wakes
-wake-woken-requires-clause-wakes g c = is_to_wake kinds.Read _ _ _ c.word.ensures.index (subst (λ p. has_hold kinds.Read (parties_of p) ≡ true) (sym c.begin_held-begun.ensures.still) c.requires.has) c.leave_reading-turn.ensures.played
+wake-woken-requires-clause-wakes g c = is_to_wake HoldKind.Read _ _ _ c.word.ensures.index (subst (λ p. has_hold HoldKind.Read (parties_of p) ≡ true) (sym c.begin_held-begun.ensures.still) c.requires.has) c.leave_reading-turn.ensures.played
 
 pub end_aside-requires-clause-over : goal.end_aside-requires-clause-over
-end_aside-requires-clause-over g c = unlock_is_over kinds.Read _ _ c.requires.has (subst (λ q. Unlocks kinds.Read (parties_of c.args.pass.now) (parties_of q)) (sym c.wake-woken.ensures.still) (subst (λ p. Unlocks kinds.Read (parties_of p) (parties_of c.leave_reading-turn.result.pass.now)) c.begin_held-begun.ensures.still c.leave_reading-turn.ensures.played))
+end_aside-requires-clause-over g c = unlock_is_over HoldKind.Read _ _ c.requires.has (subst (λ q. Unlocks HoldKind.Read (parties_of c.args.pass.now) (parties_of q)) (sym c.wake-woken.ensures.still) (subst (λ p. Unlocks HoldKind.Read (parties_of p) (parties_of c.leave_reading-turn.result.pass.now)) c.begin_held-begun.ensures.still c.leave_reading-turn.ensures.played))
 
 pub returns-clause-woke : goal.returns-clause-woke
 returns-clause-woke g c = record { word = _; says = c.wake-woken.ensures.woke }

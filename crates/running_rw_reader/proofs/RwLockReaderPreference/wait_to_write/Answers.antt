@@ -1,21 +1,6 @@
-use Rattle.std.proofs.lemmas.Bool.{MatchBool-at_true}
-use Rattle.steps_events.specs.declared.event.Call.TheVariants as calls
-use Rattle.steps_events.specs.declared.event.Answer.TheVariants as answers
-use Rattle.steps_events.specs.declared.hold.HoldKind.TheVariants as kinds
-use Rattle.playing.specs.Slots.{all_of}
-use Rattle.playing.specs.Tries.{spun}
-use Rattle.playing.specs.Passes.{parties_of}
-use Rattle.playing.specs.Words.{IsNamed}
-use Rattle.playing.proofs.Over.{is_over, either_is_over}
-use Rattle.tallies.specs.RwReaderScript.{rw_reader_model}
-use Rattle.std.proofs.Common.{◌≡◌, ℕ, true, Some, None, MatchBool, [], ◌∷◌, ◌∙◌, refl, sym, ap, subst}
-use Rattle.steps_events.specs.declared.event.Word.TheVariants as words
+use Rattle.running_rw_reader.specs.Names.{Call, Answer, HoldKind, all_of, spun, parties_of, IsNamed, rw_reader_model, Word, View, Beginning, HasGivenUp, Holds}
+use Rattle.running_rw_reader.proofs.Names.{MatchBool-at_true, is_over, either_is_over, ◌≡◌, ℕ, true, Some, None, MatchBool, [], ◌∷◌, ◌∙◌, refl, sym, ap, subst, gives_up_on}
 use Rattle.running_rw_reader.specs.RwReaderParties.{has_hold}
-use Rattle.passes.specs.declared.view.View.{View}
-use Rattle.playing.specs.Plays.{Beginning}
-use Rattle.playing.specs.Counts.{HasGivenUp}
-use Rattle.tallies.specs.RwReaderRule.{Holds}
-use Rattle.running_rw_hold.proofs.RwTries.{gives_up_on}
 use Rattle.running_rw_reader.specs.RwReaderShown.{IsTaken, EntersToWrite, HasEnteredToWrite, HasPlayed}
 use Rattle.running_rw_reader.proofs.RwReaderPlays.{may_write, first_write, write_begins, has_written, found_taken, granted_has}
 use Rattle.running_rw_reader.proofs.RwReaderTries.{taken_at}
@@ -25,7 +10,7 @@ pub first_write-requires-clause-may : goal.first_write-requires-clause-may
 first_write-requires-clause-may g c = may_write _ _ (first_write _)
 
 pub try_again-entered-requires-clause-at : goal.try_again-entered-requires-clause-at
-try_again-entered-requires-clause-at g c = (all_of (parties_of c.args.pass.now), (found_taken (Beginning calls.WriteLock) _ (parties_of c.args.pass.now) _ c.in-Err.ensures.missed.0 c.in-Err.ensures.missed.1 (spun 0) _ (write_begins (parties_of c.args.pass.now))))
+try_again-entered-requires-clause-at g c = (all_of (parties_of c.args.pass.now), (found_taken (Beginning Call.WriteLock) _ (parties_of c.args.pass.now) _ c.in-Err.ensures.missed.0 c.in-Err.ensures.missed.1 (spun 0) _ (write_begins (parties_of c.args.pass.now))))
 
 pub try_again-entered-requires-clause-own : goal.try_again-entered-requires-clause-own
 try_again-entered-requires-clause-own g c = c.in-Err.ensures.refused.0.0.0 ∙ c.requires.own
@@ -40,22 +25,22 @@ pub try_again-entered-requires-clause-word : goal.try_again-entered-requires-cla
 try_again-entered-requires-clause-word g c = c.word.ensures.object
 
 pub try_again-entered-requires-clause-handed : goal.try_again-entered-requires-clause-handed
-try_again-entered-requires-clause-handed g c = λ _. subst (λ (n : ℕ). IsNamed (words.State ∷ []) n words.State) (sym c.word.ensures.index) refl
+try_again-entered-requires-clause-handed g c = λ _. subst (λ (n : ℕ). IsNamed (Word.State ∷ []) n Word.State) (sym c.word.ensures.index) refl
 
 pub end-pass-requires-clause-over : goal.end-pass-requires-clause-over
-end-pass-requires-clause-over g c = is_over rw_reader_model calls.WriteLock _ _ _ _ (has_written (Beginning calls.WriteLock) (parties_of c.args.pass.now) _ c.in-Ok.ensures.went (spun 0) _ (write_begins (parties_of c.args.pass.now)))
+end-pass-requires-clause-over g c = is_over rw_reader_model Call.WriteLock _ _ _ _ (has_written (Beginning Call.WriteLock) (parties_of c.args.pass.now) _ c.in-Ok.ensures.went (spun 0) _ (write_begins (parties_of c.args.pass.now)))
 
 pub end-pass-requires-in-Err-clause-over : goal.end-pass-requires-in-Err-clause-over
-end-pass-requires-in-Err-clause-over g c = either_is_over rw_reader_model c.try_again-entered.result.0 calls.WriteLock _ _ _ (c.try_again-entered.ensures.over (all_of (parties_of c.args.pass.now)) (found_taken (Beginning calls.WriteLock) _ (parties_of c.args.pass.now) _ c.in-Err.ensures.missed.0 c.in-Err.ensures.missed.1 (spun 0) _ (write_begins (parties_of c.args.pass.now))))
+end-pass-requires-in-Err-clause-over g c = either_is_over rw_reader_model c.try_again-entered.result.0 Call.WriteLock _ _ _ (c.try_again-entered.ensures.over (all_of (parties_of c.args.pass.now)) (found_taken (Beginning Call.WriteLock) _ (parties_of c.args.pass.now) _ c.in-Err.ensures.missed.0 c.in-Err.ensures.missed.1 (spun 0) _ (write_begins (parties_of c.args.pass.now))))
 
 pub returns-in-Ok-clause-entered : goal.returns-in-Ok-clause-entered
 returns-in-Ok-clause-entered g c = subst (λ q. HasEnteredToWrite c.args.pass.now q) (sym (c.pass-1.given.1 (sym c.in-Ok.ensures.same_borrow ∙ sym c.end-pass.ensures.same_borrow) ∙ c.end-pass.ensures.still)) c.in-Ok.ensures.entered
 
 pub returns-in-Ok-clause-played : goal.returns-in-Ok-clause-played
-returns-in-Ok-clause-played g c = subst (λ q. HasPlayed calls.WriteLock answers.Success (Some kinds.Write) c.args.pass.now q) (sym (c.pass-1.given.1 (sym c.in-Ok.ensures.same_borrow ∙ sym c.end-pass.ensures.same_borrow) ∙ c.end-pass.ensures.still)) (has_written (Beginning calls.WriteLock) (parties_of c.args.pass.now) _ c.in-Ok.ensures.went (spun 0) _ (write_begins (parties_of c.args.pass.now)))
+returns-in-Ok-clause-played g c = subst (λ q. HasPlayed Call.WriteLock Answer.Success (Some HoldKind.Write) c.args.pass.now q) (sym (c.pass-1.given.1 (sym c.in-Ok.ensures.same_borrow ∙ sym c.end-pass.ensures.same_borrow) ∙ c.end-pass.ensures.still)) (has_written (Beginning Call.WriteLock) (parties_of c.args.pass.now) _ c.in-Ok.ensures.went (spun 0) _ (write_begins (parties_of c.args.pass.now)))
 
 pub returns-in-Ok-clause-has : goal.returns-in-Ok-clause-has
-returns-in-Ok-clause-has g c = λ _. subst (λ q. has_hold kinds.Write (parties_of q) ≡ true) (sym (c.pass-1.given.1 (sym c.in-Ok.ensures.same_borrow ∙ sym c.end-pass.ensures.same_borrow) ∙ c.end-pass.ensures.still)) (granted_has calls.WriteLock kinds.Write _ _ (has_written (Beginning calls.WriteLock) (parties_of c.args.pass.now) _ c.in-Ok.ensures.went (spun 0) _ (write_begins (parties_of c.args.pass.now))))
+returns-in-Ok-clause-has g c = λ _. subst (λ q. has_hold HoldKind.Write (parties_of q) ≡ true) (sym (c.pass-1.given.1 (sym c.in-Ok.ensures.same_borrow ∙ sym c.end-pass.ensures.same_borrow) ∙ c.end-pass.ensures.still)) (granted_has Call.WriteLock HoldKind.Write _ _ (has_written (Beginning Call.WriteLock) (parties_of c.args.pass.now) _ c.in-Ok.ensures.went (spun 0) _ (write_begins (parties_of c.args.pass.now))))
 
 pub returns-in-Ok-clause-exact : goal.returns-in-Ok-clause-exact
 returns-in-Ok-clause-exact g c = λ _. refl
@@ -67,10 +52,10 @@ pub returns-in-Err-clause-entered : goal.returns-in-Err-clause-entered
 returns-in-Err-clause-entered g c = subst (λ q. MatchBool c.try_again-entered.result.0 (HasEnteredToWrite c.args.pass.now q) (HasGivenUp g.W.Fn c.args.wait.now IsTaken c.args.pass.now q)) (sym (c.pass-in-Err-1.given.1 (sym c.in-Err.ensures.same_borrow_too ∙ sym c.try_again-entered.ensures.same_borrow ∙ sym c.end-pass-in-Err.ensures.same_borrow) ∙ c.end-pass-in-Err.ensures.still)) (let saw = c.in-Err.ensures.refused in gives_up_on _ _ _ EntersToWrite _ _ _ _ _ (taken_at _ _ _ saw.0 saw.1 c.in-Err.ensures.missed.0) (ap (λ (v : View Holds). v.sights.count) saw.0.2) c.try_again-entered.ensures.told (λ no. c.try_again-entered.ensures.asked no tt))
 
 pub returns-in-Err-clause-played : goal.returns-in-Err-clause-played
-returns-in-Err-clause-played g c = subst (λ q. MatchBool c.try_again-entered.result.0 (HasPlayed calls.WriteLock answers.Success (Some kinds.Write) c.args.pass.now q) (HasPlayed calls.WriteLock answers.Interrupted None c.args.pass.now q)) (sym (c.pass-in-Err-1.given.1 (sym c.in-Err.ensures.same_borrow_too ∙ sym c.try_again-entered.ensures.same_borrow ∙ sym c.end-pass-in-Err.ensures.same_borrow) ∙ c.end-pass-in-Err.ensures.still)) (c.try_again-entered.ensures.over (all_of (parties_of c.args.pass.now)) (found_taken (Beginning calls.WriteLock) _ (parties_of c.args.pass.now) _ c.in-Err.ensures.missed.0 c.in-Err.ensures.missed.1 (spun 0) _ (write_begins (parties_of c.args.pass.now))))
+returns-in-Err-clause-played g c = subst (λ q. MatchBool c.try_again-entered.result.0 (HasPlayed Call.WriteLock Answer.Success (Some HoldKind.Write) c.args.pass.now q) (HasPlayed Call.WriteLock Answer.Interrupted None c.args.pass.now q)) (sym (c.pass-in-Err-1.given.1 (sym c.in-Err.ensures.same_borrow_too ∙ sym c.try_again-entered.ensures.same_borrow ∙ sym c.end-pass-in-Err.ensures.same_borrow) ∙ c.end-pass-in-Err.ensures.still)) (c.try_again-entered.ensures.over (all_of (parties_of c.args.pass.now)) (found_taken (Beginning Call.WriteLock) _ (parties_of c.args.pass.now) _ c.in-Err.ensures.missed.0 c.in-Err.ensures.missed.1 (spun 0) _ (write_begins (parties_of c.args.pass.now))))
 
 pub returns-in-Err-clause-has : goal.returns-in-Err-clause-has
-returns-in-Err-clause-has g c = λ done. subst (λ q. has_hold kinds.Write (parties_of q) ≡ true) (sym (c.pass-in-Err-1.given.1 (sym c.in-Err.ensures.same_borrow_too ∙ sym c.try_again-entered.ensures.same_borrow ∙ sym c.end-pass-in-Err.ensures.same_borrow) ∙ c.end-pass-in-Err.ensures.still)) (granted_has calls.WriteLock kinds.Write _ _ (MatchBool-at_true _ _ done (c.try_again-entered.ensures.over (all_of (parties_of c.args.pass.now)) (found_taken (Beginning calls.WriteLock) _ (parties_of c.args.pass.now) _ c.in-Err.ensures.missed.0 c.in-Err.ensures.missed.1 (spun 0) _ (write_begins (parties_of c.args.pass.now))))))
+returns-in-Err-clause-has g c = λ done. subst (λ q. has_hold HoldKind.Write (parties_of q) ≡ true) (sym (c.pass-in-Err-1.given.1 (sym c.in-Err.ensures.same_borrow_too ∙ sym c.try_again-entered.ensures.same_borrow ∙ sym c.end-pass-in-Err.ensures.same_borrow) ∙ c.end-pass-in-Err.ensures.still)) (granted_has Call.WriteLock HoldKind.Write _ _ (MatchBool-at_true _ _ done (c.try_again-entered.ensures.over (all_of (parties_of c.args.pass.now)) (found_taken (Beginning Call.WriteLock) _ (parties_of c.args.pass.now) _ c.in-Err.ensures.missed.0 c.in-Err.ensures.missed.1 (spun 0) _ (write_begins (parties_of c.args.pass.now))))))
 
 pub returns-in-Err-clause-exact : goal.returns-in-Err-clause-exact
 returns-in-Err-clause-exact g c = λ alone. let no = c.in-Err.ensures.exact alone in absurd cc

@@ -1,8 +1,6 @@
-use Rattle.std.proofs.Common.{Some, refl, sym, ap, subst}
+use Rattle.running_rw_reader.specs.Names.{Call, Answer, HoldKind}
+use Rattle.running_rw_reader.proofs.Names.{Some, refl, sym, ap, subst}
 use mathlib.Core.Option as maybe
-use Rattle.steps_events.specs.declared.event.Call.TheVariants as calls
-use Rattle.steps_events.specs.declared.event.Answer.TheVariants as answers
-use Rattle.steps_events.specs.declared.hold.HoldKind.TheVariants as kinds
 use Rattle.running_rw_reader.specs.RwReaderShown.{RwReaderPass, HasEnteredToWrite, HasPlayed}
 use Rattle.running_rw_reader.proofs.RwLockReaderPreference.write_lock.Goals as goal
 
@@ -20,7 +18,7 @@ returns-then-wait_to_write g c = (
     same_borrow = c.write_hold.ensures.same_reference;
     kind = tt;
     granted = subst (λ (p : RwReaderPass). HasEnteredToWrite c.args.pass.now p) (sym c.write_hold.ensures.same_pass) c.if-wait_to_write.ensures.entered;
-    played = subst (λ (p : RwReaderPass). HasPlayed calls.WriteLock answers.Success (Some kinds.Write) c.args.pass.now p) (sym c.write_hold.ensures.same_pass) c.if-wait_to_write.ensures.played;
+    played = subst (λ (p : RwReaderPass). HasPlayed Call.WriteLock Answer.Success (Some HoldKind.Write) c.args.pass.now p) (sym c.write_hold.ensures.same_pass) c.if-wait_to_write.ensures.played;
     exact = λ _. tt;
     aborted = tt;
   },

@@ -1,12 +1,5 @@
-use Rattle.std.proofs.Common.{Some, ◌∙◌, refl, sym, subst}
-use Rattle.std.proofs.lemmas.Bool.{MatchBool-at_true, MatchBool-at_false}
-use Rattle.steps_events.specs.declared.event.Call.TheVariants as calls
-use Rattle.steps_events.specs.declared.event.Answer.TheVariants as answers
-use Rattle.steps_events.specs.declared.hold.HoldKind.TheVariants as kinds
-use Rattle.passes.specs.declared.pass.Pass.{Pass}
-use Rattle.playing.specs.Passes.{parties_of}
-use Rattle.playing.proofs.Over.{is_over}
-use Rattle.tallies.specs.RwWriterScript.{rw_writer_model}
+use Rattle.running_rw_writer.specs.Names.{Call, Answer, HoldKind, Pass, parties_of, rw_writer_model}
+use Rattle.running_rw_writer.proofs.Names.{Some, ◌∙◌, refl, sym, subst, MatchBool-at_true, MatchBool-at_false, is_over}
 use Rattle.running_rw_writer.specs.RwWriterSteps.{PlayedRwWriter}
 use Rattle.running_rw_writer.specs.RwWriterParties.{WriteIsGranted}
 use Rattle.running_rw_writer.specs.RwWriterShown.{HasEnteredSeenFree}
@@ -26,7 +19,7 @@ pub end-requires-clause-own : goal.end-requires-clause-own
 end-requires-clause-own g c = (MatchBool-at_true _ _ c.if-entered.true c.in-Ok.ensures.entered).0.same.0 ∙ c.loop.invariant.tried.same.0 ∙ c.requires.own
 
 pub end-requires-clause-over : goal.end-requires-clause-over
-end-requires-clause-over g c = let w = c.requires.at in is_over rw_writer_model calls.WriteLock answers.Success (Some kinds.Write) w.0 _ (MatchBool-at_true _ _ c.if-entered.true (c.in-Ok.ensures.played w.0 (c.loop.invariant.at w.0 w.1)))
+end-requires-clause-over g c = let w = c.requires.at in is_over rw_writer_model Call.WriteLock Answer.Success (Some HoldKind.Write) w.0 _ (MatchBool-at_true _ _ c.if-entered.true (c.in-Ok.ensures.played w.0 (c.loop.invariant.at w.0 w.1)))
 
 pub enter_or_give_up-requires-clause-own : goal.enter_or_give_up-requires-clause-own
 enter_or_give_up-requires-clause-own g c = c.in-Err.ensures.looked.same.0 ∙ c.loop.invariant.tried.same.0 ∙ c.requires.own

@@ -1,5 +1,4 @@
-use Rattle.playing.specs.Passes.{parties_of, counted}
-use Rattle.playing.specs.Plays.{Going}
+use Rattle.running_rw_writer.specs.Names.{parties_of, counted, Going}
 use Rattle.running_rw_writer.proofs.RwWriterCounts.{reader_in_counts}
 use Rattle.running_rw_writer.proofs.RwWriterKeeps.{readers_in}
 use Rattle.running_rw_writer.proofs.RwLockWriterPreference.come_to_read.Goals as goal

@@ -1,4 +1,4 @@
-use Rattle.playing.specs.Passes.{parties_of, counted}
+use Rattle.running_rw_writer.specs.Names.{parties_of, counted}
 use Rattle.running_rw_writer.proofs.RwWriterCounts.{writer_in_counts}
 use Rattle.running_rw_writer.proofs.RwWriterKeeps.{writers_in}
 use Rattle.running_rw_writer.proofs.RwLockWriterPreference.come_to_write.Goals as goal

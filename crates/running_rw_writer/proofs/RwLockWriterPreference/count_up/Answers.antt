@@ -1,5 +1,4 @@
-use Rattle.playing.specs.Passes.{parties_of}
-use Rattle.playing.specs.Plays.{Going}
+use Rattle.running_rw_writer.specs.Names.{parties_of, Going}
 use Rattle.running_rw_writer.proofs.RwWriterCounts.{count_add_counts}
 use Rattle.running_rw_writer.proofs.RwWriterKeeps.{counts_add}
 use Rattle.running_rw_writer.proofs.RwWriterPlays.{may_count, counted}

@@ -1,11 +1,5 @@
-use Rattle.std.proofs.Common.{Some, ◌∙◌, sym, subst}
-use Rattle.steps_events.specs.declared.event.Call.TheVariants as calls
-use Rattle.steps_events.specs.declared.event.Answer.TheVariants as answers
-use Rattle.steps_events.specs.declared.hold.HoldKind.TheVariants as kinds
-use Rattle.passes.specs.declared.pass.Pass.{Pass}
-use Rattle.playing.specs.Passes.{parties_of}
-use Rattle.playing.proofs.Over.{is_over}
-use Rattle.tallies.specs.RwWriterScript.{rw_writer_model}
+use Rattle.running_rw_writer.specs.Names.{Call, Answer, HoldKind, Pass, parties_of, rw_writer_model}
+use Rattle.running_rw_writer.proofs.Names.{Some, ◌∙◌, sym, subst, is_over}
 use Rattle.running_rw_writer.specs.RwWriterSteps.{PlayedRwWriter}
 use Rattle.running_rw_writer.specs.RwWriterParties.{given_up, WriteIsGranted}
 use Rattle.running_rw_writer.specs.RwWriterShown.{HasEnteredSeenFree}
@@ -28,7 +22,7 @@ pub end-requires-clause-own : goal.end-requires-clause-own
 end-requires-clause-own g c = c.in-Ok.ensures.entered.0.same.0 ∙ c.look_to_write-seen.ensures.tried.same.0 ∙ c.requires.own
 
 pub end-requires-clause-over : goal.end-requires-clause-over
-end-requires-clause-over g c = let w = c.requires.at in is_over rw_writer_model calls.WriteLock answers.Success (Some kinds.Write) w.0 _ (c.in-Ok.ensures.granted given_up w.0 (c.look_to_write-seen.ensures.looked given_up w.0 w.1))
+end-requires-clause-over g c = let w = c.requires.at in is_over rw_writer_model Call.WriteLock Answer.Success (Some HoldKind.Write) w.0 _ (c.in-Ok.ensures.granted given_up w.0 (c.look_to_write-seen.ensures.looked given_up w.0 w.1))
 
 pub give_up-requires-clause-own : goal.give_up-requires-clause-own
 give_up-requires-clause-own g c = c.in-Err.ensures.refused.0.same.0 ∙ c.look_to_write-seen.ensures.tried.same.0 ∙ c.requires.own

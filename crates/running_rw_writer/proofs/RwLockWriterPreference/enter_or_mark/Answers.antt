@@ -1,5 +1,5 @@
-use Rattle.std.proofs.Common.{◌≡◌, ◌∙◌, arith}
-use Rattle.playing.specs.Tries.{spun}
+use Rattle.running_rw_writer.specs.Names.{spun}
+use Rattle.running_rw_writer.proofs.Names.{◌≡◌, ◌∙◌, arith}
 use Rattle.running_rw_writer.proofs.RwWriterTries.{tries_after, alone_still}
 use Rattle.running_rw_writer.proofs.RwLockWriterPreference.enter_or_mark.Goals as goal
 

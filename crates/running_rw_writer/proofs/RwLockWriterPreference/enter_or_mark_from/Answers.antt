@@ -1,5 +1,5 @@
-use Rattle.std.proofs.Common.{refl, ◌∙◌, rules}
-use Rattle.playing.specs.Tries.{spun}
+use Rattle.running_rw_writer.specs.Names.{spun}
+use Rattle.running_rw_writer.proofs.Names.{refl, ◌∙◌, rules}
 use Rattle.running_rw_writer.proofs.RwWriterPlays.{marks_none}
 use Rattle.running_rw_writer.proofs.RwWriterTries.{marks_some, unchanged, fewest, tried_again, entered_after}
 use Rattle.running_rw_writer.proofs.RwLockWriterPreference.enter_or_mark_from.Goals as goal

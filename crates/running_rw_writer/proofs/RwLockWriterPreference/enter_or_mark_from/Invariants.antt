@@ -1,7 +1,5 @@
-use Rattle.std.proofs.Common.{◌≡◌, ℕ}
-use Rattle.steps_rw_writer.specs.Table.{write_look}
-use Rattle.playing.specs.Passes.{parties_of}
-use Rattle.playing.specs.Tries.{spun}
+use Rattle.running_rw_writer.specs.Names.{write_look, parties_of, spun}
+use Rattle.running_rw_writer.proofs.Names.{◌≡◌, ℕ}
 use Rattle.running_rw_writer.specs.RwWriterParties.{OnceWriting, WriteGoes}
 use Rattle.running_rw_writer.specs.RwWriterShown.{IsAloneWithin, HasTried, HasJustSeen}
 use Rattle.running_rw_writer.proofs.RwLockWriterPreference.enter_or_mark_from.Given as goal

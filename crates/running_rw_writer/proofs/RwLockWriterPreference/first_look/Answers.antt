@@ -1,15 +1,11 @@
-use Rattle.std.proofs.Common.{sym, subst}
-use Rattle.steps_events.specs.declared.row.Intent.TheVariants as intents
-use Rattle.passes.specs.declared.pass.Pass.{Pass}
-use Rattle.playing.specs.Plays.{Beginning}
-use Rattle.playing.specs.Counts.{HasSeen}
-use Rattle.playing.specs.Passes.{parties_of, counted}
+use Rattle.running_rw_writer.specs.Names.{Intent, Pass, Beginning, HasSeen, parties_of, counted}
+use Rattle.running_rw_writer.proofs.Names.{sym, subst}
 use Rattle.running_rw_writer.specs.RwWriterSteps.{PlayedRwWriter, SaysAlone}
 use Rattle.running_rw_writer.specs.RwWriterParties.{TableHas, TableLed}
 use Rattle.running_rw_writer.proofs.RwLockWriterPreference.first_look.Goals as goal
 
 pub look-requires-clause-may : goal.look-requires-clause-may
-look-requires-clause-may g c = subst (λ (p : Pass PlayedRwWriter). TableHas (Beginning g.L.Called.call) 0 (λ w. intents.Load w) (parties_of p)) (sym c.begin_new-begun.ensures.still) c.requires.may
+look-requires-clause-may g c = subst (λ (p : Pass PlayedRwWriter). TableHas (Beginning g.L.Called.call) 0 (λ w. Intent.Load w) (parties_of p)) (sym c.begin_new-begun.ensures.still) c.requires.may
 
 pub returns-clause-saw : goal.returns-clause-saw
 returns-clause-saw g c = subst (λ (p : Pass PlayedRwWriter). HasSeen c.look.result.0 p c.look.result.1.pass.now) c.begin_new-begun.ensures.still c.look.ensures.saw

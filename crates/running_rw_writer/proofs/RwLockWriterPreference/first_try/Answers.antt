@@ -1,9 +1,5 @@
-use Rattle.std.proofs.Common.{◌≡◌, true, MatchBool, subst}
-use Rattle.steps_rw_writer.specs.Table.{spins}
-use Rattle.passes.specs.declared.pass.Pass.{Pass}
-use Rattle.playing.specs.Slots.{all_of}
-use Rattle.playing.specs.Tries.{spun}
-use Rattle.playing.specs.Passes.{parties_of}
+use Rattle.running_rw_writer.specs.Names.{spins, Pass, all_of, spun, parties_of}
+use Rattle.running_rw_writer.proofs.Names.{◌≡◌, true, MatchBool, subst}
 use Rattle.running_rw_writer.specs.RwWriterSteps.{PlayedRwWriter}
 use Rattle.running_rw_writer.specs.RwWriterParties.{WriteGoes, WriteIsGranted}
 use Rattle.running_rw_writer.specs.RwWriterShown.{IsAloneWithin, HasEnteredSeenFree, HasTried}

@@ -1,9 +1,5 @@
-use Rattle.std.proofs.Common.{subst}
-use Rattle.steps_events.specs.declared.event.Call.TheVariants as calls
-use Rattle.passes.specs.declared.pass.Pass.{Pass}
-use Rattle.passes.specs.Passes.{IsSamePass}
-use Rattle.playing.specs.Plays.{Beginning}
-use Rattle.playing.specs.Passes.{parties_of, counted}
+use Rattle.running_rw_writer.specs.Names.{Call, Pass, IsSamePass, Beginning, parties_of, counted}
+use Rattle.running_rw_writer.proofs.Names.{subst}
 use Rattle.running_rw_writer.specs.RwWriterSteps.{PlayedRwWriter, WriterIn}
 use Rattle.running_rw_writer.specs.RwWriterParties.{TableLed}
 use Rattle.running_rw_writer.proofs.RwWriterPlays.{may_write_once}
@@ -19,4 +15,4 @@ pub returns-clause-told : goal.returns-clause-told
 returns-clause-told g c = subst (λ (p : Pass PlayedRwWriter). WriterIn 0 (counted p) c.come_to_write.result.0 (counted c.come_to_write.result.1.pass.now)) c.begin_new-begun.ensures.still c.come_to_write.ensures.told
 
 pub returns-clause-went : goal.returns-clause-went
-returns-clause-went g c = subst (λ (p : Pass PlayedRwWriter). TableLed (Beginning calls.TryWriteLock) (parties_of p) c.come_to_write.result.0 (parties_of c.come_to_write.result.1.pass.now)) c.begin_new-begun.ensures.still c.come_to_write.ensures.went
+returns-clause-went g c = subst (λ (p : Pass PlayedRwWriter). TableLed (Beginning Call.TryWriteLock) (parties_of p) c.come_to_write.result.0 (parties_of c.come_to_write.result.1.pass.now)) c.begin_new-begun.ensures.still c.come_to_write.ensures.went

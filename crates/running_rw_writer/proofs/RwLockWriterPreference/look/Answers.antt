@@ -1,4 +1,4 @@
-use Rattle.playing.specs.Passes.{parties_of, counted}
+use Rattle.running_rw_writer.specs.Names.{parties_of, counted}
 use Rattle.running_rw_writer.proofs.RwWriterCounts.{load_counts}
 use Rattle.running_rw_writer.proofs.RwWriterKeeps.{loads}
 use Rattle.running_rw_writer.proofs.RwLockWriterPreference.look.Goals as goal

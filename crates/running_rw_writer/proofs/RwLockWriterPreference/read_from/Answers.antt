@@ -1,8 +1,5 @@
-use Rattle.std.proofs.Common.{ap, ◌∙◌, refl}
-use Rattle.passes.specs.declared.view.View.{View}
-use Rattle.playing.proofs.Attempts.{seen_none, seen_twice}
-use Rattle.tallies.specs.declared.rw_writer.MarkedHolds.{MarkedHolds}
-use Rattle.running_rw_hold.proofs.RwTries.{seen_instead_once}
+use Rattle.running_rw_writer.specs.Names.{View, MarkedHolds}
+use Rattle.running_rw_writer.proofs.Names.{ap, ◌∙◌, refl, seen_none, seen_twice, seen_instead_once}
 use Rattle.running_rw_writer.proofs.RwWriterTries.{reads_some, reads_none}
 use Rattle.running_rw_writer.proofs.RwWriterPlays.{may_read, looked_again, has_read, found_shut}
 use Rattle.running_rw_writer.proofs.RwWriterReads.{found_again, entered_to_read}

@@ -1,10 +1,5 @@
-use Rattle.std.proofs.Common.{◌≡◌}
-use Rattle.steps_events.specs.declared.patience.Patience.{Patience}
-use Rattle.std.specs.Prelude.{List, ℕ}
-use Rattle.passes.specs.Passes.{part_of, sights_of}
-use Rattle.playing.specs.Slots.{Slot}
-use Rattle.playing.specs.Passes.{parties_of, counts_of}
-use Rattle.playing.specs.Counts.{HasOnlySeen}
+use Rattle.running_rw_writer.specs.Names.{Patience, List, ℕ, part_of, sights_of, Slot, parties_of, counts_of, HasOnlySeen}
+use Rattle.running_rw_writer.proofs.Names.{◌≡◌}
 use Rattle.running_rw_writer.specs.RwWriterParties.{HasLooked}
 use Rattle.running_rw_writer.specs.RwWriterSteps.{IsOnly, word_of}
 use Rattle.running_rw_writer.proofs.RwLockWriterPreference.read_from.Given as goal

@@ -1,9 +1,6 @@
-use Rattle.std.proofs.Common.{ℕ, [], ◌∷◌, ◌∙◌, refl, sym, subst, arith}
-use Rattle.steps_events.specs.declared.event.Word.TheVariants as words
-use Rattle.playing.specs.Tries.{spun}
-use Rattle.playing.proofs.Attempts.{still_so}
+use Rattle.running_rw_writer.specs.Names.{Word, spun, IsNamed}
+use Rattle.running_rw_writer.proofs.Names.{ℕ, [], ◌∷◌, ◌∙◌, refl, sym, subst, arith, still_so}
 use Rattle.running_rw_writer.specs.RwWriterSteps.{IsOnly}
-use Rattle.playing.specs.Words.{IsNamed}
 use Rattle.running_rw_writer.proofs.RwWriterReads.{told_still}
 use Rattle.running_rw_writer.proofs.RwLockWriterPreference.read_later.Goals as goal
 
@@ -23,7 +20,7 @@ pub try_again-requires-clause-word : goal.try_again-requires-clause-word
 try_again-requires-clause-word g c = c.word.ensures.object
 
 pub try_again-requires-clause-handed : goal.try_again-requires-clause-handed
-try_again-requires-clause-handed g c = λ _. subst (λ (n : ℕ). IsNamed (words.State ∷ words.Counter ∷ []) n words.State) (sym c.word.ensures.index) refl
+try_again-requires-clause-handed g c = λ _. subst (λ (n : ℕ). IsNamed (Word.State ∷ Word.Counter ∷ []) n Word.State) (sym c.word.ensures.index) refl
 
 pub try_again-requires-clause-at : goal.try_again-requires-clause-at
 try_again-requires-clause-at g c = (c.requires.at.0, c.in-Err.ensures.failed (spun 0) c.requires.at.0 c.requires.at.1)

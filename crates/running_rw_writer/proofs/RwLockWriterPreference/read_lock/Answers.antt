@@ -1,8 +1,6 @@
-use Rattle.std.proofs.Common.{Some, refl, sym, ap, subst, arith}
+use Rattle.running_rw_writer.specs.Names.{Call, Answer, HoldKind}
+use Rattle.running_rw_writer.proofs.Names.{Some, refl, sym, ap, subst, arith}
 use mathlib.Core.Option as maybe
-use Rattle.steps_events.specs.declared.event.Call.TheVariants as calls
-use Rattle.steps_events.specs.declared.event.Answer.TheVariants as answers
-use Rattle.steps_events.specs.declared.hold.HoldKind.TheVariants as kinds
 use Rattle.running_rw_writer.specs.declared.pass.RwWriterPass.{RwWriterPass}
 use Rattle.running_rw_writer.specs.RwWriterShown.{pass_in, HasEnteredToRead, HasPlayed}
 use Rattle.running_rw_writer.proofs.RwLockWriterPreference.read_lock.Goals as goal
@@ -37,7 +35,7 @@ returns-then-wait_to_read g c = (
     same_borrow = c.read_hold.ensures.same_reference;
     kind = tt;
     granted = subst (λ (p : RwWriterPass). HasEnteredToRead (pass_in c.args.pass.now) (pass_in p)) (sym c.read_hold.ensures.same_pass) c.if-wait_to_read.ensures.entered;
-    played = subst (λ (p : RwWriterPass). HasPlayed calls.ReadLock answers.Success (Some kinds.Read) (pass_in c.args.pass.now) (pass_in p)) (sym c.read_hold.ensures.same_pass) c.if-wait_to_read.ensures.played;
+    played = subst (λ (p : RwWriterPass). HasPlayed Call.ReadLock Answer.Success (Some HoldKind.Read) (pass_in c.args.pass.now) (pass_in p)) (sym c.read_hold.ensures.same_pass) c.if-wait_to_read.ensures.played;
     exact = λ _. tt;
     aborted = tt;
   },

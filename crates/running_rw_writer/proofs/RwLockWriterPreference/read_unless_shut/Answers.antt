@@ -1,8 +1,5 @@
-use Rattle.std.proofs.Common.{◌≡◌, ap, ◌∙◌, arith}
-use Rattle.passes.specs.declared.view.View.{View}
-use Rattle.playing.proofs.Attempts.{seen_twice, moved_later, still_so}
-use Rattle.tallies.specs.declared.rw_writer.MarkedHolds.{MarkedHolds}
-use Rattle.running_rw_hold.proofs.RwTries.{seen_once, looked_at, last_seen}
+use Rattle.running_rw_writer.specs.Names.{View, MarkedHolds}
+use Rattle.running_rw_writer.proofs.Names.{◌≡◌, ap, ◌∙◌, arith, seen_twice, moved_later, still_so, seen_once, looked_at, last_seen}
 use Rattle.running_rw_writer.specs.RwWriterSteps.{IsOnly, word_of}
 use Rattle.running_rw_writer.specs.RwWriterShown.{EntersToRead}
 use Rattle.running_rw_writer.proofs.RwWriterPlays.{may_look_to_read, looked}

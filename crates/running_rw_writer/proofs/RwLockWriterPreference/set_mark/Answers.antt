@@ -1,5 +1,4 @@
-use Rattle.playing.specs.Passes.{parties_of, counted}
-use Rattle.playing.specs.Plays.{Going}
+use Rattle.running_rw_writer.specs.Names.{parties_of, counted, Going}
 use Rattle.running_rw_writer.proofs.RwWriterCounts.{mark_counts}
 use Rattle.running_rw_writer.proofs.RwWriterKeeps.{marks_set}
 use Rattle.running_rw_writer.proofs.RwWriterPlays.{may_mark, marked, mark_missed}

@@ -1,5 +1,4 @@
-use Rattle.std.proofs.Common.{arith, ◌+◌, ◌∙◌}
-use Rattle.std.proofs.lemmas.Bool.{MatchBool-at_true, MatchBool-at_false}
+use Rattle.running_rw_writer.proofs.Names.{arith, ◌+◌, ◌∙◌, MatchBool-at_true, MatchBool-at_false}
 use Rattle.running_rw_writer.proofs.RwWriterPlays.{spins_on, all_spun}
 use Rattle.running_rw_writer.proofs.RwWriterTries.{tried_again, entered_after}
 use Rattle.running_rw_writer.proofs.RwLockWriterPreference.spin_to_write.Goals as goal

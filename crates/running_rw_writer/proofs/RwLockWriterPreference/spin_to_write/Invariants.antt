@@ -1,7 +1,5 @@
-use Rattle.std.proofs.Common.{◌≡◌}
-use Rattle.steps_rw_writer.specs.Table.{spins}
-use Rattle.playing.specs.Passes.{parties_of}
-use Rattle.playing.specs.Tries.{spun}
+use Rattle.running_rw_writer.specs.Names.{spins, parties_of, spun}
+use Rattle.running_rw_writer.proofs.Names.{◌≡◌}
 use Rattle.running_rw_writer.specs.RwWriterParties.{OnceWriting, WriteGoes}
 use Rattle.running_rw_writer.specs.RwWriterShown.{HasTried}
 use Rattle.running_rw_writer.proofs.RwLockWriterPreference.spin_to_write.Given as goal

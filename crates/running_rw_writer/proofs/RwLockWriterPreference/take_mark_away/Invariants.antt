@@ -1,6 +1,5 @@
-use Rattle.std.proofs.Common.{◌≡◌}
-use Rattle.steps_rw_writer.specs.Table.{unmarks_or_leaves}
-use Rattle.playing.specs.Passes.{parties_of}
+use Rattle.running_rw_writer.specs.Names.{unmarks_or_leaves, parties_of}
+use Rattle.running_rw_writer.proofs.Names.{◌≡◌}
 use Rattle.running_rw_writer.specs.RwWriterParties.{OnceWriting, WriteGoes}
 use Rattle.running_rw_writer.specs.RwWriterShown.{HasTried, HasJustSeen, MayGiveUp}
 use Rattle.running_rw_writer.proofs.RwLockWriterPreference.take_mark_away.Given as goal

@@ -1,13 +1,5 @@
-use Rattle.std.proofs.lemmas.Bool.{MatchBool-at_true, eqb-true}
-use Rattle.std.proofs.Common.{◌≡◌, ◌==◌, true, Some, None, MatchBool, ◌∙◌, sym, subst}
-use Rattle.steps_events.specs.declared.event.Call.TheVariants as calls
-use Rattle.steps_events.specs.declared.event.Answer.TheVariants as answers
-use Rattle.steps_events.specs.declared.hold.HoldKind.TheVariants as kinds
-use Rattle.playing.specs.Passes.{parties_of}
-use Rattle.playing.proofs.Over.{is_over, either_is_over}
-use Rattle.tallies.specs.RwWriterScript.{rw_writer_model}
-use Rattle.running_rw_hold.proofs.RwTries.{found_shut}
-use Rattle.passes.specs.declared.pass.Pass.{Pass}
+use Rattle.running_rw_writer.specs.Names.{Call, Answer, HoldKind, parties_of, rw_writer_model, Pass}
+use Rattle.running_rw_writer.proofs.Names.{MatchBool-at_true, eqb-true, ◌≡◌, ◌==◌, true, Some, None, MatchBool, ◌∙◌, sym, subst, is_over, either_is_over, found_shut}
 use Rattle.running_rw_writer.specs.RwWriterSteps.{PlayedRwWriter}
 use Rattle.running_rw_writer.specs.RwWriterParties.{has_hold}
 use Rattle.running_rw_writer.specs.RwWriterShown.{IsShut, HasEnteredToRead, HasReadAtOnce, WasTurnedAway, HasPlayed}
@@ -26,16 +18,16 @@ pub come_to_read-found-requires-clause-own : goal.come_to_read-found-requires-cl
 come_to_read-found-requires-clause-own g c = c.first_look-seen.ensures.saw.0.0 ∙ c.requires.own
 
 pub end-pass-requires-clause-over : goal.end-pass-requires-clause-over
-end-pass-requires-clause-over g c = let word = reads_some _ _ _ c.reader_enters.ensures.«open» c.reader_enters.ensures.marked c.reader_enters.ensures.full c.in-Some.is in either_is_over rw_writer_model (c.come_to_read-found.result.0 == c.first_look-seen.result.0) calls.TryReadLock _ _ _ (read_once _ _ _ _ _ word.0 word.1 (looked_once _ _ _ c.first_look-seen.ensures.went) c.come_to_read-found.ensures.went)
+end-pass-requires-clause-over g c = let word = reads_some _ _ _ c.reader_enters.ensures.«open» c.reader_enters.ensures.marked c.reader_enters.ensures.full c.in-Some.is in either_is_over rw_writer_model (c.come_to_read-found.result.0 == c.first_look-seen.result.0) Call.TryReadLock _ _ _ (read_once _ _ _ _ _ word.0 word.1 (looked_once _ _ _ c.first_look-seen.ensures.went) c.come_to_read-found.ensures.went)
 
 pub end-pass-requires-in-None-clause-over : goal.end-pass-requires-in-None-clause-over
-end-pass-requires-in-None-clause-over g c = is_over rw_writer_model calls.TryReadLock _ _ _ _ (turned_away _ _ _ (reads_none _ _ c.reader_enters.ensures.«open» c.in-None.is) (looked_once _ _ _ c.first_look-seen.ensures.went))
+end-pass-requires-in-None-clause-over g c = is_over rw_writer_model Call.TryReadLock _ _ _ _ (turned_away _ _ _ (reads_none _ _ c.reader_enters.ensures.«open» c.in-None.is) (looked_once _ _ _ c.first_look-seen.ensures.went))
 
 pub returns-in-Some-clause-played : goal.returns-in-Some-clause-played
-returns-in-Some-clause-played g c = let word = reads_some _ _ _ c.reader_enters.ensures.«open» c.reader_enters.ensures.marked c.reader_enters.ensures.full c.in-Some.is in subst (λ (q : Pass PlayedRwWriter). MatchBool (c.come_to_read-found.result.0 == c.first_look-seen.result.0) (HasPlayed calls.TryReadLock answers.Success (Some kinds.Read) c.args.pass.now q) (HasPlayed calls.TryReadLock answers.Interrupted None c.args.pass.now q)) (sym (c.pass-1.given.1 (sym c.first_look-seen.ensures.same_borrow ∙ sym c.come_to_read-found.ensures.same_borrow ∙ sym c.end-pass.ensures.same_borrow) ∙ c.end-pass.ensures.still)) (read_once _ _ _ _ _ word.0 word.1 (looked_once _ _ _ c.first_look-seen.ensures.went) c.come_to_read-found.ensures.went)
+returns-in-Some-clause-played g c = let word = reads_some _ _ _ c.reader_enters.ensures.«open» c.reader_enters.ensures.marked c.reader_enters.ensures.full c.in-Some.is in subst (λ (q : Pass PlayedRwWriter). MatchBool (c.come_to_read-found.result.0 == c.first_look-seen.result.0) (HasPlayed Call.TryReadLock Answer.Success (Some HoldKind.Read) c.args.pass.now q) (HasPlayed Call.TryReadLock Answer.Interrupted None c.args.pass.now q)) (sym (c.pass-1.given.1 (sym c.first_look-seen.ensures.same_borrow ∙ sym c.come_to_read-found.ensures.same_borrow ∙ sym c.end-pass.ensures.same_borrow) ∙ c.end-pass.ensures.still)) (read_once _ _ _ _ _ word.0 word.1 (looked_once _ _ _ c.first_look-seen.ensures.went) c.come_to_read-found.ensures.went)
 
 pub returns-in-Some-clause-has : goal.returns-in-Some-clause-has
-returns-in-Some-clause-has g c = let word = reads_some _ _ _ c.reader_enters.ensures.«open» c.reader_enters.ensures.marked c.reader_enters.ensures.full c.in-Some.is in λ done. subst (λ (q : Pass PlayedRwWriter). has_hold kinds.Read (parties_of q) ≡ true) (sym (c.pass-1.given.1 (sym c.first_look-seen.ensures.same_borrow ∙ sym c.come_to_read-found.ensures.same_borrow ∙ sym c.end-pass.ensures.same_borrow) ∙ c.end-pass.ensures.still)) (granted_has calls.TryReadLock kinds.Read _ _ (MatchBool-at_true _ _ done (read_once _ _ _ _ _ word.0 word.1 (looked_once _ _ _ c.first_look-seen.ensures.went) c.come_to_read-found.ensures.went)))
+returns-in-Some-clause-has g c = let word = reads_some _ _ _ c.reader_enters.ensures.«open» c.reader_enters.ensures.marked c.reader_enters.ensures.full c.in-Some.is in λ done. subst (λ (q : Pass PlayedRwWriter). has_hold HoldKind.Read (parties_of q) ≡ true) (sym (c.pass-1.given.1 (sym c.first_look-seen.ensures.same_borrow ∙ sym c.come_to_read-found.ensures.same_borrow ∙ sym c.end-pass.ensures.same_borrow) ∙ c.end-pass.ensures.still)) (granted_has Call.TryReadLock HoldKind.Read _ _ (MatchBool-at_true _ _ done (read_once _ _ _ _ _ word.0 word.1 (looked_once _ _ _ c.first_look-seen.ensures.went) c.come_to_read-found.ensures.went)))
 
 pub returns-in-Some-clause-entered : goal.returns-in-Some-clause-entered
 returns-in-Some-clause-entered g c = let word = reads_some _ _ _ c.reader_enters.ensures.«open» c.reader_enters.ensures.marked c.reader_enters.ensures.full c.in-Some.is in subst (λ (q : Pass PlayedRwWriter). MatchBool (c.come_to_read-found.result.0 == c.first_look-seen.result.0) (HasEnteredToRead c.args.pass.now q) (WasTurnedAway c.args.pass.now q)) (sym (c.pass-1.given.1 (sym c.first_look-seen.ensures.same_borrow ∙ sym c.come_to_read-found.ensures.same_borrow ∙ sym c.end-pass.ensures.same_borrow) ∙ c.end-pass.ensures.still)) (tried_to_read c.args.pass.now c.first_look-seen.result.1.pass.now c.come_to_read-found.result.1.pass.now _ _ c.first_look-seen.ensures.saw (word.0, word.1) (c.come_to_read-found.ensures.done, c.come_to_read-found.ensures.reads, c.come_to_read-found.ensures.writes, c.come_to_read-found.ensures.failed) c.come_to_read-found.ensures.alone)
@@ -47,7 +39,7 @@ pub returns-in-Some-clause-exact : goal.returns-in-Some-clause-exact
 returns-in-Some-clause-exact g c = surely_read c.args.pass.now c.first_look-seen.result.1.pass.now _ _ c.first_look-seen.ensures.saw c.first_look-seen.ensures.alone c.come_to_read-found.ensures.alone
 
 pub returns-in-None-clause-played : goal.returns-in-None-clause-played
-returns-in-None-clause-played g c = subst (λ (q : Pass PlayedRwWriter). HasPlayed calls.TryReadLock answers.Interrupted None c.args.pass.now q) (sym (c.pass-in-None-1.given.1 (sym c.first_look-seen.ensures.same_borrow ∙ sym c.end-pass-in-None.ensures.same_borrow) ∙ c.end-pass-in-None.ensures.still)) (turned_away _ _ _ (reads_none _ _ c.reader_enters.ensures.«open» c.in-None.is) (looked_once _ _ _ c.first_look-seen.ensures.went))
+returns-in-None-clause-played g c = subst (λ (q : Pass PlayedRwWriter). HasPlayed Call.TryReadLock Answer.Interrupted None c.args.pass.now q) (sym (c.pass-in-None-1.given.1 (sym c.first_look-seen.ensures.same_borrow ∙ sym c.end-pass-in-None.ensures.same_borrow) ∙ c.end-pass-in-None.ensures.still)) (turned_away _ _ _ (reads_none _ _ c.reader_enters.ensures.«open» c.in-None.is) (looked_once _ _ _ c.first_look-seen.ensures.went))
 
 pub returns-in-None-clause-entered : goal.returns-in-None-clause-entered
 returns-in-None-clause-entered g c = subst (λ (q : Pass PlayedRwWriter). WasTurnedAway c.args.pass.now q) (sym (c.pass-in-None-1.given.1 (sym c.first_look-seen.ensures.same_borrow ∙ sym c.end-pass-in-None.ensures.same_borrow) ∙ c.end-pass-in-None.ensures.still)) (found_shut IsShut _ c.args.pass.now c.first_look-seen.result.1.pass.now c.first_look-seen.ensures.saw (reads_none _ _ c.reader_enters.ensures.«open» c.in-None.is))

@@ -1,8 +1,6 @@
-use Rattle.std.proofs.Common.{Some, refl, sym, ap, subst}
+use Rattle.running_rw_writer.specs.Names.{Call, Answer, HoldKind}
+use Rattle.running_rw_writer.proofs.Names.{Some, refl, sym, ap, subst}
 use mathlib.Core.Option as maybe
-use Rattle.steps_events.specs.declared.event.Call.TheVariants as calls
-use Rattle.steps_events.specs.declared.event.Answer.TheVariants as answers
-use Rattle.steps_events.specs.declared.hold.HoldKind.TheVariants as kinds
 use Rattle.running_rw_writer.specs.declared.pass.RwWriterPass.{RwWriterPass}
 use Rattle.running_rw_writer.specs.RwWriterShown.{pass_in, HasEnteredToWrite, HasWrittenAtOnce, HasPlayed}
 use Rattle.running_rw_writer.proofs.RwLockWriterPreference.try_write_lock.Goals as goal
@@ -22,7 +20,7 @@ returns-then-try_to_write g c = (
     kind = tt;
     granted = subst (λ (p : RwWriterPass). HasEnteredToWrite (pass_in c.args.pass.now) (pass_in p)) (sym c.write_hold.ensures.same_pass) c.if-try_to_write.ensures.entered;
     at_once = subst (λ (p : RwWriterPass). HasWrittenAtOnce (pass_in c.args.pass.now) (pass_in p)) (sym c.write_hold.ensures.same_pass) (c.try_to_write.ensures.at_once c.if-try_to_write.true);
-    played = subst (λ (p : RwWriterPass). HasPlayed calls.TryWriteLock answers.Success (Some kinds.Write) (pass_in c.args.pass.now) (pass_in p)) (sym c.write_hold.ensures.same_pass) c.if-try_to_write.ensures.played;
+    played = subst (λ (p : RwWriterPass). HasPlayed Call.TryWriteLock Answer.Success (Some HoldKind.Write) (pass_in c.args.pass.now) (pass_in p)) (sym c.write_hold.ensures.same_pass) c.if-try_to_write.ensures.played;
     exact = λ _. tt;
   },
 )

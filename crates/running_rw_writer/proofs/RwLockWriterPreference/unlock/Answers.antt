@@ -1,6 +1,5 @@
-use Rattle.std.proofs.Common.{◌≡◌, ◌<◌, true, ◌∙◌, sym, subst}
-use Rattle.steps_events.specs.declared.hold.HoldKind.TheVariants as kinds
-use Rattle.playing.specs.Passes.{parties_of}
+use Rattle.running_rw_writer.specs.Names.{HoldKind, parties_of}
+use Rattle.running_rw_writer.proofs.Names.{◌≡◌, ◌<◌, true, ◌∙◌, sym, subst}
 use Rattle.running_rw_hold.proofs.RwHolds.{pass_read, pass_written, borrow_read, borrow_written}
 use Rattle.running_rw_writer.specs.declared.pass.RwWriterPass.{RwWriterPass}
 use Rattle.running_rw_writer.specs.RwWriterParties.{has_hold}
@@ -15,7 +14,7 @@ pub unlock_read-requires-clause-on : goal.unlock_read-requires-clause-on
 unlock_read-requires-clause-on g c = subst (λ (p : RwWriterPass). 0 < reads_of (pass_in p)) (sym c.end_read_hold.ensures.same_pass) c.in-Read.hold.on
 
 pub unlock_read-requires-clause-has : goal.unlock_read-requires-clause-has
-unlock_read-requires-clause-has g c = subst (λ (p : RwWriterPass). has_hold kinds.Read (parties_of (pass_in p)) ≡ true) (sym c.end_read_hold.ensures.same_pass) c.in-Read.hold.has
+unlock_read-requires-clause-has g c = subst (λ (p : RwWriterPass). has_hold HoldKind.Read (parties_of (pass_in p)) ≡ true) (sym c.end_read_hold.ensures.same_pass) c.in-Read.hold.has
 
 pub unlock_write-requires-clause-own : goal.unlock_write-requires-clause-own
 unlock_write-requires-clause-own g c = subst (λ (p : RwWriterPass). IsRwWriterPass c.args.self.now p) (pass_written _ _ c.in-Write.is ∙ sym c.end_write_hold.ensures.same_pass) c.requires.own
@@ -24,7 +23,7 @@ pub unlock_write-requires-clause-on : goal.unlock_write-requires-clause-on
 unlock_write-requires-clause-on g c = subst (λ (p : RwWriterPass). writes_of (pass_in p) ≡ 1) (sym c.end_write_hold.ensures.same_pass) c.in-Write.hold.on
 
 pub unlock_write-requires-clause-has : goal.unlock_write-requires-clause-has
-unlock_write-requires-clause-has g c = subst (λ (p : RwWriterPass). has_hold kinds.Write (parties_of (pass_in p)) ≡ true) (sym c.end_write_hold.ensures.same_pass) c.in-Write.hold.has
+unlock_write-requires-clause-has g c = subst (λ (p : RwWriterPass). has_hold HoldKind.Write (parties_of (pass_in p)) ≡ true) (sym c.end_write_hold.ensures.same_pass) c.in-Write.hold.has
 
 pub returns-in-Read-clause-same_borrow : goal.returns-in-Read-clause-same_borrow
 returns-in-Read-clause-same_borrow g c = c.unlock_read.ensures.same_borrow ∙ c.end_read_hold.ensures.same_reference ∙ sym (borrow_read _ _ c.in-Read.is)

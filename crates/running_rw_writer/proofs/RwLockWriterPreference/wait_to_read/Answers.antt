@@ -1,17 +1,5 @@
-use Rattle.std.proofs.lemmas.Bool.{MatchBool-at_true}
-use Rattle.std.proofs.Common.{◌≡◌, true, Some, None, MatchBool, ◌∙◌, refl, sym, ap, subst}
-use Rattle.steps_events.specs.declared.event.Call.TheVariants as calls
-use Rattle.steps_events.specs.declared.event.Answer.TheVariants as answers
-use Rattle.steps_events.specs.declared.hold.HoldKind.TheVariants as kinds
-use Rattle.passes.specs.declared.pass.Pass.{Pass}
-use Rattle.playing.proofs.Attempts.{still_so}
-use Rattle.passes.specs.Answers.{HasAsked}
-use Rattle.playing.specs.Slots.{all_of}
-use Rattle.playing.specs.Passes.{parties_of}
-use Rattle.playing.specs.Counts.{WasRefused}
-use Rattle.playing.proofs.Over.{is_over, either_is_over}
-use Rattle.tallies.specs.RwWriterScript.{rw_writer_model}
-use Rattle.running_rw_hold.proofs.RwTries.{asked_on}
+use Rattle.running_rw_writer.specs.Names.{Call, Answer, HoldKind, Pass, HasAsked, all_of, parties_of, WasRefused, rw_writer_model}
+use Rattle.running_rw_writer.proofs.Names.{MatchBool-at_true, ◌≡◌, true, Some, None, MatchBool, ◌∙◌, refl, sym, ap, subst, still_so, is_over, either_is_over, asked_on}
 use Rattle.running_rw_writer.specs.RwWriterParties.{has_hold}
 use Rattle.running_rw_writer.specs.RwWriterSteps.{PlayedRwWriter, IsOnly, word_of}
 use Rattle.running_rw_writer.specs.RwWriterShown.{IsShut, HasEnteredToRead, HasPlayed}
@@ -29,19 +17,19 @@ pub read_later-entered-requires-clause-at : goal.read_later-entered-requires-cla
 read_later-entered-requires-clause-at g c = ((all_of (parties_of c.args.pass.now)), c.in-Err.ensures.goes_on)
 
 pub end-pass-requires-clause-over : goal.end-pass-requires-clause-over
-end-pass-requires-clause-over g c = is_over rw_writer_model calls.ReadLock _ _ _ _ c.in-Ok.ensures.granted
+end-pass-requires-clause-over g c = is_over rw_writer_model Call.ReadLock _ _ _ _ c.in-Ok.ensures.granted
 
 pub end-pass-requires-in-Err-clause-over : goal.end-pass-requires-in-Err-clause-over
-end-pass-requires-in-Err-clause-over g c = either_is_over rw_writer_model c.read_later-entered.result.0 calls.ReadLock _ _ _ (c.read_later-entered.ensures.over (all_of (parties_of c.args.pass.now)) c.in-Err.ensures.goes_on)
+end-pass-requires-in-Err-clause-over g c = either_is_over rw_writer_model c.read_later-entered.result.0 Call.ReadLock _ _ _ (c.read_later-entered.ensures.over (all_of (parties_of c.args.pass.now)) c.in-Err.ensures.goes_on)
 
 pub returns-in-Ok-clause-entered : goal.returns-in-Ok-clause-entered
 returns-in-Ok-clause-entered g c = subst (λ (q : Pass PlayedRwWriter). HasEnteredToRead c.args.pass.now q) (sym (c.pass-1.given.1 (sym c.in-Ok.ensures.same_borrow ∙ sym c.end-pass.ensures.same_borrow) ∙ c.end-pass.ensures.still)) c.in-Ok.ensures.entered
 
 pub returns-in-Ok-clause-played : goal.returns-in-Ok-clause-played
-returns-in-Ok-clause-played g c = subst (λ (q : Pass PlayedRwWriter). HasPlayed calls.ReadLock answers.Success (Some kinds.Read) c.args.pass.now q) (sym (c.pass-1.given.1 (sym c.in-Ok.ensures.same_borrow ∙ sym c.end-pass.ensures.same_borrow) ∙ c.end-pass.ensures.still)) c.in-Ok.ensures.granted
+returns-in-Ok-clause-played g c = subst (λ (q : Pass PlayedRwWriter). HasPlayed Call.ReadLock Answer.Success (Some HoldKind.Read) c.args.pass.now q) (sym (c.pass-1.given.1 (sym c.in-Ok.ensures.same_borrow ∙ sym c.end-pass.ensures.same_borrow) ∙ c.end-pass.ensures.still)) c.in-Ok.ensures.granted
 
 pub returns-in-Ok-clause-has : goal.returns-in-Ok-clause-has
-returns-in-Ok-clause-has g c = λ _. subst (λ (q : Pass PlayedRwWriter). has_hold kinds.Read (parties_of q) ≡ true) (sym (c.pass-1.given.1 (sym c.in-Ok.ensures.same_borrow ∙ sym c.end-pass.ensures.same_borrow) ∙ c.end-pass.ensures.still)) (granted_has calls.ReadLock kinds.Read _ _ c.in-Ok.ensures.granted)
+returns-in-Ok-clause-has g c = λ _. subst (λ (q : Pass PlayedRwWriter). has_hold HoldKind.Read (parties_of q) ≡ true) (sym (c.pass-1.given.1 (sym c.in-Ok.ensures.same_borrow ∙ sym c.end-pass.ensures.same_borrow) ∙ c.end-pass.ensures.still)) (granted_has Call.ReadLock HoldKind.Read _ _ c.in-Ok.ensures.granted)
 
 pub returns-in-Ok-clause-exact : goal.returns-in-Ok-clause-exact
 returns-in-Ok-clause-exact g c = λ _. refl
@@ -56,10 +44,10 @@ pub returns-in-Err-clause-entered : goal.returns-in-Err-clause-entered
 returns-in-Err-clause-entered g c = subst (λ (q : Pass PlayedRwWriter). MatchBool c.read_later-entered.result.0 (HasEnteredToRead c.args.pass.now q) (WasRefused IsShut 10002 c.args.pass.now q)) (sym (c.pass-in-Err-1.given.1 (sym c.in-Err.ensures.same_borrow_too ∙ sym c.read_later-entered.ensures.same_borrow ∙ sym c.end-pass-in-Err.ensures.same_borrow) ∙ c.end-pass-in-Err.ensures.still)) (told_once 10001 _ _ _ _ c.in-Err.ensures.looked.stayed c.in-Err.ensures.looked.more c.read_later-entered.ensures.told)
 
 pub returns-in-Err-clause-played : goal.returns-in-Err-clause-played
-returns-in-Err-clause-played g c = subst (λ (q : Pass PlayedRwWriter). MatchBool c.read_later-entered.result.0 (HasPlayed calls.ReadLock answers.Success (Some kinds.Read) c.args.pass.now q) (HasPlayed calls.ReadLock answers.Interrupted None c.args.pass.now q)) (sym (c.pass-in-Err-1.given.1 (sym c.in-Err.ensures.same_borrow_too ∙ sym c.read_later-entered.ensures.same_borrow ∙ sym c.end-pass-in-Err.ensures.same_borrow) ∙ c.end-pass-in-Err.ensures.still)) (c.read_later-entered.ensures.over (all_of (parties_of c.args.pass.now)) c.in-Err.ensures.goes_on)
+returns-in-Err-clause-played g c = subst (λ (q : Pass PlayedRwWriter). MatchBool c.read_later-entered.result.0 (HasPlayed Call.ReadLock Answer.Success (Some HoldKind.Read) c.args.pass.now q) (HasPlayed Call.ReadLock Answer.Interrupted None c.args.pass.now q)) (sym (c.pass-in-Err-1.given.1 (sym c.in-Err.ensures.same_borrow_too ∙ sym c.read_later-entered.ensures.same_borrow ∙ sym c.end-pass-in-Err.ensures.same_borrow) ∙ c.end-pass-in-Err.ensures.still)) (c.read_later-entered.ensures.over (all_of (parties_of c.args.pass.now)) c.in-Err.ensures.goes_on)
 
 pub returns-in-Err-clause-has : goal.returns-in-Err-clause-has
-returns-in-Err-clause-has g c = λ done. subst (λ (q : Pass PlayedRwWriter). has_hold kinds.Read (parties_of q) ≡ true) (sym (c.pass-in-Err-1.given.1 (sym c.in-Err.ensures.same_borrow_too ∙ sym c.read_later-entered.ensures.same_borrow ∙ sym c.end-pass-in-Err.ensures.same_borrow) ∙ c.end-pass-in-Err.ensures.still)) (granted_has calls.ReadLock kinds.Read _ _ (MatchBool-at_true _ _ done (c.read_later-entered.ensures.over (all_of (parties_of c.args.pass.now)) c.in-Err.ensures.goes_on)))
+returns-in-Err-clause-has g c = λ done. subst (λ (q : Pass PlayedRwWriter). has_hold HoldKind.Read (parties_of q) ≡ true) (sym (c.pass-in-Err-1.given.1 (sym c.in-Err.ensures.same_borrow_too ∙ sym c.read_later-entered.ensures.same_borrow ∙ sym c.end-pass-in-Err.ensures.same_borrow) ∙ c.end-pass-in-Err.ensures.still)) (granted_has Call.ReadLock HoldKind.Read _ _ (MatchBool-at_true _ _ done (c.read_later-entered.ensures.over (all_of (parties_of c.args.pass.now)) c.in-Err.ensures.goes_on)))
 
 pub returns-in-Err-clause-exact : goal.returns-in-Err-clause-exact
 returns-in-Err-clause-exact g c = λ alone. let no = c.in-Err.ensures.exact alone in absurd cc

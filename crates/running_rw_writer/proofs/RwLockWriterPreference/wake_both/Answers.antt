@@ -1,6 +1,5 @@
-use Rattle.std.proofs.Common.{◌∙◌, sym, subst}
-use Rattle.passes.specs.declared.pass.Pass.{Pass}
-use Rattle.playing.specs.Passes.{parties_of}
+use Rattle.running_rw_writer.specs.Names.{Pass, parties_of}
+use Rattle.running_rw_writer.proofs.Names.{◌∙◌, sym, subst}
 use Rattle.running_rw_writer.specs.RwWriterParties.{IsToWakeBoth}
 use Rattle.running_rw_writer.specs.RwWriterSteps.{PlayedRwWriter}
 use Rattle.running_rw_writer.proofs.RwWriterPlays.{is_to_wake, is_to_wake_again, both_are_over}

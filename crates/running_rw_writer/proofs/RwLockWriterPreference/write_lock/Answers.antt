@@ -1,8 +1,6 @@
-use Rattle.std.proofs.Common.{Some, ◌<◌, refl, sym, ap, subst}
+use Rattle.running_rw_writer.specs.Names.{Call, Answer, HoldKind}
+use Rattle.running_rw_writer.proofs.Names.{Some, ◌<◌, refl, sym, ap, subst}
 use mathlib.Core.Option as maybe
-use Rattle.steps_events.specs.declared.event.Call.TheVariants as calls
-use Rattle.steps_events.specs.declared.event.Answer.TheVariants as answers
-use Rattle.steps_events.specs.declared.hold.HoldKind.TheVariants as kinds
 use Rattle.running_rw_writer.specs.declared.pass.RwWriterPass.{RwWriterPass}
 use Rattle.running_rw_writer.specs.RwWriterShown.{pass_in, sights_in, HasEnteredToWrite, HasPlayed}
 use Rattle.running_rw_writer.proofs.RwLockWriterPreference.write_lock.Goals as goal
@@ -39,7 +37,7 @@ returns-then-wait_to_write g c = (
     kind = tt;
     granted = subst (λ (p : RwWriterPass). HasEnteredToWrite (pass_in c.args.pass.now) (pass_in p)) (sym c.write_hold.ensures.same_pass) c.if-wait_to_write.ensures.entered.0;
     free = subst (λ (p : RwWriterPass). (sights_in p).last < 2) (sym c.write_hold.ensures.same_pass) c.if-wait_to_write.ensures.entered.1;
-    played = subst (λ (p : RwWriterPass). HasPlayed calls.WriteLock answers.Success (Some kinds.Write) (pass_in c.args.pass.now) (pass_in p)) (sym c.write_hold.ensures.same_pass) c.if-wait_to_write.ensures.played;
+    played = subst (λ (p : RwWriterPass). HasPlayed Call.WriteLock Answer.Success (Some HoldKind.Write) (pass_in c.args.pass.now) (pass_in p)) (sym c.write_hold.ensures.same_pass) c.if-wait_to_write.ensures.played;
     exact = λ _. tt;
     aborted = tt;
   },

@@ -1,12 +1,5 @@
-use Rattle.std.proofs.Common.{[], ◌∷◌, sym, subst}
-use Rattle.steps_events.specs.declared.event.Word.TheVariants as words
-use Rattle.steps_events.specs.declared.row.Intent.TheVariants as intents
-use Rattle.playing.specs.Sees.{sights_after}
-use Rattle.playing.specs.Plays.{Beginning, MayStep, Went}
-use Rattle.playing.specs.Passes.{parties_of, counted, Told}
-use Rattle.playing.specs.Counts.{HasDone}
-use Rattle.tallies.specs.SemaphoreRule.{permits_after}
-use Rattle.tallies.specs.SemaphoreScript.{semaphore_model}
+use Rattle.running_semaphore.specs.Names.{Word, Intent, sights_after, Beginning, MayStep, Went, parties_of, counted, Told, HasDone, permits_after, semaphore_model}
+use Rattle.running_semaphore.proofs.Names.{[], ◌∷◌, sym, subst}
 use Rattle.running_semaphore.specs.SemaphoreShown.{initial_of, HasPlayedPost}
 use Rattle.running_semaphore.specs.SemaphoreSteps.{gave}
 use Rattle.running_semaphore.proofs.SemaphoreKeeps.{gives}
@@ -14,7 +7,7 @@ use Rattle.running_semaphore.proofs.SemaphorePlays.{may_add, posts}
 use Rattle.running_semaphore.proofs.Semaphore.add.Goals as goal
 
 pub add-turn-requires-clause-may : goal.add-turn-requires-clause-may
-add-turn-requires-clause-may g c = subst (λ call. MayStep (semaphore_model (initial_of c.args.self.now)) (words.State ∷ []) (Beginning call) 0 (λ w. intents.Add w c.args.value) (parties_of c.begin_new-begun.result.pass.now)) (sym c.requires.post) (may_add _ _ _ c.ranges.value.fits)
+add-turn-requires-clause-may g c = subst (λ call. MayStep (semaphore_model (initial_of c.args.self.now)) (Word.State ∷ []) (Beginning call) 0 (λ w. Intent.Add w c.args.value) (parties_of c.begin_new-begun.result.pass.now)) (sym c.requires.post) (may_add _ _ _ c.ranges.value.fits)
 
 pub returns-clause-given : goal.returns-clause-given
 returns-clause-given g c = subst (λ p. HasDone (gave c.args.value) p c.add-turn.result.1.pass.now) c.begin_new-begun.ensures.still

@@ -1,16 +1,5 @@
-use Rattle.std.proofs.Common.{MatchBool, sym, ap, subst, ◌∙◌}
-use Rattle.std.proofs.lemmas.Bool.{MatchBool-at_true, MatchBool-at_false, true≢false}
-use Rattle.steps_events.specs.declared.event.Call.TheVariants as calls
-use Rattle.steps_events.specs.declared.event.Answer.TheVariants as answers
-use Rattle.passes.specs.Parts.{IsWhole}
-use Rattle.passes.specs.Answers.{HasAsked}
-use Rattle.playing.proofs.Attempts.{told_after, asked_after}
-use Rattle.playing.proofs.Over.{is_over, either_is_over}
-use Rattle.playing.specs.Counts.{WasRefused}
-use Rattle.playing.specs.Slots.{all_of}
-use Rattle.playing.specs.Tries.{spun}
-use Rattle.playing.specs.Passes.{parties_of}
-use Rattle.tallies.specs.SemaphoreScript.{semaphore_model}
+use Rattle.running_semaphore.specs.Names.{Call, Answer, IsWhole, HasAsked, WasRefused, all_of, spun, parties_of, semaphore_model}
+use Rattle.running_semaphore.proofs.Names.{MatchBool, sym, ap, subst, ◌∙◌, MatchBool-at_true, MatchBool-at_false, true≢false, told_after, asked_after, is_over, either_is_over}
 use Rattle.running_semaphore.specs.SemaphoreParties.{Waiting}
 use Rattle.running_semaphore.proofs.SemaphorePlays.{may_wait, wait_begins}
 use Rattle.running_semaphore.specs.SemaphoreShown.{IsEmpty, Takes, HasTaken, HasPlayed, initial_of}
@@ -24,10 +13,10 @@ pub try_again-granted-requires-clause-at : goal.try_again-granted-requires-claus
 try_again-granted-requires-clause-at g c = (all_of (parties_of c.args.pass.now), (MatchBool-at_false _ _ c.if-took.false (c.first_take-took.ensures.wanted (Waiting (spun 0)) _ (wait_begins _ (parties_of c.args.pass.now)))))
 
 pub returns-then-took-clause-played : goal.returns-then-took-clause-played
-returns-then-took-clause-played g c = subst (λ q. HasPlayed (initial_of c.args.self.now) calls.Wait answers.Success c.args.pass.now q) (sym (c.pass-1.given.1 (sym c.first_take-took.ensures.same_borrow ∙ sym c.end-pass.ensures.same_borrow) ∙ c.end-pass.ensures.still)) (MatchBool-at_true _ _ c.if-took.true (c.first_take-took.ensures.wanted (Waiting (spun 0)) _ (wait_begins _ (parties_of c.args.pass.now))))
+returns-then-took-clause-played g c = subst (λ q. HasPlayed (initial_of c.args.self.now) Call.Wait Answer.Success c.args.pass.now q) (sym (c.pass-1.given.1 (sym c.first_take-took.ensures.same_borrow ∙ sym c.end-pass.ensures.same_borrow) ∙ c.end-pass.ensures.still)) (MatchBool-at_true _ _ c.if-took.true (c.first_take-took.ensures.wanted (Waiting (spun 0)) _ (wait_begins _ (parties_of c.args.pass.now))))
 
 pub returns-clause-played : goal.returns-clause-played
-returns-clause-played g c = subst (λ q. MatchBool c.try_again-granted.result.0 (HasPlayed (initial_of c.args.self.now) calls.Wait answers.Success c.args.pass.now q) (HasPlayed (initial_of c.args.self.now) calls.Wait answers.Interrupted c.args.pass.now q)) (sym (c.pass-2-1.given.1 (sym c.first_take-took.ensures.same_borrow ∙ sym c.try_again-granted.ensures.same_borrow ∙ sym c.end-pass-2.ensures.same_borrow) ∙ c.end-pass-2.ensures.still)) (c.try_again-granted.ensures.over (all_of (parties_of c.args.pass.now)) (MatchBool-at_false _ _ c.if-took.false (c.first_take-took.ensures.wanted (Waiting (spun 0)) _ (wait_begins _ (parties_of c.args.pass.now)))))
+returns-clause-played g c = subst (λ q. MatchBool c.try_again-granted.result.0 (HasPlayed (initial_of c.args.self.now) Call.Wait Answer.Success c.args.pass.now q) (HasPlayed (initial_of c.args.self.now) Call.Wait Answer.Interrupted c.args.pass.now q)) (sym (c.pass-2-1.given.1 (sym c.first_take-took.ensures.same_borrow ∙ sym c.try_again-granted.ensures.same_borrow ∙ sym c.end-pass-2.ensures.same_borrow) ∙ c.end-pass-2.ensures.still)) (c.try_again-granted.ensures.over (all_of (parties_of c.args.pass.now)) (MatchBool-at_false _ _ c.if-took.false (c.first_take-took.ensures.wanted (Waiting (spun 0)) _ (wait_begins _ (parties_of c.args.pass.now)))))
 
 pub returns-then-took-clause-entered : goal.returns-then-took-clause-entered
 returns-then-took-clause-entered g c = subst (λ q. HasTaken c.args.pass.now q) (sym (c.pass-1.given.1 (sym c.first_take-took.ensures.same_borrow ∙ sym c.end-pass.ensures.same_borrow) ∙ c.end-pass.ensures.still)) (MatchBool-at_true _ _ c.if-took.true c.first_take-took.ensures.takes)
@@ -55,7 +44,7 @@ returns-clause-asked g c = λ whole no. subst (λ q. HasAsked g.W.Fn c.args.wait
     (c.try_again-granted.ensures.asked no (subst IsWhole (sym (MatchBool-at_false _ _ c.if-took.false c.first_take-took.ensures.takes).stayed.part) whole)))
 
 pub end-pass-requires-clause-over : goal.end-pass-requires-clause-over
-end-pass-requires-clause-over g c = is_over (semaphore_model (initial_of c.args.self.now)) calls.Wait _ _ _ _ (MatchBool-at_true _ _ c.if-took.true (c.first_take-took.ensures.wanted (Waiting (spun 0)) _ (wait_begins _ (parties_of c.args.pass.now))))
+end-pass-requires-clause-over g c = is_over (semaphore_model (initial_of c.args.self.now)) Call.Wait _ _ _ _ (MatchBool-at_true _ _ c.if-took.true (c.first_take-took.ensures.wanted (Waiting (spun 0)) _ (wait_begins _ (parties_of c.args.pass.now))))
 
 pub end-pass-requires-2-clause-over : goal.end-pass-requires-2-clause-over
-end-pass-requires-2-clause-over g c = either_is_over (semaphore_model (initial_of c.args.self.now)) c.try_again-granted.result.0 calls.Wait _ _ _ (c.try_again-granted.ensures.over (all_of (parties_of c.args.pass.now)) (MatchBool-at_false _ _ c.if-took.false (c.first_take-took.ensures.wanted (Waiting (spun 0)) _ (wait_begins _ (parties_of c.args.pass.now)))))
+end-pass-requires-2-clause-over g c = either_is_over (semaphore_model (initial_of c.args.self.now)) c.try_again-granted.result.0 Call.Wait _ _ _ (c.try_again-granted.ensures.over (all_of (parties_of c.args.pass.now)) (MatchBool-at_false _ _ c.if-took.false (c.first_take-took.ensures.wanted (Waiting (spun 0)) _ (wait_begins _ (parties_of c.args.pass.now)))))

@@ -1,6 +1,5 @@
-use Rattle.std.proofs.Common.{arith}
-use Rattle.playing.specs.Plays.{Going}
-use Rattle.playing.specs.Passes.{parties_of, counts_of}
+use Rattle.running_semaphore.specs.Names.{Going, parties_of, counts_of}
+use Rattle.running_semaphore.proofs.Names.{arith}
 use Rattle.running_semaphore.proofs.SemaphoreKeeps.{takes, misses, exchanged_there}
 use Rattle.running_semaphore.proofs.Semaphore.exchange.Goals as goal
 

@@ -1,18 +1,10 @@
-use Rattle.std.proofs.Common.{[], ◌∷◌, sym, subst}
-use Rattle.steps_events.specs.declared.event.Word.TheVariants as words
-use Rattle.steps_events.specs.declared.row.Intent.TheVariants as intents
-use Rattle.passes.specs.Parts.{IsWhole}
-use Rattle.passes.specs.Passes.{part_of}
-use Rattle.playing.specs.Plays.{Beginning, MayStep, Went}
-use Rattle.playing.specs.Counts.{HasSeen}
-use Rattle.playing.specs.Passes.{parties_of}
-use Rattle.tallies.specs.SemaphoreScript.{semaphore_model}
+use Rattle.running_semaphore.specs.Names.{Word, Intent, IsWhole, part_of, Beginning, MayStep, Went, HasSeen, parties_of, semaphore_model}
+use Rattle.running_semaphore.proofs.Names.{[], ◌∷◌, sym, subst, ◌≡◌, ◌≤◌}
 use Rattle.running_semaphore.specs.SemaphoreShown.{initial_of, worth_of, given_of, taken_of}
-use Rattle.std.proofs.Common.{◌≡◌, ◌≤◌}
 use Rattle.running_semaphore.proofs.Semaphore.first_look.Goals as goal
 
 pub look-requires-clause-may : goal.look-requires-clause-may
-look-requires-clause-may g c = subst (λ p. MayStep (semaphore_model (initial_of c.args.self.now)) (words.State ∷ []) (Beginning g.L.Called.call) 0 (λ w. intents.Load w) (parties_of p)) (sym c.begin_new-begun.ensures.still) c.requires.may
+look-requires-clause-may g c = subst (λ p. MayStep (semaphore_model (initial_of c.args.self.now)) (Word.State ∷ []) (Beginning g.L.Called.call) 0 (λ w. Intent.Load w) (parties_of p)) (sym c.begin_new-begun.ensures.still) c.requires.may
 
 pub returns-clause-saw : goal.returns-clause-saw
 returns-clause-saw g c = subst (λ p. HasSeen c.look.result.0 p c.look.result.1.pass.now) c.begin_new-begun.ensures.still c.look.ensures.saw

@@ -1,10 +1,5 @@
-use Rattle.std.proofs.Common.{◌≡◌, ◌<◌, MatchBool, sym, subst}
-use Rattle.passes.specs.Parts.{IsWhole}
-use Rattle.passes.specs.Sights.{LooksOnceOrMisses}
-use Rattle.passes.specs.Passes.{part_of, sights_of}
-use Rattle.playing.specs.Plays.{Beginning}
-use Rattle.playing.specs.Counts.{HasSeen, WasRefused}
-use Rattle.playing.specs.Passes.{parties_of}
+use Rattle.running_semaphore.specs.Names.{IsWhole, LooksOnceOrMisses, part_of, sights_of, Beginning, HasSeen, WasRefused, parties_of}
+use Rattle.running_semaphore.proofs.Names.{◌≡◌, ◌<◌, MatchBool, sym, subst}
 use Rattle.running_semaphore.specs.SemaphoreParties.{MayWant, HasWanted}
 use Rattle.running_semaphore.specs.SemaphoreShown.{initial_of, worth_of, IsEmpty, HasTaken, HasTakenAtOnce}
 use Rattle.running_semaphore.proofs.Semaphore.first_take.Goals as goal

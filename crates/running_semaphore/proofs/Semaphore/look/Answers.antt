@@ -1,5 +1,5 @@
-use Rattle.std.proofs.Common.{arith}
-use Rattle.playing.specs.Passes.{parties_of, counts_of}
+use Rattle.running_semaphore.specs.Names.{parties_of, counts_of}
+use Rattle.running_semaphore.proofs.Names.{arith}
 use Rattle.running_semaphore.proofs.SemaphoreKeeps.{loads, loaded_there}
 use Rattle.running_semaphore.proofs.Semaphore.look.Goals as goal
 

@@ -1,6 +1,5 @@
-use Rattle.std.proofs.Common.{sym, subst, ◌∙◌}
-use Rattle.playing.specs.Counts.{HasDone}
-use Rattle.playing.specs.Passes.{parties_of}
+use Rattle.running_semaphore.specs.Names.{HasDone, parties_of}
+use Rattle.running_semaphore.proofs.Names.{sym, subst, ◌∙◌}
 use Rattle.running_semaphore.specs.SemaphoreShown.{initial_of, HasPlayedPost}
 use Rattle.running_semaphore.specs.SemaphoreSteps.{gave}
 use Rattle.running_semaphore.proofs.SemaphorePlays.{is_to_wake, post_is_over}

@@ -1,5 +1,5 @@
-use Rattle.steps_events.specs.declared.event.Call.TheVariants as calls
+use Rattle.running_semaphore.specs.Names.{Call}
 use Rattle.running_semaphore.proofs.Semaphore.post.Given as goal
 
 abbrev pub ghosts-add : goal.ghosts-add
-ghosts-add g a = record { call = calls.Post a.value }
+ghosts-add g a = record { call = Call.Post a.value }

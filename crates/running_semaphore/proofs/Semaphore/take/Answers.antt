@@ -1,5 +1,4 @@
-use Rattle.std.proofs.Common.{inl, sym, ap, ◌∙◌}
-use Rattle.playing.proofs.Attempts.{seen_once, seen_twice, missed_once}
+use Rattle.running_semaphore.proofs.Names.{inl, sym, ap, ◌∙◌, seen_once, seen_twice, missed_once}
 use Rattle.running_semaphore.proofs.SemaphorePlays.{may_look, may_take, looked, looked_again, took_one, found_none}
 use Rattle.running_semaphore.proofs.SemaphoreTakes.{none_left, one_taken, looks_first, looks_again, misses, found_worth, never_misses, finds_none, finds_none_once, takes_one, takes_one_at_once, looks_still, some_there}
 use Rattle.running_semaphore.proofs.Semaphore.take.Goals as goal

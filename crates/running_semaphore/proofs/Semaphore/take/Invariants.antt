@@ -1,10 +1,5 @@
-use Rattle.std.proofs.Common.{◌≡◌, true}
-use Rattle.passes.specs.Parts.{IsWhole}
-use Rattle.passes.specs.Sights.{HasLooked, LooksOnceOrMisses}
-use Rattle.passes.specs.Passes.{part_of, sights_of}
-use Rattle.passes.specs.Views.{looked}
-use Rattle.playing.specs.Passes.{counted, parties_of}
-use Rattle.playing.specs.Counts.{HasOnlySeen}
+use Rattle.running_semaphore.specs.Names.{IsWhole, HasLooked, LooksOnceOrMisses, part_of, sights_of, looked, counted, parties_of, HasOnlySeen}
+use Rattle.running_semaphore.proofs.Names.{◌≡◌, true}
 use Rattle.running_semaphore.specs.SemaphoreParties.{OnceWanting, HasLooked as HasLookedThere}
 use Rattle.running_semaphore.specs.SemaphoreShown.{initial_of, worth_of}
 use Rattle.running_semaphore.proofs.Semaphore.take.Given as goal

@@ -1,7 +1,7 @@
-use Rattle.steps_events.specs.declared.event.Call.TheVariants as calls
+use Rattle.running_semaphore.specs.Names.{Call}
 use Rattle.running_semaphore.specs.SemaphoreShown.{initial_of, HasPlayed}
 use Rattle.running_semaphore.proofs.SemaphorePlays.{answered_so}
 use Rattle.running_semaphore.proofs.Semaphore.try_wait.Goals as goal
 
 pub returns-clause-played : goal.returns-clause-played
-returns-clause-played g c = answered_so _ _ (λ answer. HasPlayed (initial_of c.args.self.now) calls.TryWait answer c.args.pass.now c.try_enter.new.pass) c.success_if.ensures c.try_enter.ensures.played
+returns-clause-played g c = answered_so _ _ (λ answer. HasPlayed (initial_of c.args.self.now) Call.TryWait answer c.args.pass.now c.try_enter.new.pass) c.success_if.ensures c.try_enter.ensures.played

@@ -1,8 +1,5 @@
-use Rattle.std.proofs.Common.{sym, subst, ◌∙◌}
-use Rattle.steps_events.specs.declared.event.Call.TheVariants as calls
-use Rattle.steps_events.specs.declared.event.Answer.TheVariants as answers
-use Rattle.playing.proofs.Over.{is_over}
-use Rattle.tallies.specs.SemaphoreScript.{semaphore_model}
+use Rattle.running_semaphore.specs.Names.{Call, Answer, semaphore_model}
+use Rattle.running_semaphore.proofs.Names.{sym, subst, ◌∙◌, is_over}
 use Rattle.running_semaphore.specs.SemaphoreShown.{initial_of, HasPlayed}
 use Rattle.running_semaphore.proofs.SemaphorePlays.{may_tell, tells}
 use Rattle.running_semaphore.proofs.Semaphore.value.Goals as goal
@@ -11,7 +8,7 @@ pub first_look-seen-requires-clause-may : goal.first_look-seen-requires-clause-m
 first_look-seen-requires-clause-may g c = may_tell _ _
 
 pub returns-clause-played : goal.returns-clause-played
-returns-clause-played g c = subst (λ q. HasPlayed (initial_of c.args.self.now) calls.Value (answers.Number c.first_look-seen.result.0) c.args.pass.now q) (sym (c.pass-1.given.1 (sym c.first_look-seen.ensures.same_borrow ∙ sym c.end-pass.ensures.same_borrow) ∙ c.end-pass.ensures.still)) (tells _ _ _ _ c.first_look-seen.ensures.went)
+returns-clause-played g c = subst (λ q. HasPlayed (initial_of c.args.self.now) Call.Value (Answer.Number c.first_look-seen.result.0) c.args.pass.now q) (sym (c.pass-1.given.1 (sym c.first_look-seen.ensures.same_borrow ∙ sym c.end-pass.ensures.same_borrow) ∙ c.end-pass.ensures.still)) (tells _ _ _ _ c.first_look-seen.ensures.went)
 
 pub end-pass-requires-clause-over : goal.end-pass-requires-clause-over
-end-pass-requires-clause-over g c = is_over (semaphore_model (initial_of c.args.self.now)) calls.Value _ _ _ _ (tells _ _ _ _ c.first_look-seen.ensures.went)
+end-pass-requires-clause-over g c = is_over (semaphore_model (initial_of c.args.self.now)) Call.Value _ _ _ _ (tells _ _ _ _ c.first_look-seen.ensures.went)

@@ -1,11 +1,11 @@
-use Rattle.steps_events.specs.declared.event.Call.TheVariants as calls
+use Rattle.running_semaphore.specs.Names.{Call}
 use Rattle.running_semaphore.specs.SemaphoreShown.{initial_of, HasPlayed}
 use Rattle.running_semaphore.proofs.SemaphorePlays.{answered_so}
 use Rattle.running_semaphore.proofs.SemaphoreTakes.{if_taken, if_not_taken, takes_some}
 use Rattle.running_semaphore.proofs.Semaphore.wait.Goals as goal
 
 pub returns-clause-played : goal.returns-clause-played
-returns-clause-played g c = answered_so _ _ (λ answer. HasPlayed (initial_of c.args.self.now) calls.Wait answer c.args.pass.now c.enter.new.pass) c.success_if.ensures c.enter.ensures.played
+returns-clause-played g c = answered_so _ _ (λ answer. HasPlayed (initial_of c.args.self.now) Call.Wait answer c.args.pass.now c.enter.new.pass) c.success_if.ensures c.enter.ensures.played
 
 pub returns-clause-took : goal.returns-clause-took
 returns-clause-took g c = (if_taken _ _ _ _ c.success_if.ensures c.enter.ensures.entered).0

@@ -1,4 +1,4 @@
-use Rattle.std.proofs.Common.{rules}
+use Rattle.steps_condvar.proofs.Names.{rules}
 use Rattle.steps_condvar.proofs.CondvarPlace.intent.Goals as goal
 
 pub returns-in-Post : goal.returns-in-Post

@@ -1,4 +1,4 @@
-use Rattle.std.proofs.Common.{rules}
+use Rattle.steps_mutex.proofs.Names.{rules}
 use Rattle.steps_mutex.proofs.MutexPlace.after.Goals as goal
 
 pub returns-in-Release : goal.returns-in-Release

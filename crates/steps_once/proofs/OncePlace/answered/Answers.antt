@@ -1,4 +1,4 @@
-use Rattle.std.proofs.Common.{rules}
+use Rattle.steps_once.proofs.Names.{rules}
 use Rattle.steps_once.proofs.OncePlace.answered.Goals as goal
 
 pub returns : goal.returns

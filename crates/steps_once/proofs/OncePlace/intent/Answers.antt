@@ -1,4 +1,4 @@
-use Rattle.std.proofs.Common.{rules}
+use Rattle.steps_once.proofs.Names.{rules}
 use Rattle.steps_once.proofs.OncePlace.intent.Goals as goal
 
 pub returns-in-Run : goal.returns-in-Run

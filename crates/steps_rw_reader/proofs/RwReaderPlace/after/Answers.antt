@@ -1,4 +1,4 @@
-use Rattle.std.proofs.Common.{rules}
+use Rattle.steps_rw_reader.proofs.Names.{rules}
 use Rattle.steps_rw_reader.proofs.RwReaderPlace.after.Goals as goal
 
 pub returns-in-Release : goal.returns-in-Release

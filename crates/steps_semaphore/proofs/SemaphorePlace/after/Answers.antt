@@ -1,4 +1,4 @@
-use Rattle.std.proofs.Common.{rules}
+use Rattle.steps_semaphore.proofs.Names.{rules}
 use Rattle.steps_semaphore.proofs.SemaphorePlace.after.Goals as goal
 
 pub returns-then-found-seen : goal.returns-then-found-seen

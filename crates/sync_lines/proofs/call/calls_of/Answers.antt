@@ -1,4 +1,4 @@
-use Rattle.std.proofs.Common.{rules}
+use Rattle.sync_lines.proofs.Names.{rules}
 use Rattle.sync_lines.proofs.call.calls_of.Goals as goal
 
 pub returns-in-Semaphore : goal.returns-in-Semaphore

@@ -1,4 +1,4 @@
-use Rattle.std.proofs.Common.{◌≡◌, drop}
+use Rattle.sync_lines.proofs.Names.{◌≡◌, drop}
 use Rattle.sync_lines.specs.Call.{named}
 use Rattle.sync_lines.proofs.call.named.Given as goal
 

@@ -1,4 +1,4 @@
-use Rattle.std.proofs.Common.{rules}
+use Rattle.sync_lines.proofs.Names.{rules}
 use Rattle.sync_lines.proofs.command.steps.Goals as goal
 
 pub returns-in_err-only_number-in-Some : goal.returns-in_err-only_number-in-Some

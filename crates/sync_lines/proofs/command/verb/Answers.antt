@@ -1,4 +1,4 @@
-use Rattle.std.proofs.Common.{rules}
+use Rattle.sync_lines.proofs.Names.{rules}
 use Rattle.sync_lines.proofs.command.verb.Goals as goal
 
 pub returns-then-is-2 : goal.returns-then-is-2

@@ -1,4 +1,4 @@
-use Rattle.std.proofs.Common.{rules}
+use Rattle.sync_lines.proofs.Names.{rules}
 use Rattle.sync_lines.proofs.command.with_numbers.Goals as goal
 
 pub returns-in_ok-value-in-Choice : goal.returns-in_ok-value-in-Choice

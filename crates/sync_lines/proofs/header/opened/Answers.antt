@@ -1,4 +1,4 @@
-use Rattle.std.proofs.Common.{rules}
+use Rattle.sync_lines.proofs.Names.{rules}
 use Rattle.sync_lines.proofs.header.opened.Goals as goal
 
 pub returns-in-Mutex : goal.returns-in-Mutex

@@ -1,4 +1,4 @@
-use Rattle.std.proofs.Common.{rules}
+use Rattle.sync_lines.proofs.Names.{rules}
 use Rattle.sync_lines.proofs.LexerLaws.{text_cut, text_whole}
 use Rattle.sync_lines.proofs.lexer.next_line.Goals as goal
 

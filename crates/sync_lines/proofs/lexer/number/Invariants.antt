@@ -1,4 +1,4 @@
-use Rattle.std.proofs.Common.{◌≡◌, ◌<◌, ◌^◌, drop}
+use Rattle.sync_lines.proofs.Names.{◌≡◌, ◌<◌, ◌^◌, drop}
 use Rattle.sync_lines.specs.Lexer.{fitting, number_of, number_from}
 use Rattle.sync_lines.proofs.lexer.number.Given as goal
 

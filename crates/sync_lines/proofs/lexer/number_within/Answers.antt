@@ -1,4 +1,4 @@
-use Rattle.std.proofs.Common.{rules}
+use Rattle.sync_lines.proofs.Names.{rules}
 use Rattle.sync_lines.proofs.lexer.number_within.Goals as goal
 
 pub returns-in_default-clause-read : goal.returns-in_default-clause-read

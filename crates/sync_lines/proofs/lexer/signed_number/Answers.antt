@@ -1,4 +1,4 @@
-use Rattle.std.proofs.Common.{rules}
+use Rattle.sync_lines.proofs.Names.{rules}
 use Rattle.sync_lines.proofs.lexer.signed_number.Goals as goal
 
 pub returns-in_ok-wide_number : goal.returns-in_ok-wide_number

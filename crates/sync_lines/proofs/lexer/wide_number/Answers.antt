@@ -1,4 +1,4 @@
-use Rattle.std.proofs.Common.{sym, ◌∙◌, ◌^◌, arith}
+use Rattle.sync_lines.proofs.Names.{sym, ◌∙◌, ◌^◌, arith}
 use Rattle.sync_lines.proofs.LexerLaws.{digit_too_large, digits_end}
 use Rattle.sync_lines.proofs.lexer.wide_number.Goals as goal
 

@@ -1,4 +1,4 @@
-use Rattle.std.proofs.Common.{rules, tests}
+use Rattle.sync_lines.proofs.Names.{rules, tests}
 use Rattle.sync_lines.proofs.LexerLaws.{return_cut, return_kept}
 use Rattle.sync_lines.proofs.lexer.without_return.Goals as goal
 

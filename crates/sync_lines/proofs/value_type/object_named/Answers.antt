@@ -1,4 +1,4 @@
-use Rattle.std.proofs.Common.{rules}
+use Rattle.sync_lines.proofs.Names.{rules}
 use Rattle.sync_lines.proofs.value_type.object_named.Goals as goal
 
 pub returns-in-I128 : goal.returns-in-I128

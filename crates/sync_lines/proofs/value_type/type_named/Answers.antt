@@ -1,4 +1,4 @@
-use Rattle.std.proofs.Common.{rules}
+use Rattle.sync_lines.proofs.Names.{rules}
 use Rattle.sync_lines.proofs.value_type.type_named.Goals as goal
 
 pub returns-then-is_atomic : goal.returns-then-is_atomic

@@ -1,4 +1,4 @@
-use Rattle.sync_lines.specs.ValueTypes.{meaning_of}
+use Rattle.sync_play.specs.Names.{meaning_of}
 use Rattle.sync_play.proofs.CallLaws.{calls_are_named, calls_are_read_back}
 use Rattle.sync_play.proofs.law.calls_are_read_back.Goals as goal
 

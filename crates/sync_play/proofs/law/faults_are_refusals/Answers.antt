@@ -1,5 +1,4 @@
-use Rattle.sync_lines.specs.Lexer.{lines_of}
-use Rattle.sync_lines.specs.ValueTypes.{values_in}
+use Rattle.sync_play.specs.Names.{lines_of, values_in}
 use Rattle.sync_play.proofs.FaultsAreRefusals.{text_refused, text_fails}
 use Rattle.sync_play.proofs.law.faults_are_refusals.Goals as goal
 

@@ -1,5 +1,4 @@
-use Rattle.sync_lines.specs.Lexer.{lines_of}
-use Rattle.sync_lines.specs.ValueTypes.{values_in}
+use Rattle.sync_play.specs.Names.{lines_of, values_in}
 use Rattle.sync_play.proofs.RunsAreOutputs.{runs_are_outputs}
 use Rattle.sync_play.proofs.OutputsAreRuns.{outputs_are_runs}
 use Rattle.sync_play.proofs.law.outputs_are_runs.Goals as goal

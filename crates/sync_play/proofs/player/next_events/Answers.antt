@@ -1,7 +1,5 @@
-use Rattle.std.proofs.Common.{◌≡◌, ◌<◌, refl, ap, ◌∙◌, arith, rules, tests}
-use Rattle.std.proofs.lemmas.Result.{err_from_is_err_and}
-use Rattle.sync_lines.specs.declared.command.Command.{Command}
-use Rattle.sync_lines.specs.declared.command.Task.TheVariants as tasks
+use Rattle.sync_play.specs.Names.{Command, Task}
+use Rattle.sync_play.proofs.Names.{◌≡◌, ◌<◌, refl, ap, ◌∙◌, arith, rules, tests, err_from_is_err_and}
 use Rattle.sync_play.proofs.WalkLaws.{turn_done, turn_limited, turn_given, turn_not_given, turn_strides, stride_refused}
 use Rattle.sync_play.proofs.player.next_events.Goals.{in-Go, in-Go-2}
 use Rattle.sync_play.proofs.player.next_events.Goals as goal
@@ -9,17 +7,17 @@ use Rattle.sync_play.proofs.player.next_events.Goals as goal
 pub returns-in-Go-eq0-clause-turn : goal.returns-in-Go-eq0-clause-turn
 returns-in-Go-eq0-clause-turn g c o parties past stands =
     let none : c.in-Go-eq0.field-0 ≡ 0 = search (rules, tests) in
-    turn_done g.T.AtomicInteger.arithmetic o parties past c.args.left.now c.args.left.now c.args.machine.now (c.in-Go-eq0.is ∙ ap tasks.Go none) stands
+    turn_done g.T.AtomicInteger.arithmetic o parties past c.args.left.now c.args.left.now c.args.machine.now (c.in-Go-eq0.is ∙ ap Task.Go none) stands
 
 pub returns-in-Run-eq0-clause-turn : goal.returns-in-Run-eq0-clause-turn
 returns-in-Run-eq0-clause-turn g c o parties past stands =
     let none : c.in-Run-eq0.field-0 ≡ 0 = search (rules, tests) in
-    turn_limited g.T.AtomicInteger.arithmetic o parties past c.args.left.now c.args.left.now c.args.machine.now (c.in-Run-eq0.is ∙ ap tasks.Run none)
+    turn_limited g.T.AtomicInteger.arithmetic o parties past c.args.left.now c.args.left.now c.args.machine.now (c.in-Run-eq0.is ∙ ap Task.Run none)
 
 pub returns-in_ok-event-in-Give-clause-turn : goal.returns-in_ok-event-in-Give-clause-turn
 returns-in_ok-event-in-Give-clause-turn g c o parties past stands =
     let old : Command g.row.T.Denot = c.args.left.now in
-    let new : Command g.row.T.Denot = record { party = old.party; task = tasks.Go 0 } in
+    let new : Command g.row.T.Denot = record { party = old.party; task = Task.Go 0 } in
     turn_given g.T.AtomicInteger.arithmetic o parties past old new c.in-Give.input c.in_ok-event-in-Give.event c.args.machine.now c.step.new.self c.in-Give.is refl stands c.in_ok-event-in-Give.ensures.next
 
 pub returns-in_err-event-in-Give-clause-turn : goal.returns-in_err-event-in-Give-clause-turn

@@ -1,4 +1,4 @@
-use Rattle.std.proofs.Common.{rules}
+use Rattle.sync_play.proofs.Names.{rules}
 use Rattle.sync_play.proofs.print.print_event.Goals as goal
 
 pub returns-in-GoesOn : goal.returns-in-GoesOn

@@ -1,4 +1,4 @@
-use Rattle.std.proofs.Common.{arith}
+use Rattle.sync_play.proofs.Names.{arith}
 use Rattle.std.proofs.lemmas.Grind.{common_steps}
 use Rattle.sync_play.proofs.print.print_further_words.Goals as goal
 

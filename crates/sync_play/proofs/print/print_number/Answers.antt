@@ -1,4 +1,4 @@
-use Rattle.std.proofs.Common.{arith}
+use Rattle.sync_play.proofs.Names.{arith}
 use Rattle.sync_play.proofs.PrintLaws.{number_printed}
 use Rattle.sync_play.proofs.print.print_number.Goals as goal
 

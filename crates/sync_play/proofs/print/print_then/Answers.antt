@@ -1,6 +1,5 @@
-use Rattle.std.proofs.Common.{◌∙◌, ap, ℕ, List, ◌++◌, append_assoc}
-use Rattle.std.specs.Prelude.{codes, string_bytes}
-use Rattle.std.specs.Fmt.{decimal}
+use Rattle.sync_play.specs.Names.{codes, string_bytes, decimal}
+use Rattle.sync_play.proofs.Names.{◌∙◌, ap, ℕ, List, ◌++◌, append_assoc}
 use Rattle.sync_play.specs.Print.{answer_words}
 use Rattle.sync_play.proofs.PrintLaws.{pushed, printed_after, line_printed}
 use Rattle.sync_play.proofs.print.print_then.Goals as goal

@@ -1,4 +1,4 @@
-use Rattle.std.specs.Prelude.{codes, string_bytes}
+use Rattle.sync_play.specs.Names.{codes, string_bytes}
 use Rattle.sync_play.proofs.PrintLaws.{pushed, line_printed}
 use Rattle.sync_play.proofs.print.print_wake.Goals as goal
 

@@ -1,5 +1,5 @@
-use Rattle.std.proofs.Common.{◌^◌, ◌-◌, vec_len}
-use Rattle.std.specs.Io.KnownBytes.{Consumes}
+use Rattle.sync_play.specs.Names.{Consumes}
+use Rattle.sync_play.proofs.Names.{◌^◌, ◌-◌, vec_len}
 use Rattle.sync_play.proofs.streams.read_all.Given as goal
 
 abbrev pub invariant-loop-text : goal.invariant-loop-text

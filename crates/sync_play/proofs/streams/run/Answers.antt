@@ -1,4 +1,4 @@
-use Rattle.std.proofs.Common.{rules}
+use Rattle.sync_play.proofs.Names.{rules}
 use Rattle.sync_play.proofs.streams.run.Goals as goal
 
 pub returns-clause-ok : goal.returns-clause-ok

@@ -1,4 +1,4 @@
-use Rattle.std.proofs.lemmas.List.{take_rest}
+use Rattle.sync_play.proofs.Names.{take_rest}
 use Rattle.sync_play.proofs.RunLaws.{writing_goes_on}
 use Rattle.sync_play.proofs.streams.write_all.Goals as goal
 

@@ -1,4 +1,4 @@
-use Rattle.std.proofs.Common.{length}
+use Rattle.sync_play.proofs.Names.{length}
 use Rattle.sync_play.proofs.RunLaws.{HasWritten}
 use Rattle.sync_play.proofs.streams.write_all.Given as goal
 

@@ -1,6 +1,5 @@
-use Rattle.std.proofs.Common.{◌∙◌, ap, [], ℕ, Vec}
-use Rattle.std.proofs.lemmas.Result.{err_from_is_err_and}
-use Rattle.sync_lines.specs.Lexer.{lines_of}
+use Rattle.sync_play.specs.Names.{lines_of}
+use Rattle.sync_play.proofs.Names.{◌∙◌, ap, [], ℕ, Vec, err_from_is_err_and}
 use Rattle.sync_play.proofs.PlayLaws.{opens_none, faults_so, text_is_printed}
 use Rattle.sync_play.proofs.text.play_typed.Goals as goal
 

@@ -1,7 +1,5 @@
-use Rattle.std.proofs.Common.{◌≡◌, ◌+◌, ◌^◌, ◌<◌, ◌≤◌, ℕ, List, length}
-use Rattle.sync_steps.specs.Machine.{StandsAt}
-use Rattle.steps_events.specs.declared.event.Event.{Event}
-use Rattle.steps_events.specs.declared.event.Object.{Object}
+use Rattle.sync_play.specs.Names.{StandsAt, Event, Object}
+use Rattle.sync_play.proofs.Names.{◌≡◌, ◌+◌, ◌^◌, ◌<◌, ◌≤◌, ℕ, List, length}
 use Rattle.sync_play.specs.Walk.{rest_walk, most_steps}
 use Rattle.sync_play.proofs.walk.next_stride.Given as goal
 

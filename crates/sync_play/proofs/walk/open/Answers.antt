@@ -1,4 +1,4 @@
-use Rattle.std.proofs.Common.{rules}
+use Rattle.sync_play.proofs.Names.{rules}
 use Rattle.sync_play.proofs.walk.open.Goals as goal
 
 pub returns-in-Err-clause-fault : goal.returns-in-Err-clause-fault

@@ -1,7 +1,5 @@
-use Rattle.std.proofs.Common.{◌≡◌, ◌≤◌, List}
-use Rattle.std.specs.Prelude.{string_bytes}
-use Rattle.steps_events.specs.declared.event.Event.{Event}
-use Rattle.sync_steps.specs.Machine.{StandsAt}
+use Rattle.sync_trace.specs.Names.{string_bytes, Event, StandsAt}
+use Rattle.sync_trace.proofs.Names.{◌≡◌, ◌≤◌, List}
 use Rattle.sync_trace.specs.Cells.{holders}
 use Rattle.sync_trace.proofs.cells.print_holders.Given as goal
 

@@ -1,4 +1,4 @@
-use Rattle.std.proofs.Common.{◌≡◌, ◌<◌, ◌^◌, [], refl, arith, rules}
+use Rattle.sync_trace.proofs.Names.{◌≡◌, ◌<◌, ◌^◌, [], refl, arith, rules}
 use Rattle.sync_trace.specs.Cells.{texts_of}
 use Rattle.sync_trace.proofs.RowLaws.{added_first, added_to_last, added_alone}
 use Rattle.sync_trace.proofs.rows.add.Goals as goal

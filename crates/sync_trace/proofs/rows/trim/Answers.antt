@@ -1,5 +1,4 @@
-use Rattle.std.proofs.Common.{◌≡◌, ◌+◌, ◌<◌, ◌≤◌, ◌∙◌, sym, ap, [], ◌∷◌, ◌++◌, length, Option, ℕ, arith, rules}
-use Rattle.std.proofs.lemmas.List.{length-append}
+use Rattle.sync_trace.proofs.Names.{◌≡◌, ◌+◌, ◌<◌, ◌≤◌, ◌∙◌, sym, ap, [], ◌∷◌, ◌++◌, length, Option, ℕ, arith, rules, length-append}
 use Rattle.sync_trace.specs.Rows.{entries, trimmed_to}
 use Rattle.sync_trace.proofs.RowLaws.{trims_short, trims}
 use Rattle.sync_trace.proofs.rows.trim.Goals as goal

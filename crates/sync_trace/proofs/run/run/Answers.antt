@@ -1,4 +1,4 @@
-use Rattle.std.proofs.Common.{rules}
+use Rattle.sync_trace.proofs.Names.{rules}
 use Rattle.sync_trace.proofs.run.run.Goals as goal
 
 pub returns-clause-ok : goal.returns-clause-ok

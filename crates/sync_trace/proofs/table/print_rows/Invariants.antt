@@ -1,5 +1,5 @@
-use Rattle.std.proofs.Common.{◌≡◌, ◌++◌, take}
-use Rattle.std.specs.Prelude.{string_bytes}
+use Rattle.sync_trace.specs.Names.{string_bytes}
+use Rattle.sync_trace.proofs.Names.{◌≡◌, ◌++◌, take}
 use Rattle.sync_trace.specs.Rows.{entries}
 use Rattle.sync_trace.specs.Table.{row_lines}
 use Rattle.sync_trace.proofs.table.print_rows.Given as goal

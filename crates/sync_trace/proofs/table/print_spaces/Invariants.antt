@@ -1,5 +1,5 @@
-use Rattle.std.proofs.Common.{◌≡◌, ◌++◌, ◌≤◌}
-use Rattle.std.specs.Prelude.{string_bytes, replicate}
+use Rattle.sync_trace.specs.Names.{string_bytes, replicate}
+use Rattle.sync_trace.proofs.Names.{◌≡◌, ◌++◌, ◌≤◌}
 use Rattle.sync_trace.proofs.table.print_spaces.Given as goal
 
 abbrev pub invariant-loop-index : goal.invariant-loop-index

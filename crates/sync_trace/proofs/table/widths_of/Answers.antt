@@ -1,5 +1,4 @@
-use Rattle.std.proofs.Common.{◌∙◌, ap, List, arith}
-use Rattle.std.proofs.lemmas.List.{take_all}
+use Rattle.sync_trace.proofs.Names.{◌∙◌, ap, List, arith, take_all}
 use Rattle.sync_trace.specs.declared.rows.Row.{Row}
 use Rattle.sync_trace.specs.Rows.{entries}
 use Rattle.sync_trace.specs.Table.{titles, widened_by}

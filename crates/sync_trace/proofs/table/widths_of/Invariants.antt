@@ -1,4 +1,4 @@
-use Rattle.std.proofs.Common.{◌≡◌, take}
+use Rattle.sync_trace.proofs.Names.{◌≡◌, take}
 use Rattle.sync_trace.specs.Rows.{entries}
 use Rattle.sync_trace.specs.Table.{titles, widened_by}
 use Rattle.sync_trace.proofs.table.widths_of.Given as goal

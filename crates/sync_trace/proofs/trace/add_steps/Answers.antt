@@ -1,4 +1,4 @@
-use Rattle.std.proofs.Common.{rules}
+use Rattle.sync_trace.proofs.Names.{rules}
 use Rattle.sync_trace.specs.Cells.{texts_of}
 use Rattle.sync_trace.proofs.TraceLaws.{goes_on}
 use Rattle.sync_trace.proofs.trace.add_steps.Goals as goal

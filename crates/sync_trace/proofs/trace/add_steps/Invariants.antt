@@ -1,7 +1,5 @@
-use Rattle.std.proofs.Common.{◌+◌, ◌^◌, ◌<◌, List, length}
-use Rattle.steps_events.specs.declared.event.Event.{Event}
-use Rattle.sync_steps.specs.Machine.{StandsAt}
-use Rattle.sync_play.specs.Walk.{most_steps}
+use Rattle.sync_trace.specs.Names.{Event, StandsAt, most_steps}
+use Rattle.sync_trace.proofs.Names.{◌+◌, ◌^◌, ◌<◌, List, length}
 use Rattle.sync_trace.proofs.TraceLaws.{IsHalfway}
 use Rattle.sync_trace.proofs.trace.add_steps.Given as goal
 

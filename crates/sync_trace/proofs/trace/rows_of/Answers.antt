@@ -1,5 +1,5 @@
-use Rattle.std.proofs.Common.{[]}
-use Rattle.sync_lines.specs.Lexer.{lines_of}
+use Rattle.sync_trace.specs.Names.{lines_of}
+use Rattle.sync_trace.proofs.Names.{[]}
 use Rattle.sync_trace.proofs.TraceLaws.{opens_none, rows_read}
 use Rattle.sync_trace.proofs.trace.rows_of.Goals as goal
 

@@ -1,5 +1,5 @@
-use Rattle.std.proofs.Common.{ap, ℕ, Vec, Global}
-use Rattle.sync_lines.specs.Lexer.{lines_of}
+use Rattle.sync_trace.specs.Names.{lines_of}
+use Rattle.sync_trace.proofs.Names.{ap, ℕ, Vec, Global}
 use Rattle.sync_trace.proofs.TraceLaws.{written_so}
 use Rattle.sync_trace.proofs.trace.trace_typed.Goals as goal
 

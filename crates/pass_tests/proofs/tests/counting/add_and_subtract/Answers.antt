@@ -1,5 +1,5 @@
-use Rattle.std.proofs.Common.{ℕ, ap, arith}
-use Rattle.passes.specs.declared.view.View.{View}
+use Rattle.pass_tests.specs.Names.{View}
+use Rattle.pass_tests.proofs.Names.{ℕ, ap, arith}
 use Rattle.pass_tests.proofs.Counting.{subtracts}
 use Rattle.pass_tests.proofs.tests.counting.add_and_subtract.Goals as goal
 

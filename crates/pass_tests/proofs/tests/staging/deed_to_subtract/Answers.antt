@@ -1,17 +1,14 @@
-use Rattle.std.proofs.Common.{refl}
-use Rattle.steps_events.specs.declared.event.Word.TheVariants as words
-use Rattle.steps_events.specs.declared.event.Call.TheVariants as calls
-use Rattle.steps_events.specs.declared.row.Intent.TheVariants as intents
-use Rattle.playing.proofs.Over.{is_over}
+use Rattle.pass_tests.specs.Names.{Word, Call, Intent}
+use Rattle.pass_tests.proofs.Names.{refl, is_over}
 use Rattle.pass_tests.specs.Staging.{counter_model}
 use Rattle.pass_tests.proofs.Staging.{begins, may, counts_nothing}
 use Rattle.pass_tests.proofs.tests.staging.deed_to_subtract.Goals as goal
 
 pub subtract_by-found-requires-clause-may : goal.subtract_by-found-requires-clause-may
-subtract_by-found-requires-clause-may c = may calls.TryWait _ _ refl refl tt refl
+subtract_by-found-requires-clause-may c = may Call.TryWait _ _ refl refl tt refl
 
 pub subtract_by-found-requires-clause-update : goal.subtract_by-found-requires-clause-update
 subtract_by-found-requires-clause-update c = counts_nothing _ _ _
 
 pub end-pass-requires-clause-over : goal.end-pass-requires-clause-over
-end-pass-requires-clause-over c = is_over counter_model calls.TryWait _ _ _ _ (c.subtract_by-found.ensures.went calls.TryWait (intents.Subtract words.State 1) _ _ (begins calls.TryWait (intents.Subtract words.State 1) _ refl refl tt))
+end-pass-requires-clause-over c = is_over counter_model Call.TryWait _ _ _ _ (c.subtract_by-found.ensures.went Call.TryWait (Intent.Subtract Word.State 1) _ _ (begins Call.TryWait (Intent.Subtract Word.State 1) _ refl refl tt))

@@ -1,14 +1,11 @@
-use Rattle.std.proofs.Common.{refl, arith}
-use Rattle.steps_events.specs.declared.event.Word.TheVariants as words
-use Rattle.steps_events.specs.declared.event.Call.TheVariants as calls
-use Rattle.steps_events.specs.declared.row.Intent.TheVariants as intents
-use Rattle.playing.proofs.Over.{is_over}
+use Rattle.pass_tests.specs.Names.{Word, Call, Intent}
+use Rattle.pass_tests.proofs.Names.{refl, arith, is_over}
 use Rattle.pass_tests.specs.Staging.{counter_model}
 use Rattle.pass_tests.proofs.Staging.{begins, may}
 use Rattle.pass_tests.proofs.tests.staging.turn_to_add.Goals as goal
 
 pub add-found-requires-clause-may : goal.add-found-requires-clause-may
-add-found-requires-clause-may c = may (calls.Post 7) _ _ refl refl (omega arith) refl
+add-found-requires-clause-may c = may (Call.Post 7) _ _ refl refl (omega arith) refl
 
 pub end-pass-requires-clause-over : goal.end-pass-requires-clause-over
-end-pass-requires-clause-over c = is_over counter_model (calls.Post 7) _ _ _ _ (c.add-found.ensures.went (calls.Post 7) (intents.Add words.State 7) _ _ (begins (calls.Post 7) (intents.Add words.State 7) _ refl refl (omega arith)))
+end-pass-requires-clause-over c = is_over counter_model (Call.Post 7) _ _ _ _ (c.add-found.ensures.went (Call.Post 7) (Intent.Add Word.State 7) _ _ (begins (Call.Post 7) (Intent.Add Word.State 7) _ refl refl (omega arith)))

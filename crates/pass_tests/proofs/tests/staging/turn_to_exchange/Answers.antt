@@ -1,14 +1,11 @@
-use Rattle.std.proofs.Common.{refl}
-use Rattle.steps_events.specs.declared.event.Word.TheVariants as words
-use Rattle.steps_events.specs.declared.event.Call.TheVariants as calls
-use Rattle.steps_events.specs.declared.row.Intent.TheVariants as intents
-use Rattle.playing.proofs.Over.{is_over}
+use Rattle.pass_tests.specs.Names.{Word, Call, Intent}
+use Rattle.pass_tests.proofs.Names.{refl, is_over}
 use Rattle.pass_tests.specs.Staging.{counter_model}
 use Rattle.pass_tests.proofs.Staging.{begins, may}
 use Rattle.pass_tests.proofs.tests.staging.turn_to_exchange.Goals as goal
 
 pub exchange-found-requires-clause-may : goal.exchange-found-requires-clause-may
-exchange-found-requires-clause-may c = may calls.TryLock _ _ refl refl tt refl
+exchange-found-requires-clause-may c = may Call.TryLock _ _ refl refl tt refl
 
 pub end-pass-requires-clause-over : goal.end-pass-requires-clause-over
-end-pass-requires-clause-over c = is_over counter_model calls.TryLock _ _ _ _ (c.exchange-found.ensures.went calls.TryLock (intents.Exchange words.State 0 1) _ _ (begins calls.TryLock (intents.Exchange words.State 0 1) _ refl refl tt))
+end-pass-requires-clause-over c = is_over counter_model Call.TryLock _ _ _ _ (c.exchange-found.ensures.went Call.TryLock (Intent.Exchange Word.State 0 1) _ _ (begins Call.TryLock (Intent.Exchange Word.State 0 1) _ refl refl tt))

@@ -1,14 +1,11 @@
-use Rattle.std.proofs.Common.{refl}
-use Rattle.steps_events.specs.declared.event.Word.TheVariants as words
-use Rattle.steps_events.specs.declared.event.Call.TheVariants as calls
-use Rattle.steps_events.specs.declared.row.Intent.TheVariants as intents
-use Rattle.playing.proofs.Over.{is_over}
+use Rattle.pass_tests.specs.Names.{Word, Call, Intent}
+use Rattle.pass_tests.proofs.Names.{refl, is_over}
 use Rattle.pass_tests.specs.Staging.{counter_model}
 use Rattle.pass_tests.proofs.Staging.{begins, may}
 use Rattle.pass_tests.proofs.tests.staging.turn_to_subtract.Goals as goal
 
 pub subtract-found-requires-clause-may : goal.subtract-found-requires-clause-may
-subtract-found-requires-clause-may c = may calls.TryWait _ _ refl refl tt refl
+subtract-found-requires-clause-may c = may Call.TryWait _ _ refl refl tt refl
 
 pub end-pass-requires-clause-over : goal.end-pass-requires-clause-over
-end-pass-requires-clause-over c = is_over counter_model calls.TryWait _ _ _ _ (c.subtract-found.ensures.went calls.TryWait (intents.Subtract words.State 1) _ _ (begins calls.TryWait (intents.Subtract words.State 1) _ refl refl tt))
+end-pass-requires-clause-over c = is_over counter_model Call.TryWait _ _ _ _ (c.subtract-found.ensures.went Call.TryWait (Intent.Subtract Word.State 1) _ _ (begins Call.TryWait (Intent.Subtract Word.State 1) _ refl refl tt))

@@ -1,4 +1,4 @@
-use Rattle.std.proofs.Common.{refl}
+use Rattle.playing.proofs.Names.{refl}
 use Rattle.playing.proofs.Updates.{adds_nothing, updates_by_act}
 use Rattle.playing.proofs.acting.Turn+Pass+Played+M+P+V+C+W.subtract.Goals as goal
 

@@ -1,4 +1,4 @@
-use Rattle.std.proofs.Common.{refl}
+use Rattle.playing.proofs.Names.{refl}
 use Rattle.playing.proofs.calling.Turn+Pass+Played+M+P+V+C+Goes.tell.Goals as goal
 
 pub returns : goal.returns

@@ -1,4 +1,4 @@
-use Rattle.std.proofs.Common.{refl}
+use Rattle.playing.proofs.Names.{refl}
 use Rattle.playing.proofs.Updates.{adds_nothing, updates}
 use Rattle.playing.proofs.step.Turn+Pass+Played+M+P+V+C+W.store_by.Goals as goal
 

@@ -1,7 +1,5 @@
-use Rattle.std.proofs.Common.{None}
-use Rattle.playing.specs.Plays.{Choosing}
-use Rattle.playing.specs.Passes.{parties_of, counted}
-use Rattle.playing.specs.Stages.{key_of}
+use Rattle.running_atomic.specs.Names.{Choosing, parties_of, counted, key_of}
+use Rattle.running_atomic.proofs.Names.{None}
 use Rattle.running_atomic.proofs.AtomicKeeps.{ends_unchanged}
 use Rattle.running_atomic.proofs.HistoryFollows.{again_follows}
 use Rattle.running_atomic.proofs.calls.Atomic.end_unchanged.Goals as goal

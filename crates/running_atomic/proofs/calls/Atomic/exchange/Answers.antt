@@ -1,15 +1,7 @@
-use Rattle.std.proofs.Common.{◌≡◌, None, refl, sym, subst, ◌∙◌}
-use Rattle.steps_atomic.specs.Register.{plain}
-use Rattle.playing.specs.Plays.{HasCalled}
-use Rattle.playing.proofs.Over.{is_over}
-use Rattle.tallies.specs.declared.held.Held.TheVariants.{Free}
+use Rattle.running_atomic.specs.Names.{plain, HasCalled, Free, Answer, Pass, parties_of, counts_of, key_of}
+use Rattle.running_atomic.proofs.Names.{◌≡◌, None, refl, sym, subst, ◌∙◌, is_over, MatchBool-at_true, MatchBool-at_false}
 use Rattle.running_atomic.specs.AtomicModel.{atomic_model}
 use Rattle.running_atomic.specs.AtomicShown.{HasActedAt}
-use Rattle.std.proofs.lemmas.Bool.{MatchBool-at_true, MatchBool-at_false}
-use Rattle.steps_events.specs.declared.event.Answer.TheVariants as answers
-use Rattle.passes.specs.declared.pass.Pass.{Pass}
-use Rattle.playing.specs.Passes.{parties_of, counts_of}
-use Rattle.playing.specs.Stages.{key_of}
 use Rattle.running_atomic.specs.AtomicSteps.{PlayedAtomic}
 use Rattle.running_atomic.proofs.AtomicPlays.{may_leave, leaves, answers_so, differs}
 use Rattle.running_atomic.proofs.Compares.{compared_later, has_kept, answers_other, answers_same, keeps_other, writes_new, puts_new}
@@ -51,18 +43,18 @@ pub end-pass-requires-else-is_same-clause-over : goal.end-pass-requires-else-is_
 end-pass-requires-else-is_same-clause-over g c = is_over _ c.args.call.now _ None _ _ (leaves _ _ _ _ _ _ _ (differs _ _ _ c.args.current c.compare-old.result.0 c.args.new _ _ (c.requires.compares c.compare-old.result.0) (sym c.is_same.ensures ∙ c.if-is_same.false) (c.compare-old.ensures.knows _ c.write_lock-locked.ensures.next)) c.leave_write-last.ensures.went)
 
 pub returns-then-is_same-clause-changed : goal.returns-then-is_same-clause-changed
-returns-then-is_same-clause-changed g c = subst (λ (q : Pass (PlayedAtomic g.row.T.Denot)). HasActedAt g.T.AtomicInteger.arithmetic (key_of c.args.self.now.stage) (plain c.args.call.now) (answers.OkOld c.compare-old.result.0) c.args.pass.now q) (sym (c.pass-1.given.1 (sym c.write_lock-locked.ensures.same_borrow ∙ sym c.compare-old.ensures.same_borrow ∙ sym c.replace-last.ensures.same_borrow ∙ sym c.end-pass.ensures.same_borrow) ∙ c.end-pass.ensures.still))
+returns-then-is_same-clause-changed g c = subst (λ (q : Pass (PlayedAtomic g.row.T.Denot)). HasActedAt g.T.AtomicInteger.arithmetic (key_of c.args.self.now.stage) (plain c.args.call.now) (Answer.OkOld c.compare-old.result.0) c.args.pass.now q) (sym (c.pass-1.given.1 (sym c.write_lock-locked.ensures.same_borrow ∙ sym c.compare-old.ensures.same_borrow ∙ sym c.replace-last.ensures.same_borrow ∙ sym c.end-pass.ensures.same_borrow) ∙ c.end-pass.ensures.still))
     (acts_after _ _ _ _ _ _ _ c.args.pass.now c.compare-old.result.1.pass.now c.replace-last.result.pass.now (MatchBool-at_true _ _ (sym c.is_same.ensures ∙ c.if-is_same.true) (compared_later g.T.AtomicInteger.arithmetic (key_of c.args.self.now.stage) _ c.compare-old.result.0 _ c.args.pass.now c.write_lock-locked.result.pass.now c.compare-old.result.1.pass.now c.write_lock-locked.ensures.on c.compare-old.ensures.compared)) c.replace-last.ensures.acted refl (answers_same g.T.AtomicInteger.arithmetic (key_of c.args.self.now.stage) c.args.call.now c.args.current c.compare-old.result.0 c.args.new (c.requires.acts c.compare-old.result.0) (sym c.is_same.ensures ∙ c.if-is_same.true)))
 
 pub returns-then-is_same-clause-rest : goal.returns-then-is_same-clause-rest
 returns-then-is_same-clause-rest g c = subst (λ (q : Pass (PlayedAtomic g.row.T.Denot)). (counts_of q).hold ≡ Free) (sym (c.pass-1.given.1 (sym c.write_lock-locked.ensures.same_borrow ∙ sym c.compare-old.ensures.same_borrow ∙ sym c.replace-last.ensures.same_borrow ∙ sym c.end-pass.ensures.same_borrow) ∙ c.end-pass.ensures.still)) c.replace-last.ensures.rest
 
 pub returns-then-is_same-clause-played_changed : goal.returns-then-is_same-clause-played_changed
-returns-then-is_same-clause-played_changed g c = subst (λ (q : Pass (PlayedAtomic g.row.T.Denot)). HasCalled (atomic_model g.T.AtomicInteger.arithmetic (key_of c.args.self.now.stage)) c.args.call.now (answers.OkOld c.compare-old.result.0) None (parties_of c.args.pass.now) (parties_of q)) (sym (c.pass-1.given.1 (sym c.write_lock-locked.ensures.same_borrow ∙ sym c.compare-old.ensures.same_borrow ∙ sym c.replace-last.ensures.same_borrow ∙ sym c.end-pass.ensures.same_borrow) ∙ c.end-pass.ensures.still))
+returns-then-is_same-clause-played_changed g c = subst (λ (q : Pass (PlayedAtomic g.row.T.Denot)). HasCalled (atomic_model g.T.AtomicInteger.arithmetic (key_of c.args.self.now.stage)) c.args.call.now (Answer.OkOld c.compare-old.result.0) None (parties_of c.args.pass.now) (parties_of q)) (sym (c.pass-1.given.1 (sym c.write_lock-locked.ensures.same_borrow ∙ sym c.compare-old.ensures.same_borrow ∙ sym c.replace-last.ensures.same_borrow ∙ sym c.end-pass.ensures.same_borrow) ∙ c.end-pass.ensures.still))
     (answers_so _ _ _ _ _ (parties_of c.args.pass.now) _ (answers_same g.T.AtomicInteger.arithmetic (key_of c.args.self.now.stage) c.args.call.now c.args.current c.compare-old.result.0 c.args.new (c.requires.acts c.compare-old.result.0) (sym c.is_same.ensures ∙ c.if-is_same.true)) (c.replace-last.ensures.played _ (c.compare-old.ensures.knows _ c.write_lock-locked.ensures.next)))
 
 pub returns-else-is_same-clause-kept : goal.returns-else-is_same-clause-kept
-returns-else-is_same-clause-kept g c = subst (λ (q : Pass (PlayedAtomic g.row.T.Denot)). HasActedAt g.T.AtomicInteger.arithmetic (key_of c.args.self.now.stage) (plain c.args.call.now) (answers.ErrOld c.compare-old.result.0) c.args.pass.now q) (sym (c.pass-else-is_same-1.given.1 (sym c.write_lock-locked.ensures.same_borrow ∙ sym c.compare-old.ensures.same_borrow ∙ sym c.leave_write-last.ensures.same_borrow ∙ sym c.end-pass-else-is_same.ensures.same_borrow) ∙ c.end-pass-else-is_same.ensures.still))
+returns-else-is_same-clause-kept g c = subst (λ (q : Pass (PlayedAtomic g.row.T.Denot)). HasActedAt g.T.AtomicInteger.arithmetic (key_of c.args.self.now.stage) (plain c.args.call.now) (Answer.ErrOld c.compare-old.result.0) c.args.pass.now q) (sym (c.pass-else-is_same-1.given.1 (sym c.write_lock-locked.ensures.same_borrow ∙ sym c.compare-old.ensures.same_borrow ∙ sym c.leave_write-last.ensures.same_borrow ∙ sym c.end-pass-else-is_same.ensures.same_borrow) ∙ c.end-pass-else-is_same.ensures.still))
     (has_kept g.T.AtomicInteger.arithmetic (key_of c.args.self.now.stage) _ c.args.call.now c.compare-old.result.0 c.args.pass.now c.compare-old.result.1.pass.now c.leave_write-last.result.pass.now c.act_of.ensures.act (answers_other g.T.AtomicInteger.arithmetic (key_of c.args.self.now.stage) c.args.call.now c.args.current c.compare-old.result.0 c.args.new (c.requires.acts c.compare-old.result.0) (sym c.is_same.ensures ∙ c.if-is_same.false))
     (MatchBool-at_false _ _ (sym c.is_same.ensures ∙ c.if-is_same.false) (compared_later g.T.AtomicInteger.arithmetic (key_of c.args.self.now.stage) _ c.compare-old.result.0 _ c.args.pass.now c.write_lock-locked.result.pass.now c.compare-old.result.1.pass.now c.write_lock-locked.ensures.on c.compare-old.ensures.compared)) c.leave_write-last.ensures.same c.leave_write-last.ensures.left)
 
@@ -70,5 +62,5 @@ pub returns-else-is_same-clause-rest : goal.returns-else-is_same-clause-rest
 returns-else-is_same-clause-rest g c = subst (λ (q : Pass (PlayedAtomic g.row.T.Denot)). (counts_of q).hold ≡ Free) (sym (c.pass-else-is_same-1.given.1 (sym c.write_lock-locked.ensures.same_borrow ∙ sym c.compare-old.ensures.same_borrow ∙ sym c.leave_write-last.ensures.same_borrow ∙ sym c.end-pass-else-is_same.ensures.same_borrow) ∙ c.end-pass-else-is_same.ensures.still)) (rests_left c.compare-old.result.1.pass.now c.leave_write-last.result.pass.now c.leave_write-last.ensures.left)
 
 pub returns-else-is_same-clause-played_kept : goal.returns-else-is_same-clause-played_kept
-returns-else-is_same-clause-played_kept g c = subst (λ (q : Pass (PlayedAtomic g.row.T.Denot)). HasCalled (atomic_model g.T.AtomicInteger.arithmetic (key_of c.args.self.now.stage)) c.args.call.now (answers.ErrOld c.compare-old.result.0) None (parties_of c.args.pass.now) (parties_of q)) (sym (c.pass-else-is_same-1.given.1 (sym c.write_lock-locked.ensures.same_borrow ∙ sym c.compare-old.ensures.same_borrow ∙ sym c.leave_write-last.ensures.same_borrow ∙ sym c.end-pass-else-is_same.ensures.same_borrow) ∙ c.end-pass-else-is_same.ensures.still))
+returns-else-is_same-clause-played_kept g c = subst (λ (q : Pass (PlayedAtomic g.row.T.Denot)). HasCalled (atomic_model g.T.AtomicInteger.arithmetic (key_of c.args.self.now.stage)) c.args.call.now (Answer.ErrOld c.compare-old.result.0) None (parties_of c.args.pass.now) (parties_of q)) (sym (c.pass-else-is_same-1.given.1 (sym c.write_lock-locked.ensures.same_borrow ∙ sym c.compare-old.ensures.same_borrow ∙ sym c.leave_write-last.ensures.same_borrow ∙ sym c.end-pass-else-is_same.ensures.same_borrow) ∙ c.end-pass-else-is_same.ensures.still))
     (leaves _ _ _ _ _ _ _ (differs _ _ _ c.args.current c.compare-old.result.0 c.args.new _ _ (c.requires.compares c.compare-old.result.0) (sym c.is_same.ensures ∙ c.if-is_same.false) (c.compare-old.ensures.knows _ c.write_lock-locked.ensures.next)) c.leave_write-last.ensures.went)

@@ -1,14 +1,7 @@
-use Rattle.std.proofs.Common.{◌≡◌, None, refl, sym, subst, ◌∙◌}
-use Rattle.steps_atomic.specs.Register.{plain}
-use Rattle.playing.specs.Plays.{HasCalled}
-use Rattle.playing.specs.Stages.{key_of}
-use Rattle.playing.proofs.Over.{is_over}
-use Rattle.tallies.specs.declared.held.Held.TheVariants.{Free}
+use Rattle.running_atomic.specs.Names.{plain, HasCalled, key_of, Free, Answer, Pass, parties_of, counts_of}
+use Rattle.running_atomic.proofs.Names.{◌≡◌, None, refl, sym, subst, ◌∙◌, is_over}
 use Rattle.running_atomic.specs.AtomicModel.{atomic_model}
 use Rattle.running_atomic.specs.AtomicShown.{HasActedAt}
-use Rattle.steps_events.specs.declared.event.Answer.TheVariants as answers
-use Rattle.passes.specs.declared.pass.Pass.{Pass}
-use Rattle.playing.specs.Passes.{parties_of, counts_of}
 use Rattle.running_atomic.specs.AtomicParties.{Puts}
 use Rattle.running_atomic.specs.AtomicSteps.{PlayedAtomic}
 use Rattle.running_atomic.proofs.AtomicPlays.{answers_so}
@@ -33,17 +26,17 @@ replace-last-requires-clause-knows g c κs within = (_, (c.take-old.ensures.know
 
 pub replace-last-requires-clause-puts : goal.replace-last-requires-clause-puts
 replace-last-requires-clause-puts g c κs within = let z = g.T.AtomicInteger.arithmetic in let old = c.take-old.result.0 in
-    subst (λ a. Puts z c.args.call.now old c.new_value.result a) (sym (c.requires.tells old)) (subst (λ x. Puts z c.args.call.now old x (answers.Value old)) (sym c.new_value.ensures) (c.requires.puts old))
+    subst (λ a. Puts z c.args.call.now old c.new_value.result a) (sym (c.requires.tells old)) (subst (λ x. Puts z c.args.call.now old x (Answer.Value old)) (sym c.new_value.ensures) (c.requires.puts old))
 
 pub end-pass-requires-clause-over : goal.end-pass-requires-clause-over
 end-pass-requires-clause-over g c = is_over _ c.args.call.now _ None _ _ (c.replace-last.ensures.played _ (c.take-old.ensures.knows _ c.write_lock-locked.ensures.next))
 
 pub returns-clause-acted : goal.returns-clause-acted
-returns-clause-acted g c = subst (λ (q : Pass (PlayedAtomic g.row.T.Denot)). HasActedAt g.T.AtomicInteger.arithmetic (key_of c.args.self.now.stage) (plain c.args.call.now) (answers.Value c.take-old.result.0) c.args.pass.now q) (sym (c.pass-1.given.1 (sym c.write_lock-locked.ensures.same_borrow ∙ sym c.take-old.ensures.same_borrow ∙ sym c.replace-last.ensures.same_borrow ∙ sym c.end-pass.ensures.same_borrow) ∙ c.end-pass.ensures.still))
+returns-clause-acted g c = subst (λ (q : Pass (PlayedAtomic g.row.T.Denot)). HasActedAt g.T.AtomicInteger.arithmetic (key_of c.args.self.now.stage) (plain c.args.call.now) (Answer.Value c.take-old.result.0) c.args.pass.now q) (sym (c.pass-1.given.1 (sym c.write_lock-locked.ensures.same_borrow ∙ sym c.take-old.ensures.same_borrow ∙ sym c.replace-last.ensures.same_borrow ∙ sym c.end-pass.ensures.same_borrow) ∙ c.end-pass.ensures.still))
     (acts_after _ _ _ _ _ _ _ c.args.pass.now c.take-old.result.1.pass.now c.replace-last.result.pass.now (taken_later g.T.AtomicInteger.arithmetic c.take-old.result.0 c.args.pass.now c.write_lock-locked.result.pass.now c.take-old.result.1.pass.now c.write_lock-locked.ensures.on c.take-old.ensures.taken) c.replace-last.ensures.acted refl (c.requires.tells c.take-old.result.0))
 
 pub returns-clause-rest : goal.returns-clause-rest
 returns-clause-rest g c = subst (λ (q : Pass (PlayedAtomic g.row.T.Denot)). (counts_of q).hold ≡ Free) (sym (c.pass-1.given.1 (sym c.write_lock-locked.ensures.same_borrow ∙ sym c.take-old.ensures.same_borrow ∙ sym c.replace-last.ensures.same_borrow ∙ sym c.end-pass.ensures.same_borrow) ∙ c.end-pass.ensures.still)) c.replace-last.ensures.rest
 
 pub returns-clause-played : goal.returns-clause-played
-returns-clause-played g c = subst (λ (q : Pass (PlayedAtomic g.row.T.Denot)). HasCalled (atomic_model g.T.AtomicInteger.arithmetic (key_of c.args.self.now.stage)) c.args.call.now (answers.Value c.take-old.result.0) None (parties_of c.args.pass.now) (parties_of q)) (sym (c.pass-1.given.1 (sym c.write_lock-locked.ensures.same_borrow ∙ sym c.take-old.ensures.same_borrow ∙ sym c.replace-last.ensures.same_borrow ∙ sym c.end-pass.ensures.same_borrow) ∙ c.end-pass.ensures.still)) (answers_so _ _ _ _ _ (parties_of c.args.pass.now) _ (c.requires.tells c.take-old.result.0) (c.replace-last.ensures.played _ (c.take-old.ensures.knows _ c.write_lock-locked.ensures.next)))
+returns-clause-played g c = subst (λ (q : Pass (PlayedAtomic g.row.T.Denot)). HasCalled (atomic_model g.T.AtomicInteger.arithmetic (key_of c.args.self.now.stage)) c.args.call.now (Answer.Value c.take-old.result.0) None (parties_of c.args.pass.now) (parties_of q)) (sym (c.pass-1.given.1 (sym c.write_lock-locked.ensures.same_borrow ∙ sym c.take-old.ensures.same_borrow ∙ sym c.replace-last.ensures.same_borrow ∙ sym c.end-pass.ensures.same_borrow) ∙ c.end-pass.ensures.still)) (answers_so _ _ _ _ _ (parties_of c.args.pass.now) _ (c.requires.tells c.take-old.result.0) (c.replace-last.ensures.played _ (c.take-old.ensures.knows _ c.write_lock-locked.ensures.next)))

@@ -1,10 +1,5 @@
-use Rattle.std.proofs.Common.{◌≡◌, sym, subst}
-use Rattle.passes.specs.Passes.{IsSamePass}
-use Rattle.tallies.specs.declared.held.Held.TheVariants.{Free}
-use Rattle.playing.specs.Plays.{Beginning, Went}
-use Rattle.passes.specs.declared.pass.Pass.{Pass}
-use Rattle.playing.specs.Passes.{parties_of, counts_of, counted}
-use Rattle.playing.specs.Stages.{key_of}
+use Rattle.running_atomic.specs.Names.{IsSamePass, Free, Beginning, Went, Pass, parties_of, counts_of, counted, key_of}
+use Rattle.running_atomic.proofs.Names.{◌≡◌, sym, subst}
 use Rattle.running_atomic.specs.AtomicModel.{atomic_model}
 use Rattle.running_atomic.specs.AtomicSteps.{PlayedAtomic, EntersWrite}
 use Rattle.running_atomic.proofs.AtomicPlays.{may_take_first}

@@ -1,4 +1,4 @@
-use Rattle.playing.specs.Stages.{key_of}
+use Rattle.running_atomic.specs.Names.{key_of}
 use Rattle.running_atomic.proofs.AtomicPlays.{nothing_chosen, may_read_again, reads_again, may_leave, leaves}
 use Rattle.running_atomic.proofs.OverCalls.{has_unchanged, settles_unchanged}
 use Rattle.running_atomic.proofs.calls.Atomic.keep.Goals as goal

@@ -1,4 +1,4 @@
-use Rattle.std.proofs.Common.{refl, ◌∙◌}
+use Rattle.running_atomic.proofs.Names.{refl, ◌∙◌}
 use Rattle.running_atomic.proofs.AtomicKeeps.{opens}
 use Rattle.running_atomic.proofs.calls.Atomic.new.Goals as goal
 

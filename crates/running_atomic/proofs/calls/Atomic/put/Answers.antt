@@ -1,4 +1,4 @@
-use Rattle.std.proofs.Common.{◌∙◌}
+use Rattle.running_atomic.proofs.Names.{◌∙◌}
 use Rattle.running_atomic.proofs.AtomicPlays.{may_put_low, puts_low, may_put_high, at_put_high, puts_high, may_leave, has_put}
 use Rattle.running_atomic.proofs.OverCalls.{right_at_high, settles_again, has_put_by}
 use Rattle.running_atomic.proofs.calls.Atomic.put.Goals as goal

@@ -1,12 +1,6 @@
-use Rattle.std.proofs.Common.{◌≡◌, Some, sym, subst, ◌∙◌}
-use Rattle.steps_events.specs.declared.event.Call.TheVariants as calls
-use Rattle.steps_events.specs.declared.event.Answer.TheVariants as answers
-use Rattle.steps_atomic.specs.Register.{update}
-use Rattle.playing.specs.Plays.{Choosing}
-use Rattle.passes.specs.declared.pass.Pass.{Pass}
-use Rattle.playing.specs.Passes.{parties_of, counts_of}
-use Rattle.playing.specs.Stages.{key_of}
-use Rattle.running_atomic.specs.declared.history.AtomicAct.TheVariants as act
+use Rattle.running_atomic.specs.Names.{Call, Answer, update, Choosing, Pass, parties_of, counts_of, key_of}
+use Rattle.running_atomic.proofs.Names.{◌≡◌, Some, sym, subst, ◌∙◌}
+use Rattle.running_atomic.specs.declared.history.AtomicAct.{AtomicAct}
 use Rattle.running_atomic.specs.AtomicRule.{value_of}
 use Rattle.running_atomic.specs.AtomicParties.{ComesToPut, Knows}
 use Rattle.running_atomic.specs.AtomicSteps.{PlayedAtomic, IsSettled}
@@ -23,13 +17,13 @@ put-requires-clause-right g c κs within = anyway _ (λ _. value_of g.T.AtomicIn
 
 pub put-requires-clause-may : goal.put-requires-clause-may
 put-requires-clause-may g c κs within = let old = c.requires.knows.0 in let done = c.requires.knows.1 in let knows = c.requires.knows.2 in
-    (answers.OkOld old, done, subst (λ choice. ComesToPut g.T.AtomicInteger.arithmetic (key_of c.args.self.now.stage) (Choosing choice) calls.FetchUpdate c.take-new.result.0 (answers.OkOld old) done (parties_of c.take-new.result.1.pass.now)) (sym (c.requires.named ∙ (λ i. Some (sym c.take-new.ensures.value i)))) (something_chosen g.T.AtomicInteger.arithmetic (key_of c.args.self.now.stage) old c.take-new.result.0 done (parties_of c.take-new.result.1.pass.now) c.content-words.ensures.is_value (subst (λ (p : Pass (PlayedAtomic g.row.T.Denot)). Knows g.T.AtomicInteger.arithmetic (key_of c.args.self.now.stage) calls.FetchUpdate old done (parties_of p)) (sym c.take-new.ensures.still) knows)))
+    (Answer.OkOld old, done, subst (λ choice. ComesToPut g.T.AtomicInteger.arithmetic (key_of c.args.self.now.stage) (Choosing choice) Call.FetchUpdate c.take-new.result.0 (Answer.OkOld old) done (parties_of c.take-new.result.1.pass.now)) (sym (c.requires.named ∙ (λ i. Some (sym c.take-new.ensures.value i)))) (something_chosen g.T.AtomicInteger.arithmetic (key_of c.args.self.now.stage) old c.take-new.result.0 done (parties_of c.take-new.result.1.pass.now) c.content-words.ensures.is_value (subst (λ (p : Pass (PlayedAtomic g.row.T.Denot)). Knows g.T.AtomicInteger.arithmetic (key_of c.args.self.now.stage) Call.FetchUpdate old done (parties_of p)) (sym c.take-new.ensures.still) knows)))
 
 pub returns-clause-acted : goal.returns-clause-acted
-returns-clause-acted g c = λ old holding. subst (λ (p : Pass (PlayedAtomic g.row.T.Denot)). HasActedAt g.T.AtomicInteger.arithmetic (key_of c.args.self.now.stage) (update (Some c.args.turn.value)) (answers.OkOld old) p c.put.result.pass.now) c.take-new.ensures.still
-    (subst (λ x. HasActedAt g.T.AtomicInteger.arithmetic (key_of c.args.self.now.stage) (update (Some x)) (answers.OkOld old) c.take-new.result.1.pass.now c.put.result.pass.now) (c.content-words.ensures.value ∙ c.take-new.ensures.value)
-    (has_replaced_by g.T.AtomicInteger.arithmetic (key_of c.args.self.now.stage) (act.FetchUpdate (Some c.content-words.result)) old c.take-new.result.1.pass.now c.put.result.pass.now (subst (λ (p : Pass (PlayedAtomic g.row.T.Denot)). IsHolding g.T.AtomicInteger.arithmetic old p) (sym c.take-new.ensures.still) holding) c.put.ensures.same c.put.ensures.acted))
+returns-clause-acted g c = λ old holding. subst (λ (p : Pass (PlayedAtomic g.row.T.Denot)). HasActedAt g.T.AtomicInteger.arithmetic (key_of c.args.self.now.stage) (update (Some c.args.turn.value)) (Answer.OkOld old) p c.put.result.pass.now) c.take-new.ensures.still
+    (subst (λ x. HasActedAt g.T.AtomicInteger.arithmetic (key_of c.args.self.now.stage) (update (Some x)) (Answer.OkOld old) c.take-new.result.1.pass.now c.put.result.pass.now) (c.content-words.ensures.value ∙ c.take-new.ensures.value)
+    (has_replaced_by g.T.AtomicInteger.arithmetic (key_of c.args.self.now.stage) (AtomicAct.FetchUpdate (Some c.content-words.result)) old c.take-new.result.1.pass.now c.put.result.pass.now (subst (λ (p : Pass (PlayedAtomic g.row.T.Denot)). IsHolding g.T.AtomicInteger.arithmetic old p) (sym c.take-new.ensures.still) holding) c.put.ensures.same c.put.ensures.acted))
 
 pub returns-clause-played : goal.returns-clause-played
-returns-clause-played g c = λ old done knows. c.put.ensures.put calls.FetchUpdate (answers.OkOld old) done
-    (subst (λ choice. ComesToPut g.T.AtomicInteger.arithmetic (key_of c.args.self.now.stage) (Choosing choice) calls.FetchUpdate c.take-new.result.0 (answers.OkOld old) done (parties_of c.take-new.result.1.pass.now)) (sym (c.requires.named ∙ (λ i. Some (sym c.take-new.ensures.value i)))) (something_chosen g.T.AtomicInteger.arithmetic (key_of c.args.self.now.stage) old c.take-new.result.0 done (parties_of c.take-new.result.1.pass.now) c.content-words.ensures.is_value (subst (λ (p : Pass (PlayedAtomic g.row.T.Denot)). Knows g.T.AtomicInteger.arithmetic (key_of c.args.self.now.stage) calls.FetchUpdate old done (parties_of p)) (sym c.take-new.ensures.still) knows)))
+returns-clause-played g c = λ old done knows. c.put.ensures.put Call.FetchUpdate (Answer.OkOld old) done
+    (subst (λ choice. ComesToPut g.T.AtomicInteger.arithmetic (key_of c.args.self.now.stage) (Choosing choice) Call.FetchUpdate c.take-new.result.0 (Answer.OkOld old) done (parties_of c.take-new.result.1.pass.now)) (sym (c.requires.named ∙ (λ i. Some (sym c.take-new.ensures.value i)))) (something_chosen g.T.AtomicInteger.arithmetic (key_of c.args.self.now.stage) old c.take-new.result.0 done (parties_of c.take-new.result.1.pass.now) c.content-words.ensures.is_value (subst (λ (p : Pass (PlayedAtomic g.row.T.Denot)). Knows g.T.AtomicInteger.arithmetic (key_of c.args.self.now.stage) Call.FetchUpdate old done (parties_of p)) (sym c.take-new.ensures.still) knows)))

@@ -1,4 +1,4 @@
-use Rattle.std.proofs.Common.{refl, ◌∙◌}
+use Rattle.running_atomic.proofs.Names.{refl, ◌∙◌}
 use Rattle.running_atomic.proofs.AtomicPlays.{reads_some, reads_none, may_look_again, looks_again, may_enter, enters, turned_away}
 use Rattle.running_atomic.proofs.OverCalls.{as_it_was, still_looked, not_reading, still_on, got_reading, got_later, rests_still}
 use Rattle.running_atomic.proofs.calls.Atomic.read_from.Goals as goal

@@ -1,10 +1,5 @@
-use Rattle.std.proofs.Common.{◌≡◌, List}
-use Rattle.steps_events.specs.declared.event.Call.TheVariants as calls
-use Rattle.std.proofs.Common.{None}
-use Rattle.steps_atomic.specs.Table.{look_at}
-use Rattle.playing.specs.Slots.{Slot}
-use Rattle.playing.specs.Passes.{parties_of}
-use Rattle.playing.specs.Stages.{key_of}
+use Rattle.running_atomic.specs.Names.{Call, look_at, Slot, parties_of, key_of}
+use Rattle.running_atomic.proofs.Names.{◌≡◌, List, None}
 use Rattle.running_atomic.specs.AtomicShown.{IsStill}
 use Rattle.running_atomic.specs.AtomicParties.{IsNext}
 use Rattle.running_atomic.proofs.calls.Atomic.read_from.Given as goal
@@ -13,5 +8,5 @@ abbrev pub invariant-loop : goal.invariant-loop
 invariant-loop g l = record {
   same_borrow : l.next.pass.ghost_name ≡ l.fn.turn.pass.ghost_name;
   still : IsStill l.fn.turn.pass.now l.next.pass.now;
-  at : (done : List (Slot g.row.T.Denot)) → IsNext g.T.AtomicInteger.arithmetic (key_of l.self.stage) calls.Load (look_at l.fn.seen) None done (parties_of l.fn.turn.pass.now) → IsNext g.T.AtomicInteger.arithmetic (key_of l.self.stage) calls.Load (look_at l.last) None done (parties_of l.next.pass.now);
+  at : (done : List (Slot g.row.T.Denot)) → IsNext g.T.AtomicInteger.arithmetic (key_of l.self.stage) Call.Load (look_at l.fn.seen) None done (parties_of l.fn.turn.pass.now) → IsNext g.T.AtomicInteger.arithmetic (key_of l.self.stage) Call.Load (look_at l.last) None done (parties_of l.next.pass.now);
 }

@@ -1,7 +1,5 @@
-use Rattle.std.proofs.Common.{sym, subst, ◌∙◌}
-use Rattle.playing.specs.Passes.{parties_of}
-use Rattle.playing.specs.Stages.{key_of}
-use Rattle.steps_atomic.specs.Register.{answer_to, plain, value_after}
+use Rattle.running_atomic.specs.Names.{parties_of, key_of, answer_to, plain, value_after}
+use Rattle.running_atomic.proofs.Names.{sym, subst, ◌∙◌}
 use Rattle.running_atomic.specs.AtomicRule.{act_in}
 use Rattle.running_atomic.specs.AtomicShown.{HasActedAt}
 use Rattle.running_atomic.proofs.AtomicPlays.{comes_to_put, may_put}

@@ -1,6 +1,5 @@
 use Rattle.running_atomic.proofs.AtomicKeeps.{stores_low}
-use Rattle.playing.specs.Passes.{parties_of, counted}
-use Rattle.playing.specs.Stages.{key_of}
+use Rattle.running_atomic.specs.Names.{parties_of, counted, key_of}
 use Rattle.running_atomic.proofs.HistoryFollows.{store_low_follows}
 use Rattle.running_atomic.proofs.calls.Atomic.store_low.Goals as goal
 

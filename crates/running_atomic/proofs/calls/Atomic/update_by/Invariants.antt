@@ -1,4 +1,4 @@
-use Rattle.std.proofs.Common.{Some}
+use Rattle.running_atomic.proofs.Names.{Some}
 use Rattle.running_atomic.proofs.calls.Atomic.update_by.Given as goal
 
 -- the value is the one that was chosen

@@ -1,4 +1,4 @@
-use Rattle.std.proofs.Common.{refl, ◌∙◌}
+use Rattle.running_atomic.proofs.Names.{refl, ◌∙◌}
 use Rattle.running_atomic.proofs.AtomicPlays.{may_take_again, takes_again, misses_again}
 use Rattle.running_atomic.proofs.OverCalls.{as_it_was, not_writing, still_on, got_writing, got_later, rests_still}
 use Rattle.running_atomic.proofs.calls.Atomic.write_later.Goals as goal

@@ -1,8 +1,5 @@
-use Rattle.std.proofs.Common.{◌≡◌, List, None}
-use Rattle.steps_atomic.specs.declared.AtomicPlace.TheVariants as places
-use Rattle.playing.specs.Slots.{Slot}
-use Rattle.playing.specs.Passes.{parties_of}
-use Rattle.playing.specs.Stages.{key_of}
+use Rattle.running_atomic.specs.Names.{AtomicPlace, Slot, parties_of, key_of}
+use Rattle.running_atomic.proofs.Names.{◌≡◌, List, None}
 use Rattle.running_atomic.specs.AtomicShown.{IsStill}
 use Rattle.running_atomic.specs.AtomicParties.{IsNext}
 use Rattle.running_atomic.proofs.calls.Atomic.write_later.Given as goal
@@ -11,5 +8,5 @@ abbrev pub invariant-loop : goal.invariant-loop
 invariant-loop g l = record {
   same_borrow : l.next.pass.ghost_name ≡ l.fn.turn.pass.ghost_name;
   still : IsStill l.fn.turn.pass.now l.next.pass.now;
-  at : (done : List (Slot g.row.T.Denot)) → IsNext g.T.AtomicInteger.arithmetic (key_of l.self.stage) g.L.Called.call (places.Take g.L.Called.call) None done (parties_of l.fn.turn.pass.now) → IsNext g.T.AtomicInteger.arithmetic (key_of l.self.stage) g.L.Called.call (places.Take g.L.Called.call) None done (parties_of l.next.pass.now);
+  at : (done : List (Slot g.row.T.Denot)) → IsNext g.T.AtomicInteger.arithmetic (key_of l.self.stage) g.L.Called.call (AtomicPlace.Take g.L.Called.call) None done (parties_of l.fn.turn.pass.now) → IsNext g.T.AtomicInteger.arithmetic (key_of l.self.stage) g.L.Called.call (AtomicPlace.Take g.L.Called.call) None done (parties_of l.next.pass.now);
 }

@@ -1,5 +1,4 @@
-use Rattle.playing.specs.Slots.{all_of}
-use Rattle.playing.specs.Passes.{parties_of}
+use Rattle.running_atomic.specs.Names.{all_of, parties_of}
 use Rattle.running_atomic.proofs.AtomicPlays.{takes_first, misses_first}
 use Rattle.running_atomic.proofs.OverCalls.{not_writing, got_writing, got_later, rests_still}
 use Rattle.running_atomic.proofs.calls.Atomic.write_lock.Goals as goal

@@ -1,4 +1,4 @@
-use Rattle.std.proofs.Common.{refl}
+use Rattle.running_guarded.proofs.Names.{refl}
 use Rattle.running_guarded.proofs.SameGuard.{same_guard}
 use Rattle.running_guarded.proofs.guard.GuardDerefMut.deref_mut.Goals as goal
 

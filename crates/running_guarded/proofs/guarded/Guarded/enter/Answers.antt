@@ -1,12 +1,5 @@
-use Rattle.std.proofs.Common.{MatchBool, Some, None, refl, sym, subst}
-use Rattle.std.proofs.lemmas.Bool.{MatchBool-at_true, MatchBool-at_false}
-use Rattle.steps_events.specs.declared.event.Call.TheVariants as calls
-use Rattle.steps_events.specs.declared.event.Answer.TheVariants as answers
-use Rattle.steps_events.specs.declared.hold.HoldKind.TheVariants as kinds
-use Rattle.tallies.specs.MutexScript.{mutex_model}
-use Rattle.playing.specs.Slots.{all_of}
-use Rattle.playing.proofs.Over.{is_over, either_is_over}
-use Rattle.running_mutex.specs.MutexParties.{HasMutex}
+use Rattle.running_guarded.specs.Names.{Call, Answer, HoldKind, mutex_model, all_of, HasMutex}
+use Rattle.running_guarded.proofs.Names.{MatchBool, Some, None, refl, sym, subst, MatchBool-at_true, MatchBool-at_false, is_over, either_is_over}
 use Rattle.running_guarded.specs.GuardedSteps.{Plays}
 use Rattle.running_guarded.proofs.GuardedSights.{may_begin, led_first, has_now}
 use Rattle.running_guarded.proofs.guarded.Guarded.enter.Goals as goal
@@ -15,10 +8,10 @@ pub first-free-requires-clause-may : goal.first-free-requires-clause-may
 first-free-requires-clause-may g c = may_begin c.args.seat.me.0
 
 pub end-requires : goal.end-requires
-end-requires g c = record { over = is_over mutex_model calls.Lock _ _ _ _ (MatchBool-at_true _ _ c.if-free.true (led_first _ c.args.seat.me.0 c.first-free.result.1.seat.me.0 c.first-free.ensures.tried)) }
+end-requires g c = record { over = is_over mutex_model Call.Lock _ _ _ _ (MatchBool-at_true _ _ c.if-free.true (led_first _ c.args.seat.me.0 c.first-free.result.1.seat.me.0 c.first-free.ensures.tried)) }
 
 pub returns-then-free-clause-played : goal.returns-then-free-clause-played
-returns-then-free-clause-played g c = subst (λ s. Plays calls.Lock answers.Success (Some kinds.Write) c.args.seat.me.0 s.me.0) (sym c.end.ensures.still)
+returns-then-free-clause-played g c = subst (λ s. Plays Call.Lock Answer.Success (Some HoldKind.Write) c.args.seat.me.0 s.me.0) (sym c.end.ensures.still)
     (MatchBool-at_true _ _ c.if-free.true (led_first _ c.args.seat.me.0 c.first-free.result.1.seat.me.0 c.first-free.ensures.tried))
 
 pub returns-then-free-clause-has : goal.returns-then-free-clause-has
@@ -30,11 +23,11 @@ spin-soon-requires-clause-at g c = (all_of c.args.seat.me.0.tally.parties, Match
 
 pub end-requires-then-soon : goal.end-requires-then-soon
 end-requires-then-soon g c = let refused = MatchBool-at_false _ _ c.if-free.false (led_first _ c.args.seat.me.0 c.first-free.result.1.seat.me.0 c.first-free.ensures.tried) in
-    record { over = is_over mutex_model calls.Lock _ _ _ _ (MatchBool-at_true _ _ c.if-soon.true (c.spin-soon.ensures.over (all_of c.args.seat.me.0.tally.parties) refused)) }
+    record { over = is_over mutex_model Call.Lock _ _ _ _ (MatchBool-at_true _ _ c.if-soon.true (c.spin-soon.ensures.over (all_of c.args.seat.me.0.tally.parties) refused)) }
 
 pub returns-then-soon-clause-played : goal.returns-then-soon-clause-played
 returns-then-soon-clause-played g c = let refused = MatchBool-at_false _ _ c.if-free.false (led_first _ c.args.seat.me.0 c.first-free.result.1.seat.me.0 c.first-free.ensures.tried) in
-    subst (λ s. Plays calls.Lock answers.Success (Some kinds.Write) c.args.seat.me.0 s.me.0) (sym c.end-then-soon.ensures.still)
+    subst (λ s. Plays Call.Lock Answer.Success (Some HoldKind.Write) c.args.seat.me.0 s.me.0) (sym c.end-then-soon.ensures.still)
     (MatchBool-at_true _ _ c.if-soon.true (c.spin-soon.ensures.over (all_of c.args.seat.me.0.tally.parties) refused))
 
 pub returns-then-soon-clause-has : goal.returns-then-soon-clause-has
@@ -49,12 +42,12 @@ ask_and_try-granted-requires-clause-at g c = let refused = MatchBool-at_false _ 
 pub end-requires-2 : goal.end-requires-2
 end-requires-2 g c = let refused = MatchBool-at_false _ _ c.if-free.false (led_first _ c.args.seat.me.0 c.first-free.result.1.seat.me.0 c.first-free.ensures.tried) in
     let stood = MatchBool-at_false _ _ c.if-soon.false (c.spin-soon.ensures.over (all_of c.args.seat.me.0.tally.parties) refused) in
-    record { over = either_is_over mutex_model c.ask_and_try-granted.result.0 calls.Lock _ _ _ (c.ask_and_try-granted.ensures.over (all_of c.args.seat.me.0.tally.parties) stood) }
+    record { over = either_is_over mutex_model c.ask_and_try-granted.result.0 Call.Lock _ _ _ (c.ask_and_try-granted.ensures.over (all_of c.args.seat.me.0.tally.parties) stood) }
 
 pub returns-clause-played : goal.returns-clause-played
 returns-clause-played g c = let refused = MatchBool-at_false _ _ c.if-free.false (led_first _ c.args.seat.me.0 c.first-free.result.1.seat.me.0 c.first-free.ensures.tried) in
     let stood = MatchBool-at_false _ _ c.if-soon.false (c.spin-soon.ensures.over (all_of c.args.seat.me.0.tally.parties) refused) in
-    subst (λ s. MatchBool c.ask_and_try-granted.result.0 (Plays calls.Lock answers.Success (Some kinds.Write) c.args.seat.me.0 s.me.0) (Plays calls.Lock answers.Interrupted None c.args.seat.me.0 s.me.0)) (sym c.end-2.ensures.still)
+    subst (λ s. MatchBool c.ask_and_try-granted.result.0 (Plays Call.Lock Answer.Success (Some HoldKind.Write) c.args.seat.me.0 s.me.0) (Plays Call.Lock Answer.Interrupted None c.args.seat.me.0 s.me.0)) (sym c.end-2.ensures.still)
     (c.ask_and_try-granted.ensures.over (all_of c.args.seat.me.0.tally.parties) stood)
 
 pub returns-clause-has : goal.returns-clause-has

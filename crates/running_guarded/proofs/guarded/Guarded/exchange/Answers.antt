@@ -1,9 +1,8 @@
-use Rattle.std.proofs.Common.{refl, ◌≡◌, ◌==◌}
+use Rattle.running_guarded.specs.Names.{mutex_model, mutex_lawful}
+use Rattle.running_guarded.proofs.Names.{refl, ◌≡◌, ◌==◌, tries, zero_or_not}
 use Rattle.atomic_table.proofs.Lists.{exchanged}
 use Rattle.playing.proofs.Updates.{either_is}
-use Rattle.tallies.specs.MutexScript.{mutex_model, mutex_lawful}
 use Rattle.running_mutex.proofs.MutexKeeps.{exchange_grants}
-use Rattle.running_spin_lock.proofs.ValueKeeps.{tries, zero_or_not}
 use Rattle.running_guarded.proofs.guarded.Guarded.exchange.Goals as goal
 
 pub exchange-found-requires-clause-update : goal.exchange-found-requires-clause-update

@@ -1,7 +1,5 @@
-use Rattle.std.proofs.Common.{sym, subst, ◌∙◌, ap}
-use Rattle.passes.specs.Parts.{IsWhole}
-use Rattle.tallies.specs.MutexScript.{mutex_model}
-use Rattle.running_spin_lock.proofs.ValueKeeps.{closes, is_there}
+use Rattle.running_guarded.specs.Names.{IsWhole, mutex_model}
+use Rattle.running_guarded.proofs.Names.{sym, subst, ◌∙◌, ap, closes, is_there}
 use Rattle.running_guarded.specs.GuardedRule.{MutexView}
 use Rattle.running_guarded.proofs.guarded.Guarded.into_inner.Goals as goal
 

@@ -1,5 +1,4 @@
-use Rattle.std.proofs.Common.{refl, sym, subst}
-use Rattle.running_mutex.proofs.MutexPlays.{is_to_wake, unlock_is_over}
+use Rattle.running_guarded.proofs.Names.{refl, sym, subst, is_to_wake, unlock_is_over}
 use Rattle.running_guarded.specs.GuardedSteps.{PlaysUnlock}
 use Rattle.running_guarded.proofs.guarded.Guarded.leave.Goals as goal
 

@@ -1,6 +1,5 @@
-use Rattle.std.proofs.Common.{rules, refl}
-use Rattle.tallies.specs.MutexScript.{mutex_model, mutex_lawful}
-use Rattle.running_spin_lock.proofs.ValueKeeps.{opens}
+use Rattle.running_guarded.specs.Names.{mutex_model, mutex_lawful}
+use Rattle.running_guarded.proofs.Names.{rules, refl, opens}
 use Rattle.running_guarded.proofs.guarded.Guarded.new.Goals as goal
 
 pub new-requires : goal.new-requires

@@ -1,8 +1,5 @@
-use Rattle.std.proofs.Common.{◌<◌, sym, ap, subst, ◌∙◌}
-use Rattle.tallies.specs.MutexScript.{mutex_model, mutex_lawful}
-use Rattle.running_mutex.specs.MutexParties.{HasMutex, Unlocks}
-use Rattle.running_mutex.proofs.MutexPlays.{may_unlock, unlocks}
-use Rattle.running_spin_lock.proofs.ValueKeeps.{stores, filled}
+use Rattle.running_guarded.specs.Names.{mutex_model, mutex_lawful, HasMutex, Unlocks}
+use Rattle.running_guarded.proofs.Names.{◌<◌, sym, ap, subst, ◌∙◌, may_unlock, unlocks, stores, filled}
 use Rattle.running_guarded.specs.GuardedRule.{MutexView}
 use Rattle.running_guarded.proofs.guarded.Guarded.release.Goals as goal
 

@@ -1,5 +1,4 @@
-use Rattle.std.proofs.Common.{◌∙◌, arith}
-use Rattle.std.proofs.lemmas.Bool.{MatchBool-at_true, MatchBool-at_false}
+use Rattle.running_guarded.proofs.Names.{◌∙◌, arith, MatchBool-at_true, MatchBool-at_false}
 use Rattle.running_guarded.proofs.GuardedSights.{sees_once, sees_on, may_spin, led_spinning, stands_at_last}
 use Rattle.running_guarded.proofs.guarded.Guarded.spin.Goals as goal
 

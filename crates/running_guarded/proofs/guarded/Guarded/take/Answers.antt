@@ -1,4 +1,4 @@
-use Rattle.std.proofs.Common.{◌∷◌, Some, sym, ap, ◌∙◌}
+use Rattle.running_guarded.proofs.Names.{◌∷◌, Some, sym, ap, ◌∙◌}
 use Rattle.atomic_table.specs.Table.{rest}
 use Rattle.running_guarded.proofs.guarded.Guarded.take.Goals as goal
 

@@ -1,12 +1,5 @@
-use Rattle.std.proofs.Common.{MatchBool, Some, None, refl, sym, subst}
-use Rattle.std.proofs.lemmas.Bool.{MatchBool-at_true}
-use Rattle.steps_events.specs.declared.event.Call.TheVariants as calls
-use Rattle.steps_events.specs.declared.event.Answer.TheVariants as answers
-use Rattle.steps_events.specs.declared.hold.HoldKind.TheVariants as kinds
-use Rattle.tallies.specs.MutexScript.{mutex_model}
-use Rattle.playing.proofs.Over.{either_is_over}
-use Rattle.running_mutex.specs.MutexParties.{HasMutex}
-use Rattle.running_mutex.proofs.MutexPlays.{may_try_lock, try_ends, granted_has}
+use Rattle.running_guarded.specs.Names.{Call, Answer, HoldKind, mutex_model, HasMutex}
+use Rattle.running_guarded.proofs.Names.{MatchBool, Some, None, refl, sym, subst, MatchBool-at_true, either_is_over, may_try_lock, try_ends, granted_has}
 use Rattle.running_guarded.specs.GuardedSteps.{Plays}
 use Rattle.running_guarded.proofs.guarded.Guarded.try_enter.Goals as goal
 
@@ -14,13 +7,13 @@ pub first-free-requires-clause-may : goal.first-free-requires-clause-may
 first-free-requires-clause-may g c = may_try_lock _ 1 refl
 
 pub end-requires : goal.end-requires
-end-requires g c = let t = c.first-free.ensures.tried in record { over = either_is_over mutex_model c.first-free.result.0 calls.TryLock _ _ _ (try_ends _ t.0 _ _ t.1 t.2) }
+end-requires g c = let t = c.first-free.ensures.tried in record { over = either_is_over mutex_model c.first-free.result.0 Call.TryLock _ _ _ (try_ends _ t.0 _ _ t.1 t.2) }
 
 pub returns-clause-played : goal.returns-clause-played
 returns-clause-played g c = let t = c.first-free.ensures.tried in
-    subst (λ s. MatchBool c.first-free.result.0 (Plays calls.TryLock answers.Success (Some kinds.Write) c.args.seat.me.0 s.me.0) (Plays calls.TryLock answers.Interrupted None c.args.seat.me.0 s.me.0)) (sym c.end.ensures.still)
+    subst (λ s. MatchBool c.first-free.result.0 (Plays Call.TryLock Answer.Success (Some HoldKind.Write) c.args.seat.me.0 s.me.0) (Plays Call.TryLock Answer.Interrupted None c.args.seat.me.0 s.me.0)) (sym c.end.ensures.still)
     (try_ends _ t.0 _ _ t.1 t.2)
 
 pub returns-clause-has : goal.returns-clause-has
 returns-clause-has g c = λ done. let t = c.first-free.ensures.tried in
-    subst (λ s. HasMutex s.me.0.tally.parties) (sym c.end.ensures.still) (granted_has calls.TryLock c.args.seat.me.0.tally.parties _ (MatchBool-at_true _ _ done (try_ends _ t.0 _ _ t.1 t.2)))
+    subst (λ s. HasMutex s.me.0.tally.parties) (sym c.end.ensures.still) (granted_has Call.TryLock c.args.seat.me.0.tally.parties _ (MatchBool-at_true _ _ done (try_ends _ t.0 _ _ t.1 t.2)))

@@ -1,4 +1,4 @@
-use Rattle.std.proofs.Common.{refl}
+use Rattle.running_guarded.proofs.Names.{refl}
 use Rattle.running_guarded.proofs.guarded.Guarded.with.Goals as goal
 
 pub returns-clause-acted : goal.returns-clause-acted

@@ -1,10 +1,6 @@
-use Rattle.std.proofs.Common.{rules, sym, ap, ◌∙◌, subst}
-use Rattle.passes.specs.Parts.{IsAgain}
+use Rattle.running_guarded.specs.Names.{IsAgain, both_held}
+use Rattle.running_guarded.proofs.Names.{rules, sym, ap, ◌∙◌, subst, parts_again, joins_weight, joins, held_add_up}
 use Rattle.passes.specs.Views.{joined_view}
-use Rattle.passes.proofs.Parts.{parts_again, joins_weight}
-use Rattle.passes.proofs.Steps.{joins}
-use Rattle.running_spin_lock.specs.ValueRule.{both_held}
-use Rattle.running_spin_lock.proofs.ValueKeeps.{held_add_up}
 use Rattle.running_guarded.specs.GuardedRule.{MutexView}
 use Rattle.running_guarded.proofs.pass.GuardedPass.join.Goals as goal
 

@@ -1,7 +1,4 @@
-use Rattle.std.proofs.Common.{rules}
-use Rattle.passes.proofs.Parts.{splits_weight}
-use Rattle.passes.proofs.Steps.{splits}
-use Rattle.running_spin_lock.proofs.ValueKeeps.{held_add_up}
+use Rattle.running_guarded.proofs.Names.{rules, splits_weight, splits, held_add_up}
 use Rattle.running_guarded.proofs.pass.GuardedPass.split.Goals as goal
 
 pub split_seat-other-requires : goal.split_seat-other-requires

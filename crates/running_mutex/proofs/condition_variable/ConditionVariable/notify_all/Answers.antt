@@ -1,6 +1,6 @@
-use Rattle.std.proofs.Common.{refl, ◌∙◌, subst}
+use Rattle.running_mutex.specs.Names.{gave}
+use Rattle.running_mutex.proofs.Names.{refl, ◌∙◌, subst}
 use Rattle.playing.specs.Counts.{HasDone}
-use Rattle.running_semaphore.specs.SemaphoreSteps.{gave}
 use Rattle.running_mutex.specs.CondShown.{permits_in}
 use Rattle.running_mutex.proofs.CondCalls.{gives_none}
 use Rattle.running_mutex.proofs.condition_variable.ConditionVariable.notify_all.Goals as goal

@@ -1,7 +1,6 @@
-use Rattle.std.proofs.Common.{refl, ◌∙◌, subst, ap}
-use Rattle.std.specs.Prelude.{min}
+use Rattle.running_mutex.specs.Names.{min, gave}
+use Rattle.running_mutex.proofs.Names.{refl, ◌∙◌, subst, ap}
 use Rattle.playing.specs.Counts.{HasDone}
-use Rattle.running_semaphore.specs.SemaphoreSteps.{gave}
 use Rattle.running_mutex.specs.CondShown.{permits_in}
 use Rattle.running_mutex.proofs.CondCalls.{gives_none}
 use Rattle.running_mutex.proofs.condition_variable.ConditionVariable.notify_one.Goals as goal

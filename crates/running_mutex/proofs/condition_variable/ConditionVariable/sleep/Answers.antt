@@ -1,4 +1,4 @@
-use Rattle.std.proofs.Common.{arith}
+use Rattle.running_mutex.proofs.Names.{arith}
 use Rattle.std.proofs.lemmas.Grind.{common_steps}
 use Rattle.running_mutex.proofs.CondCalls.{waits_once, none_there}
 use Rattle.running_mutex.proofs.condition_variable.ConditionVariable.sleep.Goals as goal

@@ -1,4 +1,4 @@
-use Rattle.std.proofs.Common.{refl}
+use Rattle.running_mutex.proofs.Names.{refl}
 use Rattle.running_mutex.proofs.condition_variable.ConditionVariable.wait_around.Goals as goal
 
 pub returns-in-Success-clause-left : goal.returns-in-Success-clause-left

@@ -1,5 +1,4 @@
-use Rattle.std.proofs.Common.{refl, sym, ◌∙◌}
-use Rattle.std.proofs.lemmas.Bool.{true≢false}
+use Rattle.running_mutex.proofs.Names.{refl, sym, ◌∙◌, true≢false}
 use Rattle.running_mutex.specs.MutexShown.{pass_of}
 use Rattle.running_mutex.proofs.MutexTries.{alone_again}
 use Rattle.running_mutex.proofs.CondCalls.{took_or_not, took_some, took_none, regains, leaves}

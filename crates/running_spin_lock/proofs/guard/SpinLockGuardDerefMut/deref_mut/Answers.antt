@@ -1,4 +1,4 @@
-use Rattle.std.proofs.Common.{refl}
+use Rattle.running_spin_lock.proofs.Names.{refl}
 use Rattle.running_spin_lock.proofs.SameGuard.{same_guard}
 use Rattle.running_spin_lock.proofs.guard.SpinLockGuardDerefMut.deref_mut.Goals as goal
 

@@ -1,8 +1,5 @@
-use Rattle.std.proofs.Common.{rules, sym, ap, ◌∙◌, subst}
-use Rattle.passes.specs.Parts.{IsAgain}
-use Rattle.passes.specs.Views.{joined_view}
-use Rattle.passes.proofs.Parts.{parts_again, joins_weight}
-use Rattle.passes.proofs.Steps.{joins}
+use Rattle.running_spin_lock.specs.Names.{IsAgain, joined_view}
+use Rattle.running_spin_lock.proofs.Names.{rules, sym, ap, ◌∙◌, subst, parts_again, joins_weight, joins}
 use Rattle.running_spin_lock.specs.ValueRule.{both_held}
 use Rattle.running_spin_lock.specs.SpinRule.{SpinView}
 use Rattle.running_spin_lock.proofs.ValueKeeps.{held_add_up}

@@ -1,6 +1,4 @@
-use Rattle.std.proofs.Common.{rules}
-use Rattle.passes.proofs.Parts.{splits_weight}
-use Rattle.passes.proofs.Steps.{splits}
+use Rattle.running_spin_lock.proofs.Names.{rules, splits_weight, splits}
 use Rattle.running_spin_lock.proofs.ValueKeeps.{held_add_up}
 use Rattle.running_spin_lock.proofs.pass.SpinPass.split.Goals as goal
 

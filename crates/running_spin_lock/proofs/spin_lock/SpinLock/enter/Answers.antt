@@ -1,9 +1,5 @@
-use Rattle.std.proofs.Common.{Some, sym, subst}
-use Rattle.std.proofs.lemmas.Bool.{MatchBool-at_true, MatchBool-at_false}
-use Rattle.steps_events.specs.declared.event.Answer.TheVariants as answers
-use Rattle.steps_events.specs.declared.hold.HoldKind.TheVariants as kinds
-use Rattle.playing.specs.Slots.{all_of}
-use Rattle.playing.proofs.Over.{is_over}
+use Rattle.running_spin_lock.specs.Names.{Answer, HoldKind, all_of}
+use Rattle.running_spin_lock.proofs.Names.{Some, sym, subst, MatchBool-at_true, MatchBool-at_false, is_over}
 use Rattle.running_spin_lock.specs.SpinLawful.{spin_model}
 use Rattle.running_spin_lock.specs.SpinParties.{HasLock}
 use Rattle.running_spin_lock.specs.SpinSteps.{HasPlayed}
@@ -17,7 +13,7 @@ pub end-requires : goal.end-requires
 end-requires g c = record { over = is_over spin_model g.C.Called.call _ _ _ _ (MatchBool-at_true _ _ c.if-free.true (first_goes _ g.C.Called.call _ _ g.met.C.Waiting.waits c.first-free.ensures.tried)) }
 
 pub returns-then-free-clause-played : goal.returns-then-free-clause-played
-returns-then-free-clause-played g c = subst (λ q. HasPlayed g.C.Called.call answers.Success (Some kinds.Write) c.args.seat.me.0 q.me.0) (sym c.end.ensures.still)
+returns-then-free-clause-played g c = subst (λ q. HasPlayed g.C.Called.call Answer.Success (Some HoldKind.Write) c.args.seat.me.0 q.me.0) (sym c.end.ensures.still)
     (MatchBool-at_true _ _ c.if-free.true (first_goes _ g.C.Called.call _ _ g.met.C.Waiting.waits c.first-free.ensures.tried))
 
 pub returns-then-free-clause-has : goal.returns-then-free-clause-has
@@ -31,7 +27,7 @@ pub end-requires-2 : goal.end-requires-2
 end-requires-2 g c = record { over = is_over spin_model g.C.Called.call _ _ _ _ (c.spin-granted.ensures.over (all_of c.args.seat.me.0.tally.parties) (MatchBool-at_false _ _ c.if-free.false (first_goes _ g.C.Called.call _ _ g.met.C.Waiting.waits c.first-free.ensures.tried))) }
 
 pub returns-clause-played : goal.returns-clause-played
-returns-clause-played g c = subst (λ q. HasPlayed g.C.Called.call answers.Success (Some kinds.Write) c.args.seat.me.0 q.me.0) (sym c.end-2.ensures.still)
+returns-clause-played g c = subst (λ q. HasPlayed g.C.Called.call Answer.Success (Some HoldKind.Write) c.args.seat.me.0 q.me.0) (sym c.end-2.ensures.still)
     (c.spin-granted.ensures.over (all_of c.args.seat.me.0.tally.parties) (MatchBool-at_false _ _ c.if-free.false (first_goes _ g.C.Called.call _ _ g.met.C.Waiting.waits c.first-free.ensures.tried)))
 
 pub returns-clause-has : goal.returns-clause-has

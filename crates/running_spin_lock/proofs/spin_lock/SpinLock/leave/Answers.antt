@@ -1,4 +1,4 @@
-use Rattle.std.proofs.Common.{◌<◌, sym, ap, subst, ◌∙◌}
+use Rattle.running_spin_lock.proofs.Names.{◌<◌, sym, ap, subst, ◌∙◌}
 use Rattle.running_spin_lock.specs.SpinLawful.{spin_model, spin_lawful}
 use Rattle.running_spin_lock.specs.SpinRule.{SpinView}
 use Rattle.running_spin_lock.specs.SpinParties.{HasLock, Unlocks}

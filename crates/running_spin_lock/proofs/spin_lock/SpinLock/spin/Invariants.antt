@@ -1,5 +1,5 @@
-use Rattle.std.proofs.Common.{◌≡◌, ℕ, [], List}
-use Rattle.playing.specs.Slots.{Slot}
+use Rattle.running_spin_lock.specs.Names.{Slot}
+use Rattle.running_spin_lock.proofs.Names.{◌≡◌, ℕ, [], List}
 use Rattle.running_spin_lock.specs.ValueSteps.{OnlySees}
 use Rattle.running_spin_lock.specs.SpinParties.{IsSpinning}
 use Rattle.running_spin_lock.proofs.spin_lock.SpinLock.spin.Given as goal

@@ -1,5 +1,5 @@
-use Rattle.std.proofs.Common.{◌∷◌, Some, sym, ap, ◌∙◌}
-use Rattle.atomic_table.specs.Table.{rest}
+use Rattle.running_spin_lock.specs.Names.{rest}
+use Rattle.running_spin_lock.proofs.Names.{◌∷◌, Some, sym, ap, ◌∙◌}
 use Rattle.running_spin_lock.proofs.spin_lock.SpinLock.take.Goals as goal
 
 pub exchange-requires : goal.exchange-requires

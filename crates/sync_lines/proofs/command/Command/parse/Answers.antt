@@ -1,4 +1,4 @@
-use Rattle.std.proofs.Common.{rules}
+use Rattle.sync_lines.proofs.Names.{rules}
 use Rattle.sync_lines.specs.Command.{command_of}
 use Rattle.sync_lines.proofs.command.Command.parse.Goals as goal
 

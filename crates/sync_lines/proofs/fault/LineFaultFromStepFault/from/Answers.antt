@@ -1,4 +1,4 @@
-use Rattle.std.proofs.Common.{rules}
+use Rattle.sync_lines.proofs.Names.{rules}
 use Rattle.sync_lines.proofs.fault.LineFaultFromStepFault.from.Goals as goal
 
 pub returns-in-Busy : goal.returns-in-Busy

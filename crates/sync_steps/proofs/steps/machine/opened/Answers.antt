@@ -1,4 +1,4 @@
-use Rattle.std.proofs.Common.{rules}
+use Rattle.sync_steps.proofs.Names.{rules}
 use Rattle.sync_steps.proofs.steps.machine.opened.Goals as goal
 
 pub returns-in-Semaphore-clause-words : goal.returns-in-Semaphore-clause-words

@@ -1,5 +1,4 @@
-use Rattle.std.proofs.Common.{arith}
-use Rattle.std.proofs.lemmas.List.{take_all}
+use Rattle.sync_steps.proofs.Names.{arith, take_all}
 use Rattle.sync_steps.proofs.Plays.{plays_none, plays_next, refuses_next}
 use Rattle.sync_steps.proofs.steps.playing.play.Goals as goal
 

@@ -1,4 +1,4 @@
-use Rattle.std.proofs.Common.{◌≡◌, ◌≤◌, length, take, vec_len}
+use Rattle.sync_steps.proofs.Names.{◌≡◌, ◌≤◌, length, take, vec_len}
 use Rattle.std.specs.Vec.{vec_capacity}
 use Rattle.sync_steps.specs.Machine.{Plays}
 use Rattle.sync_steps.proofs.steps.playing.play.Given as goal

@@ -1,9 +1,9 @@
-use Rattle.std.proofs.Common.{◌∙◌, ap}
-use Rattle.steps_events.specs.declared.event.Word.TheVariants as words
+use Rattle.sync_steps.specs.Names.{Word}
+use Rattle.sync_steps.proofs.Names.{◌∙◌, ap}
 use Rattle.sync_steps.specs.Machine.{Configuration}
 use Rattle.sync_steps.proofs.Stands.{absent_at}
 use Rattle.sync_steps.proofs.steps.machine.Machine.counter.Goals as goal
 
 pub returns-clause-absent : goal.returns-clause-absent
 returns-clause-absent g c o parties past at lacks =
-    ap (λ (m : Configuration g.row.T.Denot). m.words.counter) c.self.view_is ∙ absent_at g.T.AtomicInteger.arithmetic o parties past c.args.self.now words.Counter at lacks
+    ap (λ (m : Configuration g.row.T.Denot). m.words.counter) c.self.view_is ∙ absent_at g.T.AtomicInteger.arithmetic o parties past c.args.self.now Word.Counter at lacks

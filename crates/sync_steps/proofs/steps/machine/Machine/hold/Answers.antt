@@ -1,4 +1,4 @@
-use Rattle.std.proofs.Common.{◌∙◌, ap}
+use Rattle.sync_steps.proofs.Names.{◌∙◌, ap}
 use Rattle.sync_steps.specs.Machine.{Configuration}
 use Rattle.sync_steps.proofs.Stands.{held_at, unheld_at}
 use Rattle.sync_steps.proofs.steps.machine.Machine.hold.Goals as goal

@@ -1,4 +1,4 @@
-use Rattle.std.proofs.Common.{refl, None}
+use Rattle.sync_steps.proofs.Names.{refl, None}
 use Rattle.sync_steps.specs.declared.steps.place.Party.{Party}
 use Rattle.sync_steps.proofs.Stands.{stands_first}
 use Rattle.sync_steps.proofs.steps.machine.Machine.new.Goals as goal

@@ -1,7 +1,5 @@
-use Rattle.std.proofs.Common.{◌<◌, refl, sym, ap, subst, ◌∙◌, length, Some, slice_set, arith}
-use Rattle.std.proofs.lemmas.Option.{slice_get-get_or}
-use Rattle.steps_events.specs.declared.event.Then.TheVariants as thens
-use Rattle.steps_events.specs.Past.{event}
+use Rattle.sync_steps.specs.Names.{Then, event}
+use Rattle.sync_steps.proofs.Names.{◌<◌, refl, sym, ap, subst, ◌∙◌, length, Some, slice_set, arith, slice_get-get_or}
 use Rattle.sync_steps.specs.Machine.{Configuration}
 use Rattle.sync_steps.specs.Machine.Strides.{HasSpun}
 use Rattle.sync_steps.proofs.steps.machine.Machine.spin.Goals as goal
@@ -15,7 +13,7 @@ returns g c =
     let found = c.index_mut.result.now in
     let act = c.in_ok-act.act in
     let spins = c.in_ok-act.ensures in (
-      subst (λ (m : Configuration g.row.T.Denot). HasSpun g.T.AtomicInteger.arithmetic c.args.party (event c.args.party act thens.GoesOn) c.in_ok-act.times m new) c.self.view_is
+      subst (λ (m : Configuration g.row.T.Denot). HasSpun g.T.AtomicInteger.arithmetic c.args.party (event c.args.party act Then.GoesOn) c.in_ok-act.times m new) c.self.view_is
           (record {
             found = found;
             there = slice_get-get_or was.parties c.args.party found below ∙ ap Some (sym c.index_mut.ensures.value);

@@ -1,5 +1,5 @@
-use Rattle.std.proofs.Common.{◌<◌, length, subst, arith, rules}
-use Rattle.steps_events.specs.declared.event.Input.TheVariants as inputs
+use Rattle.sync_steps.specs.Names.{Input}
+use Rattle.sync_steps.proofs.Names.{◌<◌, length, subst, arith, rules}
 use Rattle.sync_steps.specs.Machine.{Configuration}
 use Rattle.sync_steps.proofs.Stands.{turns_step, turns_headline, turns_fault}
 use Rattle.sync_steps.proofs.steps.machine.Machine.step.Goals as goal
@@ -12,7 +12,7 @@ returns-in-Begin-clause-next g c =
     let was : Configuration g.row.T.Denot = record { object = own.object; parties = own.parties.items; words = own.words; failed = own.failed } in
     let below : c.args.party < length was.parties = omega arith in
     let within = subst (λ (m : Configuration g.row.T.Denot). c.args.party < length m.parties) c.self.view_is below in
-    turns_step g.T.AtomicInteger.arithmetic c.args.party c.args.input (inputs.Begin c.in-Begin.call) c.args.self.now c.begin.new.self c.begin.result within c.read_values.ensures c.in-Begin.is c.begin.ensures.ok
+    turns_step g.T.AtomicInteger.arithmetic c.args.party c.args.input (Input.Begin c.in-Begin.call) c.args.self.now c.begin.new.self c.begin.result within c.read_values.ensures c.in-Begin.is c.begin.ensures.ok
 
 pub returns-in-Begin-clause-headline : goal.returns-in-Begin-clause-headline
 returns-in-Begin-clause-headline g c =
@@ -24,7 +24,7 @@ returns-in-Begin-clause-fault g c =
     let was : Configuration g.row.T.Denot = record { object = own.object; parties = own.parties.items; words = own.words; failed = own.failed } in
     let below : c.args.party < length was.parties = omega arith in
     let within = subst (λ (m : Configuration g.row.T.Denot). c.args.party < length m.parties) c.self.view_is below in
-    turns_fault g.T.AtomicInteger.arithmetic c.args.party c.args.input (inputs.Begin c.in-Begin.call) c.args.self.now c.begin.result within c.in-Begin.is c.begin.ensures.fault
+    turns_fault g.T.AtomicInteger.arithmetic c.args.party c.args.input (Input.Begin c.in-Begin.call) c.args.self.now c.begin.result within c.in-Begin.is c.begin.ensures.fault
 
 -- a step
 
@@ -34,7 +34,7 @@ returns-in-Go-clause-next g c =
     let was : Configuration g.row.T.Denot = record { object = own.object; parties = own.parties.items; words = own.words; failed = own.failed } in
     let below : c.args.party < length was.parties = omega arith in
     let within = subst (λ (m : Configuration g.row.T.Denot). c.args.party < length m.parties) c.self.view_is below in
-    turns_step g.T.AtomicInteger.arithmetic c.args.party c.args.input inputs.Go c.args.self.now c.go.new.self c.go.result within c.read_values.ensures c.in-Go.is c.go.ensures.ok
+    turns_step g.T.AtomicInteger.arithmetic c.args.party c.args.input Input.Go c.args.self.now c.go.new.self c.go.result within c.read_values.ensures c.in-Go.is c.go.ensures.ok
 
 pub returns-in-Go-clause-headline : goal.returns-in-Go-clause-headline
 returns-in-Go-clause-headline g c =
@@ -46,7 +46,7 @@ returns-in-Go-clause-fault g c =
     let was : Configuration g.row.T.Denot = record { object = own.object; parties = own.parties.items; words = own.words; failed = own.failed } in
     let below : c.args.party < length was.parties = omega arith in
     let within = subst (λ (m : Configuration g.row.T.Denot). c.args.party < length m.parties) c.self.view_is below in
-    turns_fault g.T.AtomicInteger.arithmetic c.args.party c.args.input inputs.Go c.args.self.now c.go.result within c.in-Go.is c.go.ensures.fault
+    turns_fault g.T.AtomicInteger.arithmetic c.args.party c.args.input Input.Go c.args.self.now c.go.result within c.in-Go.is c.go.ensures.fault
 
 -- an answer of the wait closure
 
@@ -56,7 +56,7 @@ returns-in-Answer-clause-next g c =
     let was : Configuration g.row.T.Denot = record { object = own.object; parties = own.parties.items; words = own.words; failed = own.failed } in
     let below : c.args.party < length was.parties = omega arith in
     let within = subst (λ (m : Configuration g.row.T.Denot). c.args.party < length m.parties) c.self.view_is below in
-    turns_step g.T.AtomicInteger.arithmetic c.args.party c.args.input (inputs.Answer c.in-Answer.action) c.args.self.now c.answer.new.self c.answer.result within c.read_values.ensures c.in-Answer.is c.answer.ensures.ok
+    turns_step g.T.AtomicInteger.arithmetic c.args.party c.args.input (Input.Answer c.in-Answer.action) c.args.self.now c.answer.new.self c.answer.result within c.read_values.ensures c.in-Answer.is c.answer.ensures.ok
 
 pub returns-in-Answer-clause-headline : goal.returns-in-Answer-clause-headline
 returns-in-Answer-clause-headline g c =
@@ -68,7 +68,7 @@ returns-in-Answer-clause-fault g c =
     let was : Configuration g.row.T.Denot = record { object = own.object; parties = own.parties.items; words = own.words; failed = own.failed } in
     let below : c.args.party < length was.parties = omega arith in
     let within = subst (λ (m : Configuration g.row.T.Denot). c.args.party < length m.parties) c.self.view_is below in
-    turns_fault g.T.AtomicInteger.arithmetic c.args.party c.args.input (inputs.Answer c.in-Answer.action) c.args.self.now c.answer.result within c.in-Answer.is c.answer.ensures.fault
+    turns_fault g.T.AtomicInteger.arithmetic c.args.party c.args.input (Input.Answer c.in-Answer.action) c.args.self.now c.answer.result within c.in-Answer.is c.answer.ensures.fault
 
 -- an answer of the choice closure
 
@@ -78,7 +78,7 @@ returns-in-Choose-clause-next g c =
     let was : Configuration g.row.T.Denot = record { object = own.object; parties = own.parties.items; words = own.words; failed = own.failed } in
     let below : c.args.party < length was.parties = omega arith in
     let within = subst (λ (m : Configuration g.row.T.Denot). c.args.party < length m.parties) c.self.view_is below in
-    turns_step g.T.AtomicInteger.arithmetic c.args.party c.args.input (inputs.Choose c.in-Choose.choice) c.args.self.now c.choose.new.self c.choose.result within c.read_values.ensures c.in-Choose.is c.choose.ensures.ok
+    turns_step g.T.AtomicInteger.arithmetic c.args.party c.args.input (Input.Choose c.in-Choose.choice) c.args.self.now c.choose.new.self c.choose.result within c.read_values.ensures c.in-Choose.is c.choose.ensures.ok
 
 pub returns-in-Choose-clause-headline : goal.returns-in-Choose-clause-headline
 returns-in-Choose-clause-headline g c =
@@ -90,7 +90,7 @@ returns-in-Choose-clause-fault g c =
     let was : Configuration g.row.T.Denot = record { object = own.object; parties = own.parties.items; words = own.words; failed = own.failed } in
     let below : c.args.party < length was.parties = omega arith in
     let within = subst (λ (m : Configuration g.row.T.Denot). c.args.party < length m.parties) c.self.view_is below in
-    turns_fault g.T.AtomicInteger.arithmetic c.args.party c.args.input (inputs.Choose c.in-Choose.choice) c.args.self.now c.choose.result within c.in-Choose.is c.choose.ensures.fault
+    turns_fault g.T.AtomicInteger.arithmetic c.args.party c.args.input (Input.Choose c.in-Choose.choice) c.args.self.now c.choose.result within c.in-Choose.is c.choose.ensures.fault
 
 pub returns-then-party-len-clause-err : goal.returns-then-party-len-clause-err
 returns-then-party-len-clause-err g c = search rules

@@ -1,4 +1,4 @@
-use Rattle.std.proofs.Common.{subst}
+use Rattle.sync_steps.proofs.Names.{subst}
 use Rattle.sync_steps.specs.Machine.{Configuration}
 use Rattle.sync_steps.specs.Machine.Strides.{Strides}
 use Rattle.sync_steps.proofs.StrideLaws.{spins_stride, step_strides}

@@ -1,4 +1,4 @@
-use Rattle.std.proofs.Common.{rules}
+use Rattle.sync_steps.proofs.Names.{rules}
 use Rattle.sync_steps.proofs.steps.machine.Machine.word.Goals as goal
 
 pub returns : goal.returns
